@@ -1,0 +1,5 @@
+pub mod Bounds
+pub mod Limits
+pub mod Refusals
+pub mod Tensions
+pub mod Texts

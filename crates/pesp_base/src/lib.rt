@@ -1,0 +1,29 @@
+//! Numbers, spans, tensions and refusals of periodic timetables.
+//!
+//! No call of this crate takes memory.
+#![tactic(auto)]
+
+mod activity;
+mod activity_id;
+mod arithmetic;
+mod event_id;
+mod limits;
+mod memory;
+mod period;
+mod refusal;
+mod span;
+mod weight;
+
+pub use activity::Activity;
+pub use activity_id::ActivityId;
+pub use arithmetic::{allows, slack, tension};
+pub use event_id::EventId;
+pub use limits::{
+    GREATEST_BOUND, GREATEST_NUMBER, GREATEST_PERIOD, GREATEST_WEIGHT, LEAST_BOUND, LEAST_PERIOD,
+    max_activities, max_events,
+};
+pub use memory::Memory;
+pub use period::Period;
+pub use refusal::Refusal;
+pub use span::{Span, SpanFault};
+pub use weight::Weight;

@@ -1,0 +1,5 @@
+//! Want of memory.
+
+/// The allocator refused to give memory, or more of it.
+#[derive(Clone, Copy, Debug, PartialEq, Eq)]
+pub struct Memory;

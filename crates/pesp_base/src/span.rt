@@ -1,0 +1,83 @@
+//! Spans of activities.
+
+ghost use Rattle.std.specs.Prelude.{◌≡◌, ℤ, ◌≤ℤ◌, ◌<ℤ◌, ◌⊎◌, ◌↔◌, Ok, Err, negsuc, pos};
+ghost use Rattle.pesp_base.specs.Bounds.{Bounds, AreBounds, is_out, span_of};
+
+use crate::{GREATEST_BOUND, LEAST_BOUND};
+use std::marker::Model;
+
+/// The least and the greatest tension with which an activity is met, each from [`LEAST_BOUND`] to [`GREATEST_BOUND`].
+#[derive(Clone, Copy, Debug, PartialEq, Eq)]
+pub struct Span {
+    lower: i32,
+    upper: i32,
+}
+
+impl Model for Span {
+    ghost Value = { Bounds };
+
+    ghost view = { λ a. record { lower = a.lower; upper = a.upper } };
+
+    ghost invariant = { λ a. AreBounds a.lower a.upper };
+
+    ghost inverse = { λ b. record { lower = b.lower; upper = b.upper } };
+}
+
+/// Why there is no such span.
+#[derive(Clone, Copy, Debug, PartialEq, Eq)]
+pub enum SpanFault {
+    /// A bound is outside the limits.
+    OutOfRange,
+    /// The lower bound is above the upper one.
+    Crossed,
+}
+
+/// Whether a bound is outside the limits.
+fn is_outside(bound: i32) -> bool
+    ensures { result ≡ is_out bound }
+{
+    bound < LEAST_BOUND || bound > GREATEST_BOUND
+}
+
+impl Span {
+    /// The span, or the first fault: `OutOfRange`, then `Crossed`.
+    pub fn new(lower: i32, upper: i32) -> Result<Span, SpanFault>
+        ensures { result ≡ span_of lower upper }
+    {
+        if is_outside(lower) || is_outside(upper) {
+            return Err(SpanFault::OutOfRange);
+        }
+        if lower > upper {
+            return Err(SpanFault::Crossed);
+        }
+        Ok(Span { lower, upper })
+    }
+
+    pub fn lower(self) -> i32
+        ensures value { result ≡ self.lower }
+        ensures limits { AreBounds self.lower self.upper }
+    {
+        self.lower
+    }
+
+    pub fn upper(self) -> i32
+        ensures value { result ≡ self.upper }
+        ensures limits { AreBounds self.lower self.upper }
+    {
+        self.upper
+    }
+}
+
+#[cfg(test)]
+mod tests {
+    use crate::{Period, Span, SpanFault};
+
+    #[test]
+    fn limits_of_periods_and_spans(rt: HostRuntime) {
+        for (value, is_period) in [(1, false), (2, true), (120, true), (121, false)] {
+            assert!(rt; Period::new(value).is_some() == is_period, "period {value}");
+        }
+        assert_eq!(rt; Span::new(5, 3), Err(SpanFault::Crossed));
+        assert_eq!(rt; Span::new(1_000_001, 0), Err(SpanFault::OutOfRange));
+    }
+}
