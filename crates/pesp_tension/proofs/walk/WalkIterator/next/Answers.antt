@@ -1,0 +1,8 @@
+-- What is left of the numbers is within the limit.
+use Rattle.std.proofs.Common.{◌≡◌, ◌<◌, ◌≤◌, ℕ, suc, All, arith}
+use Rattle.pesp_tension.proofs.walk.WalkIterator.next.Goals as goal
+
+pub invariant_of-self-2 : goal.invariant_of-self-2
+invariant_of-self-2 c =
+    let before = rw c.in_ok-event.ensures.steps at c.self.invariant in
+    λ k d h. before (suc k) d (omega arith)
