@@ -106,3 +106,31 @@ impl Timetable {
         self.times.remove(&event.get()).is_some()
     }
 }
+
+#[cfg(test)]
+mod tests {
+    use crate::Timetable;
+    use pesp_base::{EventId, Period, Refusal};
+    use std::test::Fail;
+
+    #[test]
+    fn times_come_and_go(rt: HostRuntime) -> Result<(), Fail> {
+        let one = EventId::new(1).ok_or("no event number")?;
+        let two = EventId::new(2).ok_or("no event number")?;
+        let mut timetable = Timetable::new(rt.alloc(), Period::new(10).ok_or("no period")?);
+        assert_eq!(rt; timetable.set(two, 3), Ok(()), "a time");
+        assert_eq!(rt; timetable.set(one, 9), Ok(()), "a time of an earlier event");
+        assert_eq!(rt; timetable.set(two, 10), Err(Refusal::TimeOutOfRange(10)));
+        assert_eq!(rt; timetable.set(two, 4), Ok(()), "another time");
+        assert_eq!(rt; timetable.get(two), Some(4));
+        let times: Vec<(u32, u16)> = timetable
+            .walk()
+            .map(|entry| (entry.event.get(), entry.time))
+            .collect(rt.alloc())?;
+        assert_eq!(rt; times.as_slice(), [(1, 9), (2, 4)].as_slice());
+        assert!(rt; timetable.clear(two), "a time to take away");
+        assert!(rt; !timetable.clear(two), "no time to take away");
+        assert_eq!(rt; timetable.get(two), None);
+        Ok(())
+    }
+}

@@ -1,5 +1,5 @@
 -- Where the activities miss a time, the refusal names the least event without one.
-use Rattle.std.proofs.Common.{◌≡◌, ◌≢◌, [], arith}
+use Rattle.std.proofs.Common.{◌≢◌, [], arith}
 use Rattle.std.proofs.lemmas.Grind.{common_steps}
 use Rattle.pesp_tension.specs.Answers.{missing_of}
 use Rattle.pesp_tension.proofs.Missing.{some_missing}

@@ -1,5 +1,5 @@
 -- One activity more costs weight times slack, and has times at its ends; and where one of its ends has none, the activities miss a time.
-use Rattle.std.proofs.Common.{◌≡◌, ◌+◌, ap, ap₂, sym, ◌∙◌, arith}
+use Rattle.std.proofs.Common.{◌+◌, ap, ap₂, sym, ◌∙◌, arith}
 use Rattle.std.proofs.lemmas.List.Sums.{sum_by_more}
 use Rattle.pesp_tension.specs.Answers.{cost_in}
 use Rattle.pesp_tension.proofs.Missing.{none_more, none_missing}

@@ -1,5 +1,5 @@
 -- One activity more has a tension in the list, and times at its ends.
-use Rattle.std.proofs.Common.{◌≡◌, [], ◌∷◌, ◌++◌, ap₂, sym, ◌∙◌, arith, rules}
+use Rattle.std.proofs.Common.{◌≡◌, [], ◌∷◌, ◌++◌, ap₂, sym, ◌∙◌, rules}
 use Rattle.pesp_tension.proofs.Missing.{none_more}
 use Rattle.pesp_tension.proofs.Steps.{tensions_more}
 use Rattle.pesp_tension.proofs.answers.try_tensions.Goals as goal

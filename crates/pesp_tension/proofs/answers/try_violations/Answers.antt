@@ -1,7 +1,7 @@
 -- One activity more is in the list where it is not met, and has times at its ends.
-use Rattle.std.proofs.Common.{◌≡◌, false, true, [], ◌∷◌, ◌++◌, ap, sym, ◌∙◌, arith, rules}
+use Rattle.std.proofs.Common.{◌≡◌, false, true, [], ◌∷◌, ◌++◌, ap, sym, ◌∙◌, rules}
 use Rattle.pesp_tension.specs.declared.lists.Violation.TheVariants as of_
-use Rattle.pesp_tension.specs.Answers.{meets, violations_of}
+use Rattle.pesp_tension.specs.Answers.{meets}
 use Rattle.pesp_tension.proofs.Missing.{none_more}
 use Rattle.pesp_tension.proofs.Steps.{violations_more, violations_same}
 use Rattle.pesp_tension.proofs.answers.try_violations.Goals as goal

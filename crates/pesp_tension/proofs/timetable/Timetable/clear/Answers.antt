@@ -1,6 +1,5 @@
 -- What is left of a timetable is within the limits.
-use Rattle.std.proofs.Common.{◌≡◌, ◌<◌, ◌≤◌, ℕ, All, arith}
-use Rattle.std.specs.Map.{keys_of, values_of}
+use Rattle.std.proofs.Common.{◌<◌, ◌≤◌, arith}
 use Rattle.std.proofs.lemmas.Map.Views.{All-map-remove_entry}
 use Rattle.pesp_base.specs.declared.limits.TheConstants.{GREATEST_NUMBER}
 use Rattle.pesp_tension.proofs.timetable.Timetable.clear.Goals as goal

@@ -1,10 +1,8 @@
 -- A timetable with one time more is within the limits.
-use Rattle.std.proofs.Common.{◌≡◌, ◌<◌, ◌≤◌, ◌+◌, ℕ, All, Option, Some, None, is_some, if◌then◌else◌, length, refl, arith, rules}
+use Rattle.std.proofs.Common.{◌≡◌, ◌<◌, ◌≤◌, ◌+◌, ℕ, Option, Some, None, is_some, if◌then◌else◌, length, refl, arith, rules}
 use Rattle.std.specs.Ordering.{nat_cmp}
-use Rattle.std.specs.Map.{keys_of, values_of}
 use Rattle.std.proofs.lemmas.Map.Views.{All-keys-insert_entry, All-values-insert_entry}
 use Rattle.pesp_base.specs.declared.limits.TheConstants.{GREATEST_NUMBER}
-use Rattle.pesp_tension.specs.Timetables.{IsTimetable}
 use Rattle.pesp_tension.proofs.timetable.Timetable.put.Goals as goal
 use Rattle.pesp_tension.proofs.timetable.Timetable.put.Goals.{in-Ok, in-Err}
 

@@ -1,5 +1,5 @@
 -- What is left of the numbers is within the limit.
-use Rattle.std.proofs.Common.{◌≡◌, ◌<◌, ◌≤◌, ℕ, suc, All, arith}
+use Rattle.std.proofs.Common.{suc, arith}
 use Rattle.pesp_tension.proofs.walk.WalkIterator.next.Goals as goal
 
 pub invariant_of-self-2 : goal.invariant_of-self-2
