@@ -1,0 +1,14 @@
+//! What the command line asks for.
+
+use pesp_base::Period;
+
+/// What the words of a command line ask for. Files are named by their paths.
+#[derive(Clone, Copy, Debug)]
+pub struct Settings<'a> {
+    pub period: Period,
+    /// The file of times; without one, no event has a time.
+    pub times: Option<&'a str>,
+    /// The file of activities; without one, there are none.
+    pub activities: Option<&'a str>,
+    pub check: bool,
+}

@@ -1,0 +1,159 @@
+//! The texts of replies.
+//!
+//! Each function puts its text behind what is written already; numbers are written by `itoa`.
+
+ghost use Rattle.std.specs.Prelude.{◌≡◌, ◌++◌, [], ◌∷◌, OnOk, IsErr, decimal};
+ghost use Rattle.std.specs.Fmt.{signed_decimal};
+ghost use Rattle.pesp_base.specs.declared.refusal.Refusal.TheVariants as no;
+ghost use Rattle.pesp_shell.specs.Replies.{cost_text, refusal_text, tension_line, tensions_text, violation_line, violations_text};
+
+use itoa::Buffer;
+use pesp_base::{ActivityId, EventId, Refusal};
+use pesp_tension::{ActivityTension, Violation};
+use std::alloc::AllocError;
+
+fn put_number(text: &mut Vec<u8>, number: u64) -> Result<(), AllocError>
+    ensures { OnOk result (text.new.items ≡ text.old.items ++ decimal number) }
+{
+    let mut buffer = Buffer::new();
+    text.extend_from_slice(buffer.format(number).as_bytes())
+}
+
+fn put_signed(text: &mut Vec<u8>, number: i32) -> Result<(), AllocError>
+    ensures { OnOk result (text.new.items ≡ text.old.items ++ signed_decimal number) }
+{
+    let mut buffer = Buffer::new();
+    text.extend_from_slice(buffer.format(number).as_bytes())
+}
+
+fn put(text: &mut Vec<u8>, bytes: &[u8]) -> Result<(), AllocError>
+    ensures { OnOk result (text.new.items ≡ text.old.items ++ bytes.now) }
+{
+    text.extend_from_slice(bytes)
+}
+
+/// A number between two texts.
+fn put_between(
+    text: &mut Vec<u8>,
+    before: &[u8],
+    number: u64,
+    after: &[u8],
+) -> Result<(), AllocError>
+    ensures { OnOk result (text.new.items ≡ text.old.items ++ (before.now ++ (decimal number ++ after.now))) }
+{
+    put(text, before)?;
+    put_number(text, number)?;
+    put(text, after)
+}
+
+fn put_tension(text: &mut Vec<u8>, row: &ActivityTension) -> Result<(), AllocError>
+    ensures { OnOk result (text.new.items ≡ text.old.items ++ (tension_line row.now ++ 10 ∷ [])) }
+{
+    put_number(text, u64::from(row.id.get()))?;
+    put(text, b" ")?;
+    put_signed(text, row.tension)?;
+    put_between(text, b" ", u64::from(row.slack), b"\n")
+}
+
+/// The reply to `tensions`.
+pub(crate) fn put_tensions(text: &mut Vec<u8>, rows: &[ActivityTension]) -> Result<(), AllocError>
+    ensures { OnOk result (text.new.items ≡ text.old.items ++ tensions_text rows.now) }
+{
+    put_between(text, b"tensions ", rows.len() as u64, b"\n")?;
+    for row in rows {
+        put_tension(text, row)?;
+    }
+    Ok(())
+}
+
+fn put_violation(text: &mut Vec<u8>, row: &Violation) -> Result<(), AllocError>
+    ensures { OnOk result (text.new.items ≡ text.old.items ++ (violation_line row.now ++ 10 ∷ [])) }
+{
+    match row {
+        Violation::Activity(id) => put_activity(text, b"activity ", *id, b"\n"),
+    }
+}
+
+/// The reply to `violations`.
+pub(crate) fn put_violations(text: &mut Vec<u8>, rows: &[Violation]) -> Result<(), AllocError>
+    ensures { OnOk result (text.new.items ≡ text.old.items ++ violations_text rows.now) }
+{
+    put_between(text, b"violations ", rows.len() as u64, b"\n")?;
+    for row in rows {
+        put_violation(text, row)?;
+    }
+    Ok(())
+}
+
+/// The reply to `cost`.
+pub(crate) fn put_cost(text: &mut Vec<u8>, cost: u64) -> Result<(), AllocError>
+    ensures { OnOk result (text.new.items ≡ text.old.items ++ cost_text cost) }
+{
+    put_between(text, b"cost ", cost, b"\n")
+}
+
+/// The number of an event between two texts.
+fn put_event(
+    text: &mut Vec<u8>,
+    before: &[u8],
+    event: EventId,
+    after: &[u8],
+) -> Result<(), AllocError>
+    ensures { OnOk result (text.new.items ≡ text.old.items ++ (before.now ++ (decimal event ++ after.now))) }
+{
+    put_between(text, before, u64::from(event.get()), after)
+}
+
+/// The number of an activity between two texts.
+fn put_activity(
+    text: &mut Vec<u8>,
+    before: &[u8],
+    activity: ActivityId,
+    after: &[u8],
+) -> Result<(), AllocError>
+    ensures { OnOk result (text.new.items ≡ text.old.items ++ (before.now ++ (decimal activity ++ after.now))) }
+{
+    put_between(text, before, u64::from(activity.get()), after)
+}
+
+/// The reply of refusal 3.
+fn put_in_use(text: &mut Vec<u8>, event: EventId, activity: ActivityId) -> Result<(), AllocError>
+    ensures { OnOk result (text.new.items ≡ text.old.items ++ refusal_text (no.EventInUse event activity)) }
+{
+    put_event(text, b"refused 3 event ", event, b" is used by activity ")?;
+    put_activity(text, b"", activity, b"\n")
+}
+
+/// The reply of a refusal; want of memory has none and is passed on.
+pub(crate) fn put_refusal(text: &mut Vec<u8>, refusal: Refusal) -> Result<(), AllocError>
+    ensures told { OnOk result (text.new.items ≡ text.old.items ++ refusal_text refusal) }
+    ensures memory { refusal ≡ no.Memory → IsErr result }
+{
+    match refusal {
+        Refusal::EventExists(event) => put_event(text, b"refused 1 event ", event, b" exists\n"),
+        Refusal::NoEvent(event) => put_event(text, b"refused 2 no event ", event, b"\n"),
+        Refusal::EventInUse(event, activity) => put_in_use(text, event, activity),
+        Refusal::TimeOutOfRange(time) => {
+            put_between(
+                text,
+                b"refused 4 time ",
+                u64::from(time),
+                b" is out of range\n",
+            )
+        }
+        Refusal::ActivityExists(activity) => {
+            put_activity(text, b"refused 5 activity ", activity, b" exists\n")
+        }
+        Refusal::NoActivity(activity) => {
+            put_activity(text, b"refused 6 no activity ", activity, b"\n")
+        }
+        Refusal::TooManyEvents => put(text, b"refused 7 too many events\n"),
+        Refusal::TooManyActivities => put(text, b"refused 8 too many activities\n"),
+        Refusal::NotFixed(event) => put_event(text, b"refused 9 event ", event, b" is not fixed\n"),
+        Refusal::Memory => Err(AllocError),
+        Refusal::MissingTime(event) => {
+            put_event(text, b"refused 11 event ", event, b" has no time\n")
+        }
+        Refusal::Infeasible => put(text, b"refused 12 infeasible\n"),
+    }
+}

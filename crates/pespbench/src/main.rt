@@ -1,0 +1,93 @@
+//! The program: reads the command line and the files, and prints the replies.
+#![tactic(auto)]
+
+ghost use Rattle.std.specs.Prelude.{◌≤◌, [], ◌∷◌, Contains, IfErr};
+ghost use Rattle.std.specs.Process.{exit_status};
+ghost use Rattle.pespbench.specs.Faults.{faults_of_file};
+ghost use Rattle.pespbench.specs.declared.ending.Ending.TheVariants as ending;
+ghost use Rattle.pespbench.specs.declared.fault.Fault.TheVariants as fault;
+
+mod ending;
+mod fault;
+mod files;
+
+use ending::Ending;
+use fault::Fault;
+use pesp_shell::{Source, check, settings};
+use std::io::{ErrorKind, Write};
+use std::process::ExitCode;
+use std::rt::{Env, Files};
+use std::{env, io};
+
+/// The words of the command line.
+fn read_words<R: Env + AllocGlobal>(rt: &R) -> Result<Vec<String>, Ending>
+    ensures { IfErr result (Contains (ending.NotText ∷ ending.Fault (fault.Memory 0) ∷ [])) }
+{
+    let words = match env::args(rt) {
+        Ok(words) => words,
+        Err(error) if error.kind() == ErrorKind::OutOfMemory => {
+            return Err(Ending::Fault(Fault::EARLY_MEMORY));
+        }
+        Err(_) => return Err(Ending::NotText),
+    };
+    words
+        .collect::<Vec<String>>(rt.alloc())
+        .map_err(|_| Ending::Fault(Fault::EARLY_MEMORY))
+}
+
+/// The bytes of the file at the path, if one is given.
+fn contents<R: Files + AllocGlobal>(
+    rt: &R,
+    source: Source,
+    path: Option<&str>,
+) -> Result<Option<Vec<u8>>, Fault>
+    ensures { IfErr result (Contains (faults_of_file source)) }
+{
+    match path {
+        Some(path) => Ok(Some(files::read_whole(rt, source, path)?)),
+        None => Ok(None),
+    }
+}
+
+/// Does what the words ask for.
+fn work<R: Files + AllocGlobal + Print>(rt: &R, words: &[&str]) -> Result<(), Ending> {
+    let settings = settings(rt.alloc(), words)?;
+    let activities = contents(rt, Source::Activities, settings.activities)?;
+    let times = contents(rt, Source::Times, settings.times)?;
+    let replies = check(
+        rt.alloc(),
+        settings.period,
+        activities.as_ref().map_or(&[], |bytes| bytes.as_slice()),
+        times.as_ref().map(|bytes| bytes.as_slice()),
+    )?;
+    let mut output = io::writer(rt);
+    output
+        .write_all(replies.as_slice())
+        .map_err(|_| Fault::NotWritten)?;
+    output.flush().map_err(|_| Fault::NotWritten)?;
+    Ok(())
+}
+
+fn run<R: Env + Files + AllocGlobal + Print>(rt: &R) -> Result<(), Ending> {
+    let words = read_words(rt)?;
+    let texts = words
+        .iter()
+        .map(|word| word.as_str())
+        .collect::<Vec<&str>>(rt.alloc())
+        .map_err(|_| Fault::EARLY_MEMORY)?;
+    work(rt, texts.as_slice())
+}
+
+/// Runs the program, and tells why where it ends early.
+fn status<R: Env + Files + AllocGlobal + Print + Eprint>(rt: &R) -> ExitCode
+    ensures { exit_status result ≤ 2 }
+{
+    match run(rt) {
+        Ok(()) => ExitCode::SUCCESS,
+        Err(ending) => ending.tell(rt),
+    }
+}
+
+fn main(rt: HostRuntime) -> ExitCode {
+    status(&rt)
+}
