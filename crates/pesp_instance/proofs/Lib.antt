@@ -1,0 +1,7 @@
+mod Rows
+pub mod Effects
+pub mod Links
+pub mod Listed
+pub mod Relisted
+pub mod Rising
+pub mod Tables

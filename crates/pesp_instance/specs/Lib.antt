@@ -1,0 +1,5 @@
+pub mod Edited
+pub mod Ends
+pub mod Network
+pub mod Stored
+pub mod Table

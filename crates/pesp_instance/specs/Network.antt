@@ -1,0 +1,75 @@
+-- What a clause sees of an instance of the periodic event scheduling problem.
+pub use Rattle.pesp_instance.specs.declared.event.Event.{Event}
+use Rattle.std.specs.Prelude.{ℕ, ◌<◌, ◌≤◌, Bool, true, ◌||◌, ◌==◌, is_some, List, map, filter, length, Option, Some, None, option_and_then, All, IfSome, IsTrue}
+use Rattle.std.specs.List.Sorted.{IsStrictlyIncreasing}
+use Rattle.pesp_base.specs.declared.activity.Activity.{Activity}
+use Rattle.pesp_base.specs.declared.limits.TheConstants.{GREATEST_NUMBER, GREATEST_PERIOD, GREATEST_WEIGHT, LEAST_PERIOD}
+use Rattle.pesp_base.specs.Bounds.{AreBounds}
+use Rattle.pesp_base.specs.Limits.{max_events, max_activities}
+use Rattle.pesp_base.specs.Numbered.{with_number}
+
+-- a period, and the events and the activities, each ascending by number
+pub record Network : Type 0 where
+  pub period : ℕ
+  pub events : List Event
+  pub activities : List Activity
+
+-- whether a time agrees with an event's fixed time, which an event without one leaves open
+abbrev pub agrees_with : Option ℕ → ℕ → Bool
+agrees_with None time = true
+agrees_with (Some fixed) time = fixed == time
+
+-- the numbers of the events, ascending
+abbrev pub event_ids : Network → List ℕ
+event_ids I = map (λ e. e.id) I.events
+
+-- the event of a number
+abbrev pub event_of : Network → ℕ → Option Event
+event_of I e = with_number (λ x. x.id) e I.events
+
+abbrev pub has_event : Network → ℕ → Bool
+has_event I e = is_some (event_of I e)
+
+-- the fixed time of an event, if it has one
+abbrev pub fixed_of : Network → ℕ → Option ℕ
+fixed_of I e = option_and_then (λ x. x.fixed) (event_of I e)
+
+-- the activity of a number
+abbrev pub activity_of : Network → ℕ → Option Activity
+activity_of I n = with_number (λ a. a.id) n I.activities
+
+-- whether the event is an end of the activity
+abbrev pub is_end_of : ℕ → Activity → Bool
+is_end_of e a = (a.from == e) || (a.to == e)
+
+-- the activities with the event as an end, a loop once
+abbrev pub around : Network → ℕ → List Activity
+around I e = filter (is_end_of e) I.activities
+
+-- the event's number is within the limit, and its fixed time below the period
+pub record IsEvent (period : ℕ) (e : Event) : Type 0 where
+  pub number : e.id ≤ GREATEST_NUMBER
+  pub fixed : IfSome e.fixed (λ t. t < period)
+
+-- the activity's number, bounds and weight are within the limits
+pub record IsActivity (a : Activity) : Type 0 where
+  pub number : a.id ≤ GREATEST_NUMBER
+  pub bounds : AreBounds a.span.lower a.span.upper
+  pub weight : a.weight ≤ GREATEST_WEIGHT
+
+-- both ends of the activity are events
+pub record HasEnds (events : List Event) (a : Activity) : Type 0 where
+  pub from : IsTrue (is_some (with_number (λ x. x.id) a.from events))
+  pub to : IsTrue (is_some (with_number (λ x. x.id) a.to events))
+
+-- each number stands once, all numbers, times and counts are within their limits, and activities lead between events
+pub record IsNetwork (I : Network) : Type 0 where
+  pub period_low : LEAST_PERIOD ≤ I.period
+  pub period_high : I.period ≤ GREATEST_PERIOD
+  pub events_rise : IsStrictlyIncreasing (event_ids I)
+  pub events_within : All (IsEvent I.period) I.events
+  pub few_events : length I.events ≤ max_events I.period
+  pub activities_rise : IsStrictlyIncreasing (map (λ a. a.id) I.activities)
+  pub activities_within : All IsActivity I.activities
+  pub few_activities : length I.activities ≤ max_activities I.period
+  pub ends : All (HasEnds I.events) I.activities

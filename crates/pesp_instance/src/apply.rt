@@ -1,0 +1,225 @@
+//! The edits of an instance.
+
+ghost use Rattle.std.specs.Prelude.{◌≡◌, ◌<◌, OnOk, OnErr, IfErr, IfSome, IsTrue, find, is_some};
+ghost use Rattle.std.specs.Option.{option_map};
+ghost use Rattle.pesp_instance.specs.Edited.{edited, refixed, IsRefusal};
+ghost use Rattle.pesp_instance.specs.Network.{activity_of, has_event, is_end_of};
+
+use crate::{Edit, Event, Instance};
+use pesp_base::{
+    Activity, ActivityId, EventId, GREATEST_NUMBER, GREATEST_WEIGHT, Refusal, Span, Weight,
+    max_activities, max_events,
+};
+
+impl Instance {
+    /// Makes an edit, or answers the first refusal and changes nothing.
+    ///
+    /// Only `AddEvent`, `AddActivity` and `SetEnds` take memory, and only they can be refused it, after all else.
+    pub fn apply(&mut self, edit: &Edit) -> Result<(), Refusal>
+        ensures ok { OnOk result (edited self.old edit.now ≡ Ok self.new) }
+        ensures err { IfErr result (IsRefusal self.old edit.now) }
+        ensures unchanged { OnErr result (self.new ≡ self.old) }
+    {
+        match *edit {
+            Edit::AddEvent(event) => self.add_event(event),
+            Edit::DropEvent(event) => self.drop_event(event),
+            Edit::Fix(event, time) => self.fix(event, time),
+            Edit::Unfix(event) => self.unfix(event),
+            Edit::AddActivity(activity) => self.add_activity(activity),
+            Edit::DropActivity(id) => self.drop_activity(id),
+            Edit::SetSpan(id, span) => self.set_span(id, span),
+            Edit::SetWeight(id, weight) => self.set_weight(id, weight),
+            Edit::SetEnds(id, from, to) => self.set_ends(id, from, to),
+        }
+    }
+
+    fn add_event(&mut self, event: EventId) -> Result<(), Refusal>
+        ensures ok { OnOk result (edited self.old (Edit.AddEvent event) ≡ Ok self.new) }
+        ensures err { IfErr result (IsRefusal self.old (Edit.AddEvent event)) }
+        ensures unchanged { OnErr result (self.new ≡ self.old) }
+    {
+        // Known of the value by its type; the instance keeps it as a fact.
+        prove!(event.get() <= GREATEST_NUMBER);
+        if self.has_event(event) {
+            return Err(Refusal::EventExists(event));
+        }
+        if self.event_count() >= max_events(self.period) {
+            return Err(Refusal::TooManyEvents);
+        }
+        let new = Event {
+            id: event,
+            fixed: None,
+        };
+        if self.events.insert(new).is_err() {
+            return Err(Refusal::Memory);
+        }
+        Ok(())
+    }
+
+    /// The least activity that has the event as an end.
+    fn least_at(&self, event: EventId) -> Option<ActivityId>
+        ensures { result ≡ option_map (λ a. a.id) (find (is_end_of event) self.now.activities) }
+    {
+        Some(self.around(event).next()?.id)
+    }
+
+    fn drop_event(&mut self, event: EventId) -> Result<(), Refusal>
+        ensures ok { OnOk result (edited self.old (Edit.DropEvent event) ≡ Ok self.new) }
+        ensures err { IfErr result (IsRefusal self.old (Edit.DropEvent event)) }
+        ensures unchanged { OnErr result (self.new ≡ self.old) }
+    {
+        if !self.has_event(event) {
+            return Err(Refusal::NoEvent(event));
+        }
+        if let Some(activity) = self.least_at(event) {
+            return Err(Refusal::EventInUse(event, activity));
+        }
+        self.events.remove(event.get());
+        Ok(())
+    }
+
+    /// Gives an event another fixed time, or none.
+    fn refix(&mut self, event: EventId, fixed: Option<u16>)
+        requires event { IsTrue (has_event self.old event) }
+        requires time { IfSome fixed (λ t. t < self.old.period) }
+        ensures { self.new ≡ refixed self.old event fixed }
+    {
+        self.events.replace(Event { id: event, fixed });
+    }
+
+    fn fix(&mut self, event: EventId, time: u16) -> Result<(), Refusal>
+        ensures ok { OnOk result (edited self.old (Edit.Fix event time) ≡ Ok self.new) }
+        ensures err { IfErr result (IsRefusal self.old (Edit.Fix event time)) }
+        ensures unchanged { OnErr result (self.new ≡ self.old) }
+    {
+        if !self.has_event(event) {
+            return Err(Refusal::NoEvent(event));
+        }
+        if time >= self.period.get() {
+            return Err(Refusal::TimeOutOfRange(time));
+        }
+        self.refix(event, Some(time));
+        Ok(())
+    }
+
+    fn unfix(&mut self, event: EventId) -> Result<(), Refusal>
+        ensures ok { OnOk result (edited self.old (Edit.Unfix event) ≡ Ok self.new) }
+        ensures err { IfErr result (IsRefusal self.old (Edit.Unfix event)) }
+        ensures unchanged { OnErr result (self.new ≡ self.old) }
+    {
+        if !self.has_event(event) {
+            return Err(Refusal::NoEvent(event));
+        }
+        if self.fixed(event).is_none() {
+            return Err(Refusal::NotFixed(event));
+        }
+        self.refix(event, None);
+        Ok(())
+    }
+
+    /// Whether the number is an activity.
+    fn has_activity(&self, id: ActivityId) -> bool
+        ensures { result ≡ is_some (activity_of self.now id) }
+    {
+        self.activities.contains(id.get())
+    }
+
+    fn add_activity(&mut self, activity: Activity) -> Result<(), Refusal>
+        ensures ok { OnOk result (edited self.old (Edit.AddActivity activity) ≡ Ok self.new) }
+        ensures err { IfErr result (IsRefusal self.old (Edit.AddActivity activity)) }
+        ensures unchanged { OnErr result (self.new ≡ self.old) }
+    {
+        // Known of the value by its type; the instance keeps it as a fact.
+        prove!(activity.id.get() <= GREATEST_NUMBER);
+        prove!(activity.span.lower() <= activity.span.upper());
+        prove!(activity.weight.get() <= GREATEST_WEIGHT);
+        if self.has_activity(activity.id) {
+            return Err(Refusal::ActivityExists(activity.id));
+        }
+        if !self.has_event(activity.from) {
+            return Err(Refusal::NoEvent(activity.from));
+        }
+        if !self.has_event(activity.to) {
+            return Err(Refusal::NoEvent(activity.to));
+        }
+        if self.activity_count() >= max_activities(self.period) {
+            return Err(Refusal::TooManyActivities);
+        }
+        if self.ends.link(&activity).is_err() {
+            return Err(Refusal::Memory);
+        }
+        // The activity is stored last, and a map gives no room in advance: without it the activity is listed nowhere.
+        if self.activities.insert(activity).is_err() {
+            self.ends.unlink(&activity);
+            return Err(Refusal::Memory);
+        }
+        Ok(())
+    }
+
+    fn drop_activity(&mut self, id: ActivityId) -> Result<(), Refusal>
+        ensures ok { OnOk result (edited self.old (Edit.DropActivity id) ≡ Ok self.new) }
+        ensures err { IfErr result (IsRefusal self.old (Edit.DropActivity id)) }
+        ensures unchanged { OnErr result (self.new ≡ self.old) }
+    {
+        let Some(&activity) = self.activity(id) else {
+            return Err(Refusal::NoActivity(id));
+        };
+        self.ends.unlink(&activity);
+        self.activities.remove(id.get());
+        Ok(())
+    }
+
+    fn set_span(&mut self, id: ActivityId, span: Span) -> Result<(), Refusal>
+        ensures ok { OnOk result (edited self.old (Edit.SetSpan id span) ≡ Ok self.new) }
+        ensures err { IfErr result (IsRefusal self.old (Edit.SetSpan id span)) }
+        ensures unchanged { OnErr result (self.new ≡ self.old) }
+    {
+        // Known of the value by its type; the instance keeps it as a fact.
+        prove!(span.lower() <= span.upper());
+        let Some(&activity) = self.activity(id) else {
+            return Err(Refusal::NoActivity(id));
+        };
+        self.activities.replace(Activity { span, ..activity });
+        Ok(())
+    }
+
+    fn set_weight(&mut self, id: ActivityId, weight: Weight) -> Result<(), Refusal>
+        ensures ok { OnOk result (edited self.old (Edit.SetWeight id weight) ≡ Ok self.new) }
+        ensures err { IfErr result (IsRefusal self.old (Edit.SetWeight id weight)) }
+        ensures unchanged { OnErr result (self.new ≡ self.old) }
+    {
+        // Known of the value by its type; the instance keeps it as a fact.
+        prove!(weight.get() <= GREATEST_WEIGHT);
+        let Some(&activity) = self.activity(id) else {
+            return Err(Refusal::NoActivity(id));
+        };
+        self.activities.replace(Activity { weight, ..activity });
+        Ok(())
+    }
+
+    fn set_ends(&mut self, id: ActivityId, from: EventId, to: EventId) -> Result<(), Refusal>
+        ensures ok { OnOk result (edited self.old (Edit.SetEnds id from to) ≡ Ok self.new) }
+        ensures err { IfErr result (IsRefusal self.old (Edit.SetEnds id from to)) }
+        ensures unchanged { OnErr result (self.new ≡ self.old) }
+    {
+        let Some(&old) = self.activity(id) else {
+            return Err(Refusal::NoActivity(id));
+        };
+        if !self.has_event(from) {
+            return Err(Refusal::NoEvent(from));
+        }
+        if !self.has_event(to) {
+            return Err(Refusal::NoEvent(to));
+        }
+        let new = Activity { from, to, ..old };
+        if self.ends.link(&new).is_err() {
+            return Err(Refusal::Memory);
+        }
+        self.ends.unlink_old(&old, &new);
+        self.activities.replace(new);
+        Ok(())
+    }
+}
+
+#[cfg(test)]
+mod tests;

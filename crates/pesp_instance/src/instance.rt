@@ -1,0 +1,125 @@
+//! Instances and their look-ups.
+
+ghost use Rattle.std.specs.Prelude.{◌≡◌, length, option_copied};
+ghost use Rattle.pesp_instance.specs.Edited.{empty_network};
+ghost use Rattle.pesp_instance.specs.Network.{IsNetwork, has_event, fixed_of, activity_of, around};
+
+use crate::ends::Ends;
+use crate::table::Table;
+use crate::{Around, Event, Walk};
+use pesp_base::{Activity, ActivityId, EventId, LEAST_PERIOD, Period};
+use std::alloc::Global;
+use std::marker::Model;
+
+/// A period, events, some of them with fixed times, and activities.
+///
+/// Each number, time and count is within its limit, and activities lead between events.
+#[derive(Drop)]
+pub struct Instance {
+    pub(crate) period: Period,
+    pub(crate) events: Table<Event>,
+    pub(crate) activities: Table<Activity>,
+    // Each activity, listed at its ends.
+    pub(crate) ends: Ends,
+}
+
+impl Model for Instance {
+    ghost use Rattle.pesp_instance.specs.Network.{Network};
+
+    ghost Value = { Network };
+
+    ghost use Rattle.pesp_instance.specs.Stored.{network_in, IsStored};
+
+    ghost view = { network_in };
+
+    ghost invariant = { IsStored };
+}
+
+impl Instance {
+    /// The instance without events.
+    pub fn new(alloc: Global, period: Period) -> Instance
+        ensures value { result ≡ empty_network period }
+        ensures network { IsNetwork result }
+    {
+        // Known of the value by its type; the instance keeps it as a fact.
+        prove!(period.get() >= LEAST_PERIOD);
+        Instance {
+            period,
+            events: Table::new(alloc),
+            activities: Table::new(alloc),
+            ends: Ends::new(alloc),
+        }
+    }
+
+    pub fn period(&self) -> Period
+        ensures value { result ≡ self.now.period }
+        ensures network { IsNetwork self.now }
+    {
+        self.period
+    }
+
+    /// Whether the number is an event.
+    pub fn has_event(&self, event: EventId) -> bool
+        ensures value { result ≡ has_event self.now event }
+        ensures network { IsNetwork self.now }
+    {
+        self.events.contains(event.get())
+    }
+
+    pub fn event_count(&self) -> usize
+        ensures value { result ≡ length self.now.events }
+        ensures network { IsNetwork self.now }
+    {
+        self.events.len()
+    }
+
+    pub fn activity_count(&self) -> usize
+        ensures value { result ≡ length self.now.activities }
+        ensures network { IsNetwork self.now }
+    {
+        self.activities.len()
+    }
+
+    /// The activity of a number.
+    pub fn activity(&self, id: ActivityId) -> Option<&Activity>
+        ensures value { option_copied result ≡ activity_of self.now id }
+        ensures network { IsNetwork self.now }
+    {
+        self.activities.get(id.get())
+    }
+
+    /// The fixed time of an event, if it has one.
+    pub fn fixed(&self, event: EventId) -> Option<u16>
+        ensures value { result ≡ fixed_of self.now event }
+        ensures network { IsNetwork self.now }
+    {
+        self.events.get(event.get())?.fixed
+    }
+
+    /// The events, by rising number.
+    pub fn events(&self) -> Walk<'_, Event>
+        ensures value { result ≡ self.now.events }
+        ensures network { IsNetwork self.now }
+    {
+        self.events.iter()
+    }
+
+    /// The activities, by rising number.
+    pub fn activities(&self) -> Walk<'_, Activity>
+        ensures value { result ≡ self.now.activities }
+        ensures network { IsNetwork self.now }
+    {
+        self.activities.iter()
+    }
+
+    /// The activities with the event as an end, by rising number, a loop once.
+    pub fn around(&self, event: EventId) -> Around<'_>
+        ensures value { result ≡ around self.now event }
+        ensures network { IsNetwork self.now }
+    {
+        Around {
+            pairs: self.ends.at(event.get()),
+            activities: &self.activities,
+        }
+    }
+}

@@ -1,0 +1,18 @@
+//! An instance of the periodic event scheduling problem, and its edits.
+//!
+//! Look-ups and walks take no memory. Of the edits only `AddEvent`, `AddActivity` and `SetEnds` do.
+#![tactic(auto)]
+
+mod apply;
+mod edit;
+mod ends;
+mod event;
+mod instance;
+mod numbered;
+mod table;
+mod walks;
+
+pub use edit::Edit;
+pub use event::Event;
+pub use instance::Instance;
+pub use walks::{Around, Walk};

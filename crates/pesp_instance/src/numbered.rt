@@ -1,0 +1,34 @@
+//! What has a number.
+
+ghost use Rattle.std.specs.Prelude.{◌≡◌, ◌≤◌};
+ghost use Rattle.pesp_base.specs.declared.limits.TheConstants.{GREATEST_NUMBER};
+
+use crate::Event;
+use pesp_base::Activity;
+
+/// A value with a number of its own.
+pub trait Numbered: Copy {
+    ghost use Rattle.std.specs.Prelude.{ℕ};
+
+    ghost number: { Self → ℕ };
+
+    fn number(&self) -> u32
+        ensures value { result ≡ number self.now }
+        ensures limit { result ≤ GREATEST_NUMBER };
+}
+
+impl Numbered for Event {
+    ghost number = { λ e. e.id };
+
+    fn number(&self) -> u32 {
+        self.id.get()
+    }
+}
+
+impl Numbered for Activity {
+    ghost number = { λ a. a.id };
+
+    fn number(&self) -> u32 {
+        self.id.get()
+    }
+}

@@ -1,0 +1,78 @@
+//! Walks over events and activities, by rising number.
+
+ghost use Rattle.std.specs.Iterator.{YieldsFirstRef, item_count};
+
+use crate::table::Table;
+use pesp_base::Activity;
+use slab::Slab;
+use std::collections::{btree_map, btree_set};
+use std::marker::Model;
+
+/// The values of a table that are left, by rising number.
+#[derive(Drop)]
+pub struct Walk<'a, V> {
+    pub(crate) numbers: btree_map::Iter<'a, u32, usize>,
+    pub(crate) slots: &'a Slab<V>,
+}
+
+impl<'a, V> Model for Walk<'a, V> {
+    ghost use Rattle.std.specs.Prelude.{List};
+    ghost use Rattle.std.specs.Coded.{coded_list};
+
+    ghost Value = { List V };
+
+    ghost coded = { coded_list V.code };
+
+    ghost use Rattle.pesp_instance.specs.Table.{values_in, IsLinked};
+
+    ghost view = { λ w. values_in w.slots.now.slots w.numbers };
+
+    ghost invariant = { λ w. IsLinked w.slots.now.slots w.numbers };
+}
+
+impl<'a, V> Iterator for Walk<'a, V> {
+    type Item = &'a V;
+
+    ghost next_gives = { YieldsFirstRef (λ rest. rest) };
+
+    ghost remaining = { item_count (λ rest. rest) };
+
+    fn next(&mut self) -> Option<&'a V> {
+        match self.numbers.next() {
+            Some((_, slot)) => Some(&self.slots[*slot]),
+            None => None,
+        }
+    }
+}
+
+/// The activities at an event that are left, by rising number.
+#[derive(Drop)]
+pub struct Around<'a> {
+    pub(crate) pairs: btree_set::Range<'a, (u32, u32)>,
+    pub(crate) activities: &'a Table<Activity>,
+}
+
+impl<'a> Model for Around<'a> {
+    ghost use Rattle.std.specs.Prelude.{List};
+    ghost use Rattle.pesp_base.specs.declared.activity.Activity.{Activity};
+    ghost use Rattle.pesp_instance.specs.Ends.{named_by, AreNames};
+
+    ghost Value = { List Activity };
+
+    ghost view = { λ w. named_by w.activities.now w.pairs };
+
+    ghost invariant = { λ w. AreNames w.activities.now w.pairs };
+}
+
+impl<'a> Iterator for Around<'a> {
+    type Item = &'a Activity;
+
+    ghost next_gives = { YieldsFirstRef (λ rest. rest) };
+
+    ghost remaining = { item_count (λ rest. rest) };
+
+    fn next(&mut self) -> Option<&'a Activity> {
+        let (_, number) = self.pairs.next()?;
+        self.activities.get(*number)
+    }
+}
