@@ -1,7 +1,6 @@
-mod Cases
-pub mod CutLemmas
-pub mod EntryLemmas
-pub mod ReadingLemmas
+pub mod FaultlessSettings
+pub mod FaultlessWords
+pub mod Periods
+pub mod ReadSettings
 pub mod RowLemmas
-pub mod TakingLemmas
 pub mod Written

@@ -1,11 +1,3 @@
-pub mod Activities
 pub mod Checked
-pub mod Cuts
-pub mod Numbers
-pub mod Pieces
-pub mod Reading
-pub mod Records
 pub mod Replies
-pub mod RowFields
-pub mod Rows
-pub mod Taking
+pub mod Settings

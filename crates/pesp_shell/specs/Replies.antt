@@ -21,6 +21,7 @@ tensions_text rows = counted (codes "tensions") (map tension_line rows)
 
 abbrev pub violation_line : Violation → List ℕ
 violation_line (of_.Activity a) = words_line (codes "activity" ∷ decimal a ∷ [])
+violation_line (of_.Event e) = words_line (codes "event" ∷ decimal e ∷ [])
 
 abbrev pub violations_text : List Violation → List ℕ
 violations_text rows = counted (codes "violations") (map violation_line rows)

@@ -6,9 +6,12 @@ use pesp_base::Period;
 #[derive(Clone, Copy, Debug)]
 pub struct Settings<'a> {
     pub period: Period,
+    /// The file of fixed times; without one, no event has a fixed time.
+    pub fixed: Option<&'a str>,
     /// The file of times; without one, no event has a time.
     pub times: Option<&'a str>,
     /// The file of activities; without one, there are none.
     pub activities: Option<&'a str>,
+    /// Tensions, violations and cost are asked for, in place of commands.
     pub check: bool,
 }

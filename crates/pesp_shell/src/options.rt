@@ -1,15 +1,27 @@
 //! The command line, read by `clap`.
 
+ghost use Rattle.std.specs.Prelude.{◌≡◌, IfOk, IfErr, true, false};
+ghost use Rattle.clap.specs.Walk.{texts};
+ghost use Rattle.clap.specs.Words.{FailsBy, app_of, fault_of, kind_of, rule_of, takes};
+ghost use Rattle.pesp_shell.specs.Settings.{AreSettings, file_rule, period_rule, pespbench};
+
 use crate::Settings;
 use clap::error::ErrorKind;
-use clap::{Arg, ArgAction, ArgMatches, Command, Error};
+use clap::{Arg, ArgAction, Command, Error};
 use pesp_base::{GREATEST_PERIOD, LEAST_PERIOD, Period};
-use std::alloc::Global;
+use std::alloc::{AllocError, Global};
 
 /// The period where the words give none.
 const DEFAULT_PERIOD: &str = "60";
 
+/// What help says of the period; the limits that it names are checked below.
+const PERIOD_HELP: &str = "The period, 2 to 120";
+
+const _: () = prove!(LEAST_PERIOD == 2 && GREATEST_PERIOD == 120);
+
 const PERIOD: &str = "period";
+
+const FIXED: &str = "fixed";
 
 const TIMES: &str = "times";
 
@@ -17,105 +29,144 @@ const CHECK: &str = "check";
 
 const ACTIVITIES: &str = "ACTIVITIES";
 
-/// The command; help shows `period_help` beside `--period`.
-fn command<'a>(alloc: Global, period_help: &'a str) -> Result<Command<'a>, Error> {
+/// `--period T`.
+fn period_option<'a>(alloc: Global) -> Arg<'a>
+    ensures rule { rule_of result ≡ period_rule }
+    ensures local { result.global ≡ false }
+{
     let limits = i64::from(LEAST_PERIOD)..=i64::from(GREATEST_PERIOD);
-    let period = Arg::new(alloc, PERIOD)
+    Arg::new(alloc, PERIOD)
         .long(PERIOD)
         .value_name("T")
-        .help(period_help)
+        .help(PERIOD_HELP)
         .default_value(DEFAULT_PERIOD)
-        .value_parser(clap::value_parser!(u16).range(limits));
-    let times = Arg::new(alloc, TIMES)
-        .long(TIMES)
+        .value_parser(clap::value_parser!(u16).range(limits))
+}
+
+/// `--name FILE`.
+fn file_option<'a>(alloc: Global, name: &'a str, help: &'a str) -> Arg<'a>
+    ensures rule { rule_of result ≡ file_rule name.entry.now }
+    ensures local { result.global ≡ false }
+{
+    Arg::new(alloc, name)
+        .long(name)
         .value_name("FILE")
-        .help("The file of the events' times");
+        .help(help)
+}
+
+/// The command; none of its arguments has a rule on another one.
+fn command<'a>(alloc: Global) -> Result<Command<'a>, AllocError>
+    ensures { IfOk result (λ c. app_of c ≡ pespbench) }
+{
+    let period = period_option(alloc);
+    let fixed = file_option(alloc, FIXED, "The file of fixed times");
+    let times = file_option(alloc, TIMES, "The file of the events' times");
     let check = Arg::new(alloc, CHECK)
         .long(CHECK)
         .help("Print tensions, violations and cost")
         .action(ArgAction::SetTrue);
     let activities = Arg::new(alloc, ACTIVITIES).help("The file of activities");
-    Ok(
-        Command::new(alloc, "pespbench")
-            .about("Checks periodic railway timetables")
-            .arg(period)?
-            .arg(times)?
-            .arg(check)?
-            .arg(activities)?,
-    )
-}
-
-/// What is refused or shown for `words` where help names the limits of the period.
-fn help(alloc: Global, words: &[&str]) -> Result<(), Error> {
-    let text = format!(in alloc; "The period, {LEAST_PERIOD} to {GREATEST_PERIOD}")?;
-    command(alloc, text.as_str())?.try_get_matches_from(words)?;
-    Ok(())
-}
-
-/// The settings that the matches of [`command`] hold.
-fn found<'a>(alloc: Global, matches: &ArgMatches<'a>) -> Result<Settings<'a>, Error> {
-    let period = matches.get_one::<u16>(PERIOD).and_then(Period::new);
-    match period {
-        Some(period) => Ok(Settings {
-            period,
-            times: matches.get_str(TIMES),
-            activities: matches.get_str(ACTIVITIES),
-            check: matches.get_flag(CHECK),
-        }),
-        None => Err(command(alloc, "")?.error(ErrorKind::ValueValidation, "no such period")?),
-    }
+    let command = Command::new(alloc, "pespbench")
+        .about("Checks periodic railway timetables")
+        .arg(period)?
+        .arg(fixed)?
+        .arg(times)?
+        .arg(check)?
+        .arg(activities)?;
+    Ok(command)
 }
 
 /// What the words of a command line ask for; the first word is the program's name.
 ///
 /// The error's kind tells a question for help, refused words and want of memory apart.
-pub fn settings<'a>(alloc: Global, words: &'a [&'a str]) -> Result<Settings<'a>, Error> {
-    match command(alloc, "")?.try_get_matches_from(words) {
-        Ok(matches) => found(alloc, &matches),
-        Err(error) => {
-            // The matches borrow the command's texts as long as the words, so a text that is made here
-            // cannot be among them: help is asked for once more, with the limits.
-            if error.kind() == ErrorKind::DisplayHelp {
-                help(alloc, words)?;
-            }
-            Err(error)
-        }
-    }
+pub fn settings<'a>(alloc: Global, words: &'a [&'a str]) -> Result<Settings<'a>, Error>
+    ensures settings { IfOk result (AreSettings (texts words.entry.now)) }
+
+    // A line with a fault has the kind of the first step of reading that fails, and one without it
+    // fails for want of memory alone.
+    ensures kinds { FailsBy (fault_of pespbench (texts words.entry.now)) result }
+    ensures taken { IfErr result (λ e. takes pespbench (texts words.entry.now) ≡ true
+        → kind_of e ≡ ErrorKind.OutOfMemory) }
+{
+    let command = command(alloc)?;
+    let matches = command.try_get_matches_from(words)?;
+    // The parser of the period lets no other number through.
+    let number = matches.get_one::<u16>(PERIOD).unwrap();
+    let period = Period::new(number).unwrap();
+    Ok(Settings {
+        period,
+        fixed: matches.get_str(FIXED),
+        times: matches.get_str(TIMES),
+        activities: matches.get_str(ACTIVITIES),
+        check: matches.get_flag(CHECK),
+    })
 }
 
 #[cfg(test)]
 mod tests {
     use super::settings;
-    use std::alloc::Global;
+    use clap::error::ErrorKind;
+    use pesp_base::{GREATEST_PERIOD, LEAST_PERIOD};
+    use std::test::Fail;
 
-    /// Whether the words give this period, no times, these activities and this check.
-    fn gives<'a>(
-        alloc: Global,
-        words: &'a [&'a str],
-        period: u16,
-        activities: Option<&str>,
-        check: bool,
-    ) -> bool {
-        let answer = settings(alloc, words);
-        match &answer {
-            Ok(asked) => {
-                asked.period.get() == period
-                    && asked.times.is_none()
-                    && asked.activities == activities
-                    && asked.check == check
+    #[test]
+    fn three_command_lines(rt: HostRuntime) -> Result<(), Fail> {
+        let table = [
+            ("pespbench", Some((60, None, None, None, false))),
+            (
+                "pespbench --period 10 --fixed a.fix --check a.act",
+                Some((10, Some("a.fix"), None, Some("a.act"), true)),
+            ),
+            ("pespbench --period 1", None),
+        ];
+        for (line, wanted) in table {
+            let words: Vec<&str> = line.split(' ').collect(rt.alloc())?;
+            match (settings(rt.alloc(), words.as_slice()), wanted) {
+                (Ok(asked), Some((period, fixed, times, activities, check))) => {
+                    assert_eq!(rt; asked.period.get(), period, "{line}");
+                    assert_eq!(rt; asked.fixed, fixed, "{line}");
+                    assert_eq!(rt; asked.times, times, "{line}");
+                    assert_eq!(rt; asked.activities, activities, "{line}");
+                    assert_eq!(rt; asked.check, check, "{line}");
+                }
+                (asked, wanted) => assert!(rt; asked.is_err() && wanted.is_none(), "{line}"),
             }
-            Err(_) => false,
         }
+        Ok(())
     }
 
     #[test]
-    fn settings_of_three_command_lines(rt: HostRuntime) {
+    fn refused_lines(rt: HostRuntime) -> Result<(), Fail> {
+        let table = [
+            ("pespbench --period 121", ErrorKind::ValueValidation),
+            ("pespbench --period x", ErrorKind::ValueValidation),
+            ("pespbench --period", ErrorKind::InvalidValue),
+            ("pespbench --times a --times b", ErrorKind::ArgumentConflict),
+            ("pespbench --check --check", ErrorKind::ArgumentConflict),
+            ("pespbench a.act b.act", ErrorKind::UnknownArgument),
+            ("pespbench --other", ErrorKind::UnknownArgument),
+            ("pespbench --version", ErrorKind::UnknownArgument),
+        ];
+        for (line, wanted) in table {
+            let words: Vec<&str> = line.split(' ').collect(rt.alloc())?;
+            let refused = settings(rt.alloc(), words.as_slice())
+                .err()
+                .map(|e| e.kind());
+            assert_eq!(rt; refused, Some(wanted), "{line}");
+        }
+        Ok(())
+    }
+
+    #[test]
+    fn help_names_the_limits(rt: HostRuntime) -> Result<(), Fail> {
         let alloc = rt.alloc();
-        let plain = ["pespbench"];
-        assert!(rt; gives(alloc, plain.as_slice(), 60, None, false));
-        let full = ["pespbench", "--period", "10", "--check", "a.act"];
-        assert!(rt; gives(alloc, full.as_slice(), 10, Some("a.act"), true));
-        let refused = ["pespbench", "--period", "1"];
-        assert!(rt; settings(alloc, refused.as_slice()).is_err());
+        let help = settings(alloc, &["pespbench", "--help"])
+            .err()
+            .ok_or("no help")?;
+        let text = format!(in alloc; "{help}")?;
+        let limits = format!(in alloc; "The period, {LEAST_PERIOD} to {GREATEST_PERIOD}")?;
+        assert_eq!(rt; help.kind(), ErrorKind::DisplayHelp);
+        assert!(rt; text.as_str().contains(limits.as_str()), "{text}");
+        Ok(())
     }
 }

@@ -70,7 +70,8 @@ fn put_violation(text: &mut Vec<u8>, row: &Violation) -> Result<(), AllocError>
     ensures { OnOk result (text.new.items ≡ text.old.items ++ (violation_line row.now ++ 10 ∷ [])) }
 {
     match row {
-        Violation::Activity(id) => put_activity(text, b"activity ", *id, b"\n"),
+        Violation::Activity(activity) => put_activity(text, b"activity ", *activity, b"\n"),
+        Violation::Event(event) => put_event(text, b"event ", *event, b"\n"),
     }
 }
 

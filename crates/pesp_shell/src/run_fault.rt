@@ -1,11 +1,14 @@
 //! Why a check ends without replies.
 
-use crate::ReadFault;
+ghost use Rattle.std.specs.Prelude.{◌≡◌};
+
+use pesplib_reader::ReadFault;
 
 /// One of the files.
 #[derive(Clone, Copy, Debug, PartialEq, Eq)]
 pub enum Source {
     Activities,
+    Fixed,
     Times,
 }
 
@@ -16,4 +19,14 @@ pub enum RunFault {
     File { source: Source, fault: ReadFault },
     /// No memory was found once the files were read; `line` is 0.
     Memory { line: u64 },
+}
+
+impl RunFault {
+    ghost use Rattle.pesp_shell.specs.declared.run_fault.RunFault.TheVariants as ended;
+
+    pub(crate) fn in_file(source: Source, fault: ReadFault) -> RunFault
+        ensures { result ≡ ended.File source fault }
+    {
+        RunFault::File { source, fault }
+    }
 }

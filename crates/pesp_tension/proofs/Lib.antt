@@ -1,2 +1,2 @@
-pub mod Missing
-pub mod Steps
+mod Rows
+pub mod Timed

@@ -1,6 +1,4 @@
-//! Timetables, and their tensions, violations and cost.
-//!
-//! The three answers take the activities as a slice, and the events are the activities' ends.
+//! Timetables, and what they make of an instance: tensions, violations and cost.
 #![tactic(auto)]
 
 mod answers;

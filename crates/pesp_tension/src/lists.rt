@@ -1,6 +1,6 @@
 //! The lists that answers give.
 
-use pesp_base::ActivityId;
+use pesp_base::{ActivityId, EventId};
 
 /// The tension and the slack of an activity.
 #[derive(Clone, Copy, Debug, PartialEq, Eq)]
@@ -10,7 +10,7 @@ pub struct ActivityTension {
     pub slack: u16,
 }
 
-/// The tensions of activities, in the order of the activities.
+/// The tensions of activities, in ascending order of activities.
 pub type Tensions = Vec<ActivityTension>;
 
 /// What a timetable violates.
@@ -18,7 +18,9 @@ pub type Tensions = Vec<ActivityTension>;
 pub enum Violation {
     /// The activity is not met.
     Activity(ActivityId),
+    /// The event's time is not its fixed time.
+    Event(EventId),
 }
 
-/// The violations of a timetable, in the order of the activities.
+/// The violations of a timetable: activities in ascending order, then events in ascending order.
 pub type Violations = Vec<Violation>;

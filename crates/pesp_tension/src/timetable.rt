@@ -133,4 +133,23 @@ mod tests {
         assert_eq!(rt; timetable.get(two), None);
         Ok(())
     }
+
+    #[test]
+    fn as_many_times_as_events(rt: HostRuntime) -> Result<(), Fail> {
+        let mut timetable = Timetable::new(rt.alloc(), Period::new(10).ok_or("no period")?);
+        for number in 0..20_000u32 {
+            timetable.set(EventId::new(number).ok_or("no event number")?, 0)?;
+        }
+        let one_more = EventId::new(20_000).ok_or("no event number")?;
+        let old = EventId::new(7).ok_or("no event number")?;
+        assert_eq!(rt; timetable.set(one_more, 1), Err(Refusal::TooManyEvents));
+        assert_eq!(rt; timetable.get(one_more), None);
+        assert_eq!(rt;
+            timetable.set(old, 9),
+            Ok(()),
+            "another time of an event that has one"
+        );
+        assert_eq!(rt; timetable.get(old), Some(9));
+        Ok(())
+    }
 }

@@ -28,6 +28,7 @@ impl Fault {
 fn name_of(source: Source) -> &'static str {
     match source {
         Source::Activities => "activities",
+        Source::Fixed => "fixed",
         Source::Times => "times",
     }
 }

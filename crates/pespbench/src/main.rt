@@ -53,11 +53,13 @@ fn contents<R: Files + AllocGlobal>(
 fn work<R: Files + AllocGlobal + Print>(rt: &R, words: &[&str]) -> Result<(), Ending> {
     let settings = settings(rt.alloc(), words)?;
     let activities = contents(rt, Source::Activities, settings.activities)?;
+    let fixed = contents(rt, Source::Fixed, settings.fixed)?;
     let times = contents(rt, Source::Times, settings.times)?;
     let replies = check(
         rt.alloc(),
         settings.period,
         activities.as_ref().map_or(&[], |bytes| bytes.as_slice()),
+        fixed.as_ref().map(|bytes| bytes.as_slice()),
         times.as_ref().map(|bytes| bytes.as_slice()),
     )?;
     let mut output = io::writer(rt);

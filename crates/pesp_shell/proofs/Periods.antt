@@ -1,0 +1,48 @@
+-- What a file stands for has the period that it was read with.
+use Rattle.std.proofs.Common.{◌≡◌, ℕ, Bool, true, false, cond, List, [], ◌∷◌, fold, Option, Some, None, Result, Ok, Err, refl, sym, ap, subst, ◌∙◌}
+use Rattle.pesp_instance.specs.Network.{Network, has_event}
+use Rattle.pesp_instance.specs.Edited.{effect, empty_network, refixed}
+use Rattle.pesp_instance.specs.declared.edit.Edit.TheVariants.{AddEvent}
+use Rattle.pesp_tension.specs.Timetables.{Times, no_times}
+use Rattle.pesplib_reader.specs.declared.fault.ReadFault.{ReadFault}
+use Rattle.pesplib_reader.specs.declared.fault.FaultKind.{FaultKind}
+use Rattle.pesplib_reader.specs.Records.{Row, rows_of}
+use Rattle.pesplib_reader.specs.Rows.{activity_in, unless_faulty}
+use Rattle.pesplib_reader.specs.Taking.{at_place, on_ok, row_taken, taken}
+use Rattle.pesplib_reader.specs.Reading.{activities_read, activity_faults_behind, time_faults_behind, times_read, with_activity, with_activity_row, with_event, with_fixed, with_time_row}
+
+unless_faulty_ok : {X : Type 0} (faults : List (Option FaultKind)) (x y : X) → unless_faulty faults x ≡ Ok y → x ≡ y
+unless_faulty_ok [] x y e = cc
+unless_faulty_ok (None ∷ faults) x y e = unless_faulty_ok faults x y e
+unless_faulty_ok (Some kind ∷ faults) x y e = absurd (cc)
+
+module _ {X : Type 0} (faults : X → List (List ℕ) → List (Option FaultKind)) (add : X → List (List ℕ) → X) (period_of : X → ℕ) (keeps : (x : X) (fields : List (List ℕ)) → period_of (add x fields) ≡ period_of x) where
+  step : (place : ℕ) (rows : List Row) (x : X) (fields : List (List ℕ)) (r : Result X FaultKind) → row_taken faults add x fields ≡ r
+      → ((z : X) (y : X) → taken faults add z rows ≡ Ok y → period_of y ≡ period_of z)
+      → (y : X) → on_ok (λ z. taken faults add z rows) (at_place place r) ≡ Ok y → period_of y ≡ period_of x
+  step place rows x fields (Ok z) e rest y h =
+      rest z y h ∙ sym (ap period_of (unless_faulty_ok (faults x fields) (add x fields) z e)) ∙ keeps x fields
+  step place rows x fields (Err kind) e rest y h = absurd (cc)
+
+  taken_period : (rows : List Row) (x y : X) → taken faults add x rows ≡ Ok y → period_of y ≡ period_of x
+  taken_period [] x y e = ap period_of (let same : x ≡ y = cc in sym same)
+  taken_period (r ∷ rows) x y e = step r.place rows x r.fields (row_taken faults add x r.fields) refl (taken_period rows) y e
+
+pub times_period : (period : ℕ) (bytes : List ℕ) (m : Times) → times_read period bytes ≡ Ok m → m.period ≡ period
+times_period period bytes m e = taken_period time_faults_behind with_time_row (λ (x : Times). x.period) (λ x fields. refl) (rows_of bytes) (no_times period) m e
+
+event_period : (I : Network) (e : ℕ) → (with_event I e).period ≡ I.period
+event_period I e = elim (has_event I e) as (λ b. (cond b I (effect I (AddEvent e))).period ≡ I.period) [ true ↦ refl | false ↦ refl ]
+
+pub activities_period : (period : ℕ) (bytes : List ℕ) (I : Network) → activities_read period bytes ≡ Ok I → I.period ≡ period
+activities_period period bytes I e =
+    taken_period activity_faults_behind with_activity_row (λ (x : Network). x.period)
+    (λ x fields. event_period (with_event x (activity_in fields).from) (activity_in fields).to ∙ event_period x (activity_in fields).from)
+    (rows_of bytes) (empty_network period) I e
+
+fixed_period_from : (entries : List (ℕ × ℕ)) (I : Network) → (fold (λ J x. refixed J x.0 (Some x.1)) I entries).period ≡ I.period
+fixed_period_from [] I = refl
+fixed_period_from (x ∷ entries) I = fixed_period_from entries (refixed I x.0 (Some x.1))
+
+pub fixed_period : (I : Network) (m : Times) → (with_fixed I m).period ≡ I.period
+fixed_period I m = fixed_period_from m.entries I

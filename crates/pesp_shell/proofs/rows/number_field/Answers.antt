@@ -1,9 +1,0 @@
-use Rattle.std.proofs.Common.{rules, ◌≡◌}
-use Rattle.pesp_shell.proofs.RowLemmas.{number_found}
-use Rattle.pesp_shell.specs.Rows.{value}
-use Rattle.pesp_shell.proofs.rows.number_field.Goals as goal
-
-pub returns-in-Ok-clause-value : goal.returns-in-Ok-clause-value
-returns-in-Ok-clause-value c =
-    let found : c.in-Ok.number ≡ value c.args.text.now = number_found _ _ _ c.args.text.now c.in-Ok.ensures.number in
-    search (rules, found)

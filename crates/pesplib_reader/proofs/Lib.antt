@@ -1,0 +1,9 @@
+mod Cases
+pub mod CsvLemmas
+pub mod FieldLemmas
+pub mod FixedLemmas
+pub mod InstanceLemmas
+pub mod LeftLemmas
+pub mod PointLemmas
+pub mod RowLemmas
+pub mod TakingLemmas

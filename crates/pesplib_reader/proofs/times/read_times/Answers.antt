@@ -1,0 +1,15 @@
+use Rattle.std.proofs.lemmas.Result.{err_from_is_err_and}
+use Rattle.pesp_tension.specs.Timetables.{no_times}
+use Rattle.pesplib_reader.specs.Reading.{time_faults_behind, with_time_row}
+use Rattle.pesplib_reader.proofs.TakingLemmas.{stopped_at, wanting}
+use Rattle.pesplib_reader.proofs.times.read_times.Goals as goal
+
+pub returns-in_err-next-clause-fault : goal.returns-in_err-next-clause-fault
+returns-in_err-next-clause-fault c =
+    let p = err_from_is_err_and c.from_residual.result c.from_residual.ensures.1 in
+    rw (p.1, p.2) (wanting time_faults_behind with_time_row (no_times c.args.period) c.args.bytes.now c.rows.timetable c.rows.records c.in_err-next.field-0.0 c.rows.invariant c.in_err-next.ensures.want)
+
+pub returns-in-Err-clause-fault : goal.returns-in-Err-clause-fault
+returns-in-Err-clause-fault c =
+    stopped_at time_faults_behind with_time_row (no_times c.args.period) c.args.bytes.now c.rows.timetable c.rows.records c.next.new.self c.rows.invariant (c.in_ok-next.ensures.found c.if-branch.true)
+    c.in-Err.kind c.fault.result (rw c.record.ensures at c.in-Err.ensures.fault) c.fault.ensures

@@ -1,0 +1,10 @@
+use Rattle.std.proofs.Common.{◌≡◌, length}
+use Rattle.pesplib_reader.specs.Records.{trim_end}
+use Rattle.pesplib_reader.proofs.trim.trim_end.Given as goal
+
+-- what was left out so far is left out of the whole text
+abbrev pub invariant-loop-rest : goal.invariant-loop-rest
+invariant-loop-rest l = trim_end l.rest ≡ trim_end l.text
+
+abbrev pub decreases-loop-rest : goal.decreases-loop-rest
+decreases-loop-rest l = length l.rest

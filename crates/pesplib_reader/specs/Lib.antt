@@ -1,0 +1,7 @@
+pub mod Left
+pub mod Numbers
+pub mod Reading
+pub mod Records
+pub mod RowFields
+pub mod Rows
+pub mod Taking

@@ -1,0 +1,127 @@
+//! Activities, in a file.
+
+ghost use Rattle.std.specs.Prelude.{◌≡◌, ◌≤◌, nat_lt, Ok, IfOk, IfErr, OnOk, length};
+ghost use Rattle.pesp_base.specs.Limits as limits;
+ghost use Rattle.pesplib_reader.specs.declared.fault.FaultKind.TheVariants as fault;
+ghost use Rattle.pesplib_reader.specs.Left.{trimmed_fields};
+ghost use Rattle.pesplib_reader.specs.Taking.{IsReadFault, IsTakeFault, row_taken};
+ghost use Rattle.pesplib_reader.specs.Reading.{activities_read, activity_faults_behind, activity_taken, with_activity_row, with_ends, with_event};
+
+use crate::records::{Records, activity_row};
+use crate::{FaultKind, ReadFault};
+use csv::ByteRecord;
+use pesp_base::{Activity, EventId, Period, Refusal, max_activities, max_events};
+use pesp_instance::{Edit, Instance};
+use std::alloc::Global;
+
+/// How many events there are with the ends of an activity.
+fn count_with_ends(instance: &Instance, activity: &Activity) -> usize
+    ensures { result ≡ length (with_ends instance.now activity.now).events }
+{
+    let mut count = instance.event_count();
+    if !instance.has_event(activity.from) {
+        count += 1;
+    }
+    if activity.to != activity.from && !instance.has_event(activity.to) {
+        count += 1;
+    }
+    count
+}
+
+/// Whether there are too many events with the ends of an activity.
+///
+/// They are at most two new ones, so they are looked up near the limit alone.
+fn exceeds_with_ends(instance: &Instance, activity: &Activity) -> bool
+    ensures { result ≡ nat_lt (limits.max_events instance.now.period) (length (with_ends instance.now activity.now).events) }
+{
+    let limit = max_events(instance.period());
+    if instance.event_count() + 2 <= limit {
+        return false;
+    }
+    count_with_ends(instance, activity) > limit
+}
+
+/// Adds an event that is new, or finds no memory for it.
+fn add_event(instance: &mut Instance, event: EventId) -> Result<(), FaultKind>
+    ensures ok { OnOk result (instance.new ≡ with_event instance.old event) }
+    ensures memory { IfErr result (λ found. found ≡ fault.Memory) }
+{
+    match instance.apply(&Edit::AddEvent(event)) {
+        Ok(()) | Err(Refusal::EventExists(_)) => Ok(()),
+        Err(_) => Err(FaultKind::Memory),
+    }
+}
+
+/// Takes one more activity, with those of its ends that are new, or answers the first fault:
+/// `DuplicateActivity`, `TooManyEvents`, `TooManyActivities`, `Memory`.
+fn add_with_ends(instance: &mut Instance, activity: &Activity) -> Result<(), FaultKind>
+    ensures ok { OnOk result (activity_taken instance.old activity.now ≡ Ok instance.new) }
+    ensures fault { IfErr result (IsTakeFault (activity_taken instance.old activity.now)) }
+{
+    if instance.activity(activity.id).is_some() {
+        return Err(FaultKind::DuplicateActivity);
+    }
+    if exceeds_with_ends(instance, activity) {
+        return Err(FaultKind::TooManyEvents);
+    }
+    if instance.activity_count() >= max_activities(instance.period()) {
+        return Err(FaultKind::TooManyActivities);
+    }
+    add_event(instance, activity.from)?;
+    add_event(instance, activity.to)?;
+    match instance.apply(&Edit::AddActivity(*activity)) {
+        Ok(()) => Ok(()),
+        Err(_) => Err(FaultKind::Memory),
+    }
+}
+
+/// Takes one more activity. Where both ends are known, each is looked up once.
+fn add_activity(instance: &mut Instance, activity: &Activity) -> Result<(), FaultKind>
+    requires { length instance.old.events ≤ limits.max_events instance.old.period }
+    ensures ok { OnOk result (activity_taken instance.old activity.now ≡ Ok instance.new) }
+    ensures fault { IfErr result (IsTakeFault (activity_taken instance.old activity.now)) }
+{
+    match instance.apply(&Edit::AddActivity(*activity)) {
+        Ok(()) => Ok(()),
+        Err(Refusal::Memory) => Err(FaultKind::Memory),
+        Err(_) => add_with_ends(instance, activity),
+    }
+}
+
+/// Takes the activity of a row.
+fn take_activity(instance: &mut Instance, fields: &ByteRecord) -> Result<(), FaultKind>
+    requires { length instance.old.events ≤ limits.max_events instance.old.period }
+    ensures ok { OnOk result (row_taken activity_faults_behind with_activity_row instance.old (trimmed_fields fields.now) ≡ Ok instance.new) }
+    ensures few { OnOk result (length instance.new.events ≤ limits.max_events instance.new.period) }
+    ensures fault { IfErr result (IsTakeFault (row_taken activity_faults_behind with_activity_row instance.old (trimmed_fields fields.now))) }
+{
+    let Some(row) = activity_row(fields) else {
+        return Err(FaultKind::FieldCount);
+    };
+    let activity = row.activity()?;
+    add_activity(instance, &activity)
+}
+
+/// The instance that a file of activities stands for, or the fault of its first faulty row.
+///
+/// The events are the ends of the activities, and none has a fixed time. A row has the number of an
+/// activity, its ends, its lower and its upper bound, and its weight. Of the faults of a row the first
+/// is named: `FieldCount`, `BadNumber`, `FractionalWeight` or `OutOfRange` from left to right,
+/// `Crossed`, `DuplicateActivity`, `TooManyEvents`, `TooManyActivities`. `Memory` is answered at the
+/// number of the records taken so far and one more.
+pub fn read_activities(alloc: Global, period: Period, bytes: &[u8]) -> Result<Instance, ReadFault>
+    ensures ok { IfOk result (λ instance. activities_read period bytes.now ≡ Ok instance) }
+    ensures fault { IfErr result (IsReadFault bytes.now (activities_read period bytes.now)) }
+{
+    let mut instance = Instance::new(alloc, period);
+    let mut records = Records::new(alloc, bytes);
+    'rows: while records.next()? {
+        if let Err(kind) = take_activity(&mut instance, records.record()) {
+            return Err(records.fault(kind));
+        }
+    }
+    Ok(instance)
+}
+
+#[cfg(test)]
+mod tests;
