@@ -1,7 +1,7 @@
 //! The program: reads the command line and the files, and prints the replies.
 #![tactic(auto)]
 
-ghost use Rattle.std.specs.Prelude.{◌≤◌, [], ◌∷◌, Contains, IfErr};
+ghost use Rattle.std.specs.Prelude.{◌≡◌, ◌≤◌, [], ◌∷◌, Contains, IfErr, IfOk, is_some};
 ghost use Rattle.std.specs.Process.{exit_status};
 ghost use Rattle.pespbench.specs.Faults.{faults_of_file};
 ghost use Rattle.pespbench.specs.declared.ending.Ending.TheVariants as ending;
@@ -41,7 +41,8 @@ fn contents<R: Files + AllocGlobal>(
     source: Source,
     path: Option<&str>,
 ) -> Result<Option<Vec<u8>>, Fault>
-    ensures { IfErr result (Contains (faults_of_file source)) }
+    ensures given { IfOk result (λ bytes. is_some bytes ≡ is_some path.entry) }
+    ensures named { IfErr result (Contains (faults_of_file source)) }
 {
     match path {
         Some(path) => Ok(Some(files::read_whole(rt, source, path)?)),
