@@ -1,10 +1,11 @@
 -- Small cases of the definitions, by computation.
 use Rattle.std.proofs.Common.{◌≡◌, ℕ, refl, pos, negsuc, true, false, [], ◌∷◌, Some, None, Err, codes, int_rem, unsigned_abs, ◌-ℤ◌}
+use Rattle.pesp_base.specs.declared.refusal.Refusal.{Refusal}
 use Rattle.pesp_base.specs.declared.refusal.Refusal.TheVariants as no
 use Rattle.pesp_base.specs.Bounds.{Bounds}
 use Rattle.pesp_base.specs.Refusals.{when, unless_refused}
 use Rattle.pesp_base.specs.Tensions.{tension_of, slack_of, is_met}
-use Rattle.pesp_base.specs.Texts.{number_value, pieces_of, words_line, as_lines}
+use Rattle.pesp_base.specs.Texts.{number_value, separated, words_line, as_lines}
 
 -- the two activities of the first example: [3, 5] from 0 to 3, and [4, 6] from 3 to 0, at period 10
 abbrev there : Bounds
@@ -60,15 +61,11 @@ no_digit = refl
 many_digits : number_value (codes "99999999999999999999999999999999999999999999999999") ≡ Some (pos 99999999999999999999999999999999999999999999999999)
 many_digits = refl
 
--- a separator at the end leaves an empty piece behind it
-last_piece : pieces_of 59 (codes "1; 2;") ≡ codes "1" ∷ codes " 2" ∷ [] ∷ []
-last_piece = refl
-
-no_bytes : pieces_of 59 [] ≡ [] ∷ []
-no_bytes = refl
-
 one_line : as_lines (words_line (codes "cost" ∷ codes "3" ∷ []) ∷ []) ≡ codes "cost 3\n"
 one_line = refl
 
-first_refusal : unless_refused {X = ℕ} (when false no.TooManyEvents ∷ when true (no.TimeOutOfRange 12) ∷ when true no.Memory ∷ []) 0 ≡ Err (no.TimeOutOfRange 12)
+two_fields : separated (codes "; ") (codes "1" ∷ codes "0" ∷ []) ≡ codes "1; 0"
+two_fields = refl
+
+first_refusal : unless_refused {E = Refusal} {X = ℕ} (when false no.TooManyEvents ∷ when true (no.TimeOutOfRange 12) ∷ when true no.Memory ∷ []) 0 ≡ Err (no.TimeOutOfRange 12)
 first_refusal = refl

@@ -1,4 +1,4 @@
--- The numbers of refusals, and the first of several.
+-- The numbers of refusals, and the first of several refusals or faults.
 use Rattle.std.specs.Prelude.{ℕ, Bool, if◌then◌else◌, List, [], ◌∷◌, Option, Some, None, Result, Ok, Err}
 use Rattle.pesp_base.specs.declared.refusal.Refusal.{Refusal}
 use Rattle.pesp_base.specs.declared.refusal.Refusal.TheVariants as no
@@ -17,12 +17,12 @@ number_of no.Memory = 10
 number_of (no.MissingTime e) = 11
 number_of no.Infeasible = 12
 
--- a refusal, where its condition holds
-abbrev pub when : Bool → Refusal → Option Refusal
+-- a refusal or a fault, where its condition holds
+abbrev pub when : {E : Type 0} → Bool → E → Option E
 when condition refusal = if condition then Some refusal else None
 
 -- the first refusal of a list, or else the value
-abbrev pub unless_refused : {X : Type 0} → List (Option Refusal) → X → Result X Refusal
+abbrev pub unless_refused : {E X : Type 0} → List (Option E) → X → Result X E
 unless_refused [] x = Ok x
 unless_refused (None ∷ rest) x = unless_refused rest x
 unless_refused (Some refusal ∷ rest) x = Err refusal

@@ -1,5 +1,5 @@
 -- How numbers and lines are written and read in files, commands and replies.
-use Rattle.std.specs.Prelude.{ℕ, ◌+◌, ◌-◌, ◌*◌, Bool, true, false, List, [], ◌∷◌, ◌++◌, fold, flat_map, ℤ, pos, neg_ℤ, Option, Some, None, option_map, if◌then◌else◌, ◌==◌}
+use Rattle.std.specs.Prelude.{ℕ, ◌+◌, ◌-◌, ◌*◌, List, [], ◌∷◌, ◌++◌, fold, flat_map, ℤ, pos, neg_ℤ, Option, Some, None, option_map, if◌then◌else◌, ◌==◌}
 use Rattle.std.specs.List.{list_all}
 use Rattle.std.specs.Char.{is_ascii_digit}
 
@@ -17,22 +17,15 @@ number_value (b ∷ bs) =
     else if b == 45 then option_map (λ n. neg_ℤ (pos n)) (digits_value bs)
     else option_map pos (digits_value (b ∷ bs))
 
--- a byte before the pieces behind it: a separator begins a new piece, and any other byte joins the first one
-abbrev pub before_pieces : Bool → ℕ → List (List ℕ) → List (List ℕ)
-before_pieces true b pieces = [] ∷ pieces
-before_pieces false b [] = (b ∷ []) ∷ []
-before_pieces false b (p ∷ pieces) = (b ∷ p) ∷ pieces
-
--- the pieces before, between and behind the separators: always one more than there are separators
-abbrev pub pieces_of : ℕ → List ℕ → List (List ℕ)
-pieces_of separator [] = [] ∷ []
-pieces_of separator (b ∷ bytes) = before_pieces (b == separator) b (pieces_of separator bytes)
+-- the pieces with a text between each two
+abbrev pub separated : List ℕ → List (List ℕ) → List ℕ
+separated between [] = []
+separated between (p ∷ []) = p
+separated between (p ∷ q ∷ pieces) = p ++ between ++ separated between (q ∷ pieces)
 
 -- the words with a space between each two
 abbrev pub words_line : List (List ℕ) → List ℕ
-words_line [] = []
-words_line (w ∷ []) = w
-words_line (w ∷ v ∷ words) = w ++ 32 ∷ words_line (v ∷ words)
+words_line words = separated (32 ∷ []) words
 
 -- each line and a line feed
 abbrev pub as_lines : List (List ℕ) → List ℕ

@@ -9,6 +9,7 @@ mod arithmetic;
 mod event_id;
 mod limits;
 mod memory;
+mod number;
 mod period;
 mod refusal;
 mod span;
@@ -23,6 +24,7 @@ pub use limits::{
     max_activities, max_events,
 };
 pub use memory::Memory;
+pub use number::{CAP, NumberFault, number_between};
 pub use period::Period;
 pub use refusal::Refusal;
 pub use span::{Span, SpanFault};

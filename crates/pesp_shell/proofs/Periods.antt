@@ -1,27 +1,27 @@
 -- What a file stands for has the period that it was read with.
-use Rattle.std.proofs.Common.{◌≡◌, ℕ, Bool, true, false, cond, List, [], ◌∷◌, fold, Option, Some, None, Result, Ok, Err, refl, sym, ap, subst, ◌∙◌}
+use Rattle.std.proofs.Common.{◌≡◌, ℕ, true, false, cond, List, [], ◌∷◌, fold, Option, Some, None, Result, Ok, Err, refl, sym, ap, ◌∙◌}
+use Rattle.pesp_base.specs.Refusals.{unless_refused}
 use Rattle.pesp_instance.specs.Network.{Network, has_event}
 use Rattle.pesp_instance.specs.Edited.{effect, empty_network, refixed}
 use Rattle.pesp_instance.specs.declared.edit.Edit.TheVariants.{AddEvent}
 use Rattle.pesp_tension.specs.Timetables.{Times, no_times}
-use Rattle.pesplib_reader.specs.declared.fault.ReadFault.{ReadFault}
 use Rattle.pesplib_reader.specs.declared.fault.FaultKind.{FaultKind}
 use Rattle.pesplib_reader.specs.Records.{Row, rows_of}
-use Rattle.pesplib_reader.specs.Rows.{activity_in, unless_faulty}
+use Rattle.pesplib_reader.specs.Rows.{activity_in}
 use Rattle.pesplib_reader.specs.Taking.{at_place, on_ok, row_taken, taken}
-use Rattle.pesplib_reader.specs.Reading.{activities_read, activity_faults_behind, time_faults_behind, times_read, with_activity, with_activity_row, with_event, with_fixed, with_time_row}
+use Rattle.pesplib_reader.specs.Reading.{activities_read, activity_faults_behind, time_faults_behind, times_read, with_activity_row, with_event, with_fixed, with_time_row}
 
-unless_faulty_ok : {X : Type 0} (faults : List (Option FaultKind)) (x y : X) → unless_faulty faults x ≡ Ok y → x ≡ y
-unless_faulty_ok [] x y e = cc
-unless_faulty_ok (None ∷ faults) x y e = unless_faulty_ok faults x y e
-unless_faulty_ok (Some kind ∷ faults) x y e = absurd (cc)
+unless_refused_ok : {X : Type 0} (faults : List (Option FaultKind)) (x y : X) → unless_refused faults x ≡ Ok y → x ≡ y
+unless_refused_ok [] x y e = cc
+unless_refused_ok (None ∷ faults) x y e = unless_refused_ok faults x y e
+unless_refused_ok (Some kind ∷ faults) x y e = absurd (cc)
 
 module _ {X : Type 0} (faults : X → List (List ℕ) → List (Option FaultKind)) (add : X → List (List ℕ) → X) (period_of : X → ℕ) (keeps : (x : X) (fields : List (List ℕ)) → period_of (add x fields) ≡ period_of x) where
   step : (place : ℕ) (rows : List Row) (x : X) (fields : List (List ℕ)) (r : Result X FaultKind) → row_taken faults add x fields ≡ r
       → ((z : X) (y : X) → taken faults add z rows ≡ Ok y → period_of y ≡ period_of z)
       → (y : X) → on_ok (λ z. taken faults add z rows) (at_place place r) ≡ Ok y → period_of y ≡ period_of x
   step place rows x fields (Ok z) e rest y h =
-      rest z y h ∙ sym (ap period_of (unless_faulty_ok (faults x fields) (add x fields) z e)) ∙ keeps x fields
+      rest z y h ∙ sym (ap period_of (unless_refused_ok (faults x fields) (add x fields) z e)) ∙ keeps x fields
   step place rows x fields (Err kind) e rest y h = absurd (cc)
 
   taken_period : (rows : List Row) (x y : X) → taken faults add x rows ≡ Ok y → period_of y ≡ period_of x

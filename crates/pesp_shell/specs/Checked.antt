@@ -1,5 +1,5 @@
 -- What a check answers.
-use Rattle.std.specs.Prelude.{◌≡◌, ℕ, List, [], ◌++◌, IsOk, Option, unwrap_or, Result, Ok}
+use Rattle.std.specs.Prelude.{◌≡◌, ℕ, List, [], ◌++◌, IsOk, Option, unwrap_or, Ok}
 use Rattle.pesp_instance.specs.Network.{Network}
 use Rattle.pesp_tension.specs.Answers.{cost_of, tensions_of, violations_of, where_timed}
 use Rattle.pesp_tension.specs.Timetables.{Times}

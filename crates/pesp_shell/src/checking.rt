@@ -1,68 +1,40 @@
 //! The check of one timetable.
 
-ghost use Rattle.std.specs.Prelude.{◌≡◌, ◌++◌, IfOk, IfErr, OnOk};
+ghost use Rattle.std.specs.Prelude.{◌≡◌, ◌++◌, IfOk, IfErr, IsErr, OnOk};
 ghost use Rattle.std.specs.Option.{option_copied};
 ghost use Rattle.pesp_instance.specs.Network.{Network};
 ghost use Rattle.pesp_tension.specs.Timetables.{Times};
-ghost use Rattle.pesp_tension.specs.Answers.{cost_of, tensions_of, violations_of, where_timed};
+ghost use Rattle.pesp_base.specs.declared.refusal.Refusal.TheVariants as no;
 ghost use Rattle.pesp_shell.specs.Checked.{IsCheck, IsCheckFault, check_text, given};
-ghost use Rattle.pesp_shell.specs.Replies.{cost_text, tensions_text, told, violations_text};
+ghost use Rattle.pesp_shell.specs.Replies.{cost_text, refusal_text, tensions_text, violations_text};
 
 use crate::{RunFault, Source, replies};
-use pesp_base::Period;
+use pesp_base::{Period, Refusal};
 use pesp_instance::Instance;
-use pesp_tension::{Timetable, cost, tensions, violations};
+use pesp_tension::{Assessment, Timetable, assess};
 use pesplib_reader::{read_activities, read_fixed, read_times};
 use std::alloc::{AllocError, Global};
 
-/// The reply to `tensions`, or its refusal's.
-fn tell_tensions(
-    alloc: Global,
-    text: &mut Vec<u8>,
-    instance: &Instance,
-    timetable: &Timetable,
-) -> Result<(), AllocError>
-    requires { instance.now.period ≡ timetable.now.period }
-    ensures { OnOk result (text.new.items ≡ text.old.items ++ told tensions_text (where_timed instance.now timetable.now (tensions_of instance.now timetable.now))) }
+/// The replies to `tensions`, `violations` and `cost`.
+fn put_assessment(text: &mut Vec<u8>, assessment: &Assessment) -> Result<(), AllocError>
+    ensures { OnOk result (text.new.items ≡ text.old.items ++ (tensions_text assessment.now.tensions.items ++ (violations_text assessment.now.violations.items ++ cost_text assessment.now.cost))) }
 {
-    match tensions(alloc, instance, timetable) {
-        Ok(rows) => replies::put_tensions(text, rows.as_slice()),
-        Err(refusal) => replies::put_refusal(text, refusal),
-    }
+    replies::put_tensions(text, assessment.tensions.as_slice())?;
+    replies::put_violations(text, assessment.violations.as_slice())?;
+    replies::put_cost(text, assessment.cost)
 }
 
-/// The reply to `violations`, or its refusal's.
-fn tell_violations(
-    alloc: Global,
-    text: &mut Vec<u8>,
-    instance: &Instance,
-    timetable: &Timetable,
-) -> Result<(), AllocError>
-    requires { instance.now.period ≡ timetable.now.period }
-    ensures { OnOk result (text.new.items ≡ text.old.items ++ told violations_text (where_timed instance.now timetable.now (violations_of instance.now timetable.now))) }
+/// The reply of a refusal of all three.
+fn put_refusals(text: &mut Vec<u8>, refusal: &Refusal) -> Result<(), AllocError>
+    ensures told { OnOk result (text.new.items ≡ text.old.items ++ (refusal_text refusal.now ++ (refusal_text refusal.now ++ refusal_text refusal.now))) }
+    ensures memory { refusal.now ≡ no.Memory → IsErr result }
 {
-    match violations(alloc, instance, timetable) {
-        Ok(rows) => replies::put_violations(text, rows.as_slice()),
-        Err(refusal) => replies::put_refusal(text, refusal),
-    }
+    replies::put_refusal(text, *refusal)?;
+    replies::put_refusal(text, *refusal)?;
+    replies::put_refusal(text, *refusal)
 }
 
-/// The reply to `cost`, or its refusal's.
-fn tell_cost(
-    text: &mut Vec<u8>,
-    instance: &Instance,
-    timetable: &Timetable,
-) -> Result<(), AllocError>
-    requires { instance.now.period ≡ timetable.now.period }
-    ensures { OnOk result (text.new.items ≡ text.old.items ++ told cost_text (where_timed instance.now timetable.now (cost_of instance.now timetable.now))) }
-{
-    match cost(instance, timetable) {
-        Ok(cost) => replies::put_cost(text, cost),
-        Err(refusal) => replies::put_refusal(text, refusal),
-    }
-}
-
-/// The three replies.
+/// The three replies, which are of one walk over the activities.
 fn told_check(
     alloc: Global,
     instance: &Instance,
@@ -72,9 +44,10 @@ fn told_check(
     ensures { IfOk result (λ text. text.items ≡ check_text instance.now timetable.now) }
 {
     let mut text = Vec::new(alloc);
-    tell_tensions(alloc, &mut text, instance, timetable)?;
-    tell_violations(alloc, &mut text, instance, timetable)?;
-    tell_cost(&mut text, instance, timetable)?;
+    match assess(alloc, instance, timetable) {
+        Ok(assessment) => put_assessment(&mut text, &assessment)?,
+        Err(refusal) => put_refusals(&mut text, &refusal)?,
+    }
     Ok(text)
 }
 

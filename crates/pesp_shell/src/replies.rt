@@ -1,50 +1,15 @@
 //! The texts of replies.
 //!
-//! Each function puts its text behind what is written already; numbers are written by `itoa`.
+//! Each function puts its text behind what is written already.
 
 ghost use Rattle.std.specs.Prelude.{◌≡◌, ◌++◌, [], ◌∷◌, OnOk, IsErr, decimal};
-ghost use Rattle.std.specs.Fmt.{signed_decimal};
 ghost use Rattle.pesp_base.specs.declared.refusal.Refusal.TheVariants as no;
 ghost use Rattle.pesp_shell.specs.Replies.{cost_text, refusal_text, tension_line, tensions_text, violation_line, violations_text};
 
-use itoa::Buffer;
 use pesp_base::{ActivityId, EventId, Refusal};
 use pesp_tension::{ActivityTension, Violation};
+use pesplib_writer::{put, put_between, put_number, put_signed};
 use std::alloc::AllocError;
-
-fn put_number(text: &mut Vec<u8>, number: u64) -> Result<(), AllocError>
-    ensures { OnOk result (text.new.items ≡ text.old.items ++ decimal number) }
-{
-    let mut buffer = Buffer::new();
-    text.extend_from_slice(buffer.format(number).as_bytes())
-}
-
-fn put_signed(text: &mut Vec<u8>, number: i32) -> Result<(), AllocError>
-    ensures { OnOk result (text.new.items ≡ text.old.items ++ signed_decimal number) }
-{
-    let mut buffer = Buffer::new();
-    text.extend_from_slice(buffer.format(number).as_bytes())
-}
-
-fn put(text: &mut Vec<u8>, bytes: &[u8]) -> Result<(), AllocError>
-    ensures { OnOk result (text.new.items ≡ text.old.items ++ bytes.now) }
-{
-    text.extend_from_slice(bytes)
-}
-
-/// A number between two texts.
-fn put_between(
-    text: &mut Vec<u8>,
-    before: &[u8],
-    number: u64,
-    after: &[u8],
-) -> Result<(), AllocError>
-    ensures { OnOk result (text.new.items ≡ text.old.items ++ (before.now ++ (decimal number ++ after.now))) }
-{
-    put(text, before)?;
-    put_number(text, number)?;
-    put(text, after)
-}
 
 fn put_tension(text: &mut Vec<u8>, row: &ActivityTension) -> Result<(), AllocError>
     ensures { OnOk result (text.new.items ≡ text.old.items ++ (tension_line row.now ++ 10 ∷ [])) }

@@ -1,10 +1,9 @@
 -- Where no event lacks a time, each end of each activity has one.
-use Rattle.std.proofs.Common.{◌≡◌, ℕ, zero, suc, ◌<◌, length, eqb, Bool, true, false, cond, List, [], ◌∷◌, map, find, All, is_none, is_some, IsSome, IsTrue, Option, Some, None, refl, subst, arith}
+use Rattle.std.proofs.Common.{◌≡◌, ℕ, zero, suc, eqb, true, false, cond, List, [], ◌∷◌, map, find, All, is_none, is_some, IsSome, IsTrue, Option, Some, None, refl, subst, arith}
 use Rattle.std.proofs.lemmas.Bool.{eqb-true}
-use Rattle.pesp_base.specs.declared.activity.Activity.{Activity}
 use Rattle.pesp_base.specs.Numbered.{with_number}
 use Rattle.pesp_instance.specs.declared.event.Event.{Event}
-use Rattle.pesp_instance.specs.Network.{Network, IsNetwork, HasEnds}
+use Rattle.pesp_instance.specs.Network.{Network, IsNetwork}
 use Rattle.pesp_tension.specs.Timetables.{Times, time_of}
 use Rattle.pesp_tension.specs.Answers.{IsTimed, first_missing}
 

@@ -1,5 +1,5 @@
 -- Tensions, violations and cost of a timetable for an instance.
-use Rattle.std.specs.Prelude.{◌≡◌, ℕ, ◌*◌, ◌<◌, Bool, not, List, [], ◌∷◌, ◌++◌, map, filter, find, sum_by, is_none, IsSome, Option, Some, None, option_map, unwrap_or, Result, Ok, Err}
+use Rattle.std.specs.Prelude.{◌≡◌, ℕ, ◌*◌, ◌<◌, Bool, not, List, [], ◌∷◌, ◌++◌, map, filter, find, sum_by, is_none, IsSome, Option, Some, option_map, unwrap_or, Result, Ok, Err}
 use Rattle.pesp_base.specs.declared.activity.Activity.{Activity}
 use Rattle.pesp_base.specs.declared.refusal.Refusal.{Refusal}
 use Rattle.pesp_base.specs.declared.refusal.Refusal.TheVariants as no

@@ -25,7 +25,7 @@ fn missing(instance: &Instance, timetable: &Timetable) -> Option<EventId>
 }
 
 /// Whether an event has no time, as the refusal that names the least one.
-fn require_times(instance: &Instance, timetable: &Timetable) -> Result<(), Refusal>
+pub(crate) fn require_times(instance: &Instance, timetable: &Timetable) -> Result<(), Refusal>
     ensures { result ≡ where_timed instance.now timetable.now tt }
 {
     match missing(instance, timetable) {
@@ -35,7 +35,7 @@ fn require_times(instance: &Instance, timetable: &Timetable) -> Result<(), Refus
 }
 
 /// The times of an activity's ends.
-fn times_of_ends(activity: &Activity, timetable: &Timetable) -> (u16, u16)
+pub(crate) fn times_of_ends(activity: &Activity, timetable: &Timetable) -> (u16, u16)
     requires { IsTimed timetable.now activity.now }
     ensures { AreTimes timetable.now activity.now result }
 {
@@ -44,13 +44,17 @@ fn times_of_ends(activity: &Activity, timetable: &Timetable) -> (u16, u16)
     (from, to)
 }
 
-/// The tension and the slack of an activity.
-fn tension_of(activity: &Activity, timetable: &Timetable) -> ActivityTension
-    requires { IsTimed timetable.now activity.now }
+/// The tension and the slack of an activity, whose ends have these times.
+pub(crate) fn tension_at(
+    activity: &Activity,
+    timetable: &Timetable,
+    times: (u16, u16),
+) -> ActivityTension
+    requires { AreTimes timetable.now activity.now times }
     ensures { result ≡ tension_in timetable.now activity.now }
 {
-    let (from, to) = times_of_ends(activity, timetable);
     let period = timetable.period();
+    let (from, to) = times;
     ActivityTension {
         id: activity.id,
         tension: tension(period, activity.span, from, to),
@@ -58,13 +62,40 @@ fn tension_of(activity: &Activity, timetable: &Timetable) -> ActivityTension
     }
 }
 
+/// Whether an activity is met, whose ends have these times.
+pub(crate) fn is_met_at(activity: &Activity, timetable: &Timetable, times: (u16, u16)) -> bool
+    requires { AreTimes timetable.now activity.now times }
+    ensures { result ≡ meets timetable.now activity.now }
+{
+    let (from, to) = times;
+    allows(timetable.period(), activity.span, from, to)
+}
+
+/// Weight times slack of an activity, whose ends have these times.
+pub(crate) fn cost_at(activity: &Activity, timetable: &Timetable, times: (u16, u16)) -> u64
+    requires { AreTimes timetable.now activity.now times }
+    ensures value { result ≡ cost_in timetable.now activity.now }
+    ensures small { result ≤ GREATEST_WEIGHT * (GREATEST_PERIOD - 1) }
+{
+    let (from, to) = times;
+    let slack = slack(timetable.period(), activity.span, from, to);
+    u64::from(activity.weight.get()) * u64::from(slack)
+}
+
+/// The tension and the slack of an activity.
+fn tension_of(activity: &Activity, timetable: &Timetable) -> ActivityTension
+    requires { IsTimed timetable.now activity.now }
+    ensures { result ≡ tension_in timetable.now activity.now }
+{
+    tension_at(activity, timetable, times_of_ends(activity, timetable))
+}
+
 /// Whether an activity is met.
 fn is_met(activity: &Activity, timetable: &Timetable) -> bool
     requires { IsTimed timetable.now activity.now }
     ensures { result ≡ meets timetable.now activity.now }
 {
-    let (from, to) = times_of_ends(activity, timetable);
-    allows(timetable.period(), activity.span, from, to)
+    is_met_at(activity, timetable, times_of_ends(activity, timetable))
 }
 
 /// Weight times slack of an activity.
@@ -73,9 +104,7 @@ fn cost_of_activity(activity: &Activity, timetable: &Timetable) -> u64
     ensures value { result ≡ cost_in timetable.now activity.now }
     ensures small { result ≤ GREATEST_WEIGHT * (GREATEST_PERIOD - 1) }
 {
-    let (from, to) = times_of_ends(activity, timetable);
-    let slack = slack(timetable.period(), activity.span, from, to);
-    u64::from(activity.weight.get()) * u64::from(slack)
+    cost_at(activity, timetable, times_of_ends(activity, timetable))
 }
 
 /// Whether an event stands at its fixed time, if it has one.
@@ -138,7 +167,7 @@ fn list_unmet(
 }
 
 /// Puts the events that stand at another time than their fixed one behind the violations.
-fn list_moved(
+pub(crate) fn list_moved(
     violations: &mut Violations,
     instance: &Instance,
     timetable: &Timetable,

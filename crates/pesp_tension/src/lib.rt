@@ -2,11 +2,13 @@
 #![tactic(auto)]
 
 mod answers;
+mod assessment;
 mod lists;
 mod timetable;
 mod walk;
 
 pub use answers::{cost, tensions, violations};
+pub use assessment::{Assessment, assess};
 pub use lists::{ActivityTension, Tensions, Violation, Violations};
 pub use timetable::Timetable;
 pub use walk::{EventTime, Walk};

@@ -4,7 +4,7 @@ ghost use Rattle.std.specs.Prelude.{◌≡◌, ◌<◌, ◌≤◌, Ok, IfSome, I
 ghost use Rattle.std.specs.List.Sorted.{IsStrictlyIncreasing};
 ghost use Rattle.pesp_base.specs.Limits.{max_events};
 ghost use Rattle.pesp_base.specs.declared.refusal.Refusal.TheVariants as no;
-ghost use Rattle.pesp_tension.specs.Timetables.{no_times, time_of, timed_events, set_time, with_time, without_time, IsSetRefusal};
+ghost use Rattle.pesp_tension.specs.Timetables.{no_times, time_of, timed_events, set_time, with_time, without_time, IsSetRefusal, IsTimetable};
 
 use crate::Walk;
 use pesp_base::{EventId, Period, Refusal, max_events};
@@ -60,6 +60,7 @@ impl Timetable {
         ensures entries { result ≡ self.now.entries }
         ensures rising { IsStrictlyIncreasing (timed_events self.now) }
         ensures few { length self.now.entries ≤ max_events self.now.period }
+        ensures within { IsTimetable self.now }
     {
         Walk {
             entries: self.times.iter(),

@@ -19,7 +19,7 @@ use Rattle.pesp_tension.specs.Timetables.{Times, no_times, time_of}
 use Rattle.pesplib_reader.specs.declared.fault.FaultKind.{FaultKind}
 use Rattle.pesplib_reader.specs.declared.fault.FaultKind.TheVariants as fault
 use Rattle.pesplib_reader.specs.Records.{Row, rows_of}
-use Rattle.pesplib_reader.specs.Rows.{fault_when, field, natural, time_faults, unless_faulty, value}
+use Rattle.pesplib_reader.specs.Rows.{field, natural, time_faults, value}
 use Rattle.pesplib_reader.specs.Reading.{AreFixable, fixed_faults_behind, fixed_read, with_time_row}
 use Rattle.pesplib_reader.specs.Taking.{at_place, on_ok, row_taken, taken}
 
@@ -42,7 +42,7 @@ module _ (I : Network) where
     all : AreFixable I m.entries
     same : m.period ≡ I.period
 
-  last_known : {X : Type 0} (own : List (Option FaultKind)) (p q : Bool) (x y : X) → unless_faulty (own ++ fault_when p fault.DuplicateEvent ∷ fault_when (not q) fault.NoEvent ∷ []) x ≡ Ok y → (q ≡ true) × (x ≡ y)
+  last_known : {X : Type 0} (own : List (Option FaultKind)) (p q : Bool) (x y : X) → unless_refused (own ++ when p fault.DuplicateEvent ∷ when (not q) fault.NoEvent ∷ []) x ≡ Ok y → (q ≡ true) × (x ≡ y)
   last_known [] true q x y h = absurd (cc)
   last_known [] false true x y h = (refl, cc)
   last_known [] false false x y h = absurd (cc)

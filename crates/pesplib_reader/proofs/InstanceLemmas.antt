@@ -13,7 +13,6 @@ use Rattle.pesp_instance.specs.Network.{Network, activity_of, event_of, has_even
 use Rattle.pesp_instance.proofs.Rising.{length-put_in, with_number-put_in}
 use Rattle.pesplib_reader.specs.declared.fault.FaultKind.TheVariants as fault
 use Rattle.pesplib_reader.specs.Reading.{activity_taken, with_activity, with_ends, with_event}
-use Rattle.pesplib_reader.specs.Rows.{fault_when, unless_faulty}
 use Rattle.pesplib_reader.specs.Taking.{IsTakeFault}
 
 -- ---- what an answer of an edit says
@@ -42,7 +41,7 @@ module _ (I : Network) (a : Activity) where
   too_many_events = nat_lt (max_events I.period) (length (with_ends I a).events)
 
   no_faults : (p q r : Bool) (x : Network) → p ≡ false → q ≡ false → r ≡ false
-      → unless_faulty (fault_when p fault.DuplicateActivity ∷ fault_when q fault.TooManyEvents ∷ fault_when r fault.TooManyActivities ∷ []) x ≡ Ok x
+      → unless_refused (when p fault.DuplicateActivity ∷ when q fault.TooManyEvents ∷ when r fault.TooManyActivities ∷ []) x ≡ Ok x
   no_faults p q r x e f g = rw (e, f, g) refl
 
   -- an activity without a fault
@@ -173,7 +172,7 @@ module _ (I J : Network) (a : Activity) where
   added_behind h =
       (accepted (is_some (activity_of (with_ends I a) a.id)) (has_event (with_ends I a) a.from) (has_event (with_ends I a) a.to) (nat_le (max_activities (with_ends I a).period) (length (with_ends I a).activities)) (no.ActivityExists a.id) (no.NoEvent a.from) (no.NoEvent a.to) no.TooManyActivities (effect (with_ends I a) (AddActivity a)) J h).4
 
-  few_by : (p q r : Bool) (x : Network) → unless_faulty (fault_when p fault.DuplicateActivity ∷ fault_when q fault.TooManyEvents ∷ fault_when r fault.TooManyActivities ∷ []) x ≡ Ok J → (q ≡ false) × (x ≡ J)
+  few_by : (p q r : Bool) (x : Network) → unless_refused (when p fault.DuplicateActivity ∷ when q fault.TooManyEvents ∷ when r fault.TooManyActivities ∷ []) x ≡ Ok J → (q ≡ false) × (x ≡ J)
   few_by true q r x h = absurd (cc)
   few_by false true r x h = absurd (cc)
   few_by false false true x h = absurd (cc)

@@ -1,9 +1,9 @@
 -- What it means that a field has no fault.
 use Rattle.std.proofs.Common.{◌≡◌, ◌||◌, Bool, true, false, if◌then◌else◌, int_lt, ℕ, ℤ, pos, List, Option, Some, None, unwrap_or, Ok, Err}
 use Rattle.pesp_base.specs.Texts.{number_value}
-use Rattle.pesplib_reader.specs.Numbers.{number_in, within}
+use Rattle.pesp_base.specs.Numbers.{number_in, within}
 use Rattle.pesplib_reader.specs.Rows.{value}
-use Rattle.pesplib_reader.specs.declared.number.NumberFault.TheVariants as fault
+use Rattle.pesp_base.specs.declared.number.NumberFault.TheVariants as fault
 
 inside : (t : Bool) (n z : ℤ) → Ok z ≡ (if t then Err fault.OutOfRange else Ok n) → z ≡ n
 inside true n z h = absurd (cc)

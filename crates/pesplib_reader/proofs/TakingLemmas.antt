@@ -1,26 +1,26 @@
 -- Rows that are taken one after another.
 use Rattle.std.proofs.Common.{◌≡◌, ℕ, ◌≤◌, List, [], ◌∷◌, ◌++◌, length, Option, Some, None, Result, Ok, Err, IfErr, inl, inr, refl, sym, ap, subst, ◌∙◌, arith}
+use Rattle.pesp_base.specs.Refusals.{unless_refused}
 use Rattle.pesplib_reader.specs.declared.fault.ReadFault.{ReadFault}
 use Rattle.pesplib_reader.specs.declared.fault.FaultKind.{FaultKind}
 use Rattle.pesplib_reader.specs.declared.records.Records.{Records}
 use Rattle.pesplib_reader.specs.Left.{AreFrom, IsNextRow, IsReading, IsWant, count_of, row_of, rows_left}
 use Rattle.pesplib_reader.specs.Records.{Row, records_of, rows_of}
-use Rattle.pesplib_reader.specs.Rows.{unless_faulty}
 use Rattle.pesplib_reader.specs.Taking.{IsReadFault, IsTakeFault, at_place, on_ok, row_taken, taken}
 
 -- where the first of two lists of faults has none, the second decides
-past : {X A : Type 0} (first second : List (Option FaultKind)) (a v : A) (x : X) → Ok v ≡ unless_faulty first a → unless_faulty (first ++ second) x ≡ unless_faulty second x
+past : {X A : Type 0} (first second : List (Option FaultKind)) (a v : A) (x : X) → Ok v ≡ unless_refused first a → unless_refused (first ++ second) x ≡ unless_refused second x
 past [] second a v x h = refl
 past (None ∷ first) second a v x h = past first second a v x h
 past (Some kind ∷ first) second a v x h = absurd (cc)
 
 -- where it has one, that is the first of both
-stopped : {X A : Type 0} (first second : List (Option FaultKind)) (a : A) (kind : FaultKind) (x : X) → Err kind ≡ unless_faulty first a → unless_faulty (first ++ second) x ≡ Err kind
+stopped : {X A : Type 0} (first second : List (Option FaultKind)) (a : A) (kind : FaultKind) (x : X) → Err kind ≡ unless_refused first a → unless_refused (first ++ second) x ≡ Err kind
 stopped [] second a kind x h = absurd (cc)
 stopped (None ∷ first) second a kind x h = stopped first second a kind x h
 stopped (Some k ∷ first) second a kind x h = cc
 
-pub value_is : {A : Type 0} (faults : List (Option FaultKind)) (a v : A) → Ok v ≡ unless_faulty faults a → v ≡ a
+pub value_is : {A : Type 0} (faults : List (Option FaultKind)) (a v : A) → Ok v ≡ unless_refused faults a → v ≡ a
 value_is [] a v h = cc
 value_is (None ∷ faults) a v h = value_is faults a v h
 value_is (Some kind ∷ faults) a v h = absurd (cc)
@@ -32,11 +32,11 @@ module _ {X : Type 0} (own : List (List ℕ) → List (Option FaultKind)) (behin
 
   module _ {A : Type 0} (x : X) (cut fields : List (List ℕ)) (a : A) (same : cut ≡ fields) where
     -- a row without faults by itself stands or falls behind the others
-    pub good_row : (v : A) → Ok v ≡ unless_faulty (own fields) a → row_taken both add x cut ≡ unless_faulty (behind x fields) (add x fields)
+    pub good_row : (v : A) → Ok v ≡ unless_refused (own fields) a → row_taken both add x cut ≡ unless_refused (behind x fields) (add x fields)
     good_row v h = ap (row_taken both add x) same ∙ past (own fields) (behind x fields) a v (add x fields) h
 
     -- a row with one falls by that
-    pub bad_row : (kind : FaultKind) → Err kind ≡ unless_faulty (own fields) a → row_taken both add x cut ≡ Err kind
+    pub bad_row : (kind : FaultKind) → Err kind ≡ unless_refused (own fields) a → row_taken both add x cut ≡ Err kind
     bad_row kind h = ap (row_taken both add x) same ∙ stopped (own fields) (behind x fields) a kind (add x fields) h
 
 module _ {X : Type 0} (faults : X → List (List ℕ) → List (Option FaultKind)) (add : X → List (List ℕ) → X) where

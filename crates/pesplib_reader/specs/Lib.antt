@@ -1,5 +1,4 @@
 pub mod Left
-pub mod Numbers
 pub mod Reading
 pub mod Records
 pub mod RowFields

@@ -1,5 +1,6 @@
 -- What files of activities, of times and of fixed times stand for.
 use Rattle.std.specs.Prelude.{◌≡◌, ℕ, ◌<◌, ℤ, true, not, nat_lt, nat_le, is_some, if◌then◌else◌, List, [], ◌∷◌, ◌++◌, length, fold, Option, Some, Result}
+use Rattle.pesp_base.specs.Refusals.{unless_refused, when}
 use Rattle.pesp_base.specs.declared.activity.Activity.{Activity}
 use Rattle.pesp_base.specs.Limits.{max_activities, max_events}
 use Rattle.pesp_base.specs.Tensions.{residue}
@@ -11,7 +12,7 @@ use Rattle.pesplib_reader.specs.declared.fault.ReadFault.{ReadFault}
 use Rattle.pesplib_reader.specs.declared.fault.FaultKind.{FaultKind}
 use Rattle.pesplib_reader.specs.declared.fault.FaultKind.TheVariants as fault
 use Rattle.pesplib_reader.specs.Records.{rows_of}
-use Rattle.pesplib_reader.specs.Rows.{activity_faults, activity_in, fault_when, field, natural, time_faults, unless_faulty, value}
+use Rattle.pesplib_reader.specs.Rows.{activity_faults, activity_in, field, natural, time_faults, value}
 use Rattle.pesplib_reader.specs.Taking.{taken}
 
 -- the instance with an event, which it may have already
@@ -29,13 +30,13 @@ with_activity I a = effect (with_ends I a) (AddActivity a)
 -- the faults that an activity may have behind those of an instance, in order
 abbrev pub instance_faults : Network → Activity → List (Option FaultKind)
 instance_faults I a =
-    fault_when (is_some (activity_of I a.id)) fault.DuplicateActivity
-    ∷ fault_when (nat_lt (max_events I.period) (length (with_ends I a).events)) fault.TooManyEvents
-    ∷ fault_when (nat_le (max_activities I.period) (length I.activities)) fault.TooManyActivities ∷ []
+    when (is_some (activity_of I a.id)) fault.DuplicateActivity
+    ∷ when (nat_lt (max_events I.period) (length (with_ends I a).events)) fault.TooManyEvents
+    ∷ when (nat_le (max_activities I.period) (length I.activities)) fault.TooManyActivities ∷ []
 
 -- the instance with one more activity, or the first fault
 abbrev pub activity_taken : Network → Activity → Result Network FaultKind
-activity_taken I a = unless_faulty (instance_faults I a) (with_activity I a)
+activity_taken I a = unless_refused (instance_faults I a) (with_activity I a)
 
 -- the faults that a row of an activity may have behind other activities, in order
 abbrev pub activity_faults_behind : Network → List (List ℕ) → List (Option FaultKind)
@@ -52,14 +53,14 @@ activities_read period bytes = taken activity_faults_behind with_activity_row (e
 -- the faults that an event may have behind other events of a timetable, in order
 abbrev pub event_faults : Times → ℕ → List (Option FaultKind)
 event_faults m event =
-    fault_when (is_some (time_of m event)) fault.DuplicateEvent
-    ∷ fault_when (nat_le (max_events m.period) (length m.entries)) fault.TooManyEvents ∷ []
+    when (is_some (time_of m event)) fault.DuplicateEvent
+    ∷ when (nat_le (max_events m.period) (length m.entries)) fault.TooManyEvents ∷ []
 
 -- the same of an event of an instance, whose time is to be fixed
 abbrev pub fixed_faults : Network → Times → ℕ → List (Option FaultKind)
 fixed_faults I m event =
-    fault_when (is_some (time_of m event)) fault.DuplicateEvent
-    ∷ fault_when (not (has_event I event)) fault.NoEvent ∷ []
+    when (is_some (time_of m event)) fault.DuplicateEvent
+    ∷ when (not (has_event I event)) fault.NoEvent ∷ []
 
 -- the timetable with one more event, whose time is taken modulo the period
 abbrev pub with_time_modulo : Times → ℕ → ℤ → Times
@@ -67,11 +68,11 @@ with_time_modulo m event time = with_time m event (residue m.period time)
 
 -- the timetable with one more event, or the first fault
 abbrev pub event_taken : Times → ℕ → ℤ → Result Times FaultKind
-event_taken m event time = unless_faulty (event_faults m event) (with_time_modulo m event time)
+event_taken m event time = unless_refused (event_faults m event) (with_time_modulo m event time)
 
 -- the fixed times with that of one more event, or the first fault
 abbrev pub fixed_taken : Network → Times → ℕ → ℤ → Result Times FaultKind
-fixed_taken I m event time = unless_faulty (fixed_faults I m event) (with_time_modulo m event time)
+fixed_taken I m event time = unless_refused (fixed_faults I m event) (with_time_modulo m event time)
 
 -- the faults that a row of an event and a time may have behind other events, in order
 abbrev pub time_faults_behind : Times → List (List ℕ) → List (Option FaultKind)

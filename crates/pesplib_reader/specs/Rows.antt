@@ -1,23 +1,14 @@
 -- What a row of a file stands for, and the faults that it may have by itself.
-use Rattle.std.specs.Prelude.{ℕ, Bool, ◌||◌, not, ◌==◌, int_lt, if◌then◌else◌, is_none, List, [], ◌∷◌, length, ℤ, pos, neg_ℤ, unsigned_abs, slice_index_or, Option, Some, None, unwrap_or, Result, Ok, Err}
+use Rattle.std.specs.Prelude.{ℕ, Bool, ◌||◌, not, ◌==◌, int_lt, if◌then◌else◌, is_none, List, [], ◌∷◌, length, ℤ, pos, neg_ℤ, unsigned_abs, slice_index_or, Option, Some, None, unwrap_or}
 use Rattle.std.specs.Char.{is_ascii_digit}
 use Rattle.std.specs.List.{list_all, list_any, before_first, after_first}
+use Rattle.pesp_base.specs.Refusals.{when}
 use Rattle.pesp_base.specs.declared.activity.Activity.{Activity}
 use Rattle.pesp_base.specs.declared.limits.TheConstants.{GREATEST_NUMBER, GREATEST_WEIGHT, LEAST_BOUND, GREATEST_BOUND}
 use Rattle.pesp_base.specs.Texts.{number_value}
 use Rattle.pesplib_reader.specs.declared.fault.FaultKind.{FaultKind}
 use Rattle.pesplib_reader.specs.declared.fault.FaultKind.TheVariants as fault
 use Rattle.pesplib_reader.specs.declared.rows.TheConstants.{GREATEST_TIME}
-
--- a fault, where its condition holds
-abbrev pub fault_when : Bool → FaultKind → Option FaultKind
-fault_when condition kind = if condition then Some kind else None
-
--- the first fault of a list, or else the value
-abbrev pub unless_faulty : {X : Type 0} → List (Option FaultKind) → X → Result X FaultKind
-unless_faulty [] x = Ok x
-unless_faulty (None ∷ rest) x = unless_faulty rest x
-unless_faulty (Some kind ∷ rest) x = Err kind
 
 -- the k-th field, from 1
 abbrev pub field : List (List ℕ) → ℕ → List ℕ
@@ -26,7 +17,7 @@ field fields k = slice_index_or ([] ∷ fields) k []
 -- no number, or a number outside its limits
 abbrev pub range_fault : ℕ → ℤ → ℤ → Option ℤ → Option FaultKind
 range_fault k low high None = Some (fault.BadNumber k)
-range_fault k low high (Some z) = fault_when (int_lt z low || int_lt high z) (fault.OutOfRange k)
+range_fault k low high (Some z) = when (int_lt z low || int_lt high z) (fault.OutOfRange k)
 
 -- the fault of the k-th field, whose text is no number or a number outside its limits
 abbrev pub number_fault : ℕ → ℤ → ℤ → List ℕ → Option FaultKind
@@ -82,18 +73,18 @@ activity_in fields = record {
 -- the faults that a row of an activity may have by itself, in order
 abbrev pub activity_faults : List (List ℕ) → List (Option FaultKind)
 activity_faults fields =
-    fault_when (not (length fields == 6)) fault.FieldCount
+    when (not (length fields == 6)) fault.FieldCount
     ∷ number_fault 1 (pos 0) (pos GREATEST_NUMBER) (field fields 1)
     ∷ number_fault 2 (pos 0) (pos GREATEST_NUMBER) (field fields 2)
     ∷ number_fault 3 (pos 0) (pos GREATEST_NUMBER) (field fields 3)
     ∷ number_fault 4 LEAST_BOUND GREATEST_BOUND (field fields 4)
     ∷ number_fault 5 LEAST_BOUND GREATEST_BOUND (field fields 5)
     ∷ weight_fault (field fields 6)
-    ∷ fault_when (int_lt (value (field fields 5)) (value (field fields 4))) fault.Crossed ∷ []
+    ∷ when (int_lt (value (field fields 5)) (value (field fields 4))) fault.Crossed ∷ []
 
 -- the faults that a row of an event and a time may have by itself, in order
 abbrev pub time_faults : List (List ℕ) → List (Option FaultKind)
 time_faults fields =
-    fault_when (not (length fields == 2)) fault.FieldCount
+    when (not (length fields == 2)) fault.FieldCount
     ∷ number_fault 1 (pos 0) (pos GREATEST_NUMBER) (field fields 1)
     ∷ number_fault 2 (neg_ℤ (pos GREATEST_TIME)) (pos GREATEST_TIME) (field fields 2) ∷ []

@@ -1,10 +1,10 @@
 -- Rows that are taken one after another up to the first fault.
 use Rattle.std.specs.Prelude.{◌≡◌, ◌⊎◌, ℕ, ◌+◌, ◌<◌, ◌≤◌, List, [], ◌∷◌, length, Option, Result, Ok, Err, IfErr, MatchResult}
+use Rattle.pesp_base.specs.Refusals.{unless_refused}
 use Rattle.pesplib_reader.specs.declared.fault.ReadFault.{ReadFault}
 use Rattle.pesplib_reader.specs.declared.fault.FaultKind.{FaultKind}
 use Rattle.pesplib_reader.specs.declared.fault.FaultKind.TheVariants as fault
 use Rattle.pesplib_reader.specs.Records.{Row, records_of}
-use Rattle.pesplib_reader.specs.Rows.{unless_faulty}
 
 -- a value, or a fault at its record
 abbrev pub at_place : {X : Type 0} → ℕ → Result X FaultKind → Result X ReadFault
@@ -20,7 +20,7 @@ on_ok next (Err first) = Err first
 module _ {X : Type 0} (faults : X → List (List ℕ) → List (Option FaultKind)) (add : X → List (List ℕ) → X) where
   -- what stands there with one more row, or its first fault
   abbrev pub row_taken : X → List (List ℕ) → Result X FaultKind
-  row_taken x fields = unless_faulty (faults x fields) (add x fields)
+  row_taken x fields = unless_refused (faults x fields) (add x fields)
 
   -- what rows stand for, one after another, or the fault of the first row that has one
   abbrev pub taken : X → List Row → Result X ReadFault

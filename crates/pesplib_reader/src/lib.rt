@@ -4,7 +4,6 @@
 mod activities;
 mod fault;
 mod fixed;
-mod number;
 mod records;
 mod rows;
 mod times;

@@ -1,10 +1,10 @@
 //! The records of a file, as `csv` cuts them, and which of them are rows.
 
-ghost use Rattle.std.specs.Prelude.{◌≡◌, ◌≢◌, ◌<◌, ◌+◌, ◌-◌, ◌∷◌, ◌||◌, [], true, false, if◌then◌else◌, length, slice_index_or, IfOk, IfErr, OnOk, MatchBool, MatchOption, List, ℕ};
+ghost use Rattle.std.specs.Prelude.{◌≡◌, ◌≢◌, ◌<◌, ◌+◌, ◌∷◌, ◌||◌, [], true, false, length, slice_index_or, IfOk, IfErr, OnOk, MatchOption, List, ℕ};
 ghost use Rattle.csv.specs.Records.{fields_of};
 ghost use Rattle.pesplib_reader.specs.declared.fault.FaultKind.TheVariants as kind;
 ghost use Rattle.pesplib_reader.specs.Left.{IsBetween, IsNextRow, IsReading, IsWant, count_of, is_row, left_of, rows_left, trimmed_fields, unread};
-ghost use Rattle.pesplib_reader.specs.Records as spec;
+ghost use Rattle.pesplib_reader.specs.Records as file;
 ghost use Rattle.pesplib_reader.specs.RowFields.{activity_fields, time_fields};
 
 use crate::rows::{ActivityRow, TimeRow};
@@ -27,14 +27,15 @@ pub(crate) struct Records<'a> {
 
 /// A semicolon where one stands anywhere, and else a comma.
 fn separator(bytes: &[u8]) -> u8
-    ensures { result ≡ spec.separator_of bytes.now }
+    ensures { result ≡ file.separator_of bytes.now }
 {
     if bytes.contains(&b';') { b';' } else { b',' }
 }
 
+/// A reader at the first record.
 fn reader(alloc: Global, bytes: &[u8]) -> Reader<&[u8]>
     ensures between { IsBetween result }
-    ensures records { left_of result ≡ spec.records_of bytes.now }
+    ensures records { left_of result ≡ file.records_of bytes.now }
     ensures short { length (unread result) < length bytes.now + 1 }
 {
     ReaderBuilder::new()
@@ -67,7 +68,7 @@ fn field(fields: &ByteRecord, place: usize) -> &[u8]
 
 /// Drops the last field, if it is empty.
 fn drop_empty_end(fields: &mut ByteRecord)
-    ensures { trimmed_fields fields.new ≡ spec.fields_in (fields_of fields.old) }
+    ensures { trimmed_fields fields.new ≡ file.fields_in (fields_of fields.old) }
 {
     let count = fields.len();
     if count > 0 && field(fields, count - 1).is_empty() {
@@ -77,7 +78,7 @@ fn drop_empty_end(fields: &mut ByteRecord)
 
 /// The first byte of the first field, and 0 where there is none.
 fn first_byte(fields: &ByteRecord) -> u8
-    ensures { result ≡ spec.first_byte (trimmed_fields fields.now) }
+    ensures { result ≡ file.first_byte (trimmed_fields fields.now) }
 {
     match field(fields, 0).first() {
         Some(byte) => *byte,
@@ -87,14 +88,14 @@ fn first_byte(fields: &ByteRecord) -> u8
 
 /// Whether the record is neither blank nor a comment.
 fn is_spoken(fields: &ByteRecord) -> bool
-    ensures { result ≡ spec.are_spoken (trimmed_fields fields.now) }
+    ensures { result ≡ file.are_spoken (trimmed_fields fields.now) }
 {
     !fields.is_empty() && first_byte(fields) != b'#'
 }
 
 /// Whether the record begins with a letter, as a header does.
 fn is_named(fields: &ByteRecord) -> bool
-    ensures { result ≡ spec.are_named (trimmed_fields fields.now) }
+    ensures { result ≡ file.are_named (trimmed_fields fields.now) }
 {
     first_byte(fields).is_ascii_alphabetic()
 }
@@ -132,8 +133,8 @@ pub(crate) fn time_row(fields: &ByteRecord) -> Option<TimeRow<'_>>
 impl<'a> Records<'a> {
     pub(crate) fn new(alloc: Global, bytes: &'a [u8]) -> Records<'a>
         ensures reading { IsReading result }
-        ensures rows { rows_left result ≡ spec.rows_of bytes.now }
-        ensures count { count_of result ≡ length (spec.records_of bytes.now) }
+        ensures rows { rows_left result ≡ file.rows_of bytes.now }
+        ensures count { count_of result ≡ length (file.records_of bytes.now) }
     {
         Records {
             reader: reader(alloc, bytes),
@@ -164,7 +165,7 @@ impl<'a> Records<'a> {
     fn read(&mut self) -> Result<bool, ReadFault>
         requires { IsReading self.old }
         ensures none { IfOk result (λ found. found ≡ false → left_of self.old.reader ≡ []) }
-        ensures next { IfOk result (λ found. found ≡ true → (fields : List (List ℕ)) × (left_of self.old.reader ≡ fields ∷ left_of self.new.reader) × (trimmed_fields self.new.last ≡ spec.fields_in fields)) }
+        ensures next { IfOk result (λ found. found ≡ true → (fields : List (List ℕ)) × (left_of self.old.reader ≡ fields ∷ left_of self.new.reader) × (trimmed_fields self.new.last ≡ file.fields_in fields)) }
         ensures reading { IfOk result (λ found. found ≡ true → IsReading self.new) }
         ensures taken { IfOk result (λ found. found ≡ true → self.new.taken ≡ self.old.taken + 1) }
         ensures begun { OnOk result (self.new.is_begun ≡ self.old.is_begun) }
@@ -187,7 +188,7 @@ impl<'a> Records<'a> {
     /// Whether the record that was read last is a row: neither blank, nor a comment, nor the header.
     fn is_row(&mut self) -> bool
         ensures row { result ≡ is_row self.old.is_begun (trimmed_fields self.old.last) }
-        ensures changes { self.new ≡ record self.old { is_begun = self.old.is_begun || spec.are_spoken (trimmed_fields self.old.last) } }
+        ensures changes { self.new ≡ record self.old { is_begun = self.old.is_begun || file.are_spoken (trimmed_fields self.old.last) } }
     {
         let is_spoken = is_spoken(&self.last);
         let is_row = is_spoken && (self.is_begun || !is_named(&self.last));

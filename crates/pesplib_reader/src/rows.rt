@@ -5,15 +5,15 @@
 ghost use Rattle.std.specs.Prelude.{◌≡◌, ◌≤◌, ◌≤ℤ◌, ◌<ℤ◌, IfOk, IfErr, None, Some, pos, neg_ℤ};
 ghost use Rattle.std.specs.Char.{is_ascii_digit};
 ghost use Rattle.std.specs.List.{list_all, list_any};
+ghost use Rattle.pesp_base.specs.Refusals.{unless_refused};
 ghost use Rattle.pesp_base.specs.declared.limits.TheConstants.{GREATEST_NUMBER, GREATEST_WEIGHT, LEAST_BOUND, GREATEST_BOUND};
-ghost use Rattle.pesplib_reader.specs.declared.number.TheConstants.{CAP};
+ghost use Rattle.pesp_base.specs.declared.number.TheConstants.{CAP};
 ghost use Rattle.pesplib_reader.specs.Rows.{number_fault, value, natural, whole_part, decimals, is_not_zero, weight_fault, weight_value};
 
 use crate::FaultKind;
-use crate::number::{NumberFault, number_between};
 use pesp_base::{
     Activity, ActivityId, EventId, GREATEST_BOUND, GREATEST_NUMBER, GREATEST_WEIGHT, LEAST_BOUND,
-    Span, Weight,
+    NumberFault, Span, Weight, number_between,
 };
 
 /// The greatest time that a file may hold; the least is as far below 0.
@@ -135,12 +135,12 @@ fn weight_field(text: &[u8]) -> Result<u32, FaultKind>
 }
 
 impl ActivityRow<'_> {
-    ghost use Rattle.pesplib_reader.specs.Rows.{unless_faulty, activity_faults, activity_in};
+    ghost use Rattle.pesplib_reader.specs.Rows.{activity_faults, activity_in};
     ghost use Rattle.pesplib_reader.specs.RowFields.{activity_fields};
 
     /// The activity, or the first fault of the fields from left to right, and `Crossed` behind them.
     pub(crate) fn activity(&self) -> Result<Activity, FaultKind>
-        ensures { result ≡ unless_faulty (activity_faults (activity_fields self.now)) (activity_in (activity_fields self.now)) }
+        ensures { result ≡ unless_refused (activity_faults (activity_fields self.now)) (activity_in (activity_fields self.now)) }
     {
         let number = natural_field(1, self.number, GREATEST_NUMBER)?;
         let from = event_field(2, self.from)?;
@@ -162,12 +162,12 @@ impl ActivityRow<'_> {
 }
 
 impl TimeRow<'_> {
-    ghost use Rattle.pesplib_reader.specs.Rows.{unless_faulty, time_faults};
+    ghost use Rattle.pesplib_reader.specs.Rows.{time_faults};
     ghost use Rattle.pesplib_reader.specs.RowFields.{time_fields};
 
     /// The event and its time, or the first fault of the fields from left to right.
     pub(crate) fn event_and_time(&self) -> Result<(EventId, i64), FaultKind>
-        ensures { result ≡ unless_faulty (time_faults (time_fields self.now)) (natural self.now.event.now, value self.now.time.now) }
+        ensures { result ≡ unless_refused (time_faults (time_fields self.now)) (natural self.now.event.now, value self.now.time.now) }
     {
         let event = event_field(1, self.event)?;
         let greatest = i64::from(GREATEST_TIME);

@@ -1,6 +1,6 @@
 //! Times of events, in a file.
 
-ghost use Rattle.std.specs.Prelude.{◌≡◌, ◌<◌, Ok, IfOk, IfErr, OnOk, OnErr};
+ghost use Rattle.std.specs.Prelude.{◌≡◌, ◌<◌, Ok, IfOk, IfErr, OnOk};
 ghost use Rattle.pesp_base.specs.Tensions.{residue};
 ghost use Rattle.pesplib_reader.specs.Left.{trimmed_fields};
 ghost use Rattle.pesplib_reader.specs.Taking.{IsReadFault, IsTakeFault, row_taken};

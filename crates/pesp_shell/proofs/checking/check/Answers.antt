@@ -1,5 +1,5 @@
 -- The instance and the timetable have the period that both were read with.
-use Rattle.std.proofs.Common.{◌≡◌, ap, sym, ◌∙◌}
+use Rattle.std.proofs.Common.{ap, sym, ◌∙◌}
 use Rattle.pesp_instance.specs.Network.{Network}
 use Rattle.pesp_shell.proofs.Periods.{activities_period, fixed_period, times_period}
 use Rattle.pesp_shell.proofs.checking.check.Goals as goal

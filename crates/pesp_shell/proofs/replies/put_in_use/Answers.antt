@@ -1,5 +1,5 @@
 -- The two numbers stand one behind the other.
-use Rattle.std.proofs.Common.{◌≡◌, ◌++◌, ◌∷◌, [], codes, decimal, append_assoc}
+use Rattle.std.proofs.Common.{◌≡◌, ◌++◌, codes, decimal, append_assoc}
 use Rattle.pesp_base.specs.declared.refusal.Refusal.TheVariants as no
 use Rattle.pesp_shell.specs.Replies.{refusal_text}
 use Rattle.pesp_shell.proofs.replies.put_in_use.Goals as goal

@@ -1,5 +1,5 @@
 -- One row more adds its line.
-use Rattle.std.proofs.Common.{◌≡◌, ◌++◌, ◌∷◌, [], length, ap, ◌∙◌, codes, decimal, rules}
+use Rattle.std.proofs.Common.{◌++◌, ◌∷◌, [], length, ap, ◌∙◌, codes, decimal}
 use Rattle.pesp_shell.specs.Replies.{tension_line}
 use Rattle.pesp_shell.proofs.Written.{lines_more}
 use Rattle.pesp_shell.proofs.replies.put_tensions.Goals as goal

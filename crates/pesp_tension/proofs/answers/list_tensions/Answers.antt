@@ -1,5 +1,5 @@
 -- Each activity's tension is put behind those before it.
-use Rattle.std.proofs.Common.{◌≡◌, ◌∷◌, ◌++◌, All, append_assoc, refl, ◌∙◌}
+use Rattle.std.proofs.Common.{append_assoc, refl, ◌∙◌}
 use Rattle.pesp_tension.specs.Answers.{IsTimed}
 use Rattle.pesp_tension.proofs.Timed.{ends_timed, head_of, tail_of}
 use Rattle.pesp_tension.proofs.answers.list_tensions.Goals as goal

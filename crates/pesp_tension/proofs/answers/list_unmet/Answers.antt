@@ -1,5 +1,5 @@
 -- Each activity that is not met is put behind the violations before it.
-use Rattle.std.proofs.Common.{◌≡◌, true, false, [], ◌∷◌, ◌++◌, All, append_assoc, refl, sym, ap, ◌∙◌, rules}
+use Rattle.std.proofs.Common.{◌≡◌, true, false, [], ◌∷◌, ◌++◌, append_assoc, refl, sym, ap, ◌∙◌, rules}
 use Rattle.pesp_tension.specs.declared.lists.Violation.TheVariants as of_
 use Rattle.pesp_tension.specs.Answers.{IsTimed, meets, unmet_among}
 use Rattle.pesp_tension.proofs.Timed.{ends_timed, head_of, tail_of}

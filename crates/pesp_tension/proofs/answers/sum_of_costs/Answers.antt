@@ -1,5 +1,5 @@
 -- Each activity's cost is taken from those that are to come.
-use Rattle.std.proofs.Common.{◌≡◌, ◌≤◌, ◌+◌, ◌∷◌, All, sum_by, add_assoc, arith, ap, sym, refl, ◌∙◌}
+use Rattle.std.proofs.Common.{◌+◌, sum_by, add_assoc, arith, ap, sym, ◌∙◌}
 use Rattle.std.proofs.lemmas.List.Sums.{sum_by-cons}
 use Rattle.pesp_tension.specs.Answers.{IsTimed, cost_in}
 use Rattle.pesp_tension.proofs.Timed.{ends_timed, head_of, tail_of}

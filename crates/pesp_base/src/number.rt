@@ -2,17 +2,20 @@
 
 ghost use Rattle.std.specs.Prelude.{◌≡◌, ◌<ℤ◌, ◌≤ℤ◌, pos, neg_ℤ, min, option_map, IfOk};
 ghost use Rattle.pesp_base.specs.Texts.{digits_value, number_value};
-ghost use Rattle.pesplib_reader.specs.Numbers.{capped, number_in};
+ghost use Rattle.pesp_base.specs.Numbers.{capped, number_in};
 
 /// Why a text is no number within the limits.
 #[derive(Clone, Copy, Debug, PartialEq, Eq)]
-pub(crate) enum NumberFault {
+pub enum NumberFault {
+    /// The text is no number.
     NotANumber,
+    /// The number is outside the limits.
     OutOfRange,
 }
 
-/// Beyond every limit: a number farther from 0 is out of range whatever its digits are.
-const CAP: u64 = 10_000_000_000;
+/// The limits of [`number_between`] are nearer to 0 than this, so that a number as far as this is
+/// outside them whatever its digits are.
+pub const CAP: u64 = 10_000_000_000_000;
 
 /// The number that the digits write, or [`CAP`] where it is greater.
 fn capped_digits(digits: &[u8]) -> Option<u64>
@@ -43,7 +46,10 @@ fn capped_number(text: &[u8]) -> Option<i64>
 }
 
 /// The number that the text writes, where it is within the limits.
-pub(crate) fn number_between(text: &[u8], low: i64, high: i64) -> Result<i64, NumberFault>
+///
+/// A number is one or more digits behind a `+`, a `-` or neither, as many digits as there may be; it
+/// takes no memory to read it. Errors: `NotANumber`, then `OutOfRange`.
+pub fn number_between(text: &[u8], low: i64, high: i64) -> Result<i64, NumberFault>
     requires low { neg_ℤ (pos CAP) <ℤ low }
     requires high { high <ℤ pos CAP }
     ensures number { result ≡ number_in low high text.now }

@@ -1,9 +1,9 @@
 -- Numbers within limits.
 use Rattle.std.specs.Prelude.{ℕ, suc, min, ◌||◌, if◌then◌else◌, List, ℤ, pos, negsuc, neg_ℤ, int_lt, Option, Some, None, Result, Ok, Err}
 use Rattle.pesp_base.specs.Texts.{number_value}
-use Rattle.pesplib_reader.specs.declared.number.NumberFault.{NumberFault}
-use Rattle.pesplib_reader.specs.declared.number.NumberFault.TheVariants as fault
-use Rattle.pesplib_reader.specs.declared.number.TheConstants.{CAP}
+use Rattle.pesp_base.specs.declared.number.NumberFault.{NumberFault}
+use Rattle.pesp_base.specs.declared.number.NumberFault.TheVariants as fault
+use Rattle.pesp_base.specs.declared.number.TheConstants.{CAP}
 
 -- a number, or the cap with its sign where it is farther from 0
 abbrev pub capped : ℤ → ℤ

@@ -1,8 +1,8 @@
 use Rattle.std.proofs.Common.{◌≡◌, ◌+◌, ◌-◌, ◌*◌, min, true, fold, take}
 use Rattle.std.specs.List.{list_all}
 use Rattle.std.specs.Char.{is_ascii_digit}
-use Rattle.pesplib_reader.specs.declared.number.TheConstants.{CAP}
-use Rattle.pesplib_reader.proofs.number.capped_digits.Given as goal
+use Rattle.pesp_base.specs.declared.number.TheConstants.{CAP}
+use Rattle.pesp_base.proofs.number.capped_digits.Given as goal
 
 -- the bytes so far are digits, and the number is theirs up to the cap
 abbrev pub invariant-loop-digit : goal.invariant-loop-digit

@@ -1,0 +1,148 @@
+//! The worked examples, and the limits.
+
+use crate::{ParseFault, ReplayFault, ReplayKind, replay};
+use pesp_base::{EventId, Period, Refusal};
+use pesp_instance::Instance;
+use pesplib_writer::dump;
+use std::alloc::{AllocError, Global};
+use std::process::Abort;
+use std::test::Fail;
+
+/// What a script makes at period 10.
+fn replay_at_ten(rt: &(impl Abort + AllocGlobal), script: &[u8]) -> Result<Instance, ReplayFault> {
+    replay(rt.alloc(), Period::new(10).expect(rt, "a period"), script)
+}
+
+#[test]
+fn scripts_make_instances(rt: HostRuntime) -> Result<(), Fail> {
+    for (script, message) in [
+        (
+            "# period 10 lines 4\nadd event 1\nadd event 2\nadd activity 1 1 2 3 5 2\nadd activity 2 2 1 4 6 1\n",
+            "a dump",
+        ),
+        (
+            "add event 1\r\nadd event 2\r\n\r\nadd activity 1 1 2 3 5 2\r\nadd activity 2 2 1 4 6 1\r\n",
+            "lines that end in a carriage return and a line feed",
+        ),
+        (
+            "\n add event 2\n#\n\tadd\tevent 1\n \nadd event 3\nadd activity 2 2 1 4 6 1\nadd activity 1 1 2 3 5 9\ndrop event 3\nweight 1 2",
+            "blanks, comments, changes and a last line without a line feed",
+        ),
+    ] {
+        let instance = replay_at_ten(&rt, script.as_bytes())?;
+        assert_eq!(rt; instance.period().get(), 10, "{message}");
+        let events: Vec<u32> = instance.events().map(|e| e.id.get()).collect(rt.alloc())?;
+        assert_eq!(rt; events.as_slice(), [1, 2].as_slice(), "{message}");
+        let rows: Vec<(u32, u32, u32, i32, i32, u32)> = instance
+            .activities()
+            .map(|a| {
+                let span = a.span;
+                (
+                    a.id.get(),
+                    a.from.get(),
+                    a.to.get(),
+                    span.lower(),
+                    span.upper(),
+                    a.weight.get(),
+                )
+            })
+            .collect(rt.alloc())?;
+        assert_eq!(rt;
+            rows.as_slice(),
+            [(1, 1, 2, 3, 5, 2), (2, 2, 1, 4, 6, 1)].as_slice(),
+            "{message}"
+        );
+    }
+    Ok(())
+}
+
+#[test]
+fn dumps_are_replayed(rt: HostRuntime) -> Result<(), Fail> {
+    for script in [
+        "# period 10 lines 0\n",
+        "# period 10 lines 2\nadd event 7\nfix 7 3\n",
+        "# period 10 lines 4\nadd event 1\nadd event 2\nadd activity 1 1 2 3 5 2\nadd activity 2 2 1 4 6 1\n",
+        "# period 10 lines 5\nadd event 1\nadd event 2\nfix 1 5\nadd activity 1 1 2 3 5 2\nadd activity 2 2 1 -4 6 1\n",
+    ] {
+        let instance = replay_at_ten(&rt, script.as_bytes())?;
+        let text = dump(rt.alloc(), &instance)?;
+        assert_eq!(rt; text.as_slice(), script.as_bytes(), "{script}");
+    }
+    Ok(())
+}
+
+#[test]
+fn fixed_times_are_replayed(rt: HostRuntime) -> Result<(), Fail> {
+    let script = "add event 1\nadd event 2\nfix 1 4\nfix 2 9\nunfix 1\n";
+    let instance = replay_at_ten(&rt, script.as_bytes())?;
+    for (event, time) in [(1, None), (2, Some(9))] {
+        let event = EventId::new(event).ok_or("no event")?;
+        assert_eq!(rt; instance.fixed(event), time, "{event:?}");
+    }
+    Ok(())
+}
+
+#[test]
+fn first_faulty_line_is_named(rt: HostRuntime) -> Result<(), Fail> {
+    let one = EventId::new(1).ok_or("no event")?;
+    for (script, line, kind) in [
+        ("add event 1\ncost\n", 2, ReplayKind::NotAnEdit),
+        (
+            "add event 1\nadd event 1\n",
+            2,
+            ReplayKind::Refused(Refusal::EventExists(one)),
+        ),
+        (
+            "# x\nfix x 1\n",
+            2,
+            ReplayKind::Parse(ParseFault::BadNumber(2)),
+        ),
+        (
+            "\n\nfix 1 10\nadd event 1\nadd",
+            3,
+            ReplayKind::Refused(Refusal::NoEvent(one)),
+        ),
+        (
+            "add event 1\nfix 1 10\ncost",
+            2,
+            ReplayKind::Refused(Refusal::TimeOutOfRange(10)),
+        ),
+        (
+            "add event 1\nadd",
+            2,
+            ReplayKind::Parse(ParseFault::UnknownCommand),
+        ),
+    ] {
+        let fault = replay_at_ten(&rt, script.as_bytes()).err();
+        assert_eq!(rt; fault, Some(ReplayFault { line, kind }), "{script}");
+    }
+    Ok(())
+}
+
+/// A byte so many times.
+fn repeated(alloc: Global, byte: u8, count: usize) -> Result<Vec<u8>, AllocError> {
+    vec![in alloc; byte; count]
+}
+
+#[test]
+fn limits_on_lines(rt: HostRuntime) -> Result<(), Fail> {
+    let long_line = ReplayFault {
+        line: 1,
+        kind: ReplayKind::LineTooLong,
+    };
+    let many_lines = ReplayFault {
+        line: 1_000_001,
+        kind: ReplayKind::TooManyLines,
+    };
+    for (byte, count, wanted) in [
+        (b' ', 4_096, None),
+        (b' ', 4_097, Some(long_line)),
+        (b'\n', 1_000_000, None),
+        (b'\n', 1_000_001, Some(many_lines)),
+    ] {
+        let script = repeated(rt.alloc(), byte, count)?;
+        let fault = replay_at_ten(&rt, script.as_slice()).err();
+        assert_eq!(rt; fault, wanted, "{count} times byte {byte}");
+    }
+    Ok(())
+}

@@ -1,0 +1,17 @@
+-- What the activities that are left answer is to come, and their ends have times; each costs at most the greatest weight at the greatest slack.
+use Rattle.std.proofs.Common.{◌≡◌, ◌≤◌, ◌+◌, ◌*◌, ◌-◌, ◌++◌, map, sum_by, length, All}
+use Rattle.pesp_base.specs.declared.limits.TheConstants.{GREATEST_PERIOD, GREATEST_WEIGHT}
+use Rattle.pesp_base.specs.Limits.{max_activities}
+use Rattle.pesp_tension.specs.Answers.{IsTimed, cost_in, cost_of, tension_in, tensions_of, unmet_among}
+use Rattle.pesp_tension.proofs.assessment.add_activities.Given as goal
+
+abbrev pub invariant-loop-activity : goal.invariant-loop-activity
+invariant-loop-activity l = record {
+  can_next : (goal.iterator-loop-activity).can_next l.activity-iterator;
+  is_finite : (goal.iterator-loop-activity).is_finite l.activity-iterator;
+  tensions : l.assessment.tensions.items ++ map (tension_in l.timetable) l.activity-iterator ≡ l.fn.assessment.tensions.items ++ tensions_of l.instance l.timetable;
+  violations : l.assessment.violations.items ++ unmet_among l.timetable l.activity-iterator ≡ l.fn.assessment.violations.items ++ unmet_among l.timetable l.instance.activities;
+  cost : l.assessment.cost + sum_by (cost_in l.timetable) l.activity-iterator ≡ l.fn.assessment.cost + cost_of l.instance l.timetable;
+  small : l.assessment.cost + GREATEST_WEIGHT * (GREATEST_PERIOD - 1) * length l.activity-iterator ≤ GREATEST_WEIGHT * (GREATEST_PERIOD - 1) * max_activities l.instance.period;
+  timed : All (IsTimed l.timetable) l.activity-iterator;
+}

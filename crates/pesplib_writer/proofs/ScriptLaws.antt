@@ -1,0 +1,215 @@
+-- The edits of an instance's script, applied to the instance without events, give the instance.
+use Rattle.std.proofs.Common.{◌≡◌, ℕ, ◌+◌, ◌<◌, ◌≤◌, Bool, true, false, not, nat_lt, nat_le, ◌==◌, List, [], ◌∷◌, ◌++◌, length, map, filter, filter_map, Option, Some, None, option_map, Ok, Err, is_some, refl, sym, ap, ◌∙◌, append_assoc, append-nil, length-append, arith, All}
+use Rattle.std.specs.List.{cons_option}
+use Rattle.std.proofs.lemmas.Bool.{lt-ltb, le-ltb, lt-leb, ne_eqb, eq-eqb}
+use Rattle.std.proofs.lemmas.List.{length-map}
+use Rattle.std.proofs.lemmas.List.Elements.{All-head, All-tail}
+use Rattle.pesp_base.specs.declared.activity.Activity.{Activity}
+use Rattle.pesp_base.specs.declared.refusal.Refusal.{Refusal}
+use Rattle.pesp_base.specs.Limits.{max_events, max_activities}
+use Rattle.pesp_base.specs.Numbered.{with_number, put_in, change_in}
+use Rattle.pesp_base.specs.Refusals.{unless_refused, when}
+use Rattle.pesp_instance.specs.declared.edit.Edit.{Edit}
+use Rattle.pesp_instance.specs.declared.edit.Edit.TheVariants.{AddEvent, Fix, AddActivity}
+use Rattle.pesp_instance.specs.Edited.{edited, effect, empty_network}
+use Rattle.pesp_instance.specs.declared.event.Event.{Event}
+use Rattle.pesp_instance.specs.Network.{Network, IsNetwork, IsEvent, HasEnds, event_ids, has_event, activity_of}
+use Rattle.pesp_instance.proofs.Rising.{IsAbove, Rises, Rises-from_increasing, change_in-above}
+use Rattle.pesplib_reader.proofs.FixedLemmas.{fix_edited}
+use Rattle.pesplib_writer.specs.Script.{applied, fix_entry, on_accepted, script_edits}
+use Rattle.pesplib_writer.specs.Texts.{fixed_entries, fixed_entry, unfixed_event}
+
+-- ---- a number that is above those before it
+
+module _ {X : Type 0} (number : X → ℕ) where
+  above_later : (n : ℕ) (xs : List X) (x : X) (rest : List X) → IsAbove number n (xs ++ x ∷ rest) → n < number x
+  above_later n [] x rest above = above.0
+  above_later n (y ∷ xs) x rest above = above_later n xs x rest above.1
+
+  -- the members before the last one have other, smaller numbers
+  last_absent : (xs : List X) (x : X) (rest : List X) → Rises number (xs ++ x ∷ rest) → with_number number (number x) xs ≡ None
+  last_absent [] x rest rises = refl
+  last_absent (y ∷ xs) x rest rises =
+      let apart : (number y == number x) ≡ false = ne_eqb (number y) (number x) (λ same. absurd (omega (arith, above_later (number y) xs x rest rises.0, same))) in
+      rw apart (last_absent xs x rest rises.1)
+
+  filter_before : (xs : List X) (x : X) (rest : List X) → Rises number (xs ++ x ∷ rest) → filter (λ y. nat_lt (number y) (number x)) xs ≡ xs
+  filter_before [] x rest rises = refl
+  filter_before (y ∷ xs) x rest rises =
+      let low : nat_lt (number y) (number x) ≡ true = lt-ltb (number y) (number x) (above_later (number y) xs x rest rises.0) in
+      rw (low, filter_before xs x rest rises.1) refl
+
+  filter_behind : (xs : List X) (x : X) (rest : List X) → Rises number (xs ++ x ∷ rest) → filter (λ y. nat_lt (number x) (number y)) xs ≡ []
+  filter_behind [] x rest rises = refl
+  filter_behind (y ∷ xs) x rest rises =
+      let below = above_later (number y) xs x rest rises.0 in
+      let low : nat_lt (number x) (number y) ≡ false = le-ltb (number x) (number y) (omega (arith, below)) in
+      rw low (filter_behind xs x rest rises.1)
+
+  -- a member of a greater number goes to the end
+  last_put : (xs : List X) (x : X) (rest : List X) → Rises number (xs ++ x ∷ rest) → put_in number x xs ≡ xs ++ x ∷ []
+  last_put xs x rest rises = rw (filter_before xs x rest rises, filter_behind xs x rest rises) refl
+
+  -- a change reaches the one member of its number, with others before and behind it
+  change_between : (change : X → X) (xs : List X) (x : X) (rest : List X) → Rises number (xs ++ x ∷ rest)
+      → change_in number (number x) change (xs ++ x ∷ rest) ≡ xs ++ change x ∷ rest
+  change_between change [] x rest rises =
+      rw (eq-eqb (number x) (number x) refl, change_in-above number (number x) (number x) change rest (omega arith) rises.0) refl
+  change_between change (y ∷ xs) x rest rises =
+      let apart : (number y == number x) ≡ false = ne_eqb (number y) (number x) (λ same. absurd (omega (arith, above_later (number y) xs x rest rises.0, same))) in
+      rw (apart, change_between change xs x rest rises.1) refl
+
+  found_between : (xs : List X) (x : X) (rest : List X) → Rises number (xs ++ x ∷ rest) → with_number number (number x) (xs ++ x ∷ rest) ≡ Some x
+  found_between [] x rest rises = rw (eq-eqb (number x) (number x) refl) refl
+  found_between (y ∷ xs) x rest rises =
+      let apart : (number y == number x) ≡ false = ne_eqb (number y) (number x) (λ same. absurd (omega (arith, above_later (number y) xs x rest rises.0, same))) in
+      rw apart (found_between xs x rest rises.1)
+
+-- ---- edits behind edits
+
+applied-append : (I : Network) (edits more : List Edit) → applied I (edits ++ more) ≡ on_accepted (λ J. applied J more) (applied I edits)
+applied-append I [] more = refl
+applied-append I (edit ∷ edits) more =
+    elim (edited I edit) as (λ r. on_accepted (λ J. applied J (edits ++ more)) r ≡ on_accepted (λ J. applied J more) (on_accepted (λ J. applied J edits) r)) [
+      | Ok J ↦ applied-append J edits more
+      | Err refusal ↦ refl
+    ]
+
+then_applied : (I J : Network) (edits more : List Edit) → applied I edits ≡ Ok J → applied I (edits ++ more) ≡ applied J more
+then_applied I J edits more h = applied-append I edits more ∙ ap (on_accepted (λ K. applied K more)) h
+
+first_applied : (I J : Network) (edit : Edit) (edits : List Edit) → edited I edit ≡ Ok J → applied I (edit ∷ edits) ≡ applied J edits
+first_applied I J edit edits h = ap (on_accepted (λ K. applied K edits)) h
+
+-- ---- the events
+
+abbrev number : Event → ℕ
+number e = e.id
+
+abbrev id_of : Activity → ℕ
+id_of a = a.id
+
+abbrev bare : ℕ → Event
+bare e = record { id = e; fixed = None }
+
+module _ (period : ℕ) where
+  abbrev with_events : List Event → Network
+  with_events events = record { period = period; events = events; activities = [] }
+
+  event_accepted : (p q : Bool) (a b : Refusal) (J : Network) → p ≡ false → q ≡ false → unless_refused (when p a ∷ when q b ∷ []) J ≡ Ok J
+  event_accepted p q a b J new room = rw (new, room) refl
+
+  event_added : (done rest : List Event) (e : ℕ) → Rises number (done ++ bare e ∷ rest) → length done < max_events period
+      → edited (with_events done) (AddEvent e) ≡ Ok (with_events (done ++ bare e ∷ []))
+  event_added done rest e rises room =
+      event_accepted (has_event (with_events done) e) (nat_le (max_events period) (length done)) _ _ (effect (with_events done) (AddEvent e))
+      (ap is_some (last_absent number done (bare e) rest rises)) (lt-leb (max_events period) (length done) room)
+      ∙ ap (λ events. Ok (with_events events)) (last_put number done (bare e) rest rises)
+
+  events_added : (done : List Event) (numbers : List ℕ) → Rises number (done ++ map bare numbers) → length done + length numbers ≤ max_events period
+      → applied (with_events done) (map AddEvent numbers) ≡ Ok (with_events (done ++ map bare numbers))
+  events_added done [] rises few = ap (λ events. Ok (with_events events)) (sym (append-nil done))
+  events_added done (e ∷ numbers) rises few =
+      let joins = append_assoc done (bare e ∷ []) (map bare numbers) in
+      let more : Rises number ((done ++ bare e ∷ []) ++ map bare numbers) = rw joins rises in
+      let room : length (done ++ bare e ∷ []) + length numbers ≤ max_events period = omega (arith, few, length-append done (bare e ∷ [])) in
+      first_applied (with_events done) (with_events (done ++ bare e ∷ [])) (AddEvent e) (map AddEvent numbers) (event_added done (map bare numbers) e rises (omega (arith, few)))
+      ∙ events_added (done ++ bare e ∷ []) numbers more room
+      ∙ ap (λ events. Ok (with_events events)) joins
+
+-- ---- their fixed times
+
+bare-unfixed : (events : List Event) → map bare (map number events) ≡ map unfixed_event events
+bare-unfixed [] = refl
+bare-unfixed (e ∷ events) = ap (λ rest. unfixed_event e ∷ rest) (bare-unfixed events)
+
+unfixed_above : (n : ℕ) (events : List Event) → IsAbove number n events → IsAbove number n (map unfixed_event events)
+unfixed_above n [] above = tt
+unfixed_above n (e ∷ events) above = (above.0, unfixed_above n events above.1)
+
+unfixed_rise : (events : List Event) → Rises number events → Rises number (map unfixed_event events)
+unfixed_rise [] rises = tt
+unfixed_rise (e ∷ events) rises = (unfixed_above e.id events rises.0, unfixed_rise events rises.1)
+
+above_unfixed : (n : ℕ) (done events : List Event) → IsAbove number n (done ++ events) → IsAbove number n (done ++ map unfixed_event events)
+above_unfixed n [] events above = unfixed_above n events above
+above_unfixed n (d ∷ done) events above = (above.0, above_unfixed n done events above.1)
+
+-- what is to be fixed yet rises behind what is fixed
+rises_unfixed : (done events : List Event) → Rises number (done ++ events) → Rises number (done ++ map unfixed_event events)
+rises_unfixed [] events rises = unfixed_rise events rises
+rises_unfixed (d ∷ done) events rises = (above_unfixed d.id done events rises.0, rises_unfixed done events rises.1)
+
+module _ (period : ℕ) where
+  -- an event's fixed time is set, with events before and behind it
+  time_fixed : (done rest : List Event) (e : Event) (t : ℕ) → Rises number (done ++ unfixed_event e ∷ rest) → t < period → e.fixed ≡ Some t
+      → edited (with_events period (done ++ unfixed_event e ∷ rest)) (Fix e.id t) ≡ Ok (with_events period (done ++ e ∷ rest))
+  time_fixed done rest e t rises below is =
+      let before = with_events period (done ++ unfixed_event e ∷ rest) in
+      let same : record { id = e.id; fixed = Some t } ≡ e = ap (λ (fixed : Option ℕ). record e { fixed = fixed }) (sym is) in
+      fix_edited before e.id t (ap is_some (found_between number done (unfixed_event e) rest rises)) below
+      ∙ ap (λ events. Ok (with_events period events)) (change_between number (λ x. record x { fixed = Some t }) done (unfixed_event e) rest rises ∙ ap (λ x. done ++ x ∷ rest) same)
+
+  times_fixed : (done events : List Event) → Rises number (done ++ events) → All (IsEvent period) events
+      → applied (with_events period (done ++ map unfixed_event events)) (map fix_entry (filter_map fixed_entry events)) ≡ Ok (with_events period (done ++ events))
+  times_fixed done [] rises within = refl
+  times_fixed done (e ∷ events) rises within =
+      let joins = append_assoc done (e ∷ []) events in
+      let more : Rises number ((done ++ e ∷ []) ++ events) = rw joins rises in
+      let later : applied (with_events period (done ++ e ∷ map unfixed_event events)) (map fix_entry (filter_map fixed_entry events)) ≡ Ok (with_events period (done ++ e ∷ events)) =
+      ap (λ es. applied (with_events period es) (map fix_entry (filter_map fixed_entry events))) (sym (append_assoc done (e ∷ []) (map unfixed_event events)))
+      ∙ times_fixed (done ++ e ∷ []) events more (All-tail (IsEvent period) e events within)
+      ∙ ap (λ es. Ok (with_events period es)) joins in
+      elim e.fixed as (λ o. e.fixed ≡ o → applied (with_events period (done ++ unfixed_event e ∷ map unfixed_event events)) (map fix_entry (cons_option (option_map (λ t. (e.id, t)) o) (filter_map fixed_entry events))) ≡ Ok (with_events period (done ++ e ∷ events))) [
+        | None ↦ λ is.
+            let same : unfixed_event e ≡ e = ap (λ (fixed : Option ℕ). record e { fixed = fixed }) (sym is) in
+            ap (λ x. applied (with_events period (done ++ x ∷ map unfixed_event events)) (map fix_entry (filter_map fixed_entry events))) same ∙ later
+        | Some t ↦ λ is.
+            let below : t < period = rw is at (All-head (IsEvent period) e events within).fixed in
+            first_applied (with_events period (done ++ unfixed_event e ∷ map unfixed_event events)) (with_events period (done ++ e ∷ map unfixed_event events)) (Fix e.id t) (map fix_entry (filter_map fixed_entry events))
+            (time_fixed done (map unfixed_event events) e t (rises_unfixed done (e ∷ events) rises) below is)
+            ∙ later
+      ] refl
+
+-- ---- the activities
+
+module _ (period : ℕ) (events : List Event) where
+  abbrev with_activities : List Activity → Network
+  with_activities activities = record { period = period; events = events; activities = activities }
+
+  activity_accepted : (p q r s : Bool) (a b c d : Refusal) (J : Network) → p ≡ false → q ≡ true → r ≡ true → s ≡ false
+      → unless_refused (when p a ∷ when (not q) b ∷ when (not r) c ∷ when s d ∷ []) J ≡ Ok J
+  activity_accepted p q r s a b c d J new from to room = rw (new, from, to, room) refl
+
+  activity_added : (done rest : List Activity) (a : Activity) → Rises id_of (done ++ a ∷ rest) → HasEnds events a → length done < max_activities period
+      → edited (with_activities done) (AddActivity a) ≡ Ok (with_activities (done ++ a ∷ []))
+  activity_added done rest a rises has room =
+      activity_accepted (is_some (activity_of (with_activities done) a.id)) (has_event (with_activities done) a.from) (has_event (with_activities done) a.to) (nat_le (max_activities period) (length done)) _ _ _ _ (effect (with_activities done) (AddActivity a))
+      (ap is_some (last_absent id_of done a rest rises)) has.from has.to (lt-leb (max_activities period) (length done) room)
+      ∙ ap (λ activities. Ok (with_activities activities)) (last_put id_of done a rest rises)
+
+  activities_added : (done activities : List Activity) → Rises id_of (done ++ activities) → All (HasEnds events) activities → length done + length activities ≤ max_activities period
+      → applied (with_activities done) (map AddActivity activities) ≡ Ok (with_activities (done ++ activities))
+  activities_added done [] rises has few = ap (λ activities. Ok (with_activities activities)) (sym (append-nil done))
+  activities_added done (a ∷ activities) rises has few =
+      let joins = append_assoc done (a ∷ []) activities in
+      let more : Rises id_of ((done ++ a ∷ []) ++ activities) = rw joins rises in
+      let room : length (done ++ a ∷ []) + length activities ≤ max_activities period = omega (arith, few, length-append done (a ∷ [])) in
+      first_applied (with_activities done) (with_activities (done ++ a ∷ [])) (AddActivity a) (map AddActivity activities) (activity_added done activities a rises (All-head (HasEnds events) a activities has) (omega (arith, few)))
+      ∙ activities_added (done ++ a ∷ []) activities more (All-tail (HasEnds events) a activities has) room
+      ∙ ap (λ all. Ok (with_activities all)) joins
+
+-- the edits of an instance's script are all accepted, and give the instance
+pub script_builds : (I : Network) → IsNetwork I → applied (empty_network I.period) (script_edits I) ≡ Ok I
+script_builds I net =
+    let events_rise = Rises-from_increasing number I.events net.events_rise in
+    let activities_rise = Rises-from_increasing id_of I.activities net.activities_rise in
+    let bare_rise : Rises number (map bare (event_ids I)) = rw (bare-unfixed I.events) (unfixed_rise I.events events_rise) in
+    let few : length {A = Event} [] + length (event_ids I) ≤ max_events I.period = omega (arith, net.few_events, length-map I.events number) in
+    let few_activities : length {A = Activity} [] + length I.activities ≤ max_activities I.period = omega (arith, net.few_activities) in
+    let events : applied (empty_network I.period) (map AddEvent (event_ids I)) ≡ Ok (with_events I.period (map unfixed_event I.events)) =
+    events_added I.period [] (event_ids I) bare_rise few ∙ ap (λ es. Ok (with_events I.period es)) (bare-unfixed I.events) in
+    ap (applied (empty_network I.period)) (append_assoc (map AddEvent (event_ids I)) (map fix_entry (fixed_entries I)) (map AddActivity I.activities))
+    ∙ then_applied (empty_network I.period) (with_events I.period (map unfixed_event I.events)) (map AddEvent (event_ids I)) (map fix_entry (fixed_entries I) ++ map AddActivity I.activities) events
+    ∙ then_applied (with_events I.period (map unfixed_event I.events)) (with_events I.period I.events) (map fix_entry (fixed_entries I)) (map AddActivity I.activities) (times_fixed I.period [] I.events events_rise net.events_within)
+    ∙ activities_added I.period I.events [] I.activities activities_rise net.ends few_activities

@@ -1,0 +1,12 @@
+-- The rows of the fixed events among those that are left are to come.
+use Rattle.std.proofs.Common.{◌≡◌, ◌++◌, map, filter_map}
+use Rattle.pesp_base.specs.Texts.{as_lines}
+use Rattle.pesplib_writer.specs.Texts.{fixed_entry, time_row}
+use Rattle.pesplib_writer.proofs.files.put_fixed.Given as goal
+
+abbrev pub invariant-loop-event : goal.invariant-loop-event
+invariant-loop-event l = record {
+  can_next : (goal.iterator-loop-event).can_next l.event-iterator;
+  is_finite : (goal.iterator-loop-event).is_finite l.event-iterator;
+  left : l.text.items ++ as_lines (map time_row (filter_map fixed_entry l.event-iterator)) ≡ l.fn.text.items ++ as_lines (map time_row (filter_map fixed_entry l.instance.events));
+}

@@ -1,0 +1,13 @@
+//! The canonical texts of instances and timetables, and the script that builds an instance.
+//!
+//! Each call takes memory in proportion to the text that it writes, and nothing else.
+#![tactic(auto)]
+
+mod fields;
+mod files;
+mod script;
+mod text;
+
+pub use files::{write_activities, write_fixed, write_times};
+pub use script::dump;
+pub use text::{put, put_between, put_number, put_signed};

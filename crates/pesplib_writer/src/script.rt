@@ -1,0 +1,119 @@
+//! The script that builds an instance.
+
+ghost use Rattle.std.specs.Prelude.{◌≡◌, ◌≤◌, ◌++◌, [], ◌∷◌, Ok, IfOk, OnOk, length, map, decimal, codes};
+ghost use Rattle.pesp_base.specs.Texts.{as_lines, words_line};
+ghost use Rattle.pesp_base.specs.Limits.{max_events};
+ghost use Rattle.pesp_instance.specs.Edited.{empty_network};
+ghost use Rattle.pesp_instance.specs.Network.{IsNetwork, event_ids};
+ghost use Rattle.pesplib_writer.specs.Texts.{fixed_entries};
+ghost use Rattle.pesplib_writer.specs.Script.{activity_line, applied, event_line, fix_line, script, script_edits, script_lines};
+
+use crate::fields::put_fields;
+use crate::text::{put, put_between};
+use pesp_base::{Activity, EventId, Memory, Period};
+use pesp_instance::Instance;
+use std::alloc::{AllocError, Global};
+
+/// How many events have a fixed time.
+fn fixed_count(instance: &Instance) -> usize
+    ensures count { result ≡ length (fixed_entries instance.now) }
+    ensures few { result ≤ max_events instance.now.period }
+{
+    let mut count = 0;
+    for event in instance.events() {
+        if event.fixed.is_some() {
+            count += 1;
+        }
+    }
+    count
+}
+
+/// How many lines follow the first one.
+fn line_count(instance: &Instance) -> usize
+    ensures count { result ≡ length (script_lines instance.now) }
+    ensures network { IsNetwork instance.now }
+{
+    instance.event_count() + fixed_count(instance) + instance.activity_count()
+}
+
+/// The first line, a comment: the period, and how many lines follow.
+fn put_head(text: &mut Vec<u8>, period: Period, lines: usize) -> Result<(), AllocError>
+    ensures { OnOk result (text.new.items ≡ text.old.items ++ (words_line (codes "# period" ∷ decimal period ∷ codes "lines" ∷ decimal lines ∷ []) ++ 10 ∷ [])) }
+{
+    put_between(text, b"# period ", u64::from(period.get()), b" lines ")?;
+    put_between(text, b"", lines as u64, b"\n")
+}
+
+fn put_events(text: &mut Vec<u8>, instance: &Instance) -> Result<(), AllocError>
+    ensures { OnOk result (text.new.items ≡ text.old.items ++ as_lines (map event_line (event_ids instance.now))) }
+{
+    for event in instance.events() {
+        put_between(text, b"add event ", u64::from(event.id.get()), b"\n")?;
+    }
+    Ok(())
+}
+
+/// The line that fixes an event's time.
+fn put_fix(text: &mut Vec<u8>, event: EventId, time: u16) -> Result<(), AllocError>
+    ensures { OnOk result (text.new.items ≡ text.old.items ++ (fix_line (event, time) ++ 10 ∷ [])) }
+{
+    put_between(text, b"fix ", u64::from(event.get()), b" ")?;
+    put_between(text, b"", u64::from(time), b"\n")
+}
+
+fn put_fixes(text: &mut Vec<u8>, instance: &Instance) -> Result<(), AllocError>
+    ensures { OnOk result (text.new.items ≡ text.old.items ++ as_lines (map fix_line (fixed_entries instance.now))) }
+{
+    for event in instance.events() {
+        if let Some(time) = event.fixed {
+            put_fix(text, event.id, time)?;
+        }
+    }
+    Ok(())
+}
+
+/// The line that adds an activity.
+fn put_activity(text: &mut Vec<u8>, activity: &Activity) -> Result<(), AllocError>
+    ensures { OnOk result (text.new.items ≡ text.old.items ++ (activity_line activity.now ++ 10 ∷ [])) }
+{
+    put(text, b"add activity ")?;
+    put_fields(text, activity, b" ")?;
+    put(text, b"\n")
+}
+
+fn put_activities(text: &mut Vec<u8>, instance: &Instance) -> Result<(), AllocError>
+    ensures { OnOk result (text.new.items ≡ text.old.items ++ as_lines (map activity_line (instance.now).activities)) }
+{
+    for activity in instance.activities() {
+        put_activity(text, activity)?;
+    }
+    Ok(())
+}
+
+fn put_script(text: &mut Vec<u8>, instance: &Instance) -> Result<(), AllocError>
+    ensures text { OnOk result (text.new.items ≡ text.old.items ++ script instance.now) }
+    ensures network { IsNetwork instance.now }
+{
+    put_head(text, instance.period(), line_count(instance))?;
+    put_events(text, instance)?;
+    put_fixes(text, instance)?;
+    put_activities(text, instance)
+}
+
+/// The script that builds the instance from the one of its period without events: a comment with the
+/// period and the number of the lines behind it, and then the edits, a line each.
+///
+/// The events come first, then the fixed times, then the activities, each by rising number.
+pub fn dump(alloc: Global, instance: &Instance) -> Result<Vec<u8>, Memory>
+    ensures text { IfOk result (λ text. text.items ≡ script instance.now) }
+    ensures builds { applied (empty_network instance.now.period) (script_edits instance.now) ≡ Ok instance.now }
+{
+    let mut text = Vec::new(alloc);
+    match put_script(&mut text, instance) {
+        Ok(()) => Ok(text),
+        Err(_) => Err(Memory),
+    }
+}
+
+#[cfg(test)]
+mod tests;
