@@ -24,7 +24,7 @@ pub use limits::{
     max_activities, max_events,
 };
 pub use memory::Memory;
-pub use number::{CAP, NumberFault, number_between};
+pub use number::{NUMBER_CAP, NumberFault, number_between};
 pub use period::Period;
 pub use refusal::Refusal;
 pub use span::{Span, SpanFault};

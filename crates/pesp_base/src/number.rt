@@ -15,11 +15,11 @@ pub enum NumberFault {
 
 /// The limits of [`number_between`] are nearer to 0 than this, so that a number as far as this is
 /// outside them whatever its digits are.
-pub const CAP: u64 = 10_000_000_000_000;
+pub const NUMBER_CAP: u64 = 10_000_000_000_000;
 
-/// The number that the digits write, or [`CAP`] where it is greater.
+/// The number that the digits write, or [`NUMBER_CAP`] where it is greater.
 fn capped_digits(digits: &[u8]) -> Option<u64>
-    ensures { result ≡ option_map (min CAP) (digits_value digits.now) }
+    ensures { result ≡ option_map (min NUMBER_CAP) (digits_value digits.now) }
 {
     if digits.is_empty() {
         return None;
@@ -29,12 +29,12 @@ fn capped_digits(digits: &[u8]) -> Option<u64>
         if !digit.is_ascii_digit() {
             return None;
         }
-        number = CAP.min(10 * number + u64::from(*digit - b'0'));
+        number = NUMBER_CAP.min(10 * number + u64::from(*digit - b'0'));
     }
     Some(number)
 }
 
-/// The number that the text writes, or [`CAP`] with its sign where it is farther from 0.
+/// The number that the text writes, or [`NUMBER_CAP`] with its sign where it is farther from 0.
 fn capped_number(text: &[u8]) -> Option<i64>
     ensures { result ≡ option_map capped (number_value text.now) }
 {
@@ -50,8 +50,8 @@ fn capped_number(text: &[u8]) -> Option<i64>
 /// A number is one or more digits behind a `+`, a `-` or neither, as many digits as there may be; it
 /// takes no memory to read it. Errors: `NotANumber`, then `OutOfRange`.
 pub fn number_between(text: &[u8], low: i64, high: i64) -> Result<i64, NumberFault>
-    requires low { neg_ℤ (pos CAP) <ℤ low }
-    requires high { high <ℤ pos CAP }
+    requires low { neg_ℤ (pos NUMBER_CAP) <ℤ low }
+    requires high { high <ℤ pos NUMBER_CAP }
     ensures number { result ≡ number_in low high text.now }
     ensures within { IfOk result (λ number. (low ≤ℤ number) × (number ≤ℤ high)) }
 {

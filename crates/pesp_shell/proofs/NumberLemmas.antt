@@ -1,8 +1,8 @@
 -- Six words, as the words of an activity.
 use Rattle.std.proofs.Common.{◌≡◌, ℕ, ◌+◌, ◌≤◌, ◌<◌, List, [], ◌∷◌, length, get_or, Bor, refl, arith}
 use Rattle.pesp_shell.specs.declared.numbers.ActivityWords.{ActivityWords}
-use Rattle.pesp_shell.specs.Forms.{activity_faults, activity_ranges, first_fault, first_of}
-use Rattle.pesp_shell.specs.Parsed.{crosses_at}
+use Rattle.pesp_shell.specs.Forms.{activity_faults, first_fault, first_of}
+use Rattle.pesp_shell.specs.Parsed.{activity_ranges, crosses_at}
 use Rattle.pesp_shell.specs.Words.{texts}
 
 abbrev pub words_at : List (Bor (List ℕ)) → Bor (List ℕ) → ActivityWords

@@ -1,5 +1,5 @@
 -- The forms of commands by their names, and the first fault of the numbers behind a name.
-use Rattle.std.specs.Prelude.{ℕ, ◌+◌, ◌≡◌, ◌≤◌, Bool, false, not, ◌==◌, int_lt, List, [], ◌∷◌, ◌++◌, length, map, slice_index_or, ℤ, unsigned_abs, Option, Some, None, option_map, bytes_eq, Result, Ok, Err}
+use Rattle.std.specs.Prelude.{ℕ, ◌+◌, ◌≡◌, ◌≤◌, Bool, not, ◌==◌, int_lt, List, [], ◌∷◌, ◌++◌, length, map, slice_index_or, ℤ, unsigned_abs, Option, Some, None, option_map, bytes_eq, Result, Ok, Err}
 use Rattle.std.specs.List.{starts_with}
 use Rattle.pesp_base.specs.declared.activity.Activity.{Activity}
 use Rattle.pesp_base.specs.Numbers.{number_in}
@@ -11,7 +11,7 @@ use Rattle.pesp_shell.specs.declared.name.Name.TheVariants as name
 use Rattle.pesp_shell.specs.declared.numbers.ActivityWords.{ActivityWords}
 use Rattle.pesp_shell.specs.declared.parsing.ParseFault.{ParseFault}
 use Rattle.pesp_shell.specs.declared.parsing.ParseFault.TheVariants as fault
-use Rattle.pesp_shell.specs.Parsed.{Range, Form, arguments, fault_at, forms, bound, id, natural, number_faults, number_of, plain, span_at, weight}
+use Rattle.pesp_shell.specs.Parsed.{Range, Form, arguments, fault_at, forms, bound, id, number_faults, number_of, plain, weight}
 
 -- the place of a name's form among the forms
 abbrev pub place_of : Name → ℕ
@@ -50,18 +50,6 @@ pub record Arguments : Type 0 where
 
 abbrev pub values : Arguments → List ℤ
 values a = map number_of a.words
-
-abbrev pub never : List ℤ → Bool
-never numbers = false
-
--- the ranges of the numbers of an activity
-abbrev pub activity_ranges : List Range
-activity_ranges = id ∷ id ∷ id ∷ bound ∷ bound ∷ weight ∷ []
-
--- the activity that six numbers stand for
-abbrev pub activity_of : List ℤ → Activity
-activity_of ns =
-    record { id = natural ns 0; from = natural ns 1; to = natural ns 2; span = span_at ns 3; weight = natural ns 5 }
 
 -- the fault of the word at a place, which is no number or one outside its range
 abbrev pub word_fault : ℕ → Range → List ℕ → Option ParseFault

@@ -1,6 +1,7 @@
 -- What a line says.
 use Rattle.std.specs.Prelude.{ℕ, ◌+◌, Bool, false, not, ◌==◌, int_lt, if◌then◌else◌, List, [], ◌∷◌, ◌++◌, map, length, drop, find, codes, bytes_eq, slice_index, slice_index_or, ℤ, pos, unsigned_abs, Option, Some, None, unwrap_or, Result, Ok, Err}
 use Rattle.std.specs.List.{starts_with}
+use Rattle.pesp_base.specs.declared.activity.Activity.{Activity}
 use Rattle.pesp_base.specs.Bounds.{Bounds}
 use Rattle.pesp_base.specs.declared.limits.TheConstants.{GREATEST_NUMBER, GREATEST_WEIGHT, LEAST_BOUND, GREATEST_BOUND}
 use Rattle.pesp_base.specs.declared.number.NumberFault.{NumberFault}
@@ -61,9 +62,22 @@ span_at ns k = record { lower = whole ns k; upper = whole ns (k + 1) }
 abbrev pub crosses_at : ℕ → List ℤ → Bool
 crosses_at k ns = int_lt (whole ns (k + 1)) (whole ns k)
 
+-- the ranges of the numbers of an activity
+abbrev pub activity_ranges : List Range
+activity_ranges = id ∷ id ∷ id ∷ bound ∷ bound ∷ weight ∷ []
+
+-- the activity that six numbers stand for
+abbrev pub activity_of : List ℤ → Activity
+activity_of ns =
+    record { id = natural ns 0; from = natural ns 1; to = natural ns 2; span = span_at ns 3; weight = natural ns 5 }
+
+-- no bounds are crossed where there are none
+abbrev pub never : List ℤ → Bool
+never ns = false
+
 -- a form without a span
 abbrev pub plain : List ℕ → List Range → (List ℤ → Command) → Form
-plain name ranges made = record { name = words_of name; ranges = ranges; is_crossed = λ ns. false; made = made }
+plain name ranges made = record { name = words_of name; ranges = ranges; is_crossed = never; made = made }
 
 -- a form with a span at the k-th number
 abbrev pub with_span : List ℕ → List Range → ℕ → (List ℤ → Command) → Form
@@ -76,8 +90,7 @@ forms =
     ∷ plain (codes "drop event") (id ∷ []) (λ ns. command.Edit (DropEvent (natural ns 0)))
     ∷ plain (codes "fix") (id ∷ time ∷ []) (λ ns. command.Edit (Fix (natural ns 0) (natural ns 1)))
     ∷ plain (codes "unfix") (id ∷ []) (λ ns. command.Edit (Unfix (natural ns 0)))
-    ∷ with_span (codes "add activity") (id ∷ id ∷ id ∷ bound ∷ bound ∷ weight ∷ []) 3
-    (λ ns. command.Edit (AddActivity (record { id = natural ns 0; from = natural ns 1; to = natural ns 2; span = span_at ns 3; weight = natural ns 5 })))
+    ∷ with_span (codes "add activity") activity_ranges 3 (λ ns. command.Edit (AddActivity (activity_of ns)))
     ∷ plain (codes "drop activity") (id ∷ []) (λ ns. command.Edit (DropActivity (natural ns 0)))
     ∷ with_span (codes "span") (id ∷ bound ∷ bound ∷ []) 1 (λ ns. command.Edit (SetSpan (natural ns 0) (span_at ns 1)))
     ∷ plain (codes "weight") (id ∷ weight ∷ []) (λ ns. command.Edit (SetWeight (natural ns 0) (natural ns 1)))

@@ -80,8 +80,8 @@ impl<'a> Model for Numbers<'a> {
 
 impl<'a> Numbers<'a> {
     ghost use Rattle.std.specs.Prelude.{◌≡◌, ◌+◌, ◌≤◌, ◌∷◌, [], length, drop, IfOk, IfErr, None, Some};
-    ghost use Rattle.pesp_shell.specs.Forms.{activity_of, activity_ranges, first_fault, never, unless_faulty, values};
-    ghost use Rattle.pesp_shell.specs.Parsed.{crosses_at, natural, span_at};
+    ghost use Rattle.pesp_shell.specs.Forms.{first_fault, unless_faulty, values};
+    ghost use Rattle.pesp_shell.specs.Parsed.{activity_of, activity_ranges, crosses_at, natural, never, span_at};
     ghost use Rattle.pesp_shell.specs.Parsed as ranges;
     ghost use Rattle.pesp_shell.specs.Words.{texts};
 

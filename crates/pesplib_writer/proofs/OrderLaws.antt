@@ -13,7 +13,8 @@ module _ {X : Type 0} (number : X → ℕ) where
   IsBelow n [] = Unit {0}
   IsBelow n (x ∷ xs) = (number x < n) × IsBelow n xs
 
-  above_before : (n : ℕ) (xs rest : List X) (y : X) → IsAbove number n (xs ++ (y ∷ rest)) → n < number y
+  -- a number that is below all of a list is below each of it
+  pub above_before : (n : ℕ) (xs rest : List X) (y : X) → IsAbove number n (xs ++ (y ∷ rest)) → n < number y
   above_before n [] rest y above = above.0
   above_before n (x ∷ xs) rest y above = above_before n xs rest y above.1
 

@@ -1,7 +1,7 @@
 -- The edits of an instance's script, applied to the instance without events, give the instance.
-use Rattle.std.proofs.Common.{◌≡◌, ℕ, ◌+◌, ◌<◌, ◌≤◌, Bool, true, false, not, nat_lt, nat_le, ◌==◌, List, [], ◌∷◌, ◌++◌, length, map, filter, filter_map, Option, Some, None, option_map, Ok, Err, is_some, refl, sym, ap, ◌∙◌, append_assoc, append-nil, length-append, arith, All}
+use Rattle.std.proofs.Common.{◌≡◌, ℕ, ◌+◌, ◌<◌, ◌≤◌, Bool, true, false, not, nat_le, ◌==◌, List, [], ◌∷◌, ◌++◌, length, map, filter_map, Option, Some, None, option_map, Ok, Err, is_some, refl, sym, ap, ◌∙◌, append_assoc, append-nil, length-append, arith, All}
 use Rattle.std.specs.List.{cons_option}
-use Rattle.std.proofs.lemmas.Bool.{lt-ltb, le-ltb, lt-leb, ne_eqb, eq-eqb}
+use Rattle.std.proofs.lemmas.Bool.{lt-leb, ne_eqb, eq-eqb}
 use Rattle.std.proofs.lemmas.List.{length-map}
 use Rattle.std.proofs.lemmas.List.Elements.{All-head, All-tail}
 use Rattle.pesp_base.specs.declared.activity.Activity.{Activity}
@@ -18,37 +18,18 @@ use Rattle.pesp_instance.proofs.Rising.{IsAbove, Rises, Rises-from_increasing, c
 use Rattle.pesplib_reader.proofs.FixedLemmas.{fix_edited}
 use Rattle.pesplib_writer.specs.Script.{applied, fix_entry, on_accepted, script_edits}
 use Rattle.pesplib_writer.specs.Texts.{fixed_entries, fixed_entry, unfixed_event}
+use Rattle.pesplib_writer.proofs.OrderLaws.{above_before, below_after, put_in-below, with_number-below}
 
 -- ---- a number that is above those before it
 
 module _ {X : Type 0} (number : X → ℕ) where
-  above_later : (n : ℕ) (xs : List X) (x : X) (rest : List X) → IsAbove number n (xs ++ x ∷ rest) → n < number x
-  above_later n [] x rest above = above.0
-  above_later n (y ∷ xs) x rest above = above_later n xs x rest above.1
+  -- the members before another one have other, smaller numbers
+  before_absent : (xs : List X) (x : X) (rest : List X) → Rises number (xs ++ x ∷ rest) → with_number number (number x) xs ≡ None
+  before_absent xs x rest rises = with_number-below number (number x) xs (below_after number xs rest x rises)
 
-  -- the members before the last one have other, smaller numbers
-  last_absent : (xs : List X) (x : X) (rest : List X) → Rises number (xs ++ x ∷ rest) → with_number number (number x) xs ≡ None
-  last_absent [] x rest rises = refl
-  last_absent (y ∷ xs) x rest rises =
-      let apart : (number y == number x) ≡ false = ne_eqb (number y) (number x) (λ same. absurd (omega (arith, above_later (number y) xs x rest rises.0, same))) in
-      rw apart (last_absent xs x rest rises.1)
-
-  filter_before : (xs : List X) (x : X) (rest : List X) → Rises number (xs ++ x ∷ rest) → filter (λ y. nat_lt (number y) (number x)) xs ≡ xs
-  filter_before [] x rest rises = refl
-  filter_before (y ∷ xs) x rest rises =
-      let low : nat_lt (number y) (number x) ≡ true = lt-ltb (number y) (number x) (above_later (number y) xs x rest rises.0) in
-      rw (low, filter_before xs x rest rises.1) refl
-
-  filter_behind : (xs : List X) (x : X) (rest : List X) → Rises number (xs ++ x ∷ rest) → filter (λ y. nat_lt (number x) (number y)) xs ≡ []
-  filter_behind [] x rest rises = refl
-  filter_behind (y ∷ xs) x rest rises =
-      let below = above_later (number y) xs x rest rises.0 in
-      let low : nat_lt (number x) (number y) ≡ false = le-ltb (number x) (number y) (omega (arith, below)) in
-      rw low (filter_behind xs x rest rises.1)
-
-  -- a member of a greater number goes to the end
-  last_put : (xs : List X) (x : X) (rest : List X) → Rises number (xs ++ x ∷ rest) → put_in number x xs ≡ xs ++ x ∷ []
-  last_put xs x rest rises = rw (filter_before xs x rest rises, filter_behind xs x rest rises) refl
+  -- behind them it goes to the end
+  put_behind : (xs : List X) (x : X) (rest : List X) → Rises number (xs ++ x ∷ rest) → put_in number x xs ≡ xs ++ x ∷ []
+  put_behind xs x rest rises = put_in-below number x xs (below_after number xs rest x rises)
 
   -- a change reaches the one member of its number, with others before and behind it
   change_between : (change : X → X) (xs : List X) (x : X) (rest : List X) → Rises number (xs ++ x ∷ rest)
@@ -56,13 +37,13 @@ module _ {X : Type 0} (number : X → ℕ) where
   change_between change [] x rest rises =
       rw (eq-eqb (number x) (number x) refl, change_in-above number (number x) (number x) change rest (omega arith) rises.0) refl
   change_between change (y ∷ xs) x rest rises =
-      let apart : (number y == number x) ≡ false = ne_eqb (number y) (number x) (λ same. absurd (omega (arith, above_later (number y) xs x rest rises.0, same))) in
+      let apart : (number y == number x) ≡ false = ne_eqb (number y) (number x) (λ same. absurd (omega (arith, above_before number (number y) xs rest x rises.0, same))) in
       rw (apart, change_between change xs x rest rises.1) refl
 
   found_between : (xs : List X) (x : X) (rest : List X) → Rises number (xs ++ x ∷ rest) → with_number number (number x) (xs ++ x ∷ rest) ≡ Some x
   found_between [] x rest rises = rw (eq-eqb (number x) (number x) refl) refl
   found_between (y ∷ xs) x rest rises =
-      let apart : (number y == number x) ≡ false = ne_eqb (number y) (number x) (λ same. absurd (omega (arith, above_later (number y) xs x rest rises.0, same))) in
+      let apart : (number y == number x) ≡ false = ne_eqb (number y) (number x) (λ same. absurd (omega (arith, above_before number (number y) xs rest x rises.0, same))) in
       rw apart (found_between xs x rest rises.1)
 
 -- ---- edits behind edits
@@ -103,8 +84,8 @@ module _ (period : ℕ) where
       → edited (with_events done) (AddEvent e) ≡ Ok (with_events (done ++ bare e ∷ []))
   event_added done rest e rises room =
       event_accepted (has_event (with_events done) e) (nat_le (max_events period) (length done)) _ _ (effect (with_events done) (AddEvent e))
-      (ap is_some (last_absent number done (bare e) rest rises)) (lt-leb (max_events period) (length done) room)
-      ∙ ap (λ events. Ok (with_events events)) (last_put number done (bare e) rest rises)
+      (ap is_some (before_absent number done (bare e) rest rises)) (lt-leb (max_events period) (length done) room)
+      ∙ ap (λ events. Ok (with_events events)) (put_behind number done (bare e) rest rises)
 
   events_added : (done : List Event) (numbers : List ℕ) → Rises number (done ++ map bare numbers) → length done + length numbers ≤ max_events period
       → applied (with_events done) (map AddEvent numbers) ≡ Ok (with_events (done ++ map bare numbers))
@@ -185,8 +166,8 @@ module _ (period : ℕ) (events : List Event) where
       → edited (with_activities done) (AddActivity a) ≡ Ok (with_activities (done ++ a ∷ []))
   activity_added done rest a rises has room =
       activity_accepted (is_some (activity_of (with_activities done) a.id)) (has_event (with_activities done) a.from) (has_event (with_activities done) a.to) (nat_le (max_activities period) (length done)) _ _ _ _ (effect (with_activities done) (AddActivity a))
-      (ap is_some (last_absent id_of done a rest rises)) has.from has.to (lt-leb (max_activities period) (length done) room)
-      ∙ ap (λ activities. Ok (with_activities activities)) (last_put id_of done a rest rises)
+      (ap is_some (before_absent id_of done a rest rises)) has.from has.to (lt-leb (max_activities period) (length done) room)
+      ∙ ap (λ activities. Ok (with_activities activities)) (put_behind id_of done a rest rises)
 
   activities_added : (done activities : List Activity) → Rises id_of (done ++ activities) → All (HasEnds events) activities → length done + length activities ≤ max_activities period
       → applied (with_activities done) (map AddActivity activities) ≡ Ok (with_activities (done ++ activities))

@@ -5,9 +5,9 @@ use Rattle.pesp_shell.specs.declared.command.Command.TheVariants as command
 use Rattle.pesp_shell.specs.declared.name.Name.{Name}
 use Rattle.pesp_shell.specs.declared.name.Name.TheVariants as name
 use Rattle.pesp_shell.specs.declared.parsing.ParseFault.{ParseFault}
-use Rattle.pesp_shell.specs.Forms.{Arguments, first_fault, never, said, unless_faulty, values}
+use Rattle.pesp_shell.specs.Forms.{Arguments, first_fault, said, unless_faulty, values}
 use Rattle.pesp_shell.specs.Parsed as ranges
-use Rattle.pesp_shell.specs.Parsed.{natural}
+use Rattle.pesp_shell.specs.Parsed.{natural, never}
 use Rattle.pesp_shell.proofs.parsing.said.Goals as goal
 
 module _ (n : Name) (a : Arguments) (is : n ≡ name.Fix) where

@@ -1,7 +1,7 @@
 -- Six words are the words of an activity.
 use Rattle.std.proofs.Common.{ap, sym, ◌∙◌}
-use Rattle.pesp_shell.specs.Forms.{activity_ranges, first_fault}
-use Rattle.pesp_shell.specs.Parsed.{crosses_at}
+use Rattle.pesp_shell.specs.Forms.{first_fault}
+use Rattle.pesp_shell.specs.Parsed.{activity_ranges, crosses_at}
 use Rattle.pesp_shell.proofs.NumberLemmas.{six_words}
 use Rattle.pesp_shell.proofs.numbers.Numbers.activity.Goals as goal
 
