@@ -4,6 +4,7 @@ use Rattle.pesp_base.specs.declared.refusal.Refusal.{Refusal}
 use Rattle.pesp_base.specs.declared.refusal.Refusal.TheVariants as no
 use Rattle.pesp_base.specs.Bounds.{Bounds}
 use Rattle.pesp_base.specs.Refusals.{when, unless_refused}
+use Rattle.pesp_base.specs.Residues.{partners_of, sources_of}
 use Rattle.pesp_base.specs.Tensions.{tension_of, slack_of, is_met}
 use Rattle.pesp_base.specs.Texts.{number_value, separated, words_line, as_lines}
 
@@ -36,6 +37,16 @@ truncated = refl
 -- a span of a whole period and more admits each pair, also below zero
 full_span : is_met 10 (record { lower = negsuc 1; upper = pos 7 }) 9 0 ≡ true
 full_span = refl
+
+-- the residues that spans admit, in their order
+partners_listed : partners_of 10 (record { lower = negsuc 1; upper = pos 1 }) 0 ≡ 8 ∷ 9 ∷ 0 ∷ 1 ∷ []
+partners_listed = refl
+
+all_partners : partners_of 10 (record { lower = pos 7; upper = pos 16 }) 0 ≡ 7 ∷ 8 ∷ 9 ∷ 0 ∷ 1 ∷ 2 ∷ 3 ∷ 4 ∷ 5 ∷ 6 ∷ []
+all_partners = refl
+
+sources_listed : sources_of 10 there 4 ≡ 1 ∷ 0 ∷ 9 ∷ []
+sources_listed = refl
 
 leading_zeros : number_value (codes "-0012") ≡ Some (negsuc 11)
 leading_zeros = refl

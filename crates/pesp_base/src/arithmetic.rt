@@ -9,7 +9,7 @@ ghost use Rattle.pesp_base.specs.Tensions.{IsMet, IsTension, residue, slack_of, 
 use crate::{Period, Span};
 
 /// The remainder of a whole number, from 0 to the period less 1.
-fn remainder(number: i32, period: Period) -> u16
+pub(crate) fn remainder(number: i32, period: Period) -> u16
     ensures value { result ≡ residue period number }
     ensures below { result < period }
 {

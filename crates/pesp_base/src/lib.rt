@@ -12,6 +12,7 @@ mod memory;
 mod number;
 mod period;
 mod refusal;
+mod residues;
 mod span;
 mod weight;
 
@@ -27,5 +28,6 @@ pub use memory::Memory;
 pub use number::{NUMBER_CAP, NumberFault, number_between};
 pub use period::Period;
 pub use refusal::Refusal;
+pub use residues::{Residues, partners, sources};
 pub use span::{Span, SpanFault};
 pub use weight::Weight;

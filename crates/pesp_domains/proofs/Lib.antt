@@ -1,0 +1,7 @@
+mod Edits
+mod Families
+mod Laws
+mod Opened
+mod Passes
+mod Pushes
+mod RowLaws

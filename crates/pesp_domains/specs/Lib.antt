@@ -1,0 +1,4 @@
+pub mod Domains
+pub mod Kept
+pub mod Rows
+pub mod Sweeps

@@ -1,0 +1,18 @@
+//! The domains of an instance: for each event the residues that are left when pairs without a partner go,
+//! again and again. The trait of what keeps them while edits are made and pairs are pushed and popped,
+//! and a plain keeper.
+#![tactic(auto)]
+
+mod keeper;
+mod pair;
+mod plain;
+mod row;
+mod rows;
+mod side;
+mod sweep;
+
+pub use keeper::{Keeper, NoRoom};
+pub use pair::Pair;
+pub use plain::PlainKeeper;
+pub use row::Row;
+pub use side::Side;

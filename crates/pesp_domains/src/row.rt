@@ -1,0 +1,108 @@
+//! Rows of residues.
+
+ghost use Rattle.std.specs.Prelude.{◌≡◌, ℕ, ◌==◌, ◌&&◌, not, nat_le, ◌-◌, true, replicate, length, find, IfOk};
+ghost use Rattle.std.specs.List.{range_with_len};
+ghost use Rattle.pesp_domains.specs.Domains.{holds, residues};
+ghost use Rattle.pesp_domains.specs.Rows.{is_open};
+
+use pesp_base::Period;
+use std::alloc::{AllocError, Global};
+use std::marker::Model;
+
+/// A set of residues, seen as a test for each residue below the period.
+#[derive(Drop)]
+pub struct Row {
+    tests: Vec<bool>,
+}
+
+impl Model for Row {
+    ghost use Rattle.std.specs.Prelude.{List, Bool, length, ◌≤◌};
+    ghost use Rattle.pesp_base.specs.declared.limits.TheConstants.{GREATEST_PERIOD};
+
+    ghost Value = { List Bool };
+
+    ghost view = { λ a. a.tests.items };
+
+    ghost invariant = { λ a. length a.tests.items ≤ GREATEST_PERIOD };
+}
+
+impl Row {
+    /// The row of all residues.
+    pub(crate) fn full(alloc: Global, period: Period) -> Result<Row, AllocError>
+        ensures { IfOk result (λ row. row ≡ replicate period true) }
+    {
+        let tests = vec![in alloc; true; period.get() as usize]?;
+        Ok(Row { tests })
+    }
+
+    /// The period, below which the residues are.
+    fn period(&self) -> u16
+        ensures { result ≡ length self.now }
+    {
+        self.tests.len() as u16
+    }
+
+    /// Whether the residue is in the set.
+    pub fn holds(&self, residue: u16) -> bool
+        ensures { result ≡ holds self.now residue }
+    {
+        let place = residue as usize;
+        place < self.tests.len() && self.tests[place]
+    }
+
+    /// How many residues the set has.
+    pub fn len(&self) -> usize
+        ensures { result ≡ length (residues self.now) }
+    {
+        (0..self.period())
+            .filter(|residue| self.holds(*residue))
+            .count()
+    }
+
+    /// The least residue of the set that is not below the given one.
+    pub fn next_from(&self, residue: u16) -> Option<u16>
+        ensures { result ≡ find (λ r. nat_le residue r) (residues self.now) }
+    {
+        self.first_between(residue, self.period())
+    }
+
+    /// The least residue of the set from one on and below another.
+    fn first_between(&self, low: u16, high: u16) -> Option<u16>
+        ensures { result ≡ find (holds self.now) (range_with_len low (high - low)) }
+    {
+        (low..high).find(|residue| self.holds(*residue))
+    }
+
+    /// Takes a residue out.
+    pub(crate) fn take_out(&mut self, residue: u16)
+        ensures long { length self.new ≡ length self.old }
+        ensures holds { (r : ℕ) → holds self.new r ≡ (holds self.old r && not (r == residue)) }
+    {
+        if self.holds(residue) {
+            self.tests[residue as usize] = false;
+        }
+    }
+
+    /// Takes all other residues out.
+    pub(crate) fn keep_only(&mut self, residue: u16)
+        ensures long { length self.new ≡ length self.old }
+        ensures holds { (r : ℕ) → holds self.new r ≡ (holds self.old r && r == residue) }
+    {
+        let stays = self.holds(residue);
+        self.tests.fill(false);
+        if stays {
+            self.tests[residue as usize] = true;
+        }
+    }
+
+    /// Puts all residues in, or the fixed one alone.
+    pub(crate) fn open(&mut self, fixed: Option<u16>)
+        ensures long { length self.new ≡ length self.old }
+        ensures holds { (r : ℕ) → holds self.new r ≡ is_open fixed (length self.old) r }
+    {
+        self.tests.fill(true);
+        if let Some(residue) = fixed {
+            self.keep_only(residue);
+        }
+    }
+}

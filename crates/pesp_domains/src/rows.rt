@@ -1,0 +1,102 @@
+//! Rows by event.
+
+ghost use Rattle.std.specs.Prelude.{◌≡◌, ℕ, true, replicate, Some, None, option_map, IfOk, OnOk, OnErr};
+ghost use Rattle.pesp_domains.specs.Rows.{row_at, has, HaveSameShape, SetsRow, OpensRow, TakesOut, KeepsOnly};
+
+use crate::Row;
+use pesp_base::{EventId, Period};
+use std::alloc::{AllocError, Global};
+use std::collections::BTreeMap;
+use std::marker::Model;
+
+/// A row for each of some events.
+#[derive(Drop)]
+pub struct Rows {
+    rows: BTreeMap<u32, Row>,
+    // Where the rows have their memory from.
+    alloc: Global,
+}
+
+impl Model for Rows {
+    ghost use Rattle.pesp_domains.specs.Rows as words;
+
+    ghost Value = { words.Rows };
+
+    ghost view = { λ a. a.rows.entries };
+}
+
+impl Rows {
+    /// No rows.
+    pub fn new(alloc: Global) -> Rows
+        ensures { (e : ℕ) → row_at result e ≡ None }
+    {
+        Rows {
+            rows: BTreeMap::new(alloc),
+            alloc,
+        }
+    }
+
+    /// The row of an event.
+    pub fn get(&self, event: EventId) -> Option<&Row>
+        ensures { option_map (λ row. row.now) result ≡ row_at self.now event }
+    {
+        self.rows.get(&event.get())
+    }
+
+    /// Whether the row of the event has the residue.
+    pub fn holds(&self, event: EventId, residue: u16) -> bool
+        ensures { result ≡ has self.now event residue }
+    {
+        match self.get(event) {
+            Some(row) => row.holds(residue),
+            None => false,
+        }
+    }
+
+    /// Gives the event a row of all residues. Without the memory for it, nothing changes.
+    pub fn insert(&mut self, event: EventId, period: Period) -> Result<(), AllocError>
+        ensures ok { OnOk result (SetsRow event (Some (replicate period true)) self.old self.new) }
+        ensures err { OnErr result (self.new ≡ self.old) }
+    {
+        let row = Row::full(self.alloc, period)?;
+        self.rows.insert(event.get(), row)?;
+        Ok(())
+    }
+
+    /// Takes the row of the event away.
+    pub fn remove(&mut self, event: EventId)
+        ensures { SetsRow event None self.old self.new }
+    {
+        self.rows.remove(&event.get());
+    }
+
+    /// Takes a pair out.
+    pub fn take_out(&mut self, event: EventId, residue: u16)
+        ensures shape { HaveSameShape self.old self.new }
+        ensures has { TakesOut event residue self.old self.new }
+    {
+        if let Some(row) = self.rows.get_mut(&event.get()) {
+            row.take_out(residue);
+        }
+    }
+
+    /// Takes the other residues of the event out.
+    pub fn keep_only(&mut self, event: EventId, residue: u16)
+        ensures shape { HaveSameShape self.old self.new }
+        ensures has { KeepsOnly event residue self.old self.new }
+    {
+        if let Some(row) = self.rows.get_mut(&event.get()) {
+            row.keep_only(residue);
+        }
+    }
+
+    /// Puts all residues of the event in, or the fixed one alone.
+    pub fn open(&mut self, event: EventId, fixed: Option<u16>)
+        ensures shape { HaveSameShape self.old self.new }
+        ensures has { OpensRow event fixed self.old self.new }
+    {
+        if let Some(row) = self.rows.get_mut(&event.get()) {
+            row.open(fixed);
+        }
+    }
+}
