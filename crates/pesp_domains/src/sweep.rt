@@ -11,7 +11,7 @@ ghost use Rattle.pesp_domains.specs.Sweeps.{Of, AreDomains, AreOpen, IsAlone, Is
 
 use crate::rows::Rows;
 use crate::{Pair, Row, Side};
-use pesp_base::{Activity, EventId, Period, Residues, partners, sources};
+use pesp_base::{Activity, Period, Residues, partners, sources};
 use pesp_instance::Instance;
 
 /// Whether the row has one of the residues.
