@@ -1,3 +1,4 @@
+mod Cases
 mod Edits
 mod Families
 mod Laws
@@ -5,3 +6,4 @@ mod Opened
 mod Passes
 mod Pushes
 mod RowLaws
+mod Sweeps
