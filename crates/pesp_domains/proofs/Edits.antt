@@ -22,7 +22,7 @@ abbrev number : Event → ℕ
 number x = x.id
 
 -- an accepted edit has its effect
-accepted : {X E : Type 0} (refusals : List (Option E)) (x y : X) → unless_refused refusals x ≡ Ok y → y ≡ x
+pub accepted : {X E : Type 0} (refusals : List (Option E)) (x y : X) → unless_refused refusals x ≡ Ok y → y ≡ x
 accepted [] x y e = sym (ap (λ r. result_unwrap_or r x) e)
 accepted (None ∷ refusals) x y e = accepted refusals x y e
 accepted (Some refusal ∷ refusals) x y e = absurd (false≢true (ap is_ok e))

@@ -1,9 +1,9 @@
 mod Cases
-mod Edits
-mod Families
-mod Laws
+pub mod Edits
+pub mod Families
+pub mod Laws
 mod Opened
 mod Passes
 mod Pushes
 mod RowLaws
-mod Sweeps
+pub mod Sweeps

@@ -1,5 +1,5 @@
 -- The domains by computation: of all pairs, those that do not stand by the others go, sweep after sweep, until each one that is left stands by what is left.
-use Rattle.std.proofs.Common.{◌≡◌, ℕ, zero, suc, ◌<◌, ◌==◌, nat_lt, Bool, true, false, ◌&&◌, ◌||◌, not, ◌↔◌, List, [], ◌∷◌, filter, length, IsTrue, refl, sym, subst, ◌∙◌, inl, inr, arith}
+use Rattle.std.proofs.Common.{◌≡◌, ℕ, zero, suc, ◌<◌, ◌==◌, ◌≤◌, nat_lt, Bool, true, false, cond, ◌&&◌, ◌||◌, not, ◌↔◌, List, [], ◌∷◌, filter, length, IsTrue, refl, sym, subst, ◌∙◌, inl, inr, arith}
 use Rattle.std.specs.Bool.{Decides}
 use Rattle.std.specs.List.{Contains, list_all, list_any}
 use Rattle.std.proofs.lemmas.Bool.{agree_below, agree_below_at, and_parts, cases_lt, false≢true}
@@ -9,6 +9,7 @@ use Rattle.pesp_base.specs.declared.activity.Activity.{Activity}
 use Rattle.pesp_base.specs.Tensions.{is_met}
 use Rattle.pesp_base.proofs.Laws.{met_is}
 use Rattle.pesp_instance.specs.Network.{Network, agrees_with, fixed_of, has_event}
+use Rattle.pesp_instance.proofs.Rising.{length-filter_le}
 use Rattle.pesp_domains.specs.declared.pair.Pair.{Pair}
 use Rattle.pesp_domains.specs.declared.side.Side.{Side}
 use Rattle.pesp_domains.specs.declared.side.Side.TheVariants.{Tail, Head}
@@ -213,3 +214,36 @@ module _ (I : Network) (pushes : List Pair) where
                 )
               ];
         }
+
+-- ---- the sweeps come to an end
+
+-- a test that some member fails lets through fewer
+fewer_pass : {X : Type 0} (test : X → Bool) (xs : List X) → list_all test xs ≡ false → length (filter test xs) < length xs
+fewer_pass test [] fails = absurd (false≢true (sym fails))
+fewer_pass test (x ∷ xs) fails =
+    elim (test x) as (λ b. (b && list_all test xs) ≡ false → length (cond b (x ∷ filter test xs) (filter test xs)) < length (x ∷ xs)) [
+      | true ↦ λ later. let rest = fewer_pass test xs later in omega (arith, rest)
+      | false ↦ λ _. let rest = length-filter_le test xs in omega (arith, rest)
+    ] fails
+
+module _ (I : Network) (pushes : List Pair) where
+  -- where some pair does not stand by what is left, one more sweep leaves fewer
+  fewer_left : (n : ℕ) → is_supported I pushes (left I pushes n) ≡ false → length (left I pushes (suc n)) < length (left I pushes n)
+  fewer_left n fails = fewer_pass (stands I pushes (left I pushes n)) (left I pushes n) fails
+
+  -- after no more sweeps than there are pairs left, each one that is left then stands by what is left then
+  sweeps_end : (most n : ℕ) → length (left I pushes n) ≤ most → (m : ℕ) × (is_supported I pushes (left I pushes m) ≡ true)
+  sweeps_end zero n few =
+      elim (is_supported I pushes (left I pushes n)) as (λ b. is_supported I pushes (left I pushes n) ≡ b → (m : ℕ) × (is_supported I pushes (left I pushes m) ≡ true)) [
+        | true ↦ λ is. (n, is)
+        | false ↦ λ fails. let fewer = fewer_left n fails in absurd (omega (arith, few, fewer))
+      ] refl
+  sweeps_end (suc most) n few =
+      elim (is_supported I pushes (left I pushes n)) as (λ b. is_supported I pushes (left I pushes n) ≡ b → (m : ℕ) × (is_supported I pushes (left I pushes m) ≡ true)) [
+        | true ↦ λ is. (n, is)
+        | false ↦ λ fails. let fewer = fewer_left n fails in sweeps_end most (suc n) (omega (arith, few, fewer))
+      ] refl
+
+  -- after some number of sweeps each pair that is left stands by what is left
+  pub swept_at_last : (n : ℕ) × (is_supported I pushes (left I pushes n) ≡ true)
+  swept_at_last = sweeps_end (length (left I pushes 0)) 0 (omega arith)

@@ -13,7 +13,7 @@ use Rattle.pesp_instance.proofs.Links.{value_at, length-resolved, lookup-resolve
 use Rattle.pesp_instance.proofs.Rising.{Rises, Rises-from_sorted, filter_below-above, filter_above-above, take_out-above, change_in-above}
 
 -- a look-up by comparison tests for the number itself
-same_test : (n k : ℕ) → is_at (nat_cmp n) k ≡ (k == n)
+pub same_test : (n k : ℕ) → is_at (nat_cmp n) k ≡ (k == n)
 same_test n k =
     elim (cases_order n k) [
       | inl same ↦ rw (le-ltb n k (omega arith), eq-eqb n k same, eq-eqb k n (sym same)) refl

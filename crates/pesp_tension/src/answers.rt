@@ -99,7 +99,7 @@ fn is_met(activity: &Activity, timetable: &Timetable) -> bool
 }
 
 /// Weight times slack of an activity.
-fn cost_of_activity(activity: &Activity, timetable: &Timetable) -> u64
+pub fn cost_of_activity(activity: &Activity, timetable: &Timetable) -> u64
     requires { IsTimed timetable.now activity.now }
     ensures value { result ≡ cost_in timetable.now activity.now }
     ensures small { result ≤ GREATEST_WEIGHT * (GREATEST_PERIOD - 1) }

@@ -7,7 +7,7 @@ mod lists;
 mod timetable;
 mod walk;
 
-pub use answers::{cost, tensions, violations};
+pub use answers::{cost, cost_of_activity, tensions, violations};
 pub use assessment::{Assessment, assess};
 pub use lists::{ActivityTension, Tensions, Violation, Violations};
 pub use timetable::Timetable;

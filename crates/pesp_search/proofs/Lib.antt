@@ -1,0 +1,14 @@
+pub mod BestSoFar
+pub mod Costs
+pub mod Decided
+pub mod Ends
+pub mod Events
+pub mod Fronts
+pub mod Members
+pub mod Order
+pub mod Placed
+pub mod Residues
+pub mod Rest
+pub mod Sizes
+pub mod Stations
+pub mod Timed

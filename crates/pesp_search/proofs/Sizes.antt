@@ -1,0 +1,99 @@
+-- How many nodes of the tree are left at a place, and that there is at most one size.
+use Rattle.std.proofs.Common.{◌≡◌, ℕ, ◌+◌, ◌-◌, ◌<◌, ◌≤◌, zero, suc, List, [], ◌∷◌, ◌++◌, length, refl, sym, ◌∙◌, subst, inl, inr, ◌⊎◌, arith, append_assoc}
+use Rattle.std.proofs.lemmas.List.{append-nil}
+use Rattle.pesp_instance.specs.Network.{Network}
+use Rattle.pesp_search.specs.Places.{InNext, IsDead}
+use Rattle.pesp_search.specs.Tree.{IsSize, IsSumFrom}
+
+-- n nodes are there from residue r on, at the event next after the path, with so many events without a time behind it
+abbrev pub IsRest : Network → ℕ → List ℕ → ℕ → ℕ → Type 0
+IsRest I free path r n = (residues : ℕ) × (r + residues ≡ I.period) × IsSumFrom (IsSize I free) I path residues r n
+
+-- n nodes below the prefix are left at the place that the path leads to from there: those of later residues, at each event of the path and at the next one
+abbrev pub Left : Network → ℕ → List ℕ → List ℕ → ℕ → ℕ → Type 0
+Left I zero prefix [] from n = n ≡ 0
+Left I (suc free) prefix [] from n = (IsDead I prefix × (n ≡ 0)) ⊎ IsRest I free prefix from n
+Left I zero prefix (x ∷ path) from n = ⊥
+Left I (suc free) prefix (x ∷ path) from n = (a : ℕ) × Left I free (prefix ++ x ∷ []) path from a × ((b : ℕ) × IsRest I free prefix (x + 1) b × (n ≡ a + b))
+
+-- at the first place all nodes below the prefix are left
+pub left_start : (I : Network) (free : ℕ) (prefix : List ℕ) (n : ℕ) → IsSize I free prefix n → Left I free prefix [] 0 n
+left_start I zero prefix n size = size
+left_start I (suc free) prefix n (inl dead) = inl dead
+left_start I (suc free) prefix n (inr live) = inr (I.period, omega arith, live.1)
+
+-- residues that are not in the domain have no nodes
+sum_skip : (I : Network) (free : ℕ) (path : List ℕ) (residues from more n : ℕ) → ((s : ℕ) → from ≤ s → s < from + more → InNext I path s → ⊥) → IsSumFrom (IsSize I free) I path (more + residues) from n → IsSumFrom (IsSize I free) I path residues (from + more) n
+sum_skip I free path residues from zero n none sum =
+    let all : zero + residues ≡ residues = omega arith in
+    let here : from ≡ from + zero = omega arith in
+    subst (λ f. IsSumFrom (IsSize I free) I path residues f n) here (subst (λ l. IsSumFrom (IsSize I free) I path l from n) all sum)
+sum_skip I free path residues from (suc more) n none sum =
+    let one : suc more + residues ≡ suc (more + residues) = omega arith in
+    let on : suc from + more ≡ from + suc more = omega arith in
+    let whole : IsSumFrom (IsSize I free) I path (suc (more + residues)) from n = subst (λ l. IsSumFrom (IsSize I free) I path l from n) one sum in
+    subst (λ f. IsSumFrom (IsSize I free) I path residues f n) on
+    (elim whole [
+      | inl out ↦ sum_skip I free path residues (suc from) more n (λ s low high. none s (omega (arith, low)) (omega (arith, high))) out.1
+      | inr inside ↦ absurd (none from (omega arith) (omega arith) inside.0)
+    ])
+
+-- a step down takes one node
+pub left_take : (I : Network) (free : ℕ) (prefix path all : List ℕ) (from r n : ℕ) → prefix ++ path ≡ all → length path < free → (IsDead I all → ⊥) → from ≤ r → r < I.period → InNext I all r → ((s : ℕ) → from ≤ s → s < r → InNext I all s → ⊥) → Left I free prefix path from n → (m : ℕ) × Left I free prefix (path ++ r ∷ []) 0 m × (m + 1 ≤ n)
+left_take I zero prefix path all from r n is room live above below inside between left = absurd (omega (arith, room))
+left_take I (suc free) prefix [] all from r n is room live above below inside between left =
+    let same : prefix ≡ all = sym (append-nil prefix) ∙ is in
+    elim left [
+      | inl dead ↦ absurd (live (subst (IsDead I) same dead.0))
+      | inr rest ↦
+          let at : InNext I prefix r = subst (λ q. InNext I q r) (sym same) inside in
+          let more : ℕ = r - from in
+          let later : ℕ = I.period - suc r in
+          let up : from + more ≡ r = omega arith in
+          let long : rest.0 ≡ more + suc later = omega (arith, rest.1) in
+          let sum : IsSumFrom (IsSize I free) I prefix (more + suc later) from n = subst (λ l. IsSumFrom (IsSize I free) I prefix l from n) long rest.2 in
+          let skipped = sum_skip I free prefix (suc later) from more n (λ s low high d. between s low (omega (arith, high)) (subst (λ q. InNext I q s) same d)) sum in
+          taken (subst (λ f. IsSumFrom (IsSize I free) I prefix (suc later) f n) up skipped) at
+    ]
+  where
+    taken : IsSumFrom (IsSize I free) I prefix (suc (I.period - suc r)) r n → InNext I prefix r → (m : ℕ) × Left I (suc free) prefix (r ∷ []) 0 m × (m + 1 ≤ n)
+    taken (inl out) at = absurd (out.0 at)
+    taken (inr (_, (m, size, (k, sum, total)))) at =
+        let fits : r + 1 + (I.period - suc r) ≡ I.period = omega (arith, below) in
+        let next : suc r ≡ r + 1 = omega arith in
+        (m + k, (m, left_start I free (prefix ++ r ∷ []) m size, (k, (I.period - suc r, fits, subst (λ f. IsSumFrom (IsSize I free) I prefix (I.period - suc r) f k) next sum), refl)), omega (arith, total))
+left_take I (suc free) prefix (x ∷ path) all from r n is room live above below inside between (a, left, (b, rest, total)) =
+    let same : (prefix ++ x ∷ []) ++ path ≡ all = append_assoc prefix (x ∷ []) path ∙ is in
+    let deeper = left_take I free (prefix ++ x ∷ []) path all from r a same (omega (arith, room)) live above below inside between left in
+    let fewer = deeper.2 in
+    (deeper.0 + b, (deeper.0, deeper.1, (b, rest, refl)), omega (arith, fewer, total))
+
+-- a step back takes none
+pub left_back : (I : Network) (free : ℕ) (prefix path : List ℕ) (x from n : ℕ) → Left I free prefix (path ++ x ∷ []) from n → (m : ℕ) × Left I free prefix path (x + 1) m × (m ≤ n)
+left_back I zero prefix [] x from n left = absurd left
+left_back I zero prefix (y ∷ path) x from n left = absurd left
+left_back I (suc free) prefix [] x from n (a, left, (b, rest, total)) = (b, inr rest, omega (arith, total))
+left_back I (suc free) prefix (y ∷ path) x from n (a, left, (b, rest, total)) =
+    let deeper = left_back I free (prefix ++ y ∷ []) path x from a left in
+    let fewer = deeper.2 in
+    (deeper.0 + b, (deeper.0, deeper.1, (b, rest, refl)), omega (arith, fewer, total))
+
+-- where there is at most one size below each residue, there is at most one sum
+sum_unique : (I : Network) (free : ℕ) (path : List ℕ) → ((r m n : ℕ) → IsSize I free (path ++ r ∷ []) m → IsSize I free (path ++ r ∷ []) n → m ≡ n)
+    → (residues from m n : ℕ) → IsSumFrom (IsSize I free) I path residues from m → IsSumFrom (IsSize I free) I path residues from n → m ≡ n
+sum_unique I free path one zero from m n sum other = sum ∙ sym other
+sum_unique I free path one (suc residues) from m n (inl out) (inl also) = sum_unique I free path one residues (suc from) m n out.1 also.1
+sum_unique I free path one (suc residues) from m n (inl out) (inr inside) = absurd (out.0 inside.0)
+sum_unique I free path one (suc residues) from m n (inr inside) (inl out) = absurd (out.0 inside.0)
+sum_unique I free path one (suc residues) from m n (inr (_, (a, size, (b, sum, total)))) (inr (_, (c, size', (d, sum', total')))) =
+    let sizes = one from a c size size' in
+    let sums = sum_unique I free path one residues (suc from) b d sum sum' in
+    omega (arith, sizes, sums, total, total')
+
+-- there is at most one size
+pub size_unique : (I : Network) (free : ℕ) (path : List ℕ) (m n : ℕ) → IsSize I free path m → IsSize I free path n → m ≡ n
+size_unique I zero path m n size other = size ∙ sym other
+size_unique I (suc free) path m n (inl dead) (inl also) = dead.1 ∙ sym also.1
+size_unique I (suc free) path m n (inl dead) (inr live) = absurd (live.0 dead.0)
+size_unique I (suc free) path m n (inr live) (inl dead) = absurd (live.0 dead.0)
+size_unique I (suc free) path m n (inr live) (inr also) = sum_unique I free path (λ r. size_unique I free (path ++ r ∷ [])) I.period 0 m n live.1 also.1

@@ -1,0 +1,265 @@
+-- The search goes from place to place, each with the branch pushed and what comes before it passed over.
+use Rattle.std.proofs.Common.{◌≡◌, ◌+◌, ◌<◌, [], length, get_or, is_some, refl, sym, ap, ◌∙◌, arith}
+use Rattle.std.proofs.lemmas.List.{get_or_read, length_push, nil_from_length}
+use Rattle.pesp_instance.specs.Network.{event_ids}
+use Rattle.pesp_search.specs.Found.{AtLeast, under_bound}
+use Rattle.pesp_search.proofs.Ends.{end_outcome, more_within, none_within, stop_outcome}
+use Rattle.pesp_search.proofs.Fronts.{front_none}
+use Rattle.pesp_search.proofs.Rest.{rest_back, rest_down}
+use Rattle.pesp_search.proofs.Sizes.{left_back, left_start, left_take}
+use Rattle.pesp_search.proofs.Stations.{at_back, at_free, at_length, at_start, at_take, last_below}
+use Rattle.pesp_search.proofs.Timed.{place_has_event}
+use Rattle.pesp_search.proofs.search.search.Goals as goal
+
+pub places-init : goal.places-init
+places-init g c =
+    let I = g.K.Keeper.network c.args.keeper.now in
+    let none = c.in_ok-branch.ensures.times in
+    let events : c.in_ok-events.events.items ≡ event_ids I = rw c.instance.ensures at c.in_ok-events.ensures.events in
+    record {
+      network = refl;
+      is_network = rw c.instance.ensures at c.events_of.ensures.network;
+      events = events;
+      branch = rw c.instance-2.ensures at c.in_ok-branch.ensures.branch;
+      times = omega (arith, c.in_ok-incumbent.ensures.times, c.len.ensures, ap length events);
+      at = rw none (at_start (AtLeast I c.in_ok-incumbent.incumbent.limit) I (g.K.Keeper.pushes c.args.keeper.now) c.requires.pushes);
+      best = c.in_ok-incumbent.ensures.best I;
+      left = λ size tree. (size, rw none (left_start I (length (event_ids I)) [] size tree), omega arith);
+      within = none_within c.args.limit;
+      start = λ _. (none, refl, c.in_ok-incumbent.ensures.start.1, c.in_ok-incumbent.ensures.start.0);
+    }
+
+pub visit-requires-clause-network : goal.visit-requires-clause-network
+visit-requires-clause-network g c = rw c.places.invariant.network c.places.invariant.is_network
+
+pub visit-requires-clause-events : goal.visit-requires-clause-events
+visit-requires-clause-events g c = c.deref.ensures.value ∙ c.places.invariant.events ∙ ap event_ids (sym c.places.invariant.network)
+
+pub visit-requires-clause-at : goal.visit-requires-clause-at
+visit-requires-clause-at g c = rw c.places.invariant.network c.places.invariant.at
+
+pub visit-requires-clause-known : goal.visit-requires-clause-known
+visit-requires-clause-known g c = rw c.places.invariant.network c.places.invariant.branch.costs
+
+pub visit-requires-clause-times : goal.visit-requires-clause-times
+visit-requires-clause-times g c = rw c.places.invariant.network c.places.invariant.times
+
+-- ---- a stop
+
+pub unwind-requires : goal.unwind-requires
+unwind-requires g c =
+    let I = g.K.Keeper.network c.places.keeper in
+    let long = at_length (AtLeast I c.visit.new.incumbent.limit) I _ _ _ c.visit.ensures.at in
+    omega (arith, long)
+
+pub best_of-best-requires-clause-network : goal.best_of-best-requires-clause-network
+best_of-best-requires-clause-network g c = rw (c.instance-then-is_spent.ensures, c.unwind.ensures.network, c.places.invariant.network) c.places.invariant.is_network
+
+pub best_of-best-requires-clause-events : goal.best_of-best-requires-clause-events
+best_of-best-requires-clause-events g c = c.deref-then-is_spent.ensures.value ∙ c.places.invariant.events ∙ ap event_ids (sym (c.instance-then-is_spent.ensures ∙ c.unwind.ensures.network ∙ c.places.invariant.network))
+
+pub best_of-best-requires-clause-front : goal.best_of-best-requires-clause-front
+best_of-best-requires-clause-front g c =
+    rw (c.instance-then-is_spent.ensures, c.unwind.ensures.network, c.places.invariant.network) (front_none (g.K.Keeper.network c.args.keeper.now) c.places.branch.times.items c.places.branch.timetable c.places.invariant.branch.front)
+
+pub best_of-best-requires-clause-below : goal.best_of-best-requires-clause-below
+best_of-best-requires-clause-below g c found =
+    let best = (rw c.places.invariant.network at c.visit.ensures.best) (under_bound c.args.bound) c.places.invariant.best in
+    rw (c.instance-then-is_spent.ensures, c.unwind.ensures.network, c.places.invariant.network) ((best.full found).below)
+
+pub best_of-best-requires-clause-costs : goal.best_of-best-requires-clause-costs
+best_of-best-requires-clause-costs g c found =
+    let best = (rw c.places.invariant.network at c.visit.ensures.best) (under_bound c.args.bound) c.places.invariant.best in
+    ap is_some (best.limited found)
+
+pub returns-then-is_spent-clause-outcome : goal.returns-then-is_spent-clause-outcome
+returns-then-is_spent-clause-outcome g c =
+    let I = g.K.Keeper.network c.args.keeper.now in
+    let at = rw c.places.invariant.network at c.visit.ensures.at in
+    let next = rw c.places.invariant.network at c.in-Some.ensures.next in
+    let best = (rw c.places.invariant.network at c.visit.ensures.best) (under_bound c.args.bound) c.places.invariant.best in
+    let told = rw (c.instance-then-is_spent.ensures, c.unwind.ensures.network, c.places.invariant.network) at c.best_of-best.ensures in
+    let is = c.is_spent.ensures.yes c.if-is_spent.true in
+    stop_outcome I c.args.bound c.args.limit c.visit.new.incumbent.limit c.visit.new.incumbent.is_found c.visit.new.incumbent.times.items c.best_of-best.result _ c.places.branch.times.items c.places.from c.in-Some.residue c.places.nodes c.places.invariant.is_network is
+    at next best c.places.invariant.left (λ zero. c.in-Some.ensures.same.1 ∙ (c.places.invariant.start zero).3) told
+
+pub returns-then-is_spent-clause-nodes : goal.returns-then-is_spent-clause-nodes
+returns-then-is_spent-clause-nodes g c size is = let left = c.places.invariant.left size is in omega (arith, left.2)
+
+pub returns-then-is_spent-clause-network : goal.returns-then-is_spent-clause-network
+returns-then-is_spent-clause-network g c = c.unwind.ensures.network ∙ c.places.invariant.network
+
+-- ---- a step down
+
+pub index-event-requires : goal.index-event-requires
+index-event-requires g c =
+    let next = rw c.places.invariant.network at c.in-Some.ensures.next in
+    omega (arith, ap length c.places.invariant.events, next.room)
+
+pub descend-nodes-requires-clause-event : goal.descend-nodes-requires-clause-event
+descend-nodes-requires-clause-event g c =
+    let I = g.K.Keeper.network c.args.keeper.now in
+    let next = rw c.places.invariant.network at c.in-Some.ensures.next in
+    let long : c.len-in-Some.result ≡ length c.places.branch.times.items = omega arith in
+    let here : c.len-in-Some.result < length c.in_ok-events.events.items = omega (arith, long, ap length c.places.invariant.events, next.room) in
+    let item : c.index-event.result.now ≡ get_or (event_ids I) (length c.places.branch.times.items) 0 =
+    get_or_read c.in_ok-events.events.items c.len-in-Some.result c.index-event.result.now here c.index-event.ensures 0 ∙ ap (λ ids. get_or ids c.len-in-Some.result 0) c.places.invariant.events ∙ ap (λ k. get_or (event_ids I) k 0) long
+    in
+    rw (c.places.invariant.network, item) (place_has_event I (length c.places.branch.times.items) next.room)
+
+pub descend-nodes-requires-clause-free : goal.descend-nodes-requires-clause-free
+descend-nodes-requires-clause-free g c r is =
+    let I = g.K.Keeper.network c.args.keeper.now in
+    let next = rw c.places.invariant.network at c.in-Some.ensures.next in
+    let long : c.len-in-Some.result ≡ length c.places.branch.times.items = omega arith in
+    let here : c.len-in-Some.result < length c.in_ok-events.events.items = omega (arith, long, ap length c.places.invariant.events, next.room) in
+    let item : c.index-event.result.now ≡ get_or (event_ids I) (length c.places.branch.times.items) 0 =
+    get_or_read c.in_ok-events.events.items c.len-in-Some.result c.index-event.result.now here c.index-event.ensures 0 ∙ ap (λ ids. get_or ids c.len-in-Some.result 0) c.places.invariant.events ∙ ap (λ k. get_or (event_ids I) k 0) long
+    in
+    let at = rw c.places.invariant.network at c.visit.ensures.at in
+    at_free (AtLeast I c.visit.new.incumbent.limit) I _ c.places.branch.times.items c.places.from c.places.invariant.is_network at next.room r (rw item at is)
+
+pub push-requires-clause-network : goal.push-requires-clause-network
+push-requires-clause-network g c = rw (c.instance-in-Some.ensures, c.descend-nodes.ensures.network, c.places.invariant.network) c.places.invariant.is_network
+
+pub push-requires-clause-branch : goal.push-requires-clause-branch
+push-requires-clause-branch g c = rw (c.instance-in-Some.ensures, c.descend-nodes.ensures.network, c.places.invariant.network) c.places.invariant.branch
+
+pub push-requires-clause-next : goal.push-requires-clause-next
+push-requires-clause-next g c =
+    let I = g.K.Keeper.network c.args.keeper.now in
+    let next = rw c.places.invariant.network at c.in-Some.ensures.next in
+    let long : c.len-in-Some.result ≡ length c.places.branch.times.items = omega arith in
+    let here : c.len-in-Some.result < length c.in_ok-events.events.items = omega (arith, long, ap length c.places.invariant.events, next.room) in
+    let item : c.index-event.result.now ≡ get_or (event_ids I) (length c.places.branch.times.items) 0 =
+    get_or_read c.in_ok-events.events.items c.len-in-Some.result c.index-event.result.now here c.index-event.ensures 0 ∙ ap (λ ids. get_or ids c.len-in-Some.result 0) c.places.invariant.events ∙ ap (λ k. get_or (event_ids I) k 0) long
+    in
+    rw (c.instance-in-Some.ensures, c.descend-nodes.ensures.network, c.places.invariant.network) item
+
+pub places-smaller-in-Some : goal.places-smaller-in-Some
+places-smaller-in-Some g c =
+    let I = g.K.Keeper.network c.args.keeper.now in
+    let next = rw c.places.invariant.network at c.in-Some.ensures.next in
+    rw c.push.ensures.times (rest_down I.period (length (event_ids I) + 1) c.places.branch.times.items c.in-Some.residue c.places.from (omega (arith, next.room)) next.above next.below)
+
+pub places-preserved-in-Some : goal.places-preserved-in-Some
+places-preserved-in-Some g c =
+    let I = g.K.Keeper.network c.args.keeper.now in
+    let next = rw c.places.invariant.network at c.in-Some.ensures.next in
+    let long : c.len-in-Some.result ≡ length c.places.branch.times.items = omega arith in
+    let here : c.len-in-Some.result < length c.in_ok-events.events.items = omega (arith, long, ap length c.places.invariant.events, next.room) in
+    let item : c.index-event.result.now ≡ get_or (event_ids I) (length c.places.branch.times.items) 0 =
+    get_or_read c.in_ok-events.events.items c.len-in-Some.result c.index-event.result.now here c.index-event.ensures 0 ∙ ap (λ ids. get_or ids c.len-in-Some.result 0) c.places.invariant.events ∙ ap (λ k. get_or (event_ids I) k 0) long
+    in
+    let at = rw c.places.invariant.network at c.visit.ensures.at in
+    let times = c.places.branch.times.items in
+    record {
+      network = c.descend-nodes.ensures.network ∙ c.places.invariant.network;
+      is_network = c.places.invariant.is_network;
+      events = c.places.invariant.events;
+      branch = rw (c.instance-in-Some.ensures, c.descend-nodes.ensures.network, c.places.invariant.network) at c.push.ensures.branch;
+      times = rw c.places.invariant.network at c.visit.ensures.times;
+      at = rw (c.descend-nodes.ensures.pushes, c.push.ensures.times, item) (at_take (AtLeast I c.visit.new.incumbent.limit) I _ times c.places.from c.in-Some.residue at next);
+      best = (rw c.places.invariant.network at c.visit.ensures.best) (under_bound c.args.bound) c.places.invariant.best;
+      left = λ size tree.
+          let left = c.places.invariant.left size tree in
+          let taken = left_take I (length (event_ids I)) [] times times c.places.from c.in-Some.residue left.0 refl next.room next.alive next.above next.below next.inside next.between left.1 in
+          (taken.0, rw c.push.ensures.times taken.1, omega (arith, left.2, taken.2, c.descend-nodes.ensures.more.0));
+      within = more_within c.args.limit c.places.nodes c.descend-nodes.result c.places.invariant.within (c.is_spent.ensures.no c.if-is_spent.false) c.descend-nodes.ensures.more.0;
+      start = λ zero. absurd (omega (arith, zero, c.descend-nodes.ensures.more.1));
+    }
+
+-- ---- a step back
+
+pub pop-requires-clause-network : goal.pop-requires-clause-network
+pop-requires-clause-network g c = rw (c.instance-in-None.ensures, c.places.invariant.network) c.places.invariant.is_network
+
+pub pop-requires-clause-branch : goal.pop-requires-clause-branch
+pop-requires-clause-branch g c = rw (c.instance-in-None.ensures, c.places.invariant.network) c.places.invariant.branch
+
+pub pop-requires-clause-events : goal.pop-requires-clause-events
+pop-requires-clause-events g c = c.deref-in-None.ensures.value ∙ c.places.invariant.events ∙ ap event_ids (sym (c.instance-in-None.ensures ∙ c.places.invariant.network))
+
+pub pop_fix-requires : goal.pop_fix-requires
+pop_fix-requires g c =
+    let I = g.K.Keeper.network c.args.keeper.now in
+    let at = rw (c.places.invariant.network, c.in-Some-pop.ensures.times) at c.visit.ensures.at in
+    let long = at_length (AtLeast I c.visit.new.incumbent.limit) I _ _ _ at in
+    omega (arith, long, length_push c.pop.new.self.times.items c.in-Some-pop.residue)
+
+pub overflow_add-from : goal.overflow_add-from
+overflow_add-from g c =
+    let I = g.K.Keeper.network c.args.keeper.now in
+    let at = rw (c.places.invariant.network, c.in-Some-pop.ensures.times) at c.visit.ensures.at in
+    let below = last_below (AtLeast I c.visit.new.incumbent.limit) I _ c.pop.new.self.times.items c.in-Some-pop.residue c.places.from at in
+    omega (arith, below, c.places.invariant.is_network.period_high)
+
+pub places-smaller : goal.places-smaller
+places-smaller g c =
+    let I = g.K.Keeper.network c.args.keeper.now in
+    let at = rw (c.places.invariant.network, c.in-Some-pop.ensures.times) at c.visit.ensures.at in
+    rw c.in-Some-pop.ensures.times (rest_back I.period (length (event_ids I) + 1) c.pop.new.self.times.items c.in-Some-pop.residue c.places.from (omega (arith, at.depth, length_push c.pop.new.self.times.items c.in-Some-pop.residue)) at.small)
+
+pub places-preserved : goal.places-preserved
+places-preserved g c =
+    let I = g.K.Keeper.network c.args.keeper.now in
+    let at = rw (c.places.invariant.network, c.in-Some-pop.ensures.times) at c.visit.ensures.at in
+    let spent = rw (c.places.invariant.network, c.in-Some-pop.ensures.times) at c.in-None.ensures.next in
+    let times = c.pop.new.self.times.items in
+    record {
+      network = c.pop_fix.ensures.network ∙ c.places.invariant.network;
+      is_network = c.places.invariant.is_network;
+      events = c.places.invariant.events;
+      branch = rw (c.instance-in-None.ensures, c.places.invariant.network) at c.in-Some-pop.ensures.branch;
+      times = rw c.places.invariant.network at c.visit.ensures.times;
+      at = at_back (AtLeast I c.visit.new.incumbent.limit) I _ _ c.pop_fix.ensures.pushes.0 times c.in-Some-pop.residue c.places.from c.pop_fix.ensures.pushes.1 at spent;
+      best = (rw c.places.invariant.network at c.visit.ensures.best) (under_bound c.args.bound) c.places.invariant.best;
+      left = λ size tree.
+          let left = c.places.invariant.left size tree in
+          let back = left_back I (length (event_ids I)) [] times c.in-Some-pop.residue c.places.from left.0 (rw c.in-Some-pop.ensures.times at left.1) in
+          (back.0, back.1, omega (arith, left.2, back.2));
+      within = c.places.invariant.within;
+      start = λ zero. absurd (omega (arith, ap length (sym c.in-Some-pop.ensures.times ∙ (c.places.invariant.start zero).0), length_push times c.in-Some-pop.residue));
+    }
+
+-- ---- the end
+
+pub best_of-best-requires-in-None-pop-clause-network : goal.best_of-best-requires-in-None-pop-clause-network
+best_of-best-requires-in-None-pop-clause-network g c = rw (c.instance-in-None-pop.ensures, c.places.invariant.network) c.places.invariant.is_network
+
+pub best_of-best-requires-in-None-pop-clause-events : goal.best_of-best-requires-in-None-pop-clause-events
+best_of-best-requires-in-None-pop-clause-events g c = c.deref-in-None-pop.ensures.value ∙ c.places.invariant.events ∙ ap event_ids (sym (c.instance-in-None-pop.ensures ∙ c.places.invariant.network))
+
+pub best_of-best-requires-in-None-pop-clause-below : goal.best_of-best-requires-in-None-pop-clause-below
+best_of-best-requires-in-None-pop-clause-below g c found =
+    let best = (rw c.places.invariant.network at c.visit.ensures.best) (under_bound c.args.bound) c.places.invariant.best in
+    rw (c.instance-in-None-pop.ensures, c.places.invariant.network) ((best.full found).below)
+
+pub best_of-best-requires-in-None-pop-clause-costs : goal.best_of-best-requires-in-None-pop-clause-costs
+best_of-best-requires-in-None-pop-clause-costs g c found =
+    let best = (rw c.places.invariant.network at c.visit.ensures.best) (under_bound c.args.bound) c.places.invariant.best in
+    ap is_some (best.limited found)
+
+pub returns-in-None-pop-clause-outcome : goal.returns-in-None-pop-clause-outcome
+returns-in-None-pop-clause-outcome g c =
+    let I = g.K.Keeper.network c.args.keeper.now in
+    let at = rw c.places.invariant.network at c.visit.ensures.at in
+    let spent = rw c.places.invariant.network at c.in-None.ensures.next in
+    let over = rw c.places.invariant.network at c.in-None.ensures.over in
+    let best = (rw c.places.invariant.network at c.visit.ensures.best) (under_bound c.args.bound) c.places.invariant.best in
+    let told = rw (c.instance-in-None-pop.ensures, c.places.invariant.network) at c.best_of-best-in-None-pop.ensures in
+    end_outcome I c.args.bound c.args.limit c.places.incumbent.limit c.visit.new.incumbent.limit c.visit.new.incumbent.is_found c.visit.new.incumbent.times.items c.best_of-best-in-None-pop.result _ c.places.branch.times.items c.places.from c.places.nodes c.places.invariant.is_network c.requires.bound c.in-None-pop.ensures.times.0
+    at spent best over (λ zero. ((c.places.invariant.start zero).1, (c.places.invariant.start zero).2)) c.places.invariant.within told
+
+pub returns-in-None-pop-clause-nodes : goal.returns-in-None-pop-clause-nodes
+returns-in-None-pop-clause-nodes g c size is = let left = c.places.invariant.left size is in omega (arith, left.2)
+
+pub returns-in-None-pop-clause-network : goal.returns-in-None-pop-clause-network
+returns-in-None-pop-clause-network g c = c.places.invariant.network
+
+pub returns-in-None-pop-clause-pushes : goal.returns-in-None-pop-clause-pushes
+returns-in-None-pop-clause-pushes g c =
+    let I = g.K.Keeper.network c.args.keeper.now in
+    let at = rw (c.places.invariant.network, c.in-None-pop.ensures.times.0) at c.visit.ensures.at in
+    let long = at_length (AtLeast I c.visit.new.incumbent.limit) I _ _ _ at in
+    nil_from_length _ long

@@ -1,0 +1,27 @@
+-- What a search has found so far.
+use Rattle.std.specs.Prelude.{◌≡◌, ℕ, ◌+◌, ◌-◌, ◌^◌, ◌<◌, ◌≤◌, Bool, true, false, nat_lt, if◌then◌else◌, List, Option, Some, None, IfSome}
+use Rattle.pesp_instance.specs.Network.{Network}
+use Rattle.pesp_search.specs.Places.{Before, IsFull, full_cost}
+
+-- the times cost at least the limit; with none there are no such times
+abbrev pub AtLeast : Network → Option ℕ → List ℕ → Type 0
+AtLeast I None times = ⊥
+AtLeast I (Some limit) times = limit ≤ full_cost I times
+
+-- the best of the times visited so far, with a limit below which others are of use; at first the limit is that of the caller
+pub record IsBest (I : Network) (under limit : Option ℕ) (found : Bool) (times : List ℕ) : Type 0 where
+  pub none : found ≡ false → limit ≡ under
+  pub limited : found ≡ true → limit ≡ Some (full_cost I times)
+  pub full : found ≡ true → IsFull I times
+  pub below : found ≡ true → IfSome under (λ u. full_cost I times < u)
+  pub first : found ≡ true → (others : List ℕ) → IsFull I others → Before others times 0 → full_cost I times < full_cost I others
+
+-- some times cost less, where a limit is given
+abbrev pub IsAbove : Network → Option ℕ → Type 0
+IsAbove I None = Unit {0}
+IsAbove I (Some under) = (times : List ℕ) × IsFull I times × (full_cost I times < under)
+
+-- the limit of a bound, which times at the bound are below; a bound that no cost can pass is none
+abbrev pub under_bound : Option ℕ → Option ℕ
+under_bound None = None
+under_bound (Some bound) = if nat_lt bound (2 ^ 64 - 1) then Some (bound + 1) else None

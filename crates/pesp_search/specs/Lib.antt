@@ -1,0 +1,6 @@
+pub mod Branch
+pub mod Found
+pub mod Optima
+pub mod Places
+pub mod Tree
+pub mod Tried

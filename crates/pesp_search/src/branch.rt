@@ -1,0 +1,115 @@
+//! Where a search stands.
+
+ghost use Rattle.std.specs.Prelude.{◌≡◌, ◌≤◌, ◌<◌, ◌*◌, ◌-◌, ◌++◌, ◌∷◌, [], IsSome, IsTrue, IfOk, None, MatchOption, length, filter, sum_by, slice_index, vec_capacity};
+ghost use Rattle.pesp_base.specs.declared.limits.TheConstants.{GREATEST_PERIOD, GREATEST_WEIGHT};
+ghost use Rattle.pesp_base.specs.Limits.{max_activities};
+ghost use Rattle.pesp_instance.specs.Network.{IsNetwork, around, event_ids};
+ghost use Rattle.pesp_tension.specs.Answers.{cost_in, first_missing};
+ghost use Rattle.pesp_tension.specs.Timetables.{time_of, with_time};
+ghost use Rattle.pesp_search.specs.Branch.{IsBranch, IsFront, is_behind};
+
+use pesp_base::{Activity, EventId, Memory};
+use pesp_instance::Instance;
+use pesp_tension::{Timetable, cost_of_activity};
+use std::alloc::Global;
+
+/// The times of the first events, and what they are known to cost.
+#[derive(Drop)]
+pub(crate) struct Branch {
+    pub(crate) times: Vec<u16>,
+    // Of the activities both of whose ends have times.
+    pub(crate) cost: u64,
+    // The times, and for each event behind them some time, so that setting one takes no memory.
+    pub(crate) timetable: Timetable,
+}
+
+/// Whether neither end of the activity is an event behind this one.
+fn is_behind(activity: &Activity, event: EventId) -> bool
+    ensures { result ≡ is_behind event activity.now }
+{
+    activity.from <= event && activity.to <= event
+}
+
+/// What the activities cost that have the event as an end and none behind it.
+fn cost_behind(instance: &Instance, timetable: &Timetable, event: EventId) -> u64
+    requires { first_missing instance.now timetable.now ≡ None }
+    ensures value { result ≡ sum_by (cost_in timetable.now) (filter (is_behind event) (around instance.now event)) }
+    ensures small { result ≤ GREATEST_WEIGHT * (GREATEST_PERIOD - 1) * max_activities instance.now.period }
+{
+    let mut cost = 0;
+    for activity in instance.around(event) {
+        if is_behind(activity, event) {
+            cost += cost_of_activity(activity, timetable);
+        }
+    }
+    cost
+}
+
+/// Gives an event that has a time another one.
+pub(crate) fn put_time(timetable: &mut Timetable, event: EventId, time: u16)
+    requires known { IsSome (time_of timetable.old event) }
+    requires below { time < timetable.old.period }
+    ensures { timetable.new ≡ with_time timetable.old event time }
+{
+    let _ = timetable.set(event, time);
+}
+
+/// Each event at time 0.
+fn all_at_zero(alloc: Global, instance: &Instance) -> Result<Timetable, Memory>
+    ensures { IfOk result (IsFront instance.now []) }
+{
+    let mut timetable = Timetable::new(alloc, instance.period());
+    for event in instance.events() {
+        if timetable.set(event.id, 0).is_err() {
+            return Err(Memory);
+        }
+    }
+    Ok(timetable)
+}
+
+impl Branch {
+    /// No times yet, and all the room that there will be need of.
+    pub(crate) fn new(alloc: Global, instance: &Instance) -> Result<Branch, Memory>
+        ensures branch { IfOk result (λ b. IsBranch instance.now b.times.items b.cost b.timetable (vec_capacity b.times)) }
+        ensures times { IfOk result (λ b. b.times.items ≡ []) }
+    {
+        let Ok(times) = Vec::with_capacity(alloc, instance.event_count()) else {
+            return Err(Memory);
+        };
+        let timetable = all_at_zero(alloc, instance)?;
+        Ok(Branch {
+            times,
+            cost: 0,
+            timetable,
+        })
+    }
+
+    /// Gives the next event its time.
+    pub(crate) fn push(&mut self, instance: &Instance, event: EventId, time: u16)
+        requires network { IsNetwork instance.now }
+        requires branch { IsBranch instance.now self.old.times.items self.old.cost self.old.timetable (vec_capacity self.old.times) }
+        requires next { event ≡ slice_index (event_ids instance.now) (length self.old.times.items) }
+        requires depth { length self.old.times.items < length (event_ids instance.now) }
+        requires below { time < instance.now.period }
+        ensures branch { IsBranch instance.now self.new.times.items self.new.cost self.new.timetable (vec_capacity self.new.times) }
+        ensures times { self.new.times.items ≡ self.old.times.items ++ time ∷ [] }
+    {
+        put_time(&mut self.timetable, event, time);
+        self.cost += cost_behind(instance, &self.timetable, event);
+        self.times.push_reserved(time);
+    }
+
+    /// Takes the time of the last event away.
+    pub(crate) fn pop(&mut self, instance: &Instance, events: &[EventId]) -> Option<u16>
+        requires network { IsNetwork instance.now }
+        requires branch { IsBranch instance.now self.old.times.items self.old.cost self.old.timetable (vec_capacity self.old.times) }
+        requires events { events.now ≡ event_ids instance.now }
+        ensures branch { IsBranch instance.now self.new.times.items self.new.cost self.new.timetable (vec_capacity self.new.times) }
+        ensures times { MatchOption result ((self.old.times.items ≡ []) × (self.new.times.items ≡ [])) (λ time. self.old.times.items ≡ self.new.times.items ++ time ∷ []) }
+    {
+        let time = self.times.pop()?;
+        let event = events[self.times.len()];
+        self.cost -= cost_behind(instance, &self.timetable, event);
+        Some(time)
+    }
+}
