@@ -39,7 +39,7 @@ has_changed xs n e fixed = rw (with_number-change_in number e n (λ x. record x 
     still None = refl
     still (Some x) = refl
 
-has_put : (xs : List Event) (v : Event) (e : ℕ) → is_some (with_number number e (put_in number v xs)) ≡ (if e == v.id then true else is_some (with_number number e xs))
+pub has_put : (xs : List Event) (v : Event) (e : ℕ) → is_some (with_number number e (put_in number v xs)) ≡ (if e == v.id then true else is_some (with_number number e xs))
 has_put xs v e =
     rw (with_number-put_in number e v xs)
     (elim (cases_eq e v.id) [
@@ -47,7 +47,7 @@ has_put xs v e =
       | inr apart ↦ rw (ne_eqb v.id e (λ same. apart (sym same)), ne_eqb e v.id apart) refl
     ])
 
-has_out : (xs : List Event) (n e : ℕ) → is_some (with_number number e (take_out number n xs)) ≡ (if e == n then false else is_some (with_number number e xs))
+pub has_out : (xs : List Event) (n e : ℕ) → is_some (with_number number e (take_out number n xs)) ≡ (if e == n then false else is_some (with_number number e xs))
 has_out xs n e = rw (with_number-take_out number e n xs) (by (e == n))
   where
     by : (b : Bool) → is_some (cond (not b) (with_number number e xs) None) ≡ (if b then false else is_some (with_number number e xs))

@@ -1,0 +1,68 @@
+//! Changes of the instance and of the working timetable.
+
+ghost use Rattle.std.specs.Prelude.{◌≡◌, Ok, IfErr, OnOk, OnErr};
+ghost use Rattle.std.specs.Result.{result_map_both};
+ghost use Rattle.pesp_instance.specs.Edited.{IsRefusal};
+ghost use Rattle.pesp_bench.specs.State.{IsTimeRefusal, edited_state, timed_state, times_after, untimed_state};
+
+use crate::Bench;
+use pesp_base::{EventId, Refusal};
+use pesp_domains::Keeper;
+use pesp_instance::Edit;
+use pesp_tension::Timetable;
+
+/// Takes the time of a dropped event away.
+fn clear_dropped(times: &mut Timetable, edit: &Edit)
+    ensures { times.new ≡ times_after edit.now times.old }
+{
+    if let Edit::DropEvent(event) = *edit {
+        times.clear(event);
+    }
+}
+
+impl<K: Keeper> Bench<K> {
+    /// Makes an edit. A dropped event has no time any more, and what was known of the optimum is forgotten.
+    ///
+    /// Refusals are those of the edit, in order.
+    pub fn apply(&mut self, edit: &Edit) -> Result<(), Refusal>
+        ensures ok { OnOk result (edited_state self.old edit.now ≡ Ok self.new) }
+        ensures refused { IfErr result (IsRefusal self.old.instance edit.now) }
+        ensures unchanged { OnErr result (self.new ≡ self.old) }
+    {
+        self.keeper.apply(edit)?;
+        clear_dropped(&mut self.times, edit);
+        self.known = None;
+        Ok(())
+    }
+
+    /// Gives the event a time, also in place of another one.
+    ///
+    /// Refusals in order: 2; 4 where the time is not below the period; 10, for an event without a time alone.
+    pub fn set_time(&mut self, event: EventId, time: u16) -> Result<(), Refusal>
+        ensures ok { OnOk result (timed_state self.old event time ≡ Ok self.new) }
+        ensures refused { IfErr result (IsTimeRefusal self.old event time) }
+        ensures unchanged { OnErr result (self.new ≡ self.old) }
+    {
+        if !self.instance().has_event(event) {
+            return Err(Refusal::NoEvent(event));
+        }
+        self.times.set(event, time)
+    }
+
+    /// Takes the event's time away.
+    ///
+    /// Refusals in order: 2; 11 where it has none.
+    pub fn clear_time(&mut self, event: EventId) -> Result<(), Refusal>
+        ensures result { result_map_both (λ done. self.new) (λ refusal. refusal) result ≡ untimed_state self.old event }
+        ensures unchanged { OnErr result (self.new ≡ self.old) }
+    {
+        if !self.instance().has_event(event) {
+            return Err(Refusal::NoEvent(event));
+        }
+        if self.times.get(event).is_none() {
+            return Err(Refusal::MissingTime(event));
+        }
+        self.times.clear(event);
+        Ok(())
+    }
+}

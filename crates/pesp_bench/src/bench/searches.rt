@@ -1,0 +1,112 @@
+//! The optimum: found, kept, and taken as the working timetable.
+
+ghost use Rattle.std.specs.Prelude.{◌≡◌, ℕ, IfOk, IfErr, IsSomeAnd, OnOk, OnErr, Some};
+ghost use Rattle.pesp_base.specs.declared.refusal.Refusal.TheVariants as no;
+ghost use Rattle.std.specs.List.Sorted.{IsStrictlyIncreasing};
+ghost use Rattle.pesp_tension.specs.Timetables.{timed_events};
+ghost use Rattle.pesp_search.specs.declared.answer.Answer.TheVariants as answers;
+ghost use Rattle.pesp_search.specs.Optima.{IsAnswer};
+ghost use Rattle.pesp_bench.specs.Asked.{IsAdopted, IsAttempt, IsNoOptimum, IsNotAdopted, IsSearched, IsUnsearched};
+
+use crate::{Attempt, Bench};
+use pesp_base::{Memory, Refusal};
+use pesp_domains::Keeper;
+use pesp_search::{Answer, Tried, best, best_within};
+use pesp_tension::Timetable;
+use std::alloc::Global;
+
+/// A timetable once more.
+fn copy_of(alloc: Global, times: &Timetable) -> Result<Timetable, Memory>
+    ensures copy { IfOk result (λ copy. copy ≡ times.now) }
+    ensures rising { IfOk result (λ copy. IsStrictlyIncreasing (timed_events copy)) }
+{
+    let mut copy = Timetable::new(alloc, times.period());
+    for timed in times.walk() {
+        if copy.set(timed.event, timed.time).is_err() {
+            return Err(Memory);
+        }
+    }
+    Ok(copy)
+}
+
+/// The optimum's timetable, or the refusal where there is none.
+fn optimum_of(alloc: Global, answer: &Answer) -> Result<Timetable, Refusal>
+    ensures ok { IfOk result (λ times. (cost : ℕ) × (answer.now ≡ answers.Optimal cost times)) }
+    ensures rising { IfOk result (λ times. IsStrictlyIncreasing (timed_events times)) }
+    ensures refused { IfErr result (IsNoOptimum answer.now) }
+{
+    match answer {
+        Answer::Optimal { times, .. } => copy_of(alloc, times).map_err(|_| Refusal::Memory),
+        Answer::Infeasible => Err(Refusal::Infeasible),
+    }
+}
+
+impl<K: Keeper> Bench<K> {
+    /// Finds the optimum, where it is not known, or refusal 10.
+    pub fn find_optimum(&mut self, alloc: Global) -> Result<(), Refusal>
+        ensures ok { OnOk result (IsSomeAnd self.new.known (IsAnswer self.old.instance)) }
+        ensures searched { IsSearched self.old self.new }
+        ensures times { self.new.times ≡ self.old.times }
+        ensures refused { IfErr result (λ refusal. refusal ≡ no.Memory) }
+        ensures unsearched { OnErr result (IsUnsearched self.old self.new) }
+    {
+        self.nodes = 0;
+        if self.known.is_some() {
+            return Ok(());
+        }
+        let Ok((answer, nodes)) = best(alloc, &mut self.keeper, None) else {
+            return Err(Refusal::Memory);
+        };
+        self.known = Some(answer);
+        self.nodes = nodes;
+        Ok(())
+    }
+
+    /// The optimum, or refusal 10. What this leaves is what [`Bench::find_optimum`] leaves.
+    pub fn optimum(&mut self, alloc: Global) -> Result<&Answer, Refusal>
+        ensures ok { IfOk result (λ answer. IsAnswer self.old.instance answer.now) }
+        ensures refused { IfErr result (λ refusal. refusal ≡ no.Memory) }
+    {
+        self.find_optimum(alloc)?;
+        Ok(self.known.as_ref().unwrap())
+    }
+
+    /// Looks for the optimum by at most so many nodes, where it is not known, or refusal 10.
+    pub fn try_optimum(&mut self, alloc: Global, limit: u64) -> Result<Attempt, Refusal>
+        ensures ok { IfOk result (IsAttempt self.new limit) }
+        ensures searched { IsSearched self.old self.new }
+        ensures times { self.new.times ≡ self.old.times }
+        ensures refused { IfErr result (λ refusal. refusal ≡ no.Memory) }
+        ensures unsearched { OnErr result (IsUnsearched self.old self.new) }
+    {
+        self.nodes = 0;
+        if self.known.is_some() {
+            return Ok(Attempt::Done);
+        }
+        let Ok((tried, nodes)) = best_within(alloc, &mut self.keeper, None, limit) else {
+            return Err(Refusal::Memory);
+        };
+        self.nodes = nodes;
+        match tried {
+            Tried::Done(answer) => {
+                self.known = Some(answer);
+                Ok(Attempt::Done)
+            }
+            Tried::Stopped { best } => Ok(Attempt::Stopped(best)),
+        }
+    }
+
+    /// Finds the optimum and makes it the working timetable.
+    ///
+    /// Refusals in order: 12 where no timetable meets everything; 10. The optimum may then have become known.
+    pub fn adopt(&mut self, alloc: Global) -> Result<(), Refusal>
+        ensures ok { OnOk result (IsAdopted self.new) }
+        ensures searched { IsSearched self.old self.new }
+        ensures refused { IfErr result (IsNotAdopted self.new) }
+        ensures times { OnErr result (self.new.times ≡ self.old.times) }
+    {
+        self.find_optimum(alloc)?;
+        self.times = optimum_of(alloc, self.known.as_ref().unwrap())?;
+        Ok(())
+    }
+}
