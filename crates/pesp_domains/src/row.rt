@@ -17,13 +17,13 @@ pub struct Row {
 
 impl Model for Row {
     ghost use Rattle.std.specs.Prelude.{List, Bool, length, ◌≤◌};
-    ghost use Rattle.pesp_base.specs.declared.limits.TheConstants.{GREATEST_PERIOD};
+    ghost use Rattle.pesp_base.specs.Limits.{greatest_period};
 
     ghost Value = { List Bool };
 
     ghost view = { λ a. a.tests.items };
 
-    ghost invariant = { λ a. length a.tests.items ≤ GREATEST_PERIOD };
+    ghost invariant = { λ a. length a.tests.items ≤ greatest_period };
 }
 
 impl Row {
