@@ -3,7 +3,7 @@ use Rattle.std.specs.Prelude.{◌≡◌, ℕ, ◌<◌, ◌≤◌, ◌⊎◌, ◌
 use Rattle.std.specs.List.{Contains}
 use Rattle.pesp_base.specs.declared.activity.Activity.{Activity}
 use Rattle.pesp_base.specs.Tensions.{IsMet}
-use Rattle.pesp_instance.specs.Network.{Network, agrees_with, event_ids, fixed_of, has_event}
+use Rattle.pesp_instance.specs.Network.{Network, admits, event_ids, has_event}
 use Rattle.pesp_domains.specs.declared.pair.Pair.{Pair}
 use Rattle.pesp_domains.specs.Domains.{InDomains}
 use Rattle.pesp_tension.specs.Answers.{cost_in}
@@ -19,7 +19,7 @@ pub record IsFull (I : Network) (times : List ℕ) : Type 0 where
   pub events : length times ≡ length (event_ids I)
   pub below : All (λ t. t < I.period) times
   pub met : (a : Activity) → Contains I.activities a → IsMet I.period a.span (at I times a.from) (at I times a.to)
-  pub fixed : (e : ℕ) → IsTrue (has_event I e) → IsTrue (agrees_with (fixed_of I e) (at I times e))
+  pub fixed : (e : ℕ) → IsTrue (has_event I e) → IsTrue (admits I e (at I times e))
 
 -- the times come before the place, in the order by the first event at which two differ
 abbrev pub Before : List ℕ → List ℕ → ℕ → Type 0

@@ -1,8 +1,7 @@
 //! Where a search stands.
 
 ghost use Rattle.std.specs.Prelude.{◌≡◌, ◌≤◌, ◌<◌, ◌*◌, ◌-◌, ◌++◌, ◌∷◌, [], IsSome, IsTrue, IfOk, None, MatchOption, length, filter, sum_by, slice_index, vec_capacity};
-ghost use Rattle.pesp_base.specs.declared.limits.TheConstants.{GREATEST_PERIOD, GREATEST_WEIGHT};
-ghost use Rattle.pesp_base.specs.Limits.{max_activities};
+ghost use Rattle.pesp_base.specs.Limits.{greatest_period, greatest_weight, max_activities};
 ghost use Rattle.pesp_instance.specs.Network.{IsNetwork, around, event_ids};
 ghost use Rattle.pesp_tension.specs.Answers.{cost_in, first_missing};
 ghost use Rattle.pesp_tension.specs.Timetables.{time_of, with_time};
@@ -34,7 +33,7 @@ fn is_behind(activity: &Activity, event: EventId) -> bool
 fn cost_behind(instance: &Instance, timetable: &Timetable, event: EventId) -> u64
     requires { first_missing instance.now timetable.now ≡ None }
     ensures value { result ≡ sum_by (cost_in timetable.now) (filter (is_behind event) (around instance.now event)) }
-    ensures small { result ≤ GREATEST_WEIGHT * (GREATEST_PERIOD - 1) * max_activities instance.now.period }
+    ensures small { result ≤ greatest_weight * (greatest_period - 1) * max_activities instance.now.period }
 {
     let mut cost = 0;
     for activity in instance.around(event) {
