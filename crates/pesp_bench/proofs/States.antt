@@ -13,7 +13,7 @@ use Rattle.pesp_instance.specs.declared.edit.Edit.{Edit}
 use Rattle.pesp_instance.specs.declared.edit.Edit.TheVariants.{AddEvent, DropEvent, Fix, Unfix, AddActivity, DropActivity, SetSpan, SetWeight, SetEnds}
 use Rattle.pesp_instance.specs.declared.event.Event.{Event}
 use Rattle.pesp_instance.specs.Edited.{edited, effect}
-use Rattle.pesp_instance.specs.Network.{IsNetwork, Network, has_event}
+use Rattle.pesp_instance.specs.Network.{IsNetwork, Network, has_event, new_event}
 use Rattle.pesp_instance.proofs.Rising.{Rises, Rises-from_increasing, increasing_from_rises}
 use Rattle.pesp_tension.specs.Timetables.{IsRefusalBy, IsSetRefusal, Times, set_time, time_of, timed_events, with_time, without_time}
 use Rattle.pesp_domains.proofs.Edits.{accepted, effect_is, has_out, has_put, keeps_fix, keeps_unfix}
@@ -35,7 +35,7 @@ ascend I pushed m known s = Rises-from_increasing key m.entries s.rising
 events_stay : (I : Network) (edit : Edit) (m : Times) → Rises key m.entries → ((q : ℕ) → IsSome (time_of m q) → IsTrue (has_event I q))
     → (q : ℕ) → IsSome (time_of (times_after edit m) q) → IsTrue (has_event (effect I edit) q)
 events_stay I (AddEvent e) m rises each q some =
-    let v : Event = record { id = e; fixed = None } in
+    let v : Event = new_event e in
     rw (has_put I.events v q) (elim (q == e) as (λ b. IsTrue (cond b true (has_event I q))) [ true ↦ refl | false ↦ each q some ])
 events_stay I (DropEvent e) m rises each q some =
     let w = found_without e q m.entries rises some in
@@ -148,7 +148,8 @@ set_refused s pushed e t (Err refusal) st network is err = by (nat_le s.times.pe
         by_time (Some u) at = refl
         by_time None at =
             let l = room s.times.entries s.instance.events e t (ascend s.instance pushed s.times s.known st) (Rises-from_increasing (λ x. x.id) s.instance.events network.events_rise) st.events is at in
-            nat_le_not (max_events s.times.period) (length s.times.entries) (let k = network.few_events in omega (arith, l, k))
+            let few : length s.times.entries < max_events s.instance.period = let k = network.few_events in omega (arith, l, k) in
+            rw st.period (nat_le_not (max_events s.instance.period) (length s.times.entries) few)
 
     state_is : timed_state s e t ≡ unless_refused (when (nat_le s.times.period t) (no.TimeOutOfRange t) ∷ []) (record s { times = with_time s.times e t })
     state_is = rw (is, st.period) refl
