@@ -2,9 +2,8 @@
 use Rattle.std.proofs.Common.{ℕ, ◌==◌, Bool, ℤ, pos, negsuc, refl, List, [], ◌∷◌, map, Some, None}
 use Rattle.std.specs.List.{list_any, range_with_len}
 use Rattle.std.proofs.lemmas.Bool.{false≢true}
-use Rattle.pesp_base.specs.declared.activity.Activity.{Activity}
+use Rattle.pesp_base.proofs.Samples.{arc}
 use Rattle.pesp_instance.specs.declared.edit.Edit.TheVariants as do_
-use Rattle.pesp_instance.specs.declared.event.Event.{Event}
 use Rattle.pesp_instance.specs.Edited.{after, empty_network}
 use Rattle.pesp_instance.specs.Network.{Network, new_event}
 use Rattle.pesp_domains.specs.declared.pair.Pair.{Pair}
@@ -22,10 +21,6 @@ HasDomain I pushes e residues = IsDomain I pushes e (row_of I.period residues)
 -- each residue of period ten
 abbrev all_ten : List ℕ
 all_ten = range_with_len 0 10
-
--- an activity, in the order of a file's row
-abbrev arc : ℕ → ℕ → ℕ → ℤ → ℤ → ℕ → Activity
-arc id from to lower upper weight = record { id = id; from = from; to = to; span = record { lower = lower; upper = upper }; weight = weight }
 
 abbrev pair : ℕ → ℕ → Pair
 pair e r = record { event = e; residue = r }

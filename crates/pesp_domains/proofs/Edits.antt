@@ -15,11 +15,9 @@ use Rattle.pesp_instance.specs.declared.edit.Edit.TheVariants.{AddEvent, DropEve
 use Rattle.pesp_instance.specs.declared.event.Event.{Event}
 use Rattle.pesp_instance.specs.Edited.{IsRefusal, edited, effect, refusals}
 use Rattle.pesp_instance.specs.Network.{HasEnds, IsNetwork, Network, has_event, is_end_of, new_event}
+use Rattle.pesp_instance.proofs.Numbers.{event_number as number}
 use Rattle.pesp_instance.proofs.Rising.{Rises, Rises-from_increasing, filter_above-above, filter_below-above, length-change_in, length-take_out, with_number-change_in, with_number-put_in, with_number-take_out}
 use Rattle.pesp_domains.specs.Rows.{AreRowsOf, Rows, SetsRow, row_at}
-
-abbrev number : Event → ℕ
-number x = x.id
 
 -- an accepted edit has its effect
 pub accepted : {X E : Type 0} (refusals : List (Option E)) (x y : X) → unless_refused refusals x ≡ Ok y → y ≡ x

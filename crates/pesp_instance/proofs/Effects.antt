@@ -9,13 +9,8 @@ use Rattle.pesp_base.specs.Numbered.{with_number, put_in, take_out, change_in}
 use Rattle.pesp_instance.specs.Edited.{effect, refixed, changed}
 use Rattle.pesp_instance.specs.Network.{Event, Network, is_end_of, new_event, IsEvent, IsActivity, HasEnds, IsNetwork}
 use Rattle.pesp_instance.specs.declared.edit.Edit.TheVariants.{AddEvent, DropEvent, AddActivity, DropActivity}
+use Rattle.pesp_instance.proofs.Numbers.{activity_number as id_of, event_number as number}
 use Rattle.pesp_instance.proofs.Rising.{Rises-from_increasing, increasing_from_rises, Rises-put_in, Rises-take_out, Rises-change_in, All-put_in, All-take_out, All-change_in, length-put_in, length-take_out, length-change_in, with_number-put_in, with_number-take_out, with_number-change_in, number-with_number, change_in-with_number}
-
-abbrev number : Event → ℕ
-number e = e.id
-
-abbrev id_of : Activity → ℕ
-id_of a = a.id
 
 -- the ends are still events where each event is still one
 HasEnds-kept : (old new : List Event) → ((n : ℕ) → IsTrue (is_some (with_number number n old)) → IsTrue (is_some (with_number number n new))) → (a : Activity) → HasEnds old a → HasEnds new a

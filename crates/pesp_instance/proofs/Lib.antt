@@ -2,6 +2,7 @@ mod Cases
 pub mod Effects
 pub mod Links
 pub mod Listed
+pub mod Numbers
 pub mod Relisted
 pub mod Rising
 pub mod Tables

@@ -5,10 +5,8 @@ use Rattle.pesp_base.specs.declared.activity.Activity.{Activity}
 use Rattle.pesp_base.specs.Numbered.{with_number, put_in, take_out, change_in}
 use Rattle.pesp_instance.specs.Ends.{lists, is_end_in, AreListed}
 use Rattle.pesp_instance.specs.Network.{is_end_of}
+use Rattle.pesp_instance.proofs.Numbers.{activity_number as id_of}
 use Rattle.pesp_instance.proofs.Rising.{with_number-put_in, with_number-take_out, with_number-change_in, number-with_number}
-
-abbrev id_of : Activity → ℕ
-id_of a = a.id
 
 joined_here : (b : Bool) → ((b && true) || false) ≡ b
 joined_here true = refl
