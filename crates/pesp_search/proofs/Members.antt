@@ -102,14 +102,18 @@ agreed I m e all =
           (IfSome-with_number (λ y. y.id) (λ y. IsTrue (agrees m y)) e I.events x all found)
     ] refl
 
+-- a member is the timetable of its times
+pub member_timed : (I : Network) (m : Times) → IsMember I m → m ≡ timetable_of I (values_of m.entries)
+member_timed I m member =
+    ap (λ p. let n : Times = record { period = p; entries = m.entries } in n) member.period
+    ∙ ap (λ es. let n : Times = record { period = I.period; entries = es } in n) (sym (zip-of_entries m.entries) ∙ ap (λ ks. zip ks (values_of m.entries)) member.events)
+
 -- the times of a member are full, and it is their timetable
 pub full_of_member : (I : Network) (m : Times) → IsNetwork I → IsMember I m → (times : List ℕ) × IsFull I times × (m ≡ timetable_of I times)
 full_of_member I m ok member = (values_of m.entries, full, same)
   where
     same : m ≡ timetable_of I (values_of m.entries)
-    same =
-        ap (λ p. let n : Times = record { period = p; entries = m.entries } in n) member.period
-        ∙ ap (λ es. let n : Times = record { period = I.period; entries = es } in n) (sym (zip-of_entries m.entries) ∙ ap (λ ks. zip ks (values_of m.entries)) member.events)
+    same = member_timed I m member
 
     full : IsFull I (values_of m.entries)
     full =
