@@ -47,6 +47,10 @@ IsEmptyFrom I pushes e from = (r : ℕ) → from ≤ r → InDomains I pushes e 
 abbrev pub IsLeastFrom : Network → List Pair → ℕ → ℕ → ℕ → Type 0
 IsLeastFrom I pushes e from r = (from ≤ r) × InDomains I pushes e r × ((s : ℕ) → from ≤ s → s < r → InDomains I pushes e s → ⊥)
 
+-- that residue, or none where none is left
+abbrev pub IsLeastLeft : Network → List Pair → ℕ → ℕ → Option ℕ → Type 0
+IsLeastLeft I pushes e from least = MatchOption least (IsEmptyFrom I pushes e from) (IsLeastFrom I pushes e from)
+
 -- ---- what to do at a place, where P holds of each full list of times that may be passed over
 
 -- P holds of each one that extends the path with a time of at least `from` at the next event
