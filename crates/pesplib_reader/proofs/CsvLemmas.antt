@@ -1,9 +1,12 @@
 -- The records of a text, read one after another.
-use Rattle.std.proofs.Common.{◌≡◌, ℕ, zero, suc, ◌+◌, ◌<◌, ◌≤◌, ◌==◌, ◌&&◌, Bool, true, false, cond, List, [], ◌∷◌, ◌++◌, length, Option, Some, None, unwrap_or, Result, Ok, Err, IfOk, OnOk, refl, sym, ap, subst, ◌∙◌, arith, add-one, inl}
+use Rattle.std.proofs.Common.{◌≡◌, ℕ, zero, suc, ◌+◌, ◌<◌, ◌≤◌, ◌==◌, ◌&&◌, Bool, true, false, cond, List, [], ◌∷◌, ◌++◌, length, Option, Some, None, unwrap_or, Result, Ok, Err, IfOk, IfErr, OnOk, refl, sym, ap, subst, ◌∙◌, arith, add-one, inl}
 use Rattle.std.specs.Borrow.{Bor}
 use Rattle.std.proofs.lemmas.Bool.{and_parts, eqb-true}
 use Rattle.csv.specs.Machine.{Read, after_end, ends_at_end, ends_with, field_after, fields_after, in_field, is_byte, is_end, line_feed, next_record, start_field, start_record, step}
-use Rattle.csv.specs.Reading.{is_bom, records, strip_bom, ReadRecord, Reached, Ready, reader_config, reader_state, reader_trim, records_from, records_next, took_first}
+use Rattle.csv.specs.Reading.{is_bom, records, strip_bom, ReadRecord, Reached, Ready, error_kind, is_flexible, reader_config, reader_state, reader_trim, records_from, records_next, took_first, ExplainsRead}
+use Rattle.csv.specs.declared.error.Error.{Error}
+use Rattle.csv.specs.declared.error.ErrorKind.{ErrorKind}
+use Rattle.csv.specs.declared.error.ErrorKind.TheVariants as error
 use Rattle.csv.specs.declared.parser.Action.{Action}
 use Rattle.csv.specs.declared.parser.Action.TheVariants as act
 use Rattle.csv.specs.declared.parser.Config.{Config}
@@ -14,7 +17,7 @@ use Rattle.csv.specs.declared.parser.Terminator.TheVariants as term
 use Rattle.csv.specs.declared.reader.Trim.TheVariants as trim_of
 use Rattle.csv.proofs.ReadFacts.{rows-end, rows-more}
 use Rattle.pesplib_reader.specs.Records.{separator_of}
-use Rattle.pesplib_reader.specs.Left.{BytesReader, IsBetween, left_of, source_in, unread}
+use Rattle.pesplib_reader.specs.Left.{BytesReader, IsBetween, IsOfMemory, left_of, source_in, unread}
 
 -- ---- a byte that ends a record leaves the machine between two records
 
@@ -167,8 +170,8 @@ module _ (a b : BytesReader) (fields : List (List ℕ)) (h : IsBetween a) where
         ∙ ap (λ cfg. records_from cfg (length (unread b) + 1) (reader_state b) (unread b)) (sym r.2)
         ∙ sym (left_is b))
 
-    stays : took_first b ≡ true → IsBetween b
-    stays taken = record { plain = r.3 ∙ h.plain; ready = inl taken; known = found.1; between = between }
+    stays : took_first b ≡ true → is_flexible b ≡ is_flexible a → IsBetween b
+    stays taken same = record { plain = r.3 ∙ h.plain; flexible = same ∙ h.flexible; ready = inl taken; known = found.1; between = between }
 
 -- the same of what a read answered
 module _ (a b : BytesReader) (fields : List (List ℕ)) (h : IsBetween a) where
@@ -190,13 +193,37 @@ module _ (a b : BytesReader) (fields : List (List ℕ)) (h : IsBetween a) where
     answered_next (Ok found) reads = λ e. next a b fields h (read_as found true e (reads h.plain h.ready))
     answered_next (Err e) reads = tt
 
-    pub answered_between : (r : Result Bool E) → Reads r → Begins r → IfOk r (λ found. found ≡ true → IsBetween b)
-    answered_between (Ok found) reads begins = λ e. stays a b fields h (read_as found true e (reads h.plain h.ready)) (begins h.plain)
-    answered_between (Err e) reads begins = tt
+    abbrev Keeps : Result Bool E → Type 0
+    Keeps r = OnOk r (is_flexible b ≡ is_flexible a)
+
+    pub answered_between : (r : Result Bool E) → Reads r → Begins r → Keeps r → IfOk r (λ found. found ≡ true → IsBetween b)
+    answered_between (Ok found) reads begins keeps = λ e. stays a b fields h (read_as found true e (reads h.plain h.ready)) (begins h.plain) keeps
+    answered_between (Err e) reads begins keeps = tt
 
     pub answered_shorter : (r : Result Bool E) → Reads r → IfOk r (λ found. found ≡ true → length (unread b) < length (unread a))
     answered_shorter (Ok found) reads = λ e. shorter a b fields h (read_as found true e (reads h.plain h.ready))
     answered_shorter (Err e) reads = tt
+
+-- ---- why a read failed: records of any lengths are taken, and as bytes
+
+module _ (a b : BytesReader) (h : IsBetween a) where
+  of_memory : (k : ErrorKind) → ExplainsRead told a b false k → IsOfMemory k
+  of_memory error.OutOfMemory why = tt
+  of_memory (error.Io e) why = tt
+  of_memory (error.UnequalLengths pos expected len) why = absurd (differ (sym h.flexible ∙ why.0))
+    where
+      differ : true ≡ false → ⊥
+      differ e = cc
+  of_memory (error.Utf8 pos e) why = absurd (differ why.0)
+    where
+      differ : false ≡ true → ⊥
+      differ e = cc
+  of_memory (error.Serialize text) why = why
+  of_memory (error.Deserialize pos e) why = why
+
+  pub failed_of_memory : (r : Result Bool Error) → IfErr r (λ e. Ready a → ExplainsRead told a b false (error_kind e)) → IfErr r (λ e. IsOfMemory (error_kind e))
+  failed_of_memory (Ok _) why = tt
+  failed_of_memory (Err e) why = of_memory (error_kind e) (why h.ready)
 
 -- ---- a reader at the start of a text
 

@@ -1,9 +1,10 @@
 //! The records of a file, as `csv` cuts them, and which of them are rows.
 
 ghost use Rattle.std.specs.Prelude.{◌≡◌, ◌≢◌, ◌<◌, ◌+◌, ◌∷◌, ◌||◌, [], true, false, length, slice_index_or, IfOk, IfErr, OnOk, MatchOption, List, ℕ};
+ghost use Rattle.csv.specs.Reading.{error_kind};
 ghost use Rattle.csv.specs.Records.{fields_of};
 ghost use Rattle.pesplib_reader.specs.declared.fault.FaultKind.TheVariants as kind;
-ghost use Rattle.pesplib_reader.specs.Left.{IsBetween, IsNextRow, IsReading, IsWant, count_of, is_row, left_of, rows_left, trimmed_fields, unread};
+ghost use Rattle.pesplib_reader.specs.Left.{IsBetween, IsNextRow, IsOfMemory, IsReading, IsSetFor, IsWant, count_of, is_row, left_of, rows_left, trimmed_fields, unread};
 ghost use Rattle.pesplib_reader.specs.Records as file;
 ghost use Rattle.pesplib_reader.specs.RowFields.{activity_fields, time_fields};
 
@@ -34,6 +35,7 @@ fn separator(bytes: &[u8]) -> u8
 
 /// A reader at the first record.
 fn reader(alloc: Global, bytes: &[u8]) -> Reader<&[u8]>
+    ensures set { IsSetFor bytes.now result }
     ensures between { IsBetween result }
     ensures records { left_of result ≡ file.records_of bytes.now }
     ensures short { length (unread result) < length bytes.now + 1 }
@@ -52,6 +54,7 @@ fn read_record(reader: &mut Reader<&[u8]>, fields: &mut ByteRecord) -> Result<bo
     ensures next { IfOk result (λ found. found ≡ true → left_of reader.old ≡ fields_of fields.new ∷ left_of reader.new) }
     ensures between { IfOk result (λ found. found ≡ true → IsBetween reader.new) }
     ensures shorter { IfOk result (λ found. found ≡ true → length (unread reader.new) < length (unread reader.old)) }
+    ensures memory { IfErr result (λ error. IsOfMemory (error_kind error)) }
 {
     reader.read_byte_record(fields)
 }
