@@ -1,20 +1,6 @@
-mod Cases
-pub mod CutLemmas
-pub mod EditLines
 pub mod FaultlessSettings
 pub mod FaultlessWords
-pub mod FirstWordLemmas
-pub mod FormLemmas
-pub mod LineLemmas
-pub mod NameLemmas
-pub mod NumberLemmas
-pub mod ParseLemmas
 pub mod Periods
 pub mod ReadSettings
-pub mod ReplayLemmas
 pub mod RowLemmas
-pub mod ScriptLaws
-pub mod SplitLemmas
-pub mod TakenLemmas
-pub mod WordLemmas
 pub mod Written

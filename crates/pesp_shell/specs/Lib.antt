@@ -1,9 +1,3 @@
 pub mod Checked
-pub mod Forms
-pub mod LineFaults
-pub mod Lines
-pub mod Parsed
-pub mod Replayed
 pub mod Replies
 pub mod Settings
-pub mod Words

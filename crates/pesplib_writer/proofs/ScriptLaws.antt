@@ -16,8 +16,8 @@ use Rattle.pesp_instance.specs.declared.event.Event.{Event}
 use Rattle.pesp_instance.specs.Network.{Network, IsNetwork, IsEvent, HasEnds, event_ids, has_event, activity_of}
 use Rattle.pesp_instance.proofs.Rising.{IsAbove, Rises, Rises-from_increasing, change_in-above}
 use Rattle.pesplib_reader.proofs.FixedLemmas.{fix_edited}
-use Rattle.pesplib_writer.specs.Script.{applied, fix_entry, on_accepted, script_edits}
-use Rattle.pesplib_writer.specs.Texts.{fixed_entries, fixed_entry, unfixed_event}
+use Rattle.pesplib_writer.specs.Script.{applied, fix_edit, on_accepted, script_edits}
+use Rattle.pesplib_writer.specs.Texts.{unfixed_event}
 use Rattle.pesplib_writer.proofs.OrderLaws.{above_before, below_after, put_in-below, with_number-below}
 
 -- ---- a number that is above those before it
@@ -132,22 +132,22 @@ module _ (period : ℕ) where
       ∙ ap (λ events. Ok (with_events period events)) (change_between number (λ x. record x { fixed = Some t }) done (unfixed_event e) rest rises ∙ ap (λ x. done ++ x ∷ rest) same)
 
   times_fixed : (done events : List Event) → Rises number (done ++ events) → All (IsEvent period) events
-      → applied (with_events period (done ++ map unfixed_event events)) (map fix_entry (filter_map fixed_entry events)) ≡ Ok (with_events period (done ++ events))
+      → applied (with_events period (done ++ map unfixed_event events)) (filter_map fix_edit events) ≡ Ok (with_events period (done ++ events))
   times_fixed done [] rises within = refl
   times_fixed done (e ∷ events) rises within =
       let joins = append_assoc done (e ∷ []) events in
       let more : Rises number ((done ++ e ∷ []) ++ events) = rw joins rises in
-      let later : applied (with_events period (done ++ e ∷ map unfixed_event events)) (map fix_entry (filter_map fixed_entry events)) ≡ Ok (with_events period (done ++ e ∷ events)) =
-      ap (λ es. applied (with_events period es) (map fix_entry (filter_map fixed_entry events))) (sym (append_assoc done (e ∷ []) (map unfixed_event events)))
+      let later : applied (with_events period (done ++ e ∷ map unfixed_event events)) (filter_map fix_edit events) ≡ Ok (with_events period (done ++ e ∷ events)) =
+      ap (λ es. applied (with_events period es) (filter_map fix_edit events)) (sym (append_assoc done (e ∷ []) (map unfixed_event events)))
       ∙ times_fixed (done ++ e ∷ []) events more (All-tail (IsEvent period) e events within)
       ∙ ap (λ es. Ok (with_events period es)) joins in
-      elim e.fixed as (λ o. e.fixed ≡ o → applied (with_events period (done ++ unfixed_event e ∷ map unfixed_event events)) (map fix_entry (cons_option (option_map (λ t. (e.id, t)) o) (filter_map fixed_entry events))) ≡ Ok (with_events period (done ++ e ∷ events))) [
+      elim e.fixed as (λ o. e.fixed ≡ o → applied (with_events period (done ++ unfixed_event e ∷ map unfixed_event events)) (cons_option (option_map (Fix e.id) o) (filter_map fix_edit events)) ≡ Ok (with_events period (done ++ e ∷ events))) [
         | None ↦ λ is.
             let same : unfixed_event e ≡ e = ap (λ (fixed : Option ℕ). record e { fixed = fixed }) (sym is) in
-            ap (λ x. applied (with_events period (done ++ x ∷ map unfixed_event events)) (map fix_entry (filter_map fixed_entry events))) same ∙ later
+            ap (λ x. applied (with_events period (done ++ x ∷ map unfixed_event events)) (filter_map fix_edit events)) same ∙ later
         | Some t ↦ λ is.
             let below : t < period = rw is at (All-head (IsEvent period) e events within).fixed in
-            first_applied (with_events period (done ++ unfixed_event e ∷ map unfixed_event events)) (with_events period (done ++ e ∷ map unfixed_event events)) (Fix e.id t) (map fix_entry (filter_map fixed_entry events))
+            first_applied (with_events period (done ++ unfixed_event e ∷ map unfixed_event events)) (with_events period (done ++ e ∷ map unfixed_event events)) (Fix e.id t) (filter_map fix_edit events)
             (time_fixed done (map unfixed_event events) e t (rises_unfixed done (e ∷ events) rises) below is)
             ∙ later
       ] refl
@@ -190,7 +190,7 @@ script_builds I net =
     let few_activities : length {A = Activity} [] + length I.activities ≤ max_activities I.period = omega (arith, net.few_activities) in
     let events : applied (empty_network I.period) (map AddEvent (event_ids I)) ≡ Ok (with_events I.period (map unfixed_event I.events)) =
     events_added I.period [] (event_ids I) bare_rise few ∙ ap (λ es. Ok (with_events I.period es)) (bare-unfixed I.events) in
-    ap (applied (empty_network I.period)) (append_assoc (map AddEvent (event_ids I)) (map fix_entry (fixed_entries I)) (map AddActivity I.activities))
-    ∙ then_applied (empty_network I.period) (with_events I.period (map unfixed_event I.events)) (map AddEvent (event_ids I)) (map fix_entry (fixed_entries I) ++ map AddActivity I.activities) events
-    ∙ then_applied (with_events I.period (map unfixed_event I.events)) (with_events I.period I.events) (map fix_entry (fixed_entries I)) (map AddActivity I.activities) (times_fixed I.period [] I.events events_rise net.events_within)
+    ap (applied (empty_network I.period)) (append_assoc (map AddEvent (event_ids I)) (filter_map fix_edit I.events) (map AddActivity I.activities))
+    ∙ then_applied (empty_network I.period) (with_events I.period (map unfixed_event I.events)) (map AddEvent (event_ids I)) (filter_map fix_edit I.events ++ map AddActivity I.activities) events
+    ∙ then_applied (with_events I.period (map unfixed_event I.events)) (with_events I.period I.events) (filter_map fix_edit I.events) (map AddActivity I.activities) (times_fixed I.period [] I.events events_rise net.events_within)
     ∙ activities_added I.period I.events [] I.activities activities_rise net.ends few_activities

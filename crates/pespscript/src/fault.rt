@@ -1,6 +1,6 @@
 //! Why there is no script.
 
-use pesp_shell::ReplayFault;
+use pesp_commands::ReplayFault;
 use thiserror::Error;
 
 /// Why there is no script. Each text is one line of standard error.

@@ -8,7 +8,7 @@ mod fault;
 
 use fault::Fault;
 use pesp_base::Period;
-use pesp_shell::replay;
+use pesp_commands::replay;
 use pesplib_writer::dump;
 use std::io::{Read, Write};
 use std::process::ExitCode;

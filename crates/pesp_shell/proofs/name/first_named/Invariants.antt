@@ -1,9 +1,0 @@
-use Rattle.std.proofs.Common.{◌≡◌, drop, map}
-use Rattle.std.specs.List.{find}
-use Rattle.pesp_shell.specs.Forms.{begins_with, form_for}
-use Rattle.pesp_shell.specs.Words.{texts}
-use Rattle.pesp_shell.proofs.name.first_named.Given as goal
-
--- no name so far is the one that is looked for
-abbrev pub invariant-loop-name : goal.invariant-loop-name
-invariant-loop-name l = find (begins_with (texts l.words)) (map form_for (drop l.name-index l.names)) ≡ find (begins_with (texts l.words)) (map form_for l.names)
