@@ -1,4 +1,4 @@
-mod Rows
+mod Cases
 pub mod Effects
 pub mod Links
 pub mod Listed

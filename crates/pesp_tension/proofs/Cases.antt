@@ -2,7 +2,7 @@
 use Rattle.std.proofs.Common.{◌≡◌, refl, pos, [], ◌∷◌, Some, None, Err, ℕ}
 use Rattle.pesp_base.specs.declared.refusal.Refusal.TheVariants as no
 use Rattle.pesp_instance.specs.declared.edit.Edit.TheVariants as do_
-use Rattle.pesp_instance.specs.Network.{Network}
+use Rattle.pesp_instance.specs.Network.{Network, new_event}
 use Rattle.pesp_instance.specs.Edited.{after}
 use Rattle.pesp_tension.specs.declared.lists.Violation.TheVariants as of_
 use Rattle.pesp_tension.specs.Timetables.{Times, no_times, set_time, with_time, without_time}
@@ -12,7 +12,7 @@ use Rattle.pesp_tension.specs.Answers.{cost_of, first_missing, tensions_of, viol
 abbrev two : Network
 two = record {
   period = 10;
-  events = record { id = 1; fixed = None } ∷ record { id = 2; fixed = None } ∷ [];
+  events = new_event 1 ∷ new_event 2 ∷ [];
   activities =
       record { id = 1; from = 1; to = 2; span = record { lower = pos 3; upper = pos 5 }; weight = 2 }
       ∷ record { id = 2; from = 2; to = 1; span = record { lower = pos 4; upper = pos 6 }; weight = 1 } ∷ [];

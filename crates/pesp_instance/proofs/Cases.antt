@@ -4,7 +4,7 @@ use Rattle.pesp_base.specs.declared.activity.Activity.{Activity}
 use Rattle.pesp_base.specs.declared.refusal.Refusal.TheVariants as no
 use Rattle.pesp_instance.specs.declared.edit.Edit.TheVariants as do_
 use Rattle.pesp_instance.specs.Edited.{edited, effect, after, empty_network}
-use Rattle.pesp_instance.specs.Network.{Network, agrees_with, around, fixed_of}
+use Rattle.pesp_instance.specs.Network.{Network, admits, agrees_with, around, fixed_of, new_event}
 
 abbrev there : Activity
 there = record { id = 1; from = 1; to = 2; span = record { lower = pos 3; upper = pos 5 }; weight = 2 }
@@ -17,7 +17,7 @@ loop_at_two = record { id = 3; from = 2; to = 2; span = record { lower = pos 0; 
 
 -- two events, and an activity each way between them
 abbrev two : Network
-two = record { period = 10; events = record { id = 1; fixed = None } ∷ record { id = 2; fixed = None } ∷ []; activities = there ∷ back ∷ [] }
+two = record { period = 10; events = new_event 1 ∷ new_event 2 ∷ []; activities = there ∷ back ∷ [] }
 
 -- edits in any order give the ascending lists, and a refused one changes nothing
 built : after (empty_network 10) (do_.AddEvent 2 ∷ do_.AddEvent 1 ∷ do_.AddActivity back ∷ do_.AddActivity there ∷ do_.AddEvent 1 ∷ []) ≡ two
@@ -64,8 +64,22 @@ time_gone = refl
 loop_once : around (effect two (do_.AddActivity loop_at_two)) 2 ≡ there ∷ back ∷ loop_at_two ∷ []
 loop_once = refl
 
-fixed_elsewhere : agrees_with (Some 4) 5 ≡ false
+fixed_elsewhere : agrees_with 10 (Some 4) 5 ≡ false
 fixed_elsewhere = refl
 
-not_fixed_at_all : agrees_with None 5 ≡ true
+not_fixed_at_all : agrees_with 10 None 5 ≡ true
 not_fixed_at_all = refl
+
+-- an event admits its fixed time alone, and without one each residue
+admitted : admits (effect two (do_.Fix 1 4)) 1 4 ≡ true
+admitted = refl
+
+not_admitted : admits (effect two (do_.Fix 1 4)) 1 5 ≡ false
+not_admitted = refl
+
+all_admitted : admits two 1 5 ≡ true
+all_admitted = refl
+
+-- the same ends are ends like any others
+same_ends : edited two (do_.SetEnds 1 1 2) ≡ Ok two
+same_ends = refl
