@@ -3,7 +3,7 @@ use Rattle.std.proofs.Common.{◌≡◌, ℕ, zero, suc, ◌+◌, ◌<◌, ◌�
 use Rattle.std.specs.Borrow.{Bor}
 use Rattle.std.proofs.lemmas.Bool.{and_parts, eqb-true}
 use Rattle.csv.specs.Machine.{Read, after_end, ends_at_end, ends_with, field_after, fields_after, in_field, is_byte, is_end, line_feed, next_record, start_field, start_record, step}
-use Rattle.csv.specs.Reading.{is_bom, records, strip_bom, ReadRecord, Reached, Ready, error_kind, is_flexible, names_headers, reader_config, reader_headers, reader_state, reader_trim, records_from, records_next, took_first, ExplainsRead}
+use Rattle.csv.specs.Reading.{is_bom, strip_bom, ReadRecord, Reached, Ready, error_kind, is_flexible, names_headers, reader_config, reader_headers, reader_state, reader_trim, records_from, records_next, took_first, ExplainsRead}
 use Rattle.csv.specs.declared.error.Error.{Error}
 use Rattle.csv.specs.declared.error.ErrorKind.{ErrorKind}
 use Rattle.csv.specs.declared.error.ErrorKind.TheVariants as error

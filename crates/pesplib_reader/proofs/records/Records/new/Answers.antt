@@ -1,7 +1,7 @@
 -- A reader at the start of a text has all its records left.
-use Rattle.std.proofs.Common.{◌≡◌, ◌<◌, ◌+◌, ◌-◌, ◌^◌, zero-add, ap, ◌∙◌, arith, length}
-use Rattle.pesplib_reader.specs.Left.{count_of, left_of, rows_left, unread}
-use Rattle.pesplib_reader.specs.Records.{records_of, spoken_from, without_header}
+use Rattle.std.proofs.Common.{zero-add, ap, ◌∙◌, arith, length}
+use Rattle.pesplib_reader.specs.Left.{count_of, rows_left}
+use Rattle.pesplib_reader.specs.Records.{spoken_from, without_header}
 use Rattle.pesplib_reader.proofs.CsvLemmas.{opened_between, opened_left, opened_short}
 use Rattle.pesplib_reader.proofs.records.Records.new.Goals as goal
 
