@@ -1,9 +1,9 @@
 -- The records of a text, read one after another.
-use Rattle.std.proofs.Common.{◌≡◌, ℕ, zero, suc, ◌+◌, ◌<◌, ◌≤◌, ◌==◌, ◌&&◌, Bool, true, false, cond, List, [], ◌∷◌, ◌++◌, length, Option, Some, None, unwrap_or, Result, Ok, Err, IfOk, IfErr, OnOk, refl, sym, ap, subst, ◌∙◌, arith, add-one, inl}
+use Rattle.std.proofs.Common.{◌≡◌, ℕ, zero, suc, ◌+◌, ◌<◌, ◌≤◌, ◌==◌, ◌&&◌, Bool, true, false, cond, List, [], ◌∷◌, ◌++◌, length, Option, Some, None, unwrap_or, Result, Ok, Err, IfOk, IfErr, OnOk, refl, sym, ap, subst, ◌∙◌, arith, add-one, inl, inr}
 use Rattle.std.specs.Borrow.{Bor}
 use Rattle.std.proofs.lemmas.Bool.{and_parts, eqb-true}
 use Rattle.csv.specs.Machine.{Read, after_end, ends_at_end, ends_with, field_after, fields_after, in_field, is_byte, is_end, line_feed, next_record, start_field, start_record, step}
-use Rattle.csv.specs.Reading.{is_bom, records, strip_bom, ReadRecord, Reached, Ready, error_kind, is_flexible, reader_config, reader_state, reader_trim, records_from, records_next, took_first, ExplainsRead}
+use Rattle.csv.specs.Reading.{is_bom, strip_bom, ReadRecord, Reached, Ready, error_kind, is_flexible, names_headers, reader_config, reader_headers, reader_state, reader_trim, records_from, records_next, took_first, ExplainsRead}
 use Rattle.csv.specs.declared.error.Error.{Error}
 use Rattle.csv.specs.declared.error.ErrorKind.{ErrorKind}
 use Rattle.csv.specs.declared.error.ErrorKind.TheVariants as error
@@ -16,7 +16,7 @@ use Rattle.csv.specs.declared.parser.Terminator.{Terminator}
 use Rattle.csv.specs.declared.parser.Terminator.TheVariants as term
 use Rattle.csv.specs.declared.reader.Trim.TheVariants as trim_of
 use Rattle.csv.proofs.ReadFacts.{rows-end, rows-more}
-use Rattle.pesplib_reader.specs.Records.{separator_of}
+use Rattle.pesplib_reader.specs.Records.{records_of, separator_of, with_separator}
 use Rattle.pesplib_reader.specs.Left.{BytesReader, IsBetween, IsOfMemory, left_of, source_in, unread}
 
 -- ---- a byte that ends a record leaves the machine between two records
@@ -235,32 +235,39 @@ marked a b c rest true e =
     let others = and_parts (a == 0xEF) (b == 0xBB) parts.0 in
     rw (eqb-true a 0xEF others.0, eqb-true b 0xBB others.1, eqb-true c 0xBF parts.1) refl
 
-pub same_separator : (bytes : List ℕ) → separator_of (strip_bom bytes) ≡ separator_of bytes
+same_separator : (bytes : List ℕ) → separator_of (strip_bom bytes) ≡ separator_of bytes
 unfolding strip_bom
 same_separator [] = refl
 same_separator (a ∷ []) = refl
 same_separator (a ∷ b ∷ []) = refl
 same_separator (a ∷ b ∷ c ∷ rest) = marked a b c rest (is_bom a b c) refl
 
-pub length-strip_bom : (bytes : List ℕ) → length (strip_bom bytes) ≤ length bytes
+length-strip_bom : (bytes : List ℕ) → length (strip_bom bytes) ≤ length bytes
 unfolding strip_bom
 length-strip_bom [] = omega arith
 length-strip_bom (a ∷ []) = omega arith
 length-strip_bom (a ∷ b ∷ []) = omega arith
 length-strip_bom (a ∷ b ∷ c ∷ rest) = elim (is_bom a b c) as (λ t. length (cond t rest (a ∷ b ∷ c ∷ rest)) ≤ length (a ∷ b ∷ c ∷ rest)) [ true ↦ omega arith | false ↦ omega arith ]
 
-module _ (r : BytesReader) (text : List ℕ) (source : source_in r ≡ Some text) (state : reader_state r ≡ st.StartRecord) where
-  pub opened_known : source_in r ≡ Some (unread r)
-  opened_known = source ∙ ap (λ xs. Some xs) (sym (is_unread r text source))
+module _ (r : BytesReader) (bytes : List ℕ) (source : source_in r ≡ Some (strip_bom bytes)) (state : reader_state r ≡ st.StartRecord) where
+  opened_unread : unread r ≡ strip_bom bytes
+  opened_unread = is_unread r (strip_bom bytes) source
 
-  pub opened_between : ends_at_end (reader_state r) ≡ false
-  opened_between = rw state refl
+  pub opened_between : reader_trim r ≡ trim_of.None → is_flexible r ≡ true → names_headers r ≡ false → reader_headers r ≡ None → IsBetween r
+  opened_between plain flexible headers none =
+      record {
+        plain = plain;
+        flexible = flexible;
+        ready = inr (inr (headers, none));
+        known = source ∙ ap (λ xs. Some xs) (sym opened_unread);
+        between = rw state refl;
+      }
 
-  pub opened_left : (cfg : Config) → reader_config r ≡ cfg → left_of r ≡ records cfg text
-  opened_left cfg e =
-      left_is r ∙ ap (λ d. records_from d (length (unread r) + 1) (reader_state r) (unread r)) e
-      ∙ ap (λ s. records_from cfg (length (unread r) + 1) s (unread r)) state
-      ∙ ap (λ xs. records_from cfg (length xs + 1) st.StartRecord xs) (is_unread r text source)
+  pub opened_left : reader_config r ≡ with_separator (separator_of bytes) → left_of r ≡ records_of bytes
+  opened_left e =
+      left_is r ∙ ap (λ d. records_from d (length (unread r) + 1) (reader_state r) (unread r)) (e ∙ ap with_separator (sym (same_separator bytes)))
+      ∙ ap (λ s. records_from (with_separator (separator_of (strip_bom bytes))) (length (unread r) + 1) s (unread r)) state
+      ∙ ap (λ xs. records_from (with_separator (separator_of (strip_bom bytes))) (length xs + 1) st.StartRecord xs) opened_unread
 
-  pub opened_unread : unread r ≡ text
-  opened_unread = is_unread r text source
+  pub opened_short : length (unread r) ≤ length bytes
+  opened_short = rw opened_unread (length-strip_bom bytes)

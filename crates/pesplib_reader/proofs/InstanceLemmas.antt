@@ -73,6 +73,14 @@ module _ (I : Network) (a : Activity) where
       could (Ok J) e is = subst (λ t. IsTakeFault t fault.Memory) (sym (taken_at_once few J e)) refl
       could (Err r) e is = absurd (cc)
 
+  -- ---- ends do not change the period
+
+  event_period : (J : Network) (e : ℕ) → (with_event J e).period ≡ J.period
+  event_period J e = elim (has_event J e) as (λ t. (cond t J (effect J (AddEvent e))).period ≡ J.period) [ true ↦ refl | false ↦ refl ]
+
+  ends_period : (with_ends I a).period ≡ I.period
+  ends_period = event_period (with_event I a.from) a.to ∙ event_period I a.from
+
   -- ---- how many events there are with the ends
 
   count_new : (J : Network) (e : ℕ) → has_event J e ≡ false → length (with_event J e).events ≡ length J.events + 1
@@ -183,4 +191,5 @@ module _ (I J : Network) (a : Activity) where
   few_events h =
       let facts = few_by (is_some (activity_of I a.id)) (too_many_events I a) (nat_le (max_activities I.period) (length I.activities)) (with_activity I a) h in
       let le : length (with_ends I a).events ≤ max_events I.period = ltb-false (max_events I.period) (length (with_ends I a).events) facts.0 in
-      subst (λ (K : Network). length K.events ≤ max_events K.period) facts.1 le
+      subst (λ (K : Network). length K.events ≤ max_events K.period) facts.1
+      (subst (λ period. length (with_ends I a).events ≤ max_events period) (sym (ends_period I a)) le)

@@ -2,7 +2,7 @@
 use Rattle.std.specs.Prelude.{◌≡◌, ℕ, ◌+◌, ◌-◌, ◌<◌, ◌≤◌, ◌^◌, Bool, true, false, ◌||◌, ◌&&◌, not, if◌then◌else◌, List, [], ◌∷◌, map, length, Option, Some, unwrap_or, ⊤}
 use Rattle.std.specs.Borrow.{Bor}
 use Rattle.csv.specs.Machine.{ends_at_end}
-use Rattle.csv.specs.Reading.{Ready, is_flexible, names_headers, reader_config, reader_state, reader_trim, records_from, source_of}
+use Rattle.csv.specs.Reading.{Ready, is_flexible, reader_config, reader_state, reader_trim, records_from, source_of}
 use Rattle.csv.specs.Records as csv
 use Rattle.csv.specs.declared.error.ErrorKind.{ErrorKind}
 use Rattle.csv.specs.declared.error.ErrorKind.TheVariants as error
@@ -11,7 +11,7 @@ use Rattle.csv.specs.declared.reader.Trim.TheVariants as trim_of
 use Rattle.pesplib_reader.specs.declared.fault.ReadFault.{ReadFault}
 use Rattle.pesplib_reader.specs.declared.fault.FaultKind.TheVariants as fault
 use Rattle.pesplib_reader.specs.declared.records.Records.{Records}
-use Rattle.pesplib_reader.specs.Records.{Row, are_named, are_spoken, separator_of, spoken_from, trim, with_separator, without_header}
+use Rattle.pesplib_reader.specs.Records.{Row, are_named, are_spoken, spoken_from, trim, without_header}
 
 -- a reader of bytes in memory
 abbrev pub BytesReader : Type 0
@@ -28,14 +28,6 @@ unread r = unwrap_or (source_in r) []
 -- the records that a reader has left
 unfoldable pub left_of : BytesReader → List (List (List ℕ))
 left_of r = records_from (reader_config r) (length (unread r) + 1) (reader_state r) (unread r)
-
--- how a reader of a file is set: the file's separator and the defaults of `csv` otherwise, records of any lengths, no
--- header, and each field as it is
-pub record IsSetFor (bytes : List ℕ) (r : BytesReader) : Type 0 where
-  pub config : reader_config r ≡ with_separator (separator_of bytes)
-  pub flexible : is_flexible r ≡ true
-  pub headers : names_headers r ≡ false
-  pub plain : reader_trim r ≡ trim_of.None
 
 -- an error of memory or of the device: not of a record's length, nor of its text
 abbrev pub IsOfMemory : ErrorKind → Type 0

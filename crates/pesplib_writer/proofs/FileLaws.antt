@@ -6,7 +6,7 @@ use Rattle.std.proofs.lemmas.List.Elements.{All-head, All-tail}
 use Rattle.std.specs.List.Sorted.{IsStrictlyIncreasing}
 use Rattle.std.specs.Map.{keys_of}
 use Rattle.pesp_base.specs.declared.activity.Activity.{Activity}
-use Rattle.pesp_base.specs.declared.limits.TheConstants.{GREATEST_PERIOD}
+use Rattle.pesp_base.specs.Limits.{greatest_period}
 use Rattle.pesp_base.specs.Limits.{max_events}
 use Rattle.pesp_base.specs.Numbered.{with_number}
 use Rattle.pesp_base.specs.Texts.{as_lines}
@@ -107,7 +107,7 @@ time_lines [] = refl
 time_lines (x ∷ entries) = ap (λ ls. time_row x ∷ ls) (time_lines entries)
 
 -- what is written of a timetable reads back as the timetable
-pub times_stand : (m : Times) → m.period ≤ GREATEST_PERIOD → IsStrictlyIncreasing (timed_events m) → IsTimetable m → times_read m.period (times_text m) ≡ Ok m
+pub times_stand : (m : Times) → m.period ≤ greatest_period → IsStrictlyIncreasing (timed_events m) → IsTimetable m → times_read m.period (times_text m) ≡ Ok m
 times_stand m le rises is =
     let all = times_are m.period m.entries le is.numbers is.times in
     let rising = Rises-from_increasing key m.entries (subst IsStrictlyIncreasing (same_keys m.entries) rises) in
