@@ -132,3 +132,6 @@ fn front_of(held: &[u8]) -> Option<Front>
         _ => Some(Front::TooLong),
     }
 }
+
+#[cfg(test)]
+mod tests;
