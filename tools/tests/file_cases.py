@@ -1,9 +1,10 @@
 """Files for tools/test_program: forms that stand for the same rows, and faulty files with what is told of them."""
 
-from rules import MARK
+from tests.rules import MARK
 
 TWO = b"1; 1; 2; 3; 5; 2\n2; 2; 1; 4; 6; 1\n"
 TWO_TIMES = b"1; 0\n2; 3\n"
+TWO_FIXED = b"1; 5\n"
 ROWS = TWO.splitlines(keepends=True)
 COMMA_ROWS = b"1,1,2,3,5,2\n2,2,1,4,6,1\n"
 
