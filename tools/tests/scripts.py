@@ -1,8 +1,8 @@
-"""Scripts, replayed and written again."""
+"""Scripts, replayed and written again: by the program's commands, and by pespscript where it stands beside it."""
 
 import random
 
-from tests.harness import TOP
+from tests.harness import TOP, rows_of, within
 
 
 def script_of(period, events, fixed, activities):
@@ -30,20 +30,64 @@ def drawn_script(draw):
     return period, "\r\n".join([*lines, "", *behind]), script_of(period, events, fixed, activities)
 
 
+def dumped(suite, name, period, script, wanted):
+    """The program takes a script line by line, and what it dumps then is the script of what came of it."""
+    edits = [line for line in script.splitlines() if line.strip() and not line.startswith("#")]
+    given = script.rstrip("\n") + "\ndump\n"
+    suite.case(name, ["--period", str(period)], given=given.encode(), output=("ok\n" * len(edits) + wanted).encode())
+
+
 def scripts(suite):
+    draw = random.Random(7)
+    for number in range(40):
+        period, script, wanted = drawn_script(draw)
+        dumped(suite, f"drawn script {number}", period, script, wanted)
+        dumped(suite, f"written script {number}", period, wanted, wanted)
+    faults = {
+        "a question between edits": (b"add event 1\ncost\n", b"ok\nrefused 11 event 1 has no time\n"),
+        "no number behind a comment": (b"# x\nfix x 1\n", b"fault word 2 is not a number\n"),
+        "the same edit twice": (b"add event 1\nadd event 1\n", b"ok\nrefused 1 event 1 exists\n"),
+        "a fixed time at the period": (b"add event 1\nfix 1 60", b"ok\nrefused 4 time 60 is out of range\n"),
+    }
+    for name, (text, output) in faults.items():
+        suite.case(f"a script with {name}", [], given=text, output=output)
+
+
+@within(180)
+def greatest_script(suite):
+    """An instance of 20,000 events and 100,000 activities opens from a file, is dumped, and refuses one more of each."""
+    activities = [(number, number % 20_000, number * 7 % 20_000, 0, 119, 1) for number in range(100_000)]
+    words = ["--period", "120", suite.file("activities", rows_of(activities))]
+    given = b"add event 20000\nadd activity 100000 1 1 0 0 0\nadd activity 7 1 1 0 0 0\ndump"
+    refusals = "refused 7 too many events\nrefused 8 too many activities\nrefused 5 activity 7 exists\n"
+    script = script_of(120, range(20_000), {}, activities)
+    suite.case("the greatest instance", words, given=given, output=(refusals + script).encode())
+
+
+def small_program(suite):
+    """The program pespscript, as long as it is there."""
     crate = TOP / "crates/pespscript"
+    if crate.exists():
+        replays(suite, crate)
+        faulty_scripts(suite)
+
+
+def replays(suite, crate):
     stored = (crate / "stdin").read_bytes()
     suite.case("the stored script", [], output=(crate / "stdout").read_bytes(), given=stored, program=suite.scripts)
     draw = random.Random(7)
     for number in range(40):
         period, script, wanted = drawn_script(draw)
         for name, text in [("drawn", script), ("written", wanted)]:
-            suite.case(
-                f"{name} script {number}", [str(period)], output=wanted.encode(), given=text.encode(), program=suite.scripts
-            )
-    empty = b"# period 60 lines 0\n"
-    for name, text in {"no bytes": b"", "a blank line of 4,096 bytes": b" " * 4_096, "1,000,000 lines": b"\n" * 1_000_000}.items():
-        suite.case(f"a script of {name}", [], output=empty, given=text, program=suite.scripts)
+            how = {"output": wanted.encode(), "given": text.encode(), "program": suite.scripts}
+            suite.case(f"pespscript: {name} script {number}", [str(period)], **how)
+    texts = {"no bytes": b"", "a blank line of 4,096 bytes": b" " * 4_096, "1,000,000 lines": b"\n" * 1_000_000}
+    for name, text in texts.items():
+        how = {"output": b"# period 60 lines 0\n", "given": text, "program": suite.scripts}
+        suite.case(f"pespscript: {name}", [], **how)
+
+
+def faulty_scripts(suite):
     faults = {
         "two edits, the second no edit": (b"add event 1\ncost\n", "line 2: NotAnEdit"),
         "a line of 4,097 bytes": (b" " * 4_097, "line 1: LineTooLong"),
@@ -53,11 +97,11 @@ def scripts(suite):
         "a fixed time at the period": (b"add event 1\nfix 1 60", "line 2: Refused(TimeOutOfRange(60))"),
     }
     for name, (text, fault) in faults.items():
-        error = f"pespscript: {fault}\n".encode()
-        suite.case(f"a script of {name}", [], status=1, error=error, given=text, program=suite.scripts)
+        how = {"status": 1, "error": f"pespscript: {fault}\n".encode(), "given": text, "program": suite.scripts}
+        suite.case(f"pespscript: {name}", [], **how)
     wanted = b"pespscript: the period is a number from 2 to 120\n"
     for word in ["1", "121", "x"]:
-        suite.case(f"a script at period {word}", [word], status=1, error=wanted, program=suite.scripts)
+        suite.case(f"pespscript: period {word}", [word], status=1, error=wanted, program=suite.scripts)
 
 
-GROUPS = [scripts]
+GROUPS = [scripts, greatest_script, small_program]
