@@ -50,7 +50,7 @@ def main(program="pespbench", network="examples/hourly-line/activities"):
         session.ask(f"span 31 4 {longest}")
         session.ask(f"span 32 4 {longest}")
         first, times = session.ask("optimum")
-        print(f"changes of 4 to {longest} minutes:", *first, dict(times) or "")
+        print(f"changes of 4 to {longest} minutes:", *first, *([dict(times)] if times else []))
         if times:
             break
     return session.end()
