@@ -14,10 +14,7 @@ from tests.harness import SECONDS, within
 from tests.streams import drawn_lines, followed
 
 PATIENCE = 10
-
-
-class Silent(Exception):
-    """The program did not answer in time."""
+NOTHING = "nothing in time"
 
 
 class Dialogue:
@@ -26,17 +23,23 @@ class Dialogue:
     def __init__(self, words):
         self.process = subprocess.Popen(words, stdin=subprocess.PIPE, stdout=subprocess.PIPE, bufsize=0)
         self.held = b""
+        self.patience = PATIENCE
 
     def send(self, data):
-        self.process.stdin.write(data)
+        try:
+            self.process.stdin.write(data)
+        except BrokenPipeError:
+            self.patience = 0
 
     def line(self):
-        until = time.monotonic() + PATIENCE
+        until = time.monotonic() + self.patience
         while b"\n" not in self.held:
-            ready, _, _ = select.select([self.process.stdout], [], [], until - time.monotonic())
+            ready, _, _ = select.select([self.process.stdout], [], [], max(0, until - time.monotonic()))
             more = os.read(self.process.stdout.fileno(), 65_536) if ready else b""
             if not more:
-                raise Silent
+                # One silence is waited for, and no other.
+                self.patience = 0
+                return NOTHING
             self.held += more
         line, _, self.held = self.held.partition(b"\n")
         return line.decode()
@@ -78,12 +81,9 @@ def one_by_one(suite):
                 quiet = {"quiet": talk.is_quiet() if place else True}
                 talk.send(line[place:] + b"\n")
                 wanted = bench.reply(line)
-                try:
-                    came = talk.reply() if wanted else []
-                except Silent:
-                    came = "nothing in time"
+                came = talk.reply() if wanted else []
                 suite.note(f"{name}: {line}", {"reply": wanted, "quiet": True}, {"reply": came, **quiet})
-                if came == "nothing in time":
+                if NOTHING in came:
                     return
             suite.note(f"{name}: the end", ENDED, talk.end())
 
@@ -117,6 +117,8 @@ def drawn_dialogue(suite):
             if is_try and came != wanted:
                 wanted = came if bench.may_try(int(line.split()[1]), came) else wanted
             suite.note(f"drawn dialogue: {line}", {"reply": wanted}, {"reply": came})
+            if NOTHING in came:
+                return
         suite.note("drawn dialogue: the end", ENDED, talk.end())
 
 
