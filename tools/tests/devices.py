@@ -8,7 +8,8 @@ import time
 
 from tests import rules
 from tests.file_cases import FIELDS, TWO, TWO_TIMES
-from tests.harness import NAMES, NOT_READ, NOT_WRITTEN, SECONDS, SOME, closed_pipe, record, rows_of, words_for
+from tests.harness import NAMES, NOT_READ, NOT_WRITTEN, SECONDS, SOME, closed_pipe, record, rows_of, run
+from tests.harness import words_for
 from tests.replies import EMPTY_REPLIES
 
 
@@ -128,4 +129,25 @@ def want_of_memory(suite):
     path.unlink()
 
 
-GROUPS = [failing_output, closing_reader, failing_input, slow_reader, late_reader, want_of_memory]
+def memory_of_commands(suite):
+    """The least memory that serves three commands is looked for; with a little less, the greatest reply is refused."""
+    loops = rows_of((event, event, event, 0, 119, 0) for event in range(20_000))
+    words = [suite.program, "--period", "120", suite.file("loops", loops)]
+    given = b"cost\n# a comment\ndomains\ncost\n"
+    enough, least = 2_048, 4
+
+    def come(quarters):
+        return run(words, given=given, preexec_fn=lambda: resource.setrlimit(resource.RLIMIT_AS, (quarters << 18,) * 2))
+
+    while enough - least > 1:
+        middle = (enough + least) // 2
+        enough, least = (middle, least) if come(middle)["status"] == 0 else (enough, middle)
+    no_time = b"refused 11 event 0 has no time\n"
+    wanted = {"status": 1, "standard output": no_time, "standard error": b"pespbench: out of memory at line 3\n"}
+    suite.note(f"no memory for a reply, with {least} quarters of a megabyte", wanted, come(least))
+    output = come(enough)["standard output"]
+    suite.holds("the replies with a quarter more", output.startswith(no_time + b"domains 20000\n0: 0 1 2"))
+    suite.holds("the last of them", output.endswith(no_time))
+
+
+GROUPS = [failing_output, closing_reader, failing_input, slow_reader, late_reader, want_of_memory, memory_of_commands]

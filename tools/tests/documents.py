@@ -5,6 +5,7 @@ import re
 
 from tests.file_cases import ABSENT, ACTIVITIES, CROSSED, EVENT_TWICE, EVENTS, FIELDS, FRACTION, TWICE, bad, out
 from tests.harness import TOP, run
+from tests.model import COMMANDS
 
 
 class Shown:
@@ -93,15 +94,41 @@ def documents(suite):
             suite.note(f"{path.relative_to(TOP)}, session {number}", wanted, came)
             whole = all(shown.shows_whole_replies() for shown in session)
             suite.holds(f"{path.relative_to(TOP)}, session {number} has each reply below its line", whole)
-    formats = TOP / "docs/FORMATS.md"
-    script = TOP / "examples/read_replies.py"
-    found = script.read_text() in formats.read_text()
-    suite.note("docs/FORMATS.md shows examples/read_replies.py", {"found": True}, {"found": found})
-    kinds = [FIELDS, bad("k"), out("k"), FRACTION, CROSSED, TWICE, EVENT_TWICE, ABSENT, EVENTS, ACTIVITIES]
-    for path in [formats, TOP / "man/pespbench.1"]:
-        for kind in [*kinds, "out of memory"]:
-            found = {"found": kind in path.read_text()}
-            suite.note(f"{path.relative_to(TOP)} has the fault '{kind}'", {"found": True}, found)
 
 
-GROUPS = [documents]
+# What the documents have to name: the faults of files, refusals, faults of lines, and what ends a run.
+TEXTS = [FIELDS, bad("k"), out("k"), FRACTION, CROSSED, TWICE, EVENT_TWICE, ABSENT, EVENTS, ACTIVITIES, "out of memory"]
+TEXTS += [f"refused {number} " for number in (1, 2, 3, 4, 5, 6, 7, 8, 9, 11, 12)]
+TEXTS += ["is used by activity", "is not fixed", "has no time", "refused 12 infeasible", "stopped none", "unknown command"]
+TEXTS += ["wrong number of words", "fault lower bound above upper bound", "commands cannot be read"]
+TEXTS += ["replies cannot be written", "is longer than 4096 bytes", "more than 1000000 lines", "out of memory at line"]
+
+
+def named_texts(suite):
+    for path in [TOP / "docs/FORMATS.md", TOP / "man/pespbench.1"]:
+        for text in [*TEXTS, *COMMANDS]:
+            found = {"found": text in path.read_text()}
+            suite.note(f"{path.relative_to(TOP)} has '{text}'", {"found": True}, found)
+
+
+def shown_scripts(suite):
+    """A block of Python in a document is a part of a script of examples/."""
+    scripts = [path.read_text() for path in (TOP / "examples").glob("*.py")]
+    for name, wanted in {"README.md": "class Refused", "docs/FORMATS.md": "replies = {}"}.items():
+        blocks = re.findall(r"^```python\n(.*?)^```$", (TOP / name).read_text(), re.M | re.S)
+        suite.holds(f"{name} shows Python that has '{wanted}'", any(wanted in block for block in blocks))
+        for block in blocks:
+            suite.holds(f"{name}: {block[:40]!r} stands in examples/", any(block in script for script in scripts))
+
+
+def checks_say_so(suite):
+    """A command line that is shown without commands means a check, and says `--check`."""
+    for path in sorted([TOP / "README.md", *(TOP / "docs").glob("*.md"), *(TOP / "man").glob("*.1")]):
+        for session in sessions(path):
+            for shown in session:
+                is_check = any(line.startswith(("tensions ", "pespbench: ")) for line in shown.printed)
+                is_fine = not is_check or shown.typed or "--check" in shown.command or "|" in shown.command
+                suite.holds(f"{path.relative_to(TOP)} says --check in {shown.command}", is_fine)
+
+
+GROUPS = [documents, named_texts, shown_scripts, checks_say_so]

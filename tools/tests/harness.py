@@ -43,7 +43,7 @@ class Suite:
     def __init__(self, program, folder, tally):
         self.program = program
         # The small program for scripts, which the gate builds beside it.
-        self.scripts = program.parents[2] / "pespscript/out/pespscript"
+        self.scripts = program.parent / "../../pespscript/out/pespscript"
         self.folder = folder
         self.tally = tally
 

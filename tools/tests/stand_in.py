@@ -43,7 +43,9 @@ def period(word):
 
 
 def settings():
-    parser = argparse.ArgumentParser(prog="stand_in.py", allow_abbrev=False)
+    parser = argparse.ArgumentParser(prog="stand_in.py", allow_abbrev=False, description=__doc__.splitlines()[0])
+    parser.epilog = "It reads commands. Columns: activity; from; to; lower; upper; weight and event; time. "
+    parser.epilog += "Exit status: 0, 1, 2. See docs/FORMATS.md and examples/."
     parser.add_argument("--period", type=period, default=60, action=Once, help="2 to 120 [default: 60]")
     parser.add_argument("--fixed", action=Once)
     parser.add_argument("--times", action=Once)

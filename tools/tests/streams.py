@@ -109,7 +109,17 @@ def drawn_line(draw, period):
 
 
 def drawn_lines(draw, period, count):
-    return [drawn_line(draw, period) for _ in range(count)]
+    """Lines that most often begin with a network of a few events and activities."""
+    lines = [drawn_line(draw, period) for _ in range(count)]
+    if draw.randrange(10) == 0:
+        return lines
+    events = draw.sample(range(1, 5), draw.randint(2, 4))
+    network = [f"add event {event}" for event in events]
+    for activity in draw.sample(range(1, 7), draw.randint(1, 6)):
+        ends, lower = draw.choices(events, k=2), draw.randint(-period, period)
+        upper = lower + draw.choice([0, 1, 2, draw.randrange(period)])
+        network.append(f"add activity {activity} {ends[0]} {ends[1]} {lower} {upper} {draw.randrange(5)}")
+    return [*(line.encode() for line in network), *lines]
 
 
 def compared(bench, lines, output):
