@@ -106,7 +106,8 @@ class Page:
 
     def box(self, start, end, color, inset=3):
         height = ROW - 2 * inset
-        shape = f'x="{self.x(start):.1f}" y="{self.top + inset}" width="{self.x(end) - self.x(start):.1f}" height="{height}"'
+        width = self.x(end) - self.x(start)
+        shape = f'x="{self.x(start):.1f}" y="{self.top + inset}" width="{width:.1f}" height="{height}"'
         self.lines.append(f'<rect {shape} fill="{color}"/>')
 
     def text(self, x, text, color=INK, anchor="start", weight="normal"):
@@ -202,7 +203,8 @@ def draw_legend(page):
         page.lines.append(f'<rect x="{x}" y="{page.top + 4}" width="14" height="12" fill="{color}"/>')
         page.text(x + 20, text)
         x += width
-    marks = [(page.dot, "time, or slack", 112), (page.cross, "violated, or not possible", 176), (page.ring, "fixed time", 0)]
+    marks = [(page.dot, "time, or slack", 112), (page.cross, "violated, or not possible", 176)]
+    marks += [(page.ring, "fixed time", 0)]
     for draw_mark, text, width in marks:
         draw_mark(x + 6)
         page.text(x + 20, text)
@@ -221,8 +223,8 @@ def draw(network):
     page.text(12, ", ".join(filter(None, told)), weight="bold")
     page.top += ROW + 4
     draw_legend(page)
-    parts = [("Events", "when in the period each can be, and is", events)]
-    parts += [("Activities", "the slack of each, which is how far it is above its lower bound, within its span", activities)]
+    slacks = "the slack of each, which is how far it is above its lower bound, within its span"
+    parts = [("Events", "when in the period each can be, and is", events), ("Activities", slacks, activities)]
     for title, note, listed in parts:
         page.heading(title, note)
         page.axis()

@@ -12,7 +12,8 @@ def help_text(suite):
     for option in ["--period", "--fixed", "--times", "--check", "ACTIVITIES", "2 to 120", "default: 60"]:
         suite.note(f"help names {option}", {"found": True}, {"found": option in came})
     # What a person looks for: an example, the columns, the exit statuses, and where the documents are.
-    for word in ["commands", "from; to; lower; upper; weight", "event; time", "exit status", "docs/formats.md", "examples"]:
+    columns = ["from; to; lower; upper; weight", "event; time"]
+    for word in ["commands", *columns, "exit status", "docs/formats.md", "examples"]:
         suite.holds(f"help tells of {word}", word in came.lower())
     suite.case("help before a missing file", ["--help", "no such file"], output=SOME)
 

@@ -8,8 +8,18 @@ import time
 
 from tests import rules
 from tests.file_cases import FIELDS, TWO, TWO_TIMES
-from tests.harness import NAMES, NOT_READ, NOT_WRITTEN, SECONDS, SOME, closed_pipe, record, rows_of, run
-from tests.harness import words_for
+from tests.harness import (
+    NAMES,
+    NOT_READ,
+    NOT_WRITTEN,
+    SECONDS,
+    SOME,
+    closed_pipe,
+    record,
+    rows_of,
+    run,
+    words_for,
+)
 from tests.replies import EMPTY_REPLIES
 
 
@@ -81,7 +91,8 @@ def failing_input(suite):
 
 def slow_reader(suite):
     rows = [(number, 1, 2, 0, 9, 1) for number in range(50_000)]
-    words = ["--check", "--period", "10", "--times", suite.file("times", b"1; 0\n2; 3\n"), suite.file("activities", rows_of(rows))]
+    times, activities = suite.file("times", TWO_TIMES), suite.file("activities", rows_of(rows))
+    words = ["--check", "--period", "10", "--times", times, activities]
     begun = subprocess.Popen([suite.program, *words], stdin=subprocess.DEVNULL, stdout=subprocess.PIPE)
     time.sleep(0.5)
     output = begun.stdout.read()

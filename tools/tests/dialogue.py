@@ -71,7 +71,8 @@ ENDED = {"status": 0, "rest": b""}
 
 
 def one_by_one(suite):
-    lines = b"domains\nfix 1 0\ndomains\nspan 1 5 3\n\n# a comment\ndrop event 1\noptimum\nadopt\ncost\ndump\nx".split(b"\n")
+    text = b"domains/fix 1 0/domains/span 1 5 3//# a comment/drop event 1/optimum/adopt/cost/dump/x"
+    lines = text.split(b"/")
     for name, cut in {"in one piece": lambda _: 0, "in two pieces": lambda line: (len(line) + 1) // 2}.items():
         bench = model_of(10, TWO)
         with Dialogue([suite.program, "--period", "10", suite.file("activities", TWO)]) as talk:
@@ -145,7 +146,8 @@ def terminal(suite):
     os.close(slave)
     os.write(master, b"cost\n")
     ready = select.select([process.stdout], [], [], PATIENCE)[0]
-    suite.note("a typed line", {"reply": b"cost 0\n"}, {"reply": os.read(process.stdout.fileno(), 100) if ready else b""})
+    came = os.read(process.stdout.fileno(), 100) if ready else b""
+    suite.note("a typed line", {"reply": b"cost 0\n"}, {"reply": came})
     os.write(master, b"\x04")
     try:
         status = process.wait(PATIENCE)

@@ -5,7 +5,7 @@ import re
 
 from tests.file_cases import ABSENT, ACTIVITIES, CROSSED, EVENT_TWICE, EVENTS, FIELDS, FRACTION, TWICE, bad, out
 from tests.harness import TOP, run
-from tests.model import COMMANDS
+from tests.parsing import COMMANDS
 
 
 class Shown:
@@ -99,8 +99,8 @@ def documents(suite):
 # What the documents have to name: the faults of files, refusals, faults of lines, and what ends a run.
 TEXTS = [FIELDS, bad("k"), out("k"), FRACTION, CROSSED, TWICE, EVENT_TWICE, ABSENT, EVENTS, ACTIVITIES, "out of memory"]
 TEXTS += [f"refused {number} " for number in (1, 2, 3, 4, 5, 6, 7, 8, 9, 11, 12)]
-TEXTS += ["is used by activity", "is not fixed", "has no time", "refused 12 infeasible", "stopped none", "unknown command"]
-TEXTS += ["wrong number of words", "fault lower bound above upper bound", "commands cannot be read"]
+TEXTS += ["is used by activity", "is not fixed", "has no time", "refused 12 infeasible", "stopped none"]
+TEXTS += ["unknown command", "wrong number of words", "fault lower bound above upper bound", "commands cannot be read"]
 TEXTS += ["replies cannot be written", "is longer than 4096 bytes", "more than 1000000 lines", "out of memory at line"]
 
 

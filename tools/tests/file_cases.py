@@ -116,7 +116,7 @@ ACTIVITY_FAULTS = {
     "UTF-16": ("\ufeff".encode("utf-16-le") + TWO.decode().encode("utf-16-le"), 1, bad(1)),
     "UTF-16 with the greater byte first": (("\ufeff" + TWO.decode()).encode("utf-16-be"), 1, bad(1)),
     "a header in UTF-16 without a mark": (("activity; from\n" + TWO.decode()).encode("utf-16-le"), 2, bad(1)),
-    "a line that names the separator, and a header": (b"sep=;\nactivity; from; to; lower; upper; weight\n" + TWO, 2, bad(1)),
+    "a line that names the separator, and a header": (b"sep=;\na; b; c; d; e; f\n" + TWO, 2, bad(1)),
     "a column of types": (b"1; drive; 1; 2; 3; 5; 2", 1, FIELDS),
     "a column of types below a header": (b"activity; type\n1; drive; 1; 2; 3; 5; 2", 2, FIELDS),
     "times in the place of activities": (TWO_TIMES, 1, FIELDS),

@@ -5,82 +5,14 @@ time of every event in order. `reply` gives the one legal reply to a line; to `t
 tells whether a given one is.
 """
 
-import re
+from tests.parsing import Fault, parse
 
 MOST_EVENTS = 20_000
 MOST_ACTIVITIES = 100_000
-LONGEST_LINE = 4_096
-MOST_LINES = 1_000_000
-
-NUMBER = range(0, 1_000_000_000)
-BOUND = range(-1_000_000, 1_000_001)
-WEIGHT = range(0, 1_000_000_001)
-TIME = range(0, 65_536)
-LIMIT = range(0, 1_000_000_000_001)
-
-# The range of each number of a command; a command that has a span has it at the places named.
-COMMANDS = {
-    "add event": [NUMBER],
-    "drop event": [NUMBER],
-    "fix": [NUMBER, TIME],
-    "unfix": [NUMBER],
-    "add activity": [NUMBER, NUMBER, NUMBER, BOUND, BOUND, WEIGHT],
-    "drop activity": [NUMBER],
-    "span": [NUMBER, BOUND, BOUND],
-    "weight": [NUMBER, WEIGHT],
-    "ends": [NUMBER, NUMBER, NUMBER],
-    "time": [NUMBER, TIME],
-    "untime": [NUMBER],
-    "adopt": [],
-    "domain": [NUMBER],
-    "domains": [],
-    "tensions": [],
-    "violations": [],
-    "cost": [],
-    "optimum": [],
-    "try": [LIMIT],
-    "dump": [],
-}
-SPANS = {"add activity": (3, 4), "span": (1, 2)}
-EDITS = list(COMMANDS)[:9]
-
-
-class Fault(Exception):
-    """What is wrong with a line."""
 
 
 class Refused(Exception):
     """Why a command is not done."""
-
-
-def parse(line):
-    """The name of a line's command and its numbers, or None for a blank line and a comment."""
-    words = [word for word in re.split(rb"[ \t\r]+", line) if word]
-    if not words or words[0].startswith(b"#"):
-        return None
-    count = 2 if words[0] in (b"add", b"drop") else 1
-    name = b" ".join(words[:count]).decode("latin-1")
-    if name not in COMMANDS:
-        raise Fault("unknown command")
-    ranges = COMMANDS[name]
-    if len(words) != count + len(ranges):
-        raise Fault("wrong number of words")
-    numbers = [number(place, *pair) for place, pair in enumerate(zip(words[count:], ranges), count + 1)]
-    lower, upper = SPANS.get(name, (0, 0))
-    if numbers and numbers[lower] > numbers[upper]:
-        raise Fault("lower bound above upper bound")
-    return name, numbers
-
-
-def number(place, word, limits):
-    if not re.fullmatch(rb"[+-]?[0-9]+", word):
-        raise Fault(f"word {place} is not a number")
-    digits = word.lstrip(b"+-").lstrip(b"0")
-    # Fourteen digits are beyond all limits, whatever follows them.
-    value = int(digits[:14] or b"0") * (-1 if word.startswith(b"-") else 1)
-    if value not in limits:
-        raise Fault(f"word {place} is out of range")
-    return value
 
 
 def listed(name, lines):
@@ -219,7 +151,8 @@ class Model:
 
     def violations(self):
         self.untimed()
-        unmet = [f"activity {activity}" for activity, row in sorted(self.activities.items()) if not self.met(row, self.times)]
+        activities = sorted(self.activities.items())
+        unmet = [f"activity {activity}" for activity, row in activities if not self.met(row, self.times)]
         moved = [f"event {event}" for event, time in sorted(self.fixed.items()) if self.times[event] != time]
         return listed("violations", unmet + moved)
 
@@ -295,8 +228,8 @@ class Model:
         event = sorted(self.events)[len(times)]
         for time in [self.fixed[event]] if event in self.fixed else range(self.period):
             times[event] = time
-            rows = [row for row in self.activities.values() if event in row[:2] and row[0] in times and row[1] in times]
-            if all(self.met(row, times) for row in rows):
+            timed = [row for row in self.activities.values() if row[0] in times and row[1] in times]
+            if all(self.met(row, times) for row in timed):
                 yield from self.members(times)
             del times[event]
 
@@ -355,21 +288,3 @@ class Model:
         kept = all(times[event] == time for event, time in self.fixed.items())
         below = all(time in range(self.period) for time in times.values())
         return below and kept and all(self.met(row, times) for row in self.activities.values())
-
-
-def lines_of(stream):
-    """The lines of a stream, without their line feeds."""
-    lines = stream.split(b"\n")
-    return lines if lines[-1] else lines[:-1]
-
-
-def run(model, stream):
-    """What a run writes, and the fault that ends it, if any: its text. `try` is answered by the optimum."""
-    output = []
-    for place, line in enumerate(lines_of(stream), 1):
-        if place > MOST_LINES:
-            return output, f"more than {MOST_LINES} lines"
-        if len(line) > LONGEST_LINE:
-            return output, f"line {place} is longer than {LONGEST_LINE} bytes"
-        output += model.reply(line)
-    return output, None

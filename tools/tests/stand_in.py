@@ -15,7 +15,7 @@ import sys
 sys.dont_write_bytecode = True
 sys.path.insert(0, str(pathlib.Path(__file__).resolve().parents[1]))
 
-from tests import model, rules  # noqa: E402
+from tests import model, parsing, rules  # noqa: E402
 from tests.harness import NAMES  # noqa: E402
 
 LONGEST_FILE = 67_108_864
@@ -98,10 +98,10 @@ def read_lines():
     held, place = b"", 0
     while True:
         line, end, rest = held.partition(b"\n")
-        if held and place == model.MOST_LINES:
-            raise End(f"more than {model.MOST_LINES} lines")
-        if len(line) > model.LONGEST_LINE:
-            raise End(f"line {place + 1} is longer than {model.LONGEST_LINE} bytes")
+        if held and place == parsing.MOST_LINES:
+            raise End(f"more than {parsing.MOST_LINES} lines")
+        if len(line) > parsing.LONGEST_LINE:
+            raise End(f"line {place + 1} is longer than {parsing.LONGEST_LINE} bytes")
         if end:
             held, place = rest, place + 1
             yield line
@@ -126,11 +126,11 @@ class StandIn:
 
     def reply(self, line):
         try:
-            name, numbers = model.parse(line) or ("", [])
-        except model.Fault:
+            name, numbers = parsing.parse(line) or ("", [])
+        except parsing.Fault:
             name, numbers = "", []
         lines = self.attempt(*numbers) if name == "try" else self.bench.reply(line)
-        if lines == ["ok"] and name in model.EDITS:
+        if lines == ["ok"] and name in parsing.EDITS:
             self.is_known = False
         elif name in ("optimum", "adopt"):
             self.is_known = True

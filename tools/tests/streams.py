@@ -6,7 +6,7 @@ from tests import model
 from tests.commands import model_of
 from tests.file_cases import TWO
 from tests.harness import run, within
-from tests.model import COMMANDS, EDITS, LONGEST_LINE, MOST_LINES
+from tests.parsing import COMMANDS, EDITS, LONGEST_LINE, MOST_LINES
 
 COUNTED = {"domains": 1, "tensions": 1, "violations": 1, "optimum": 2, "stopped": 2, "#": 4}
 
@@ -104,7 +104,8 @@ def drawn_line(draw, period):
     name = draw.choice([*COMMANDS, *often, "add event", "add activity"])
     line = drawn_command(draw, period, name)
     if draw.randrange(20) == 0:
-        line = draw.choice(["", "# a", line.upper(), f"{line} 1", line.rsplit(" ", 1)[0], f" \t{line}\r", f"{line}x", "add"])
+        shorter = line.rsplit(" ", 1)[0]
+        line = draw.choice(["", "# a", line.upper(), f"{line} 1", shorter, f" \t{line}\r", f"{line}x", "add"])
     return line.encode()
 
 
