@@ -145,7 +145,7 @@ def memory_of_commands(suite):
     loops = rows_of((event, event, event, 0, 119, 0) for event in range(20_000))
     words = [suite.program, "--period", "120", suite.file("loops", loops)]
     given = b"cost\n# a comment\ndomains\ncost\n"
-    enough, least = 2_048, 4
+    enough, least = 2_048, 32
 
     def come(quarters):
         return run(words, given=given, preexec_fn=lambda: resource.setrlimit(resource.RLIMIT_AS, (quarters << 18,) * 2))
