@@ -1,6 +1,6 @@
 """Files for tools/test_program that are drawn at random, from numbers that are the same in each run."""
 
-from rules import MARK
+from tests.rules import MARK
 
 BYTES = [bytes([byte]) for byte in b';,"\n\r #-+.029xA\0'] + [MARK, b"\xff", b";;", b'""', b"\r\n", b"1000000000"]
 

@@ -1,9 +1,10 @@
 """Files for tools/test_program: forms that stand for the same rows, and faulty files with what is told of them."""
 
-from rules import MARK
+from tests.rules import MARK
 
 TWO = b"1; 1; 2; 3; 5; 2\n2; 2; 1; 4; 6; 1\n"
 TWO_TIMES = b"1; 0\n2; 3\n"
+TWO_FIXED = b"1; 5\n"
 ROWS = TWO.splitlines(keepends=True)
 COMMA_ROWS = b"1,1,2,3,5,2\n2,2,1,4,6,1\n"
 
@@ -35,6 +36,8 @@ ACTIVITY_FORMS = {
     "a header with commas over rows with semicolons": b"activity,from,to,lower,upper,weight\n" + TWO,
     "a header behind comments and blank lines": b"# two trains\n\n \t\n#\n a;b\n" + TWO,
     "a row that begins with a letter, as a header": b"l; 1; 2; 3; 5; 2\n" + TWO,
+    "a line of a spreadsheet that names the separator": b"sep=;\r\n" + TWO,
+    "a line of a spreadsheet that names the comma": b"sep=,\r\n" + COMMA_ROWS,
     "comments": b"# a\n" + ROWS[0] + b" \t# b; c; d; e; f; g; h\n#1; 1; 2; 3; 5; 2\n" + ROWS[1] + b"#",
     "a comment in quotes": b'"# one ""comment""; over\ntwo lines";x\n' + TWO,
     "quotes within a comment's fields": b'# the "old" line; 6" wide\n' + TWO,
@@ -108,6 +111,15 @@ ACTIVITY_FAULTS = {
     "commas below a comment with a semicolon": (b"# a; b\n" + COMMA_ROWS, 2, FIELDS),
     "commas above a semicolon in quotes": (COMMA_ROWS + b'# "a;b"', 1, FIELDS),
     "a decimal comma among commas": (b"1,1,2,3,5,2,0", 1, FIELDS),
+    "tabs between fields": (TWO.replace(b"; ", b"\t"), 1, FIELDS),
+    "tabs below a header": (b"activity\tfrom\tto\n" + TWO.replace(b"; ", b"\t"), 2, FIELDS),
+    "UTF-16": ("\ufeff".encode("utf-16-le") + TWO.decode().encode("utf-16-le"), 1, bad(1)),
+    "UTF-16 with the greater byte first": (("\ufeff" + TWO.decode()).encode("utf-16-be"), 1, bad(1)),
+    "a header in UTF-16 without a mark": (("activity; from\n" + TWO.decode()).encode("utf-16-le"), 2, bad(1)),
+    "a line that names the separator, and a header": (b"sep=;\na; b; c; d; e; f\n" + TWO, 2, bad(1)),
+    "a column of types": (b"1; drive; 1; 2; 3; 5; 2", 1, FIELDS),
+    "a column of types below a header": (b"activity; type\n1; drive; 1; 2; 3; 5; 2", 2, FIELDS),
+    "times in the place of activities": (TWO_TIMES, 1, FIELDS),
     "a comment behind a row": (b"1; 1; 2; 3; 5; 2 # fast", 1, bad(6)),
     "a comment in a field behind a row": (b"1; 1; 2; 3; 5; 2; # fast", 1, FIELDS),
     "a comment behind an empty field": (b"; # fast", 1, FIELDS),
@@ -200,6 +212,10 @@ EVENT_FAULTS = {
     "a header behind a row": (b"1; 0\nevent; time", 2, bad(1)),
     "commas below a comment with a semicolon": (b"# a; b\n1,0\n2,3\n", 2, FIELDS),
     "an empty row of a spreadsheet": (b"1,0\n,\n", 2, FIELDS),
+    "names of events": (b"Ashford; 0\nBenton; 3\n", 2, bad(1)),
+    "names of events below a header": (b"event; time\nAshford; 0\nBenton; 3\n", 2, bad(1)),
+    "activities in the place of times": (TWO, 1, FIELDS),
+    "UTF-16": (("\ufeff" + TWO_TIMES.decode()).encode("utf-16-le"), 1, bad(1)),
     "a time with a point": (b"1; 0.0", 1, bad(2)),
     "a time of the clock": (b"1; 0:30", 1, bad(2)),
     "the event greater": (b"1000000000; 0", 1, out(1)),
