@@ -97,7 +97,7 @@ fn descend<K: Keeper>(keeper: &mut K, event: EventId, residue: u16, nodes: u64) 
     nodes.saturating_add(1)
 }
 
-/// Whether as many nodes were visited as the limit, if there is one.
+/// Whether as many nodes were counted as the limit, if there is one.
 fn is_spent(limit: Option<u64>, nodes: u64) -> bool
     ensures yes { result ≡ true → limit ≡ Some nodes }
     ensures no { result ≡ false → IfSome limit (λ l. l ≢ nodes) }
@@ -237,7 +237,7 @@ fn answer_of(best: Option<Best>) -> Answer
 ///
 /// The optimum is the first timetable of least cost: of those that meet everything none costs less, and
 /// each one that has a smaller time at the first event at which the two differ costs more. A node is one
-/// pushed pair; there are no more than the tree without cuts has. Where a bound is given, some timetable that
+/// pushed pair; no more are told than the tree without cuts has. Where a bound is given, some timetable that
 /// meets everything has to cost at most that. The keeper is left as it was.
 pub fn best<K: Keeper>(
     alloc: Global,
@@ -256,7 +256,7 @@ pub fn best<K: Keeper>(
     Ok((answer_of(outcome.best), outcome.nodes))
 }
 
-/// The optimum as [`best`] finds it, or what was found when as many nodes were visited as the limit.
+/// The optimum as [`best`] finds it, or what was found when as many nodes were counted as the limit.
 ///
 /// It stops only where the tree has more nodes than the limit. Where some timetable that meets everything
 /// within the bound is reached by the limit in the tree without cuts, what it stops with costs no more than that one.
