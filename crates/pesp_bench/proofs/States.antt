@@ -24,6 +24,7 @@ use Rattle.pesp_search.specs.Optima.{IsOptimum}
 use Rattle.pesp_instance.proofs.Tables.{same_test}
 use Rattle.pesp_bench.specs.State.{IsState, IsTimeRefusal, State, timed_state, times_after}
 use Rattle.pesp_bench.proofs.Entries.{found, found_put, found_without, key, put_last, rises_put, rises_without, room}
+use Rattle.pesp_base.proofs.Orders.{nat_le_not}
 
 -- the events that have a time ascend
 ascend : (I : Network) (pushed : List Pair) (m : Times) (known : Option Answer) → IsState I pushed m known → Rises key m.entries
@@ -130,9 +131,6 @@ pub after_set : (I : Network) (pushed : List Pair) (m n : Times) (known : Option
     → IsState I pushed m known → IsTrue (has_event I e) → OnOk answer (set_time m e t ≡ Ok n) → OnErr answer (n ≡ m) → IsState I pushed n known
 after_set I pushed m n known e t (Ok done) s is ok same = after_time I pushed m n known e t s is (accepted (faults m e t) (with_time m e t) n ok)
 after_set I pushed m n known e t (Err refusal) s is ok same = rw same s
-
-nat_le_not : (n m : ℕ) → m < n → nat_le n m ≡ false
-nat_le_not n m l = grind (arith, l)
 
 -- why a time is not set
 pub set_refused : (s : State) (pushed : List Pair) (e t : ℕ) (answer : Result (Unit {0}) Refusal)

@@ -2,7 +2,7 @@
 use Rattle.std.proofs.Common.{ℕ, ◌==◌, Bool, ℤ, pos, negsuc, refl, List, [], ◌∷◌, map, Some, None}
 use Rattle.std.specs.List.{list_any, range_with_len}
 use Rattle.std.proofs.lemmas.Bool.{false≢true}
-use Rattle.pesp_base.proofs.Samples.{arc}
+use Rattle.pesp_base.proofs.Samples.{signed_arc as arc}
 use Rattle.pesp_instance.specs.declared.edit.Edit.TheVariants as do_
 use Rattle.pesp_instance.specs.Edited.{after, empty_network}
 use Rattle.pesp_instance.specs.Network.{Network, new_event}

@@ -2,20 +2,17 @@
 use Rattle.std.proofs.Common.{ℕ, pos, refl, List, [], ◌∷◌, Some, None, inl, arith}
 use Rattle.pesp_base.specs.declared.activity.Activity.{Activity}
 use Rattle.pesp_instance.specs.declared.event.Event.{Event}
-use Rattle.pesp_instance.specs.Network.{Network}
+use Rattle.pesp_instance.specs.Network.{Network, new_event}
 use Rattle.pesp_search.specs.declared.answer.Answer.TheVariants.{Infeasible}
 use Rattle.pesp_search.specs.Optima.{IsAnswer, IsOptimum}
 use Rattle.pesp_search.specs.Places.{timetable_of}
 use Rattle.pesp_search.specs.Tree.{IsPlaceOf, IsTreeSize}
 use Rattle.pesp_search.proofs.Counted.{place_of_is, tree_size_is}
 use Rattle.pesp_search.proofs.Enumerated.{infeasible_is, optimum_is}
-
--- an activity, in the order of a file's row
-abbrev arc : ℕ → ℕ → ℕ → ℕ → ℕ → ℕ → Activity
-arc id from to lower upper weight = record { id = id; from = from; to = to; span = record { lower = pos lower; upper = pos upper }; weight = weight }
+use Rattle.pesp_base.proofs.Samples.{arc}
 
 abbrev free : ℕ → Event
-free e = record { id = e; fixed = None }
+free e = new_event e
 
 abbrev at_zero : ℕ → Event
 at_zero e = record { id = e; fixed = Some 0 }

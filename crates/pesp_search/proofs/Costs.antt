@@ -1,11 +1,11 @@
 -- Costs: what is known of a path is no more than what times that extend it cost, all of it where the path has all events, and each further time adds what lies behind it.
 use Rattle.std.proofs.Common.{◌≡◌, ℕ, zero, suc, ◌+◌, ◌-◌, ◌*◌, ◌<◌, ◌≤◌, ◌==◌, nat_lt, nat_le, Bool, true, false, cond, ◌&&◌, IsTrue, List, [], ◌∷◌, ◌++◌, length, map, filter, get_or, Option, Some, None, is_some, refl, sym, ◌∙◌, ap, inl, inr, arith, All, sum_by, zero-add}
 use Rattle.std.specs.BTreeMap.{is_at}
-use Rattle.std.specs.List.{zip}
+use Rattle.std.specs.List.{Contains, zip}
 use Rattle.std.specs.Map.{lookup}
 use Rattle.std.specs.Ordering.{nat_cmp}
 use Rattle.std.proofs.lemmas.Bool.{and_parts, cases_Bool, cases_order, eq-eqb, eqb-false, eqb-true, false≢true, le-leb, le-ltb, lt-leb, lt-ltb, ne_eqb}
-use Rattle.std.proofs.lemmas.List.Elements.{All-filter, All-head, All-tail}
+use Rattle.std.proofs.lemmas.List.Elements.{All-filter, All-head, All-tail, All-contains_itself}
 use Rattle.std.proofs.lemmas.List.Sums.{sum_by-cons, sum_by-le, sum_by-le-sum_by}
 use Rattle.std.proofs.lemmas.Nat.{mul-le}
 use Rattle.pesp_base.specs.declared.activity.Activity.{Activity}
@@ -29,8 +29,12 @@ time_in ids times e = lookup (is_at (nat_cmp e)) (zip ids times)
 
 -- ---- sums
 
+-- what holds of each member of a list holds of the list
+pub All-of_members : {X : Type 0} (P : X → Type 0) (xs : List X) → ((x : X) → Contains xs x → P x) → All P xs
+All-of_members P xs each k d l = each (get_or xs k d) (All-contains_itself xs k d l)
+
 -- two sums are equal where their terms are
-sum_same : {X : Type 0} (f g : X → ℕ) (xs : List X) → All (λ x. f x ≡ g x) xs → sum_by f xs ≡ sum_by g xs
+pub sum_same : {X : Type 0} (f g : X → ℕ) (xs : List X) → All (λ x. f x ≡ g x) xs → sum_by f xs ≡ sum_by g xs
 sum_same f g [] same = refl
 sum_same f g (x ∷ xs) same =
     let here = All-head (λ y. f y ≡ g y) x xs same in

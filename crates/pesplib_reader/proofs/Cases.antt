@@ -11,10 +11,7 @@ use Rattle.pesplib_reader.specs.declared.fault.FaultKind.TheVariants as fault
 use Rattle.pesplib_reader.specs.Records.{trim}
 use Rattle.pesplib_reader.specs.Rows.{weight_fault, weight_value}
 use Rattle.pesplib_reader.specs.Reading.{activities_read, times_read, fixed_read, with_fixed}
-
--- an activity with these numbers
-abbrev arc : ℕ → ℕ → ℕ → ℕ → ℕ → ℕ → Activity
-arc id from to lower upper weight = record { id = id; from = from; to = to; span = record { lower = pos lower; upper = pos upper }; weight = weight }
+use Rattle.pesp_base.proofs.Samples.{arc}
 
 -- a fault at a record
 abbrev faulty : {X : Type 0} → ℕ → FaultKind → Result X ReadFault

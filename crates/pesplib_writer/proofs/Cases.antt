@@ -8,10 +8,7 @@ use Rattle.pesp_instance.specs.Edited.{after, empty_network}
 use Rattle.pesp_instance.specs.declared.edit.Edit.TheVariants as do_
 use Rattle.pesplib_writer.specs.Texts.{activities_text, fixed_text, times_text, unfixed}
 use Rattle.pesplib_writer.specs.Script.{applied, script, script_edits}
-
--- an activity with these numbers
-abbrev arc : ℕ → ℕ → ℕ → ℕ → ℕ → ℕ → Activity
-arc id from to lower upper weight = record { id = id; from = from; to = to; span = record { lower = pos lower; upper = pos upper }; weight = weight }
+use Rattle.pesp_base.proofs.Samples.{arc}
 
 -- two events, and an activity each way between them
 abbrev two : Network

@@ -43,7 +43,7 @@ fn optimum_of(alloc: Global, answer: &Answer) -> Result<Timetable, Refusal>
 
 impl<K: Keeper> Bench<K> {
     /// Finds the optimum, where it is not known, or refusal 10.
-    #[tactic(auto, using(crate::proofs::Nodes::no_nodes))]
+    #[tactic(auto, using(pesp_search::proofs::Sizes::no_nodes))]
     pub fn find_optimum(&mut self, alloc: Global) -> Result<(), Refusal>
         ensures ok { OnOk result (IsSomeAnd self.new.known (IsAnswer self.old.instance)) }
         ensures searched { IsSearched self.old self.new }
@@ -76,7 +76,7 @@ impl<K: Keeper> Bench<K> {
     }
 
     /// Looks for the optimum by at most so many nodes, where it is not known, or refusal 10.
-    #[tactic(auto, using(crate::proofs::Nodes::no_nodes))]
+    #[tactic(auto, using(pesp_search::proofs::Sizes::no_nodes))]
     pub fn try_optimum(&mut self, alloc: Global, limit: u64) -> Result<Attempt, Refusal>
         ensures ok { IfOk result (IsAttempt self.new limit) }
         ensures searched { IsSearched self.old self.new }
