@@ -156,8 +156,8 @@ def memory_of_commands(suite):
     no_time = b"refused 11 event 0 has no time\n"
     wanted = {"status": 1, "standard output": no_time, "standard error": b"pespbench: out of memory at line 3\n"}
     suite.note(f"no memory for a reply, with {least} quarters of a megabyte", wanted, come(least))
-    output = come(enough)["standard output"]
-    suite.holds("the replies with a quarter more", output.startswith(no_time + b"domains 20000\n0: 0 1 2"))
+    output = come(enough + 4)["standard output"]
+    suite.holds("the replies with a megabyte more", output.startswith(no_time + b"domains 20000\n0: 0 1 2"))
     suite.holds("the last of them", output.endswith(no_time))
 
 

@@ -90,6 +90,8 @@ def run(command, given=None, stdout=subprocess.PIPE, stderr=subprocess.PIPE, sec
         done = subprocess.run(command, stdout=stdout, stderr=stderr, timeout=seconds, check=False, **source, **how)
     except subprocess.TimeoutExpired:
         return {"status": f"none within {seconds} seconds", "standard output": b"", "standard error": b""}
+    except OSError as fault:
+        return {"status": f"it does not start: {fault}", "standard output": b"", "standard error": b""}
     return {
         "status": done.returncode,
         "standard output": done.stdout or b"",
