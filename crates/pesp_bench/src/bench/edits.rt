@@ -1,6 +1,6 @@
 //! Changes of the instance and of the working timetable.
 
-ghost use Rattle.std.specs.Prelude.{◌≡◌, Ok, IfErr, OnOk, OnErr};
+ghost use Rattle.std.specs.Prelude.{◌≡◌, None, Ok, IfErr, OnOk, OnErr};
 ghost use Rattle.std.specs.Result.{result_map_both};
 ghost use Rattle.pesp_instance.specs.Edited.{IsRefusal};
 ghost use Rattle.pesp_bench.specs.State.{IsTimeRefusal, edited_state, timed_state, times_after, untimed_state};
@@ -25,7 +25,8 @@ impl<K: Keeper> Bench<K> {
     ///
     /// Refusals are those of the edit, in order.
     pub fn apply(&mut self, edit: &Edit) -> Result<(), Refusal>
-        ensures ok { OnOk result (edited_state self.old edit.now ≡ Ok self.new) }
+        ensures ok { OnOk result (edited_state self.old edit.now self.new.known ≡ Ok self.new) }
+        ensures forgets { OnOk result (self.new.known ≡ None) }
         ensures refused { IfErr result (IsRefusal self.old.instance edit.now) }
         ensures unchanged { OnErr result (self.new ≡ self.old) }
     {

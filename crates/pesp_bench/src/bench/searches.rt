@@ -1,6 +1,6 @@
 //! The optimum: found, kept, and taken as the working timetable.
 
-ghost use Rattle.std.specs.Prelude.{◌≡◌, ℕ, IfOk, IfErr, IsSomeAnd, OnOk, OnErr, Some};
+ghost use Rattle.std.specs.Prelude.{◌≡◌, ℕ, IfOk, IfErr, IfSome, IsOkAnd, IsSomeAnd, OnOk, OnErr, Some};
 ghost use Rattle.pesp_base.specs.declared.refusal.Refusal.TheVariants as no;
 ghost use Rattle.std.specs.List.Sorted.{IsStrictlyIncreasing};
 ghost use Rattle.pesp_tension.specs.Timetables.{timed_events};
@@ -62,9 +62,10 @@ impl<K: Keeper> Bench<K> {
         Ok(())
     }
 
-    /// The optimum, or refusal 10. What this leaves is what [`Bench::find_optimum`] leaves.
+    /// The optimum, or refusal 10, which comes only where it is not known. What this leaves is what [`Bench::find_optimum`] leaves.
     pub fn optimum(&mut self, alloc: Global) -> Result<&Answer, Refusal>
         ensures ok { IfOk result (λ answer. IsAnswer self.old.instance answer.now) }
+        ensures kept { IfSome self.old.known (λ known. IsOkAnd result (λ answer. answer.now ≡ known)) }
         ensures refused { IfErr result (λ refusal. refusal ≡ no.Memory) }
     {
         self.find_optimum(alloc)?;
