@@ -6,7 +6,8 @@ use Rattle.pesp_domains.specs.declared.pair.Pair.{Pair}
 use Rattle.pesp_instance.specs.Network.{Network, IsNetwork, event_ids}
 use Rattle.pesp_tension.specs.Timetables.{Times}
 use Rattle.pesp_tension.specs.Answers.{cost_of}
-use Rattle.pesp_search.specs.Places.{Before, IsAt, IsFull, IsNext, IsSpent, Nothing, full_cost, known_cost, timetable_of}
+use Rattle.pesp_search.specs.Places.{timetable_of}
+use Rattle.pesp_search.specs.Walk.{Before, IsAt, IsFull, IsNext, IsSpent, Nothing, full_cost, known_cost}
 use Rattle.pesp_search.specs.Found.{AtLeast, IsAbove, IsBest}
 use Rattle.pesp_search.specs.Optima.{IsBound, IsMember, IsOptimum, Precedes}
 use Rattle.pesp_search.proofs.Costs.{known_le_cost}

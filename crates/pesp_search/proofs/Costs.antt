@@ -19,7 +19,8 @@ use Rattle.pesp_instance.specs.Network.{HasEnds, IsActivity, IsNetwork, Network,
 use Rattle.pesp_instance.proofs.Rising.{IsAbove, Rises, Rises-from_increasing, length-filter_le}
 use Rattle.pesp_tension.specs.Timetables.{Times, time_of}
 use Rattle.pesp_tension.specs.Answers.{cost_in, cost_of, time_at}
-use Rattle.pesp_search.specs.Places.{Extends, full_cost, known_cost, known_share, timetable_of}
+use Rattle.pesp_search.specs.Places.{timetable_of}
+use Rattle.pesp_search.specs.Walk.{Extends, full_cost, known_cost, known_share}
 use Rattle.pesp_instance.proofs.Tables.{same_test}
 use Rattle.pesp_search.specs.Branch.{is_behind}
 

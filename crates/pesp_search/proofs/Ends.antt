@@ -13,22 +13,18 @@ use Rattle.pesp_search.specs.declared.answer.Answer.TheVariants.{Infeasible, Opt
 use Rattle.pesp_search.specs.declared.answer.Tried.{Tried}
 use Rattle.pesp_search.specs.declared.answer.Tried.TheVariants.{Done, Stopped}
 use Rattle.pesp_search.specs.Optima.{IsAnswer, IsBound, IsMember}
-use Rattle.pesp_search.specs.Places.{IsAt, IsDead, IsFull, IsNext, IsOver, IsSpent, IsStuck, full_cost, known_cost, timetable_of}
+use Rattle.pesp_search.specs.Places.{IsDead, timetable_of}
+use Rattle.pesp_search.specs.Walk.{IsAt, IsFull, IsNext, IsOver, IsSpent, IsStuck, full_cost, known_cost}
 use Rattle.pesp_search.specs.Tree.{AreNodes, IsPlaceOf, IsTreeSize}
 use Rattle.pesp_search.specs.Tried.{IsBestSoFar, IsEnd, IsFound, IsOutcome, IsWithin, MayTry}
 use Rattle.pesp_search.proofs.BestSoFar.{above_of_bound, best_none, best_optimum}
 use Rattle.pesp_search.proofs.Costs.{known_is_cost, known_small}
-use Rattle.pesp_search.proofs.Decided.{size_exists}
 use Rattle.pesp_search.proofs.Members.{before_of_precedes, full_of_member, member_in_domains, member_of_full}
 use Rattle.pesp_search.proofs.Fronts.{known_none}
 use Rattle.pesp_search.proofs.Placed.{before_decided, place_after}
-use Rattle.pesp_search.proofs.Sizes.{Left, left_take}
+use Rattle.pesp_search.proofs.Sizes.{IsCounted, counted_below, size_unique}
 use Rattle.pesp_search.proofs.Stations.{at_end}
 use Rattle.pesp_search.proofs.Timed.{place_has_event, values_of-zip}
-
--- the nodes so far, with those that are left, are no more than the tree has
-abbrev pub IsCounted : Network → List ℕ → ℕ → ℕ → Type 0
-IsCounted I path from nodes = (size : ℕ) → IsTreeSize I size → (left : ℕ) × Left I (length (event_ids I)) [] path from left × (nodes + left ≤ size)
 
 -- the best is what was found, as a timetable
 abbrev pub IsTold : Network → Option ℕ → Bool → List ℕ → Option Best → Type 0
@@ -97,9 +93,7 @@ stop_best I bound limit found times best pushes path from nodes network room at 
     elim (before_decided all path from) [
       | inl before ↦ rw costs (passed best told all w.1 (at.passed all w.1 before) (rw costs at within))
       | inr behind ↦
-          let size = size_exists I (length (event_ids I)) [] in
-          let left = counted size.0 size.1 in
-          absurd (omega (arith, place_after I path all from size.0 left.0 place network w.1 room behind size.1 left.1 here, left.2, reached))
+          absurd (omega (arith, place_after I path all from counted.size counted.left place network w.1 room behind counted.tree counted.rest here, counted.within, reached))
     ]
   where
     passed : (best : Option Best) → IsTold I limit found times best → (all : List ℕ) → IsFull I all → AtLeast I limit all → IsWithin bound (full_cost I all) → IsSomeAnd best (λ b. b.cost ≤ full_cost I all)
@@ -113,10 +107,7 @@ pub stop_outcome : (I : Network) (bound limit cost_limit : Option ℕ) (found : 
 stop_outcome I bound limit cost_limit found times best pushes path from r nodes network is at next so_far counted none told =
     rw is (
       record {
-        below = λ size tree.
-            let left = counted size tree in
-            let taken = left_take I (length (event_ids I)) [] path path from r left.0 refl next.room next.alive next.above next.below next.inside next.between left.1 in
-            omega (arith, left.2, taken.2);
+        below = counted_below (AtLeast I cost_limit) I path from r nodes next counted;
         member = stop_found I bound cost_limit found times best network so_far told;
         best = stop_best I bound cost_limit found times best pushes path from nodes network next.room at so_far told counted;
       },
@@ -200,13 +191,18 @@ no_member I m network dead member =
 
 -- it is infeasible, without a node
 pub dead_answer : (I : Network) (answer : Answer) (nodes : ℕ) → IsNetwork I → IsDead I [] → IsAnswer I answer → AreNodes I nodes → (answer ≡ Infeasible) × (nodes ≡ 0)
-dead_answer I Infeasible nodes network dead is few = (refl, (let none = few 0 (dead_size I dead) in omega (arith, none)))
+dead_answer I Infeasible nodes network dead is few =
+    let none = size_unique I (length (event_ids I)) [] few.0 0 few.1 (dead_size I dead) in
+    (refl, (let le = few.2 in omega (arith, none, le)))
 dead_answer I (Optimal cost times) nodes network dead is few = absurd (no_member I times network dead is.member)
 
 -- and no search stops in it
 pub dead_tried : (I : Network) (bound : Option ℕ) (limit : ℕ) (tried : Tried) (nodes : ℕ) → IsNetwork I → IsDead I [] → MayTry I bound limit tried nodes → AreNodes I nodes → (tried ≡ Done Infeasible) × (nodes ≡ 0)
 dead_tried I bound limit (Done answer) nodes network dead is few = let w = dead_answer I answer nodes network dead is.0 few in (ap Done w.0, w.1)
-dead_tried I bound limit (Stopped best) nodes network dead is few = absurd (let below = is.0.below 0 (dead_size I dead) in omega (arith, below))
+dead_tried I bound limit (Stopped best) nodes network dead is few =
+    let below = is.0.below in
+    let none = size_unique I (length (event_ids I)) [] below.0 0 below.1 (dead_size I dead) in
+    absurd (let less = below.2 in omega (arith, none, less))
 
 -- ---- without a limit
 

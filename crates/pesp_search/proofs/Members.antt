@@ -17,7 +17,8 @@ use Rattle.pesp_domains.proofs.Laws.{InDomains-stands, InDomains-admitted}
 use Rattle.pesp_tension.specs.Timetables.{Times}
 use Rattle.pesp_tension.specs.Answers.{agrees, meets, time_at}
 use Rattle.pesp_search.specs.Optima.{IsMember, Precedes}
-use Rattle.pesp_search.specs.Places.{Before, Extends, IsFull, IsNext, IsSpent, Nothing, at, pairs_of, timetable_of}
+use Rattle.pesp_search.specs.Places.{at, pairs_of, timetable_of}
+use Rattle.pesp_search.specs.Walk.{Before, Extends, IsFull, IsNext, IsSpent, Nothing}
 use Rattle.pesp_search.proofs.Timed.{at_place, event_of_pair, events_ascend, extends_in, keys_of-zip, length-values_of, pair_of_event, pairs_only, place_has_event, values_of-zip, zip-of_entries}
 
 -- both ends of an activity of the instance are events

@@ -1,9 +1,11 @@
--- How many nodes of the tree are left at a place, and that there is at most one size.
+-- How many nodes of the tree are left at a place, that a search counts no more, and that there is at most one size.
 use Rattle.std.proofs.Common.{◌≡◌, ℕ, ◌+◌, ◌-◌, ◌<◌, ◌≤◌, zero, suc, List, [], ◌∷◌, ◌++◌, length, refl, sym, ◌∙◌, subst, inl, inr, ◌⊎◌, arith, append_assoc}
 use Rattle.std.proofs.lemmas.List.{append-nil}
-use Rattle.pesp_instance.specs.Network.{Network}
+use Rattle.pesp_instance.specs.Network.{Network, event_ids}
 use Rattle.pesp_search.specs.Places.{InNext, IsDead}
-use Rattle.pesp_search.specs.Tree.{IsSize, IsSumFrom}
+use Rattle.pesp_search.specs.Tree.{AreNodes, IsSize, IsSumFrom, IsTreeSize}
+use Rattle.pesp_search.specs.Walk.{IsNext}
+use Rattle.pesp_search.proofs.Decided.{size_exists}
 
 -- n nodes are there from residue r on, at the event next after the path, with so many events without a time behind it
 abbrev pub IsRest : Network → ℕ → List ℕ → ℕ → ℕ → Type 0
@@ -77,6 +79,50 @@ left_back I (suc free) prefix (y ∷ path) x from n (a, left, (b, rest, total)) 
     let deeper = left_back I free (prefix ++ y ∷ []) path x from a left in
     let fewer = deeper.2 in
     (deeper.0 + b, (deeper.0, deeper.1, (b, rest, refl)), omega (arith, fewer, total))
+
+-- ---- the nodes of a search
+
+-- the tree has a size, and the nodes so far, with those that are left at the place, are no more
+pub record IsCounted (I : Network) (path : List ℕ) (from nodes : ℕ) : Type 0 where
+  pub size : ℕ
+  pub tree : IsTreeSize I size
+  pub left : ℕ
+  pub rest : Left I (length (event_ids I)) [] path from left
+  pub within : nodes + left ≤ size
+
+-- before the first node all are left
+pub counted_start : (I : Network) → IsCounted I [] 0 0
+counted_start I =
+    let size = size_exists I (length (event_ids I)) [] in
+    record { size = size.0; tree = size.1; left = size.0; rest = left_start I (length (event_ids I)) [] size.0 size.1; within = omega arith }
+
+-- a step down counts one
+pub counted_take : (P : List ℕ → Type 0) (I : Network) (path : List ℕ) (from r nodes more : ℕ) → IsNext P I path from r → more ≤ nodes + 1 → IsCounted I path from nodes → IsCounted I (path ++ r ∷ []) 0 more
+counted_take P I path from r nodes more next one counted =
+    let taken = left_take I (length (event_ids I)) [] path path from r counted.left refl next.room next.alive next.above next.below next.inside next.between counted.rest in
+    record { size = counted.size; tree = counted.tree; left = taken.0; rest = taken.1; within = omega (arith, counted.within, taken.2, one) }
+
+-- a step back counts none
+pub counted_back : (I : Network) (path : List ℕ) (x from nodes : ℕ) → IsCounted I (path ++ x ∷ []) from nodes → IsCounted I path (x + 1) nodes
+counted_back I path x from nodes counted =
+    let back = left_back I (length (event_ids I)) [] path x from counted.left counted.rest in
+    record { size = counted.size; tree = counted.tree; left = back.0; rest = back.1; within = omega (arith, counted.within, back.2) }
+
+-- so there are no more nodes than the tree has
+pub counted_nodes : (I : Network) (path : List ℕ) (from nodes : ℕ) → IsCounted I path from nodes → AreNodes I nodes
+counted_nodes I path from nodes counted = (counted.size, counted.tree, omega (arith, counted.within))
+
+-- and fewer where a residue is yet to be tried
+pub counted_below : (P : List ℕ → Type 0) (I : Network) (path : List ℕ) (from r nodes : ℕ) → IsNext P I path from r → IsCounted I path from nodes → (size : ℕ) × IsTreeSize I size × (nodes < size)
+counted_below P I path from r nodes next counted =
+    let taken = counted_take P I path from r nodes (nodes + 1) next (omega arith) counted in
+    (taken.size, taken.tree, omega (arith, taken.within))
+
+-- no node at all is never more than the tree has
+pub no_nodes : (I : Network) → AreNodes I 0
+no_nodes I = counted_nodes I [] 0 0 (counted_start I)
+
+-- ---- one size
 
 -- where there is at most one size below each residue, there is at most one sum
 sum_unique : (I : Network) (free : ℕ) (path : List ℕ) → ((r m n : ℕ) → IsSize I free (path ++ r ∷ []) m → IsSize I free (path ++ r ∷ []) n → m ≡ n)

@@ -1,7 +1,7 @@
 -- What a search has found so far.
 use Rattle.std.specs.Prelude.{◌≡◌, ℕ, ◌+◌, ◌-◌, ◌^◌, ◌<◌, ◌≤◌, Bool, true, false, nat_lt, if◌then◌else◌, List, Option, Some, None, IfSome}
 use Rattle.pesp_instance.specs.Network.{Network}
-use Rattle.pesp_search.specs.Places.{Before, IsFull, full_cost}
+use Rattle.pesp_search.specs.Walk.{Before, IsFull, full_cost}
 
 -- the times cost at least the limit; with none there are no such times
 abbrev pub AtLeast : Network → Option ℕ → List ℕ → Type 0

@@ -4,3 +4,4 @@ pub mod Optima
 pub mod Places
 pub mod Tree
 pub mod Tried
+pub mod Walk

@@ -1,15 +1,11 @@
--- Where a search stands: times for the first events, and the least time yet to be tried at the next one.
-use Rattle.std.specs.Prelude.{◌≡◌, ℕ, ◌<◌, ◌≤◌, ◌⊎◌, ◌&&◌, IsTrue, is_some, if◌then◌else◌, List, [], ◌∷◌, length, slice_index, sum_by, All, Option, IsSomeAnd}
-use Rattle.std.specs.List.{Contains, zip}
-use Rattle.pesp_base.specs.declared.activity.Activity.{Activity}
-use Rattle.pesp_base.specs.Tensions.{IsMet}
-use Rattle.pesp_instance.specs.Network.{Network, agrees_with, event_ids, fixed_of, has_event}
+-- A place of the tree: times for the first events, and what the domains leave behind them.
+use Rattle.std.specs.Prelude.{ℕ, IsTrue, List, [], ◌∷◌, length, slice_index}
+use Rattle.std.specs.List.{zip}
+use Rattle.pesp_instance.specs.Network.{Network, event_ids, has_event}
 use Rattle.pesp_domains.specs.declared.pair.Pair.{Pair}
 use Rattle.pesp_domains.specs.Domains.{InDomains}
-use Rattle.pesp_tension.specs.Timetables.{Times, time_of}
-use Rattle.pesp_search.specs.declared.steps.Choice.{Choice}
-use Rattle.pesp_search.specs.declared.steps.Choice.TheVariants.{Full, Take, Back}
-use Rattle.pesp_tension.specs.Answers.{cost_in, time_at}
+use Rattle.pesp_tension.specs.Answers.{time_at}
+use Rattle.pesp_tension.specs.Timetables.{Times}
 
 -- the timetable that gives the first events of the instance these times
 abbrev pub timetable_of : Network → List ℕ → Times
@@ -19,93 +15,20 @@ timetable_of I times = record { period = I.period; entries = zip (event_ids I) t
 abbrev pub at : Network → List ℕ → ℕ → ℕ
 at I times e = time_at (timetable_of I times) e
 
--- a time below the period for each event, with which each activity is met and each fixed time is kept
-pub record IsFull (I : Network) (times : List ℕ) : Type 0 where
-  pub events : length times ≡ length (event_ids I)
-  pub below : All (λ t. t < I.period) times
-  pub met : (a : Activity) → Contains I.activities a → IsMet I.period a.span (at I times a.from) (at I times a.to)
-  pub fixed : (e : ℕ) → IsTrue (has_event I e) → IsTrue (agrees_with (fixed_of I e) (at I times e))
-
 -- the pairs that give the first of these events these times
 abbrev pub pairs_of : List ℕ → List ℕ → List Pair
 pairs_of [] times = []
 pairs_of (e ∷ events) [] = []
 pairs_of (e ∷ events) (t ∷ times) = record { event = e; residue = t } ∷ pairs_of events times
 
--- the times come before the place, in the order by the first event at which two differ
-abbrev pub Before : List ℕ → List ℕ → ℕ → Type 0
-Before [] path from = ⊥
-Before (t ∷ times) [] from = t < from
-Before (t ∷ times) (x ∷ path) from = (t < x) ⊎ ((t ≡ x) × Before times path from)
-
--- the times begin with those of the path
-abbrev pub Extends : List ℕ → List ℕ → Type 0
-Extends times [] = Unit {0}
-Extends [] (x ∷ path) = ⊥
-Extends (t ∷ times) (x ∷ path) = (t ≡ x) × Extends times path
-
 -- the residue is in the domain of the event that is next after the path
 abbrev pub InNext : Network → List ℕ → ℕ → Type 0
 InNext I path r = InDomains I (pairs_of (event_ids I) path) (slice_index (event_ids I) (length path)) r
 
+-- some event has no residue left under the pushed pairs
+abbrev pub HasEmpty : Network → List Pair → Type 0
+HasEmpty I pushes = (e : ℕ) × IsTrue (has_event I e) × ((r : ℕ) → InDomains I pushes e r → ⊥)
+
 -- some event has no residue left after the path
 abbrev pub IsDead : Network → List ℕ → Type 0
-IsDead I path = (e : ℕ) × IsTrue (has_event I e) × ((r : ℕ) → InDomains I (pairs_of (event_ids I) path) e r → ⊥)
-
--- ---- what to do at a place, where P holds of each full list of times that may be passed over
-
--- P holds of each one that extends the path with a time of at least `from` at the next event
-pub record IsSpent (P : List ℕ → Type 0) (I : Network) (path : List ℕ) (from : ℕ) : Type 0 where
-  pub passes : (times : List ℕ) → IsFull I times → Extends times path → (length path < length times → from ≤ slice_index times (length path)) → P times
-
--- r is the next residue to try, no event is without one, and P holds of each one that takes an earlier one
-pub record IsNext (P : List ℕ → Type 0) (I : Network) (path : List ℕ) (from r : ℕ) : Type 0 where
-  pub room : length path < length (event_ids I)
-  pub above : from ≤ r
-  pub below : r < I.period
-  pub inside : InNext I path r
-  pub alive : IsDead I path → ⊥
-  pub between : (s : ℕ) → from ≤ s → s < r → InNext I path s → ⊥
-  pub skips : (times : List ℕ) → IsFull I times → Extends times path → from ≤ slice_index times (length path) → slice_index times (length path) < r → P times
-
--- the pairs of the path are pushed, and P holds of each full list of times that comes before the place
-pub record IsAt (P : List ℕ → Type 0) (I : Network) (pushes : List Pair) (path : List ℕ) (from : ℕ) : Type 0 where
-  pub pairs : pushes ≡ pairs_of (event_ids I) path
-  pub depth : length path ≤ length (event_ids I)
-  pub below : All (λ t. t < I.period) path
-  pub small : from ≤ I.period
-  pub passed : (times : List ℕ) → IsFull I times → Before times path from → P times
-
--- nothing, of each list of times
-abbrev pub Nothing : List ℕ → Type 0
-Nothing times = ⊥
-
--- ---- costs
-
--- what all activities cost
-abbrev pub full_cost : Network → List ℕ → ℕ
-full_cost I times = sum_by (cost_in (timetable_of I times)) I.activities
-
--- what an activity costs where both its ends have times on the path, and else 0
-abbrev pub known_share : Network → List ℕ → Activity → ℕ
-known_share I path a =
-    if is_some (time_of (timetable_of I path) a.from) && is_some (time_of (timetable_of I path) a.to) then cost_in (timetable_of I path) a else 0
-
--- what the path is known to cost
-abbrev pub known_cost : Network → List ℕ → ℕ
-known_cost I path = sum_by (known_share I path) I.activities
-
--- no residue from this one on is left to try at the next event, or some event has none
-abbrev pub IsStuck : Network → List ℕ → ℕ → Type 0
-IsStuck I path from = IsDead I path ⊎ ((r : ℕ) → from ≤ r → InNext I path r → ⊥)
-
--- what a choice at a place says
-abbrev pub IsChoice : (List ℕ → Type 0) → Network → List ℕ → ℕ → Choice → Type 0
-IsChoice P I path from Full = IsFull I path
-IsChoice P I path from (Take r) = IsNext P I path from r
-IsChoice P I path from Back = IsSpent P I path from × IsStuck I path from
-
--- why a place is left: what is known costs the limit, each event has its time, or nothing is left to try
-abbrev pub IsOver : Network → Option ℕ → List ℕ → ℕ → Type 0
-IsOver I limit path from =
-    IsSomeAnd limit (λ l. l ≤ known_cost I path) ⊎ (length path ≡ length (event_ids I)) ⊎ IsStuck I path from
+IsDead I path = HasEmpty I (pairs_of (event_ids I) path)

@@ -9,7 +9,8 @@ ghost use Rattle.pesp_search.specs.declared.answer.Tried.TheVariants as attempts
 ghost use Rattle.pesp_search.specs.Branch.{IsFront};
 ghost use Rattle.pesp_search.specs.Found.{AtLeast, IsBest};
 ghost use Rattle.pesp_search.specs.Optima.{IsAnswer, IsBound};
-ghost use Rattle.pesp_search.specs.Places.{IsAt, IsDead, IsNext, IsOver, IsSpent, known_cost, timetable_of};
+ghost use Rattle.pesp_search.specs.Places.{IsDead, timetable_of};
+ghost use Rattle.pesp_search.specs.Walk.{IsAt, IsNext, IsOver, IsSpent, known_cost};
 ghost use Rattle.pesp_search.specs.Tree.{AreNodes};
 ghost use Rattle.pesp_search.specs.Tried.{IsEnd, IsOutcome, MayTry};
 

@@ -1,12 +1,12 @@
 -- The search goes from place to place, each with the branch pushed and what comes before it passed over.
-use Rattle.std.proofs.Common.{◌≡◌, ◌+◌, ◌<◌, [], length, get_or, is_some, refl, sym, ap, ◌∙◌, arith}
+use Rattle.std.proofs.Common.{◌≡◌, ◌+◌, ◌<◌, length, get_or, is_some, refl, sym, ap, ◌∙◌, arith}
 use Rattle.std.proofs.lemmas.List.{get_or_read, length_push, nil_from_length}
 use Rattle.pesp_instance.specs.Network.{event_ids}
 use Rattle.pesp_search.specs.Found.{AtLeast, under_bound}
 use Rattle.pesp_search.proofs.Ends.{end_outcome, more_within, none_within, stop_outcome}
 use Rattle.pesp_search.proofs.Fronts.{front_none}
 use Rattle.pesp_search.proofs.Rest.{rest_back, rest_down}
-use Rattle.pesp_search.proofs.Sizes.{left_back, left_start, left_take}
+use Rattle.pesp_search.proofs.Sizes.{counted_back, counted_nodes, counted_start, counted_take}
 use Rattle.pesp_search.proofs.Stations.{at_back, at_free, at_length, at_start, at_take, last_below}
 use Rattle.pesp_search.proofs.Timed.{place_has_event}
 use Rattle.pesp_search.proofs.search.search.Goals as goal
@@ -24,7 +24,7 @@ places-init g c =
       times = omega (arith, c.in_ok-incumbent.ensures.times, c.len.ensures, ap length events);
       at = rw none (at_start (AtLeast I c.in_ok-incumbent.incumbent.limit) I (g.K.Keeper.pushes c.args.keeper.now) c.requires.pushes);
       best = c.in_ok-incumbent.ensures.best I;
-      left = λ size tree. (size, rw none (left_start I (length (event_ids I)) [] size tree), omega arith);
+      counted = rw none (counted_start I);
       within = none_within c.args.limit;
       start = λ _. (none, refl, c.in_ok-incumbent.ensures.start.1, c.in_ok-incumbent.ensures.start.0);
     }
@@ -81,10 +81,10 @@ returns-then-is_spent-clause-outcome g c =
     let told = rw (c.instance-then-is_spent.ensures, c.unwind.ensures.network, c.places.invariant.network) at c.best_of-best.ensures in
     let is = c.is_spent.ensures.yes c.if-is_spent.true in
     stop_outcome I c.args.bound c.args.limit c.visit.new.incumbent.limit c.visit.new.incumbent.is_found c.visit.new.incumbent.times.items c.best_of-best.result _ c.places.branch.times.items c.places.from c.in-Some.residue c.places.nodes c.places.invariant.is_network is
-    at next best c.places.invariant.left (λ zero. c.in-Some.ensures.same.1 ∙ (c.places.invariant.start zero).3) told
+    at next best c.places.invariant.counted (λ zero. c.in-Some.ensures.same.1 ∙ (c.places.invariant.start zero).3) told
 
 pub returns-then-is_spent-clause-nodes : goal.returns-then-is_spent-clause-nodes
-returns-then-is_spent-clause-nodes g c size is = let left = c.places.invariant.left size is in omega (arith, left.2)
+returns-then-is_spent-clause-nodes g c = counted_nodes (g.K.Keeper.network c.args.keeper.now) c.places.branch.times.items c.places.from c.places.nodes c.places.invariant.counted
 
 pub returns-then-is_spent-clause-network : goal.returns-then-is_spent-clause-network
 returns-then-is_spent-clause-network g c = c.unwind.ensures.network ∙ c.places.invariant.network
@@ -161,10 +161,9 @@ places-preserved-in-Some g c =
       times = rw c.places.invariant.network at c.visit.ensures.times;
       at = rw (c.descend-nodes.ensures.pushes, c.push.ensures.times, item) (at_take (AtLeast I c.visit.new.incumbent.limit) I _ times c.places.from c.in-Some.residue at next);
       best = (rw c.places.invariant.network at c.visit.ensures.best) (under_bound c.args.bound) c.places.invariant.best;
-      left = λ size tree.
-          let left = c.places.invariant.left size tree in
-          let taken = left_take I (length (event_ids I)) [] times times c.places.from c.in-Some.residue left.0 refl next.room next.alive next.above next.below next.inside next.between left.1 in
-          (taken.0, rw c.push.ensures.times taken.1, omega (arith, left.2, taken.2, c.descend-nodes.ensures.more.0));
+      counted =
+          rw c.push.ensures.times
+          (counted_take (AtLeast I c.visit.new.incumbent.limit) I times c.places.from c.in-Some.residue c.places.nodes c.descend-nodes.result next c.descend-nodes.ensures.more.0 c.places.invariant.counted);
       within = more_within c.args.limit c.places.nodes c.descend-nodes.result c.places.invariant.within (c.is_spent.ensures.no c.if-is_spent.false) c.descend-nodes.ensures.more.0;
       start = λ zero. absurd (omega (arith, zero, c.descend-nodes.ensures.more.1));
     }
@@ -214,10 +213,7 @@ places-preserved g c =
       times = rw c.places.invariant.network at c.visit.ensures.times;
       at = at_back (AtLeast I c.visit.new.incumbent.limit) I _ _ c.pop_fix.ensures.pushes.0 times c.in-Some-pop.residue c.places.from c.pop_fix.ensures.pushes.1 at spent;
       best = (rw c.places.invariant.network at c.visit.ensures.best) (under_bound c.args.bound) c.places.invariant.best;
-      left = λ size tree.
-          let left = c.places.invariant.left size tree in
-          let back = left_back I (length (event_ids I)) [] times c.in-Some-pop.residue c.places.from left.0 (rw c.in-Some-pop.ensures.times at left.1) in
-          (back.0, back.1, omega (arith, left.2, back.2));
+      counted = counted_back I times c.in-Some-pop.residue c.places.from c.places.nodes (rw c.in-Some-pop.ensures.times at c.places.invariant.counted);
       within = c.places.invariant.within;
       start = λ zero. absurd (omega (arith, ap length (sym c.in-Some-pop.ensures.times ∙ (c.places.invariant.start zero).0), length_push times c.in-Some-pop.residue));
     }
@@ -252,7 +248,7 @@ returns-in-None-pop-clause-outcome g c =
     at spent best over (λ zero. ((c.places.invariant.start zero).1, (c.places.invariant.start zero).2)) c.places.invariant.within told
 
 pub returns-in-None-pop-clause-nodes : goal.returns-in-None-pop-clause-nodes
-returns-in-None-pop-clause-nodes g c size is = let left = c.places.invariant.left size is in omega (arith, left.2)
+returns-in-None-pop-clause-nodes g c = counted_nodes (g.K.Keeper.network c.args.keeper.now) c.places.branch.times.items c.places.from c.places.nodes c.places.invariant.counted
 
 pub returns-in-None-pop-clause-network : goal.returns-in-None-pop-clause-network
 returns-in-None-pop-clause-network g c = c.places.invariant.network

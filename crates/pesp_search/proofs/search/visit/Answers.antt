@@ -1,7 +1,7 @@
 -- What a visit leaves.
 use Rattle.std.proofs.Common.{◌≡◌, sym, ◌∙◌, inr}
 use Rattle.std.proofs.lemmas.Bool.{MatchBool-at_true, MatchBool-at_false}
-use Rattle.pesp_search.specs.Places.{IsFull, full_cost}
+use Rattle.pesp_search.specs.Walk.{IsFull, full_cost}
 use Rattle.pesp_search.proofs.BestSoFar.{below_under, best_found, cut_spent, found_spent, kept_best, next_any}
 use Rattle.pesp_search.proofs.Costs.{known_is_cost}
 use Rattle.pesp_search.proofs.search.visit.Goals as goal
