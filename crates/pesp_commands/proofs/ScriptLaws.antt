@@ -4,7 +4,7 @@ use Rattle.std.specs.List.{filter_map}
 use Rattle.std.proofs.lemmas.Bool.{eqb-true, le-ltb, false≢true}
 use Rattle.std.proofs.lemmas.List.{length-map}
 use Rattle.std.proofs.lemmas.List.Elements.{All-append, All-cons, All-head, All-map, All-nil, All-tail, All-weaker}
-use Rattle.pesp_base.specs.declared.limits.TheConstants.{GREATEST_NUMBER}
+use Rattle.pesp_base.specs.Limits.{greatest_number}
 use Rattle.pesp_base.specs.declared.refusal.Refusal.{Refusal}
 use Rattle.pesp_base.specs.Numbered.{with_number}
 use Rattle.pesp_instance.specs.declared.edit.Edit.{Edit}
@@ -36,10 +36,10 @@ are_lines (edit ∷ edits) all = ((All-head Says edit edits all).one_line, are_l
 
 -- ---- an instance's numbers are within their limits
 
-event_number : (period : ℕ) (events : List Event) (n : ℕ) → All (IsEvent period) events → is_some (with_number (λ x. x.id) n events) ≡ true → n ≤ GREATEST_NUMBER
+event_number : (period : ℕ) (events : List Event) (n : ℕ) → All (IsEvent period) events → is_some (with_number (λ x. x.id) n events) ≡ true → n ≤ greatest_number
 event_number period [] n all is = absurd (false≢true is)
 event_number period (x ∷ events) n all is =
-    elim (x.id == n) as (λ b. (x.id == n) ≡ b → is_some (cond b (Some x) (with_number (λ y. y.id) n events)) ≡ true → n ≤ GREATEST_NUMBER) [
+    elim (x.id == n) as (λ b. (x.id == n) ≡ b → is_some (cond b (Some x) (with_number (λ y. y.id) n events)) ≡ true → n ≤ greatest_number) [
       | true ↦ λ same _. omega (arith, eqb-true x.id n same, (All-head (IsEvent period) x events all).number)
       | false ↦ λ apart later. event_number period events n (All-tail (IsEvent period) x events all) later
     ] refl is
@@ -72,7 +72,7 @@ module _ (I : Network) (net : IsNetwork I) where
       (All-map (λ e. Says (AddEvent e)) (λ x. x.id) I.events
       (All-weaker (IsEvent I.period) (λ x. Says (AddEvent x.id)) (λ x is. event_says x.id is.number) I.events net.events_within))
 
-  its_number : (n : ℕ) → is_some (with_number (λ x. x.id) n I.events) ≡ true → n ≤ GREATEST_NUMBER
+  its_number : (n : ℕ) → is_some (with_number (λ x. x.id) n I.events) ≡ true → n ≤ greatest_number
   its_number n is = event_number I.period I.events n net.events_within is
 
   activities_say : All Says (map AddActivity I.activities)

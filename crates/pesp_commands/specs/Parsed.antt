@@ -3,7 +3,7 @@ use Rattle.std.specs.Prelude.{ℕ, ◌+◌, Bool, false, not, ◌==◌, int_lt, 
 use Rattle.std.specs.List.{starts_with}
 use Rattle.pesp_base.specs.declared.activity.Activity.{Activity}
 use Rattle.pesp_base.specs.Bounds.{Bounds}
-use Rattle.pesp_base.specs.declared.limits.TheConstants.{GREATEST_NUMBER, GREATEST_WEIGHT, LEAST_BOUND, GREATEST_BOUND}
+use Rattle.pesp_base.specs.Limits.{greatest_number, greatest_weight, least_bound, greatest_bound}
 use Rattle.pesp_base.specs.declared.number.NumberFault.{NumberFault}
 use Rattle.pesp_base.specs.declared.number.NumberFault.TheVariants as number
 use Rattle.pesp_base.specs.Numbers.{number_in}
@@ -16,7 +16,6 @@ use Rattle.pesp_commands.specs.declared.name.Name.{Name}
 use Rattle.pesp_commands.specs.declared.name.Name.TheVariants as name
 use Rattle.pesp_commands.specs.declared.parsing.ParseFault.{ParseFault}
 use Rattle.pesp_commands.specs.declared.parsing.ParseFault.TheVariants as fault
-use Rattle.pesp_commands.specs.declared.parsing.TheConstants.{GREATEST_TIME, GREATEST_LIMIT}
 use Rattle.pesp_commands.specs.Words.{words_of}
 
 -- the least and the greatest number that a word may be
@@ -26,20 +25,20 @@ pub record Range : Type 0 where
 
 -- the number of an event or an activity
 abbrev pub id : Range
-id = record { low = pos 0; high = pos GREATEST_NUMBER }
+id = record { low = pos 0; high = pos greatest_number }
 
 abbrev pub bound : Range
-bound = record { low = LEAST_BOUND; high = GREATEST_BOUND }
+bound = record { low = least_bound; high = greatest_bound }
 
 abbrev pub weight : Range
-weight = record { low = pos 0; high = pos GREATEST_WEIGHT }
+weight = record { low = pos 0; high = pos greatest_weight }
 
 abbrev pub time : Range
-time = record { low = pos 0; high = pos GREATEST_TIME }
+time = record { low = pos 0; high = pos 65535 }
 
 -- the nodes that a search may visit
 abbrev pub limit : Range
-limit = record { low = pos 0; high = pos GREATEST_LIMIT }
+limit = record { low = pos 0; high = pos 1000000000000 }
 
 -- a command's name, the ranges of the numbers behind it, whether these are two crossed bounds, and the command that they make
 pub record Form : Type 0 where

@@ -8,12 +8,11 @@ use Rattle.pesp_instance.specs.Edited.{edited, empty_network, grows}
 use Rattle.pesplib_writer.specs.Script.{script, script_edits, script_head, script_lines}
 use Rattle.pesp_commands.specs.declared.command.Command.{Command}
 use Rattle.pesp_commands.specs.declared.command.Command.TheVariants as command
-use Rattle.pesp_lines.specs.declared.limits.TheConstants.{MOST_LINES, LONGEST_LINE}
 use Rattle.pesp_commands.specs.declared.parsing.ParseFault.{ParseFault}
 use Rattle.pesp_commands.specs.declared.replaying.ReplayFault.{ReplayFault}
 use Rattle.pesp_commands.specs.declared.replaying.ReplayKind.{ReplayKind}
 use Rattle.pesp_commands.specs.declared.replaying.ReplayKind.TheVariants as kind
-use Rattle.pesp_lines.specs.Lines.{lines_of}
+use Rattle.pesp_lines.specs.Lines.{lines_of, longest_line, most_lines}
 use Rattle.pesp_commands.specs.Parsed.{parsed}
 
 -- an edited instance, or its refusal as a script's fault
@@ -36,7 +35,7 @@ within_limits false false after = after
 
 -- the instance after the n-th line
 abbrev pub after_line : ℕ → Network → List ℕ → Result Network ReplayKind
-after_line n I line = within_limits (nat_lt MOST_LINES n) (nat_lt LONGEST_LINE (length line)) (after_said I (parsed line))
+after_line n I line = within_limits (nat_lt most_lines n) (nat_lt longest_line (length line)) (after_said I (parsed line))
 
 -- what comes of the instance after the n-th line, or that line's fault
 abbrev pub on_line : ℕ → (Network → Result Network ReplayFault) → Result Network ReplayKind → Result Network ReplayFault

@@ -1,7 +1,7 @@
 -- Small cases of the definitions, by computation.
 use Rattle.std.proofs.Common.{◌≡◌, refl, [], ◌∷◌, ◌++◌, codes}
 use Rattle.pesp_lines.specs.declared.limits.TheConstants.{LONGEST_LINE, MOST_LINES}
-use Rattle.pesp_lines.specs.Lines.{ended_lines, lines_of}
+use Rattle.pesp_lines.specs.Lines.{ended_lines, lines_of, longest_line, most_lines}
 
 no_lines : lines_of [] ≡ []
 no_lines = refl
@@ -18,8 +18,8 @@ return_in_a_line = refl
 ended : ended_lines (codes "a" ++ 10 ∷ 10 ∷ codes "b") ≡ codes "a" ∷ [] ∷ []
 ended = refl
 
-longest : LONGEST_LINE ≡ 4096
+longest : LONGEST_LINE ≡ longest_line
 longest = refl
 
-most : MOST_LINES ≡ 1000000
+most : MOST_LINES ≡ most_lines
 most = refl

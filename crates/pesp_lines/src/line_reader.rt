@@ -3,9 +3,9 @@
 ghost use Rattle.std.specs.Prelude.{◌≡◌, ◌≢◌, ◌↔◌, ℕ, ◌-◌, ◌≤◌, ◌<◌, [], ◌++◌, List, drop, length, slice_range, take, IfOk, IfSome, MatchOption, OnErr, not, true, false, IsTrue};
 ghost use Rattle.std.specs.Io.KnownBytes.{Consumes, IsAtEnd};
 ghost use Rattle.pesp_lines.specs.declared.line_reader.TheConstants.{ROOM};
-ghost use Rattle.pesp_lines.specs.declared.limits.TheConstants.{LONGEST_LINE};
 ghost use Rattle.pesp_lines.specs.Devices.{MarksFailure};
 ghost use Rattle.pesp_lines.specs.declared.line_reader.Front.TheVariants as fronts;
+ghost use Rattle.pesp_lines.specs.Lines.{longest_line};
 ghost use Rattle.pesp_lines.specs.Fronts.{IsFront, IsUnended};
 
 use crate::{ByteSource, Failed, LONGEST_LINE};
@@ -124,7 +124,7 @@ fn pack(buffer: &mut [u8], start: usize, end: usize) -> usize
 
 /// Whether a line may have so many bytes.
 fn is_short(length: usize) -> bool
-    ensures { IsTrue result ↔ length ≤ LONGEST_LINE }
+    ensures { IsTrue result ↔ length ≤ longest_line }
 {
     length <= LONGEST_LINE
 }

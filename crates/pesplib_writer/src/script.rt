@@ -21,7 +21,7 @@ fn fixed_count(instance: &Instance) -> usize
 {
     let mut count = 0;
     for event in instance.events() {
-        if event.fixed.is_some() {
+        if event.fixed_time().is_some() {
             count += 1;
         }
     }
@@ -65,7 +65,7 @@ fn put_fixes(text: &mut Vec<u8>, instance: &Instance) -> Result<(), AllocError>
     ensures { OnOk result (text.new.items ≡ text.old.items ++ as_lines (map edit_line (filter_map fix_edit instance.now.events))) }
 {
     for event in instance.events() {
-        if let Some(time) = event.fixed {
+        if let Some(time) = event.fixed_time() {
             put_fix(text, event.id, time)?;
         }
     }
