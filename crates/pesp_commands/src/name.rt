@@ -8,7 +8,7 @@ ghost use Rattle.pesp_commands.specs.Words.{texts};
 
 use crate::numbers::Numbers;
 
-/// The commands, in the order in which they are looked for.
+/// The commands.
 #[derive(Clone, Copy)]
 pub(crate) enum Name {
     AddEvent,
@@ -33,7 +33,7 @@ pub(crate) enum Name {
     Dump,
 }
 
-/// The words of each command.
+/// The words of each command, in the order in which they are looked for.
 const NAMES: [(&[&[u8]], Name); 20] = [
     (&[b"add", b"event"], Name::AddEvent),
     (&[b"drop", b"event"], Name::DropEvent),
