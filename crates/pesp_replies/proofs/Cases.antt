@@ -1,5 +1,5 @@
 -- Transcripts of small streams, by computation.
-use Rattle.std.proofs.Common.{◌≡◌, ℕ, refl, pos, List, [], ◌∷◌, ◌++◌, Some, None, Ok, Err, codes}
+use Rattle.std.proofs.Common.{ℕ, refl, pos, [], ◌∷◌, None, codes}
 use Rattle.std.specs.Fmt.{digits}
 use Rattle.pesp_base.specs.declared.activity.Activity.{Activity}
 use Rattle.pesp_base.specs.Texts.{as_lines}

@@ -1,21 +1,25 @@
 -- What a check answers.
-use Rattle.std.specs.Prelude.{◌≡◌, ℕ, List, [], ◌++◌, IsOk, Option, unwrap_or, Ok}
+use Rattle.std.specs.Prelude.{◌≡◌, ℕ, List, [], IsOk, Option, Some, None, unwrap_or, Ok}
 use Rattle.pesp_instance.specs.Network.{Network}
 use Rattle.pesp_tension.specs.Answers.{cost_of, tensions_of, violations_of, where_timed}
 use Rattle.pesp_tension.specs.Timetables.{Times}
 use Rattle.pesplib_reader.specs.Reading.{activities_read, fixed_read, times_read, with_fixed}
 use Rattle.pesplib_reader.specs.Taking.{IsReadFault}
+use Rattle.pesp_replies.specs.Replies.{behind, cost_text, tensions_text, told, violations_text}
 use Rattle.pesp_shell.specs.declared.run_fault.RunFault.{RunFault}
 use Rattle.pesp_shell.specs.declared.run_fault.RunFault.TheVariants as ended
 use Rattle.pesp_shell.specs.declared.run_fault.Source.TheVariants as source
-use Rattle.pesp_shell.specs.Replies.{cost_text, tensions_text, told, violations_text}
+
+-- one reply behind another, where both are there
+abbrev pub joined : Option (List ℕ) → Option (List ℕ) → Option (List ℕ)
+joined None later = None
+joined (Some text) later = behind text later
 
 -- the replies to `tensions`, `violations` and `cost`
-abbrev pub check_text : Network → Times → List ℕ
+abbrev pub check_text : Network → Times → Option (List ℕ)
 check_text I m =
-    told tensions_text (where_timed I m (tensions_of I m))
-    ++ told violations_text (where_timed I m (violations_of I m))
-    ++ told cost_text (where_timed I m (cost_of I m))
+    joined (told tensions_text (where_timed I m (tensions_of I m)))
+    (joined (told violations_text (where_timed I m (violations_of I m))) (told cost_text (where_timed I m (cost_of I m))))
 
 -- the bytes of a file, none where no file is given
 abbrev pub given : Option (List ℕ) → List ℕ
@@ -26,7 +30,7 @@ pub record IsCheck (period : ℕ) (activities fixed times text : List ℕ) (I : 
   pub activities_stand : activities_read period activities ≡ Ok I
   pub fixed_stand : fixed_read I fixed ≡ Ok f
   pub times_stand : times_read period times ≡ Ok m
-  pub tells : text ≡ check_text (with_fixed I f) m
+  pub tells : check_text (with_fixed I f) m ≡ Some text
 
 -- the fault is that of the first file that has one, or want of memory behind all
 abbrev pub IsCheckFault : ℕ → List ℕ → List ℕ → List ℕ → RunFault → Type 0

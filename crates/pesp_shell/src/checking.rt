@@ -1,16 +1,16 @@
 //! The check of one timetable.
 
-ghost use Rattle.std.specs.Prelude.{◌≡◌, ◌++◌, IfOk, IfErr, IsErr, OnOk};
+ghost use Rattle.std.specs.Prelude.{◌≡◌, ◌++◌, IfOk, IfErr, OnOk, Some};
 ghost use Rattle.std.specs.Option.{option_copied};
 ghost use Rattle.pesp_instance.specs.Network.{Network};
 ghost use Rattle.pesp_tension.specs.Timetables.{Times};
-ghost use Rattle.pesp_base.specs.declared.refusal.Refusal.TheVariants as no;
-ghost use Rattle.pesp_shell.specs.Checked.{IsCheck, IsCheckFault, check_text, given};
-ghost use Rattle.pesp_shell.specs.Replies.{cost_text, refusal_text, tensions_text, violations_text};
+ghost use Rattle.pesp_replies.specs.Replies.{behind, cost_text, refusal_text, tensions_text, violations_text};
+ghost use Rattle.pesp_shell.specs.Checked.{IsCheck, IsCheckFault, check_text, given, joined};
 
-use crate::{RunFault, Source, replies};
+use crate::{RunFault, Source};
 use pesp_base::{Period, Refusal};
 use pesp_instance::Instance;
+use pesp_replies::{put_cost, put_refusal, put_tensions, put_violations};
 use pesp_tension::{Assessment, Timetable, assess};
 use pesplib_reader::{read_activities, read_fixed, read_times};
 use std::alloc::{AllocError, Global};
@@ -19,19 +19,18 @@ use std::alloc::{AllocError, Global};
 fn put_assessment(text: &mut Vec<u8>, assessment: &Assessment) -> Result<(), AllocError>
     ensures { OnOk result (text.new.items ≡ text.old.items ++ (tensions_text assessment.now.tensions.items ++ (violations_text assessment.now.violations.items ++ cost_text assessment.now.cost))) }
 {
-    replies::put_tensions(text, assessment.tensions.as_slice())?;
-    replies::put_violations(text, assessment.violations.as_slice())?;
-    replies::put_cost(text, assessment.cost)
+    put_tensions(text, assessment.tensions.as_slice())?;
+    put_violations(text, assessment.violations.as_slice())?;
+    put_cost(text, assessment.cost)
 }
 
 /// The reply of a refusal of all three.
 fn put_refusals(text: &mut Vec<u8>, refusal: &Refusal) -> Result<(), AllocError>
-    ensures told { OnOk result (text.new.items ≡ text.old.items ++ (refusal_text refusal.now ++ (refusal_text refusal.now ++ refusal_text refusal.now))) }
-    ensures memory { refusal.now ≡ no.Memory → IsErr result }
+    ensures { OnOk result (behind text.old.items (joined (refusal_text refusal.now) (joined (refusal_text refusal.now) (refusal_text refusal.now))) ≡ Some text.new.items) }
 {
-    replies::put_refusal(text, *refusal)?;
-    replies::put_refusal(text, *refusal)?;
-    replies::put_refusal(text, *refusal)
+    put_refusal(text, *refusal)?;
+    put_refusal(text, *refusal)?;
+    put_refusal(text, *refusal)
 }
 
 /// The three replies, which are of one walk over the activities.
@@ -41,7 +40,7 @@ fn told_check(
     timetable: &Timetable,
 ) -> Result<Vec<u8>, AllocError>
     requires { instance.now.period ≡ timetable.now.period }
-    ensures { IfOk result (λ text. text.items ≡ check_text instance.now timetable.now) }
+    ensures { IfOk result (λ text. check_text instance.now timetable.now ≡ Some text.items) }
 {
     let mut text = Vec::new(alloc);
     match assess(alloc, instance, timetable) {

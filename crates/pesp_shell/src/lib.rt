@@ -4,7 +4,6 @@
 mod arguments;
 mod checking;
 mod options;
-mod replies;
 mod run_fault;
 
 pub use arguments::Settings;
