@@ -42,8 +42,6 @@ class Suite:
 
     def __init__(self, program, folder, tally):
         self.program = program
-        # The small program for scripts, which the gate builds beside it.
-        self.scripts = program.parent / "../../pespscript/out/pespscript"
         self.folder = folder
         self.tally = tally
 
@@ -67,9 +65,9 @@ class Suite:
         """One case that is true or false."""
         self.note(name, {"it": True}, {"it": bool(fact)})
 
-    def case(self, name, words, status=0, output=b"", error=b"", program=None, **how):
-        """Runs the program once, or another one, and notes all three of what it gives."""
-        came = run([program or self.program, *words], **how)
+    def case(self, name, words, status=0, output=b"", error=b"", **how):
+        """Runs the program once, and notes all three of what it gives."""
+        came = run([self.program, *words], **how)
         wanted = {"status": status, "standard output": output, "standard error": error}
         self.note(name, wanted, came)
 

@@ -1,8 +1,8 @@
-"""Scripts, replayed and written again: by the program's commands, and by pespscript where it stands beside it."""
+"""Scripts given as commands, and written again."""
 
 import random
 
-from tests.harness import TOP, rows_of, within
+from tests.harness import rows_of, within
 
 
 def script_of(period, events, fixed, activities):
@@ -64,44 +64,4 @@ def greatest_script(suite):
     suite.case("the greatest instance", words, given=given, output=(refusals + script).encode())
 
 
-def small_program(suite):
-    """The program pespscript, as long as it is there."""
-    crate = TOP / "crates/pespscript"
-    if crate.exists():
-        replays(suite, crate)
-        faulty_scripts(suite)
-
-
-def replays(suite, crate):
-    stored = (crate / "stdin").read_bytes()
-    suite.case("the stored script", [], output=(crate / "stdout").read_bytes(), given=stored, program=suite.scripts)
-    draw = random.Random(7)
-    for number in range(40):
-        period, script, wanted = drawn_script(draw)
-        for name, text in [("drawn", script), ("written", wanted)]:
-            how = {"output": wanted.encode(), "given": text.encode(), "program": suite.scripts}
-            suite.case(f"pespscript: {name} script {number}", [str(period)], **how)
-    texts = {"no bytes": b"", "a blank line of 4,096 bytes": b" " * 4_096, "1,000,000 lines": b"\n" * 1_000_000}
-    for name, text in texts.items():
-        how = {"output": b"# period 60 lines 0\n", "given": text, "program": suite.scripts}
-        suite.case(f"pespscript: {name}", [], **how)
-
-
-def faulty_scripts(suite):
-    faults = {
-        "two edits, the second no edit": (b"add event 1\ncost\n", "line 2: NotAnEdit"),
-        "a line of 4,097 bytes": (b" " * 4_097, "line 1: LineTooLong"),
-        "1,000,000 lines and a byte": (b"\n" * 1_000_000 + b"#", "line 1000001: TooManyLines"),
-        "no number behind a comment": (b"# x\nfix x 1\n", "line 2: Parse(BadNumber(2))"),
-        "an unknown command": (b"add\n", "line 1: Parse(UnknownCommand)"),
-        "a fixed time at the period": (b"add event 1\nfix 1 60", "line 2: Refused(TimeOutOfRange(60))"),
-    }
-    for name, (text, fault) in faults.items():
-        how = {"status": 1, "error": f"pespscript: {fault}\n".encode(), "given": text, "program": suite.scripts}
-        suite.case(f"pespscript: {name}", [], **how)
-    wanted = b"pespscript: the period is a number from 2 to 120\n"
-    for word in ["1", "121", "x"]:
-        suite.case(f"pespscript: period {word}", [word], status=1, error=wanted, program=suite.scripts)
-
-
-GROUPS = [scripts, greatest_script, small_program]
+GROUPS = [scripts, greatest_script]

@@ -1,15 +1,12 @@
 -- Transcripts of small streams, by computation.
-use Rattle.std.proofs.Common.{ℕ, refl, pos, [], ◌∷◌, None, codes}
+use Rattle.std.proofs.Common.{refl, [], ◌∷◌, None, codes}
 use Rattle.std.specs.Fmt.{digits}
-use Rattle.pesp_base.specs.declared.activity.Activity.{Activity}
 use Rattle.pesp_base.specs.Texts.{as_lines}
+use Rattle.pesp_base.proofs.Samples.{arc}
 use Rattle.pesp_instance.specs.Network.{Network, new_event}
 use Rattle.pesp_tension.specs.Timetables.{no_times}
 use Rattle.pesp_replies.specs.Legal.{Work}
 use Rattle.pesp_replies.specs.Transcripts.{IsTranscript}
-
-abbrev arc : ℕ → ℕ → ℕ → ℕ → ℕ → ℕ → Activity
-arc id from to lower upper weight = record { id = id; from = from; to = to; span = record { lower = pos lower; upper = pos upper }; weight = weight }
 
 -- the two activities at period 10
 abbrev two : Work
