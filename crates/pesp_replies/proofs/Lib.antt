@@ -1,0 +1,4 @@
+mod Cases
+pub mod DomainLemmas
+pub mod TranscriptLemmas
+pub mod Written
