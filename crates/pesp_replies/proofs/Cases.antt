@@ -1,9 +1,8 @@
 -- Transcripts of small streams, by computation.
-use Rattle.std.proofs.Common.{◌≡◌, ℕ, refl, pos, List, [], ◌∷◌, ◌++◌, Some, None, Ok, Err, codes}
+use Rattle.std.proofs.Common.{ℕ, refl, pos, [], ◌∷◌, None, codes}
 use Rattle.std.specs.Fmt.{digits}
 use Rattle.pesp_base.specs.declared.activity.Activity.{Activity}
 use Rattle.pesp_base.specs.Texts.{as_lines}
-use Rattle.pesp_instance.specs.Network.{Network}
 use Rattle.pesp_tension.specs.Timetables.{no_times}
 use Rattle.pesp_replies.specs.Legal.{Work}
 use Rattle.pesp_replies.specs.Transcripts.{IsTranscript}

@@ -1,5 +1,5 @@
 -- Rows and lists of domains, told as residues of events.
-use Rattle.std.proofs.Common.{◌≡◌, ℕ, ◌+◌, ◌<◌, Bool, Some, Ok, List, [], ◌∷◌, length, map, filter, All, IsTrue, true, false, refl, sym, ap, ◌∙◌, inl, inr, arith}
+use Rattle.std.proofs.Common.{◌≡◌, ℕ, ◌+◌, ◌<◌, Bool, Some, List, [], ◌∷◌, length, map, All, IsTrue, false, refl, sym, ap, ◌∙◌, inl, inr, arith}
 use Rattle.std.specs.List.{AllZip, range_with_len, zip}
 use Rattle.std.specs.List.Sorted.{IsStrictlyIncreasing}
 use Rattle.std.proofs.lemmas.Bool.{cases_lt, false≢true}
@@ -7,7 +7,7 @@ use Rattle.std.proofs.lemmas.List.{get_or_past}
 use Rattle.std.proofs.lemmas.List.Elements.{All-head, All-tail}
 use Rattle.std.proofs.lemmas.List.FromFn.{get_or-range_with_len, length-range_with_len}
 use Rattle.std.proofs.lemmas.List.Kept.{IsStrictlyIncreasing-filter}
-use Rattle.pesp_instance.specs.Network.{Network, event_ids, has_event}
+use Rattle.pesp_instance.specs.Network.{Network, has_event}
 use Rattle.pesp_domains.specs.Domains.{IsDomain, holds, residues}
 use Rattle.pesp_domains.proofs.Families.{in_filter, in_range, of_filter}
 use Rattle.pesp_bench.specs.declared.lists.EventDomain.{EventDomain}

@@ -1,4 +1,5 @@
 mod Cases
 pub mod DomainLemmas
 pub mod TranscriptLemmas
+pub mod UniqueLemmas
 pub mod Written

@@ -1,6 +1,6 @@
 -- Transcripts: one line more, where they are cut, and which instance they leave.
-use Rattle.std.proofs.Common.{◌≡◌, ℕ, zero, suc, ◌≤◌, Bool, true, false, List, [], ◌∷◌, ◌++◌, take, drop, length, Option, Some, None, Result, Ok, Err, refl, sym, ap, ◌∙◌, append_assoc, append-nil, subst, inl, inr}
-use Rattle.std.specs.Prelude.{fold, filter_map, is_none, nat_le, MatchBool}
+use Rattle.std.proofs.Common.{◌≡◌, ℕ, zero, suc, Bool, true, false, List, [], ◌∷◌, ◌++◌, take, drop, Option, Some, None, Result, Ok, Err, refl, sym, ap, ◌∙◌, append_assoc, append-nil, subst, inl, inr}
+use Rattle.std.specs.Prelude.{is_none, nat_le, MatchBool}
 use Rattle.std.specs.List.{cons_option}
 use Rattle.std.specs.Result.{result_unwrap_or}
 use Rattle.pesp_base.specs.declared.refusal.Refusal.{Refusal}
@@ -19,7 +19,7 @@ use Rattle.pesp_commands.specs.declared.parsing.ParseFault.{ParseFault}
 use Rattle.pesp_commands.specs.Parsed.{parsed}
 use Rattle.pesp_replies.specs.Legal.{AreResidues, Changes, Legal, LegalCommand, LegalSaid, Tells, Work, adopted_work, edited_work, timed_work, untimed_work}
 use Rattle.pesp_replies.specs.Replies.{domain_text, refusal_text}
-use Rattle.pesp_replies.specs.Transcripts.{AreAfresh, GoesOnAfresh, IsTranscript, Leads, edit_in, edit_said, edits_in}
+use Rattle.pesp_replies.specs.Transcripts.{AreAfresh, Leads, edit_in, edit_said, edits_in}
 
 -- one line more, whose reply is legal in the last work
 pub leads_more : (first last next : Work) (lines : List (List ℕ)) (line output reply : List ℕ)

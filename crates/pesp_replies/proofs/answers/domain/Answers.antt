@@ -1,5 +1,5 @@
 -- The residues of the event's row are those of its domain.
-use Rattle.std.proofs.Common.{◌∙◌, refl}
+use Rattle.std.proofs.Common.{refl}
 use Rattle.pesp_replies.specs.Legal.{work_of}
 use Rattle.pesp_replies.proofs.DomainLemmas.{domain_told}
 use Rattle.pesp_replies.proofs.answers.domain.Goals as goal

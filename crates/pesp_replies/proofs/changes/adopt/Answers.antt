@@ -1,8 +1,7 @@
 -- The optimum that is adopted is the answer, and the instance is as it was.
-use Rattle.std.proofs.Common.{◌≡◌, ℕ, List, Some, Ok, refl, sym, ap, subst}
-use Rattle.pesp_instance.specs.Network.{Network}
+use Rattle.std.proofs.Common.{◌≡◌, ℕ, List, Some, sym, ap, subst}
 use Rattle.pesp_search.specs.declared.answer.Answer.{Answer}
-use Rattle.pesp_search.specs.declared.answer.Answer.TheVariants.{Optimal, Infeasible}
+use Rattle.pesp_search.specs.declared.answer.Answer.TheVariants.{Optimal}
 use Rattle.pesp_search.specs.Optima.{IsAnswer}
 use Rattle.pesp_bench.specs.State.{State}
 use Rattle.pesp_bench.specs.Asked.{IsAdopted}
