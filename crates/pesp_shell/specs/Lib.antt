@@ -1,3 +1,5 @@
 pub mod Checked
-pub mod Replies
+pub mod Opening
+pub mod Runs
+pub mod Sessions
 pub mod Settings

@@ -1,37 +1,37 @@
 //! The check of one timetable.
 
-ghost use Rattle.std.specs.Prelude.{◌≡◌, ◌++◌, IfOk, IfErr, IsErr, OnOk};
+ghost use Rattle.std.specs.Prelude.{◌≡◌, ◌++◌, IfOk, IfErr, OnOk, Some};
 ghost use Rattle.std.specs.Option.{option_copied};
 ghost use Rattle.pesp_instance.specs.Network.{Network};
 ghost use Rattle.pesp_tension.specs.Timetables.{Times};
-ghost use Rattle.pesp_base.specs.declared.refusal.Refusal.TheVariants as no;
-ghost use Rattle.pesp_shell.specs.Checked.{IsCheck, IsCheckFault, check_text, given};
-ghost use Rattle.pesp_shell.specs.Replies.{cost_text, refusal_text, tensions_text, violations_text};
+ghost use Rattle.pesp_replies.specs.Replies.{behind, cost_text, refusal_text, tensions_text, violations_text};
+ghost use Rattle.pesp_shell.specs.Checked.{IsCheck, IsCheckFault, check_text, joined};
+ghost use Rattle.pesp_shell.specs.Opening.{files};
 
-use crate::{RunFault, Source, replies};
+use crate::RunFault;
+use crate::opening::read;
 use pesp_base::{Period, Refusal};
 use pesp_instance::Instance;
+use pesp_replies::{put_cost, put_refusal, put_tensions, put_violations};
 use pesp_tension::{Assessment, Timetable, assess};
-use pesplib_reader::{read_activities, read_fixed, read_times};
 use std::alloc::{AllocError, Global};
 
 /// The replies to `tensions`, `violations` and `cost`.
 fn put_assessment(text: &mut Vec<u8>, assessment: &Assessment) -> Result<(), AllocError>
     ensures { OnOk result (text.new.items ≡ text.old.items ++ (tensions_text assessment.now.tensions.items ++ (violations_text assessment.now.violations.items ++ cost_text assessment.now.cost))) }
 {
-    replies::put_tensions(text, assessment.tensions.as_slice())?;
-    replies::put_violations(text, assessment.violations.as_slice())?;
-    replies::put_cost(text, assessment.cost)
+    put_tensions(text, assessment.tensions.as_slice())?;
+    put_violations(text, assessment.violations.as_slice())?;
+    put_cost(text, assessment.cost)
 }
 
 /// The reply of a refusal of all three.
 fn put_refusals(text: &mut Vec<u8>, refusal: &Refusal) -> Result<(), AllocError>
-    ensures told { OnOk result (text.new.items ≡ text.old.items ++ (refusal_text refusal.now ++ (refusal_text refusal.now ++ refusal_text refusal.now))) }
-    ensures memory { refusal.now ≡ no.Memory → IsErr result }
+    ensures { OnOk result (behind text.old.items (joined (refusal_text refusal.now) (joined (refusal_text refusal.now) (refusal_text refusal.now))) ≡ Some text.new.items) }
 {
-    replies::put_refusal(text, *refusal)?;
-    replies::put_refusal(text, *refusal)?;
-    replies::put_refusal(text, *refusal)
+    put_refusal(text, *refusal)?;
+    put_refusal(text, *refusal)?;
+    put_refusal(text, *refusal)
 }
 
 /// The three replies, which are of one walk over the activities.
@@ -41,7 +41,7 @@ fn told_check(
     timetable: &Timetable,
 ) -> Result<Vec<u8>, AllocError>
     requires { instance.now.period ≡ timetable.now.period }
-    ensures { IfOk result (λ text. text.items ≡ check_text instance.now timetable.now) }
+    ensures { IfOk result (λ text. check_text instance.now timetable.now ≡ Some text.items) }
 {
     let mut text = Vec::new(alloc);
     match assess(alloc, instance, timetable) {
@@ -65,24 +65,11 @@ pub fn check(
     times: Option<&[u8]>,
 ) -> Result<Vec<u8>, RunFault>
     ensures replies { IfOk result (λ text. (I : Network) × (f : Times) × (m : Times)
-        × IsCheck period activities.now (given (option_copied fixed.entry)) (given (option_copied times.entry)) text.items I f m) }
-    ensures fault { IfErr result (IsCheckFault period activities.now (given (option_copied fixed.entry)) (given (option_copied times.entry))) }
+        × IsCheck (files period activities.now (option_copied fixed.entry) (option_copied times.entry)) text.items I f m) }
+    ensures fault { IfErr result (IsCheckFault (files period activities.now (option_copied fixed.entry) (option_copied times.entry))) }
 {
-    let mut instance = match read_activities(alloc, period, activities) {
-        Ok(instance) => instance,
-        Err(fault) => return Err(RunFault::in_file(Source::Activities, fault)),
-    };
-    if let Err(fault) = read_fixed(alloc, &mut instance, fixed.unwrap_or(b"")) {
-        return Err(RunFault::in_file(Source::Fixed, fault));
-    }
-    let timetable = match read_times(alloc, period, times.unwrap_or(b"")) {
-        Ok(timetable) => timetable,
-        Err(fault) => return Err(RunFault::in_file(Source::Times, fault)),
-    };
-    match told_check(alloc, &instance, &timetable) {
-        Ok(text) => Ok(text),
-        Err(_) => Err(RunFault::Memory { line: 0 }),
-    }
+    let (instance, timetable) = read(alloc, period, activities, fixed, times)?;
+    told_check(alloc, &instance, &timetable).map_err(|_| RunFault::Memory { line: 0 })
 }
 
 #[cfg(test)]

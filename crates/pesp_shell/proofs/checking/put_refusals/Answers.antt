@@ -1,0 +1,9 @@
+-- One reply stands behind another, three times.
+use Rattle.pesp_replies.specs.Replies.{refusal_text}
+use Rattle.pesp_shell.proofs.CheckLemmas.{put_thrice}
+use Rattle.pesp_shell.proofs.checking.put_refusals.Goals as goal
+
+pub returns : goal.returns
+returns c =
+    put_thrice c.put_refusal-3.result (refusal_text c.args.refusal.now) c.args.text.now.items c.put_refusal.new.text.items c.put_refusal-2.new.text.items c.put_refusal-3.new.text.items
+    c.in_ok-put_refusal.ensures c.in_ok-put_refusal-2.ensures c.put_refusal-3.ensures
