@@ -1,7 +1,7 @@
 //! The numbers of activities.
 
 ghost use Rattle.std.specs.Prelude.{◌≡◌, ℕ, ◌≤◌, SomeIff};
-ghost use Rattle.pesp_base.specs.declared.limits.TheConstants.{GREATEST_NUMBER};
+ghost use Rattle.pesp_base.specs.Limits.{greatest_number};
 
 use crate::GREATEST_NUMBER;
 use std::marker::Model;
@@ -17,7 +17,7 @@ impl Model for ActivityId {
 
     ghost view = { λ a. a.value };
 
-    ghost invariant = { λ a. a.value ≤ GREATEST_NUMBER };
+    ghost invariant = { λ a. a.value ≤ greatest_number };
 
     ghost inverse = { λ n. record { value = n } };
 }
@@ -25,7 +25,7 @@ impl Model for ActivityId {
 impl ActivityId {
     /// The number, where it is within the limit.
     pub fn new(value: u32) -> Option<ActivityId>
-        ensures { SomeIff result (value ≤ GREATEST_NUMBER) value }
+        ensures { SomeIff result (value ≤ greatest_number) value }
     {
         if value <= GREATEST_NUMBER {
             Some(ActivityId { value })
@@ -36,7 +36,7 @@ impl ActivityId {
 
     pub fn get(self) -> u32
         ensures value { result ≡ self }
-        ensures limit { self ≤ GREATEST_NUMBER }
+        ensures limit { self ≤ greatest_number }
     {
         self.value
     }

@@ -1,6 +1,6 @@
 //! The limits of numbers and counts, in one place.
 
-ghost use Rattle.std.specs.Prelude.{◌≡◌};
+ghost use Rattle.std.specs.Prelude.{◌≡◌, ◌≤◌, ◌*◌};
 ghost use Rattle.pesp_base.specs.Limits as limits;
 
 use crate::Period;
@@ -23,16 +23,22 @@ pub const LEAST_BOUND: i32 = -1_000_000;
 /// The greatest bound of a span.
 pub const GREATEST_BOUND: i32 = 1_000_000;
 
-/// How many events an instance or a timetable of this period may have.
-pub fn max_events(_period: Period) -> usize
-    ensures { result ≡ limits.max_events _period }
+/// How many events an instance or a timetable of this period may have: 20,000, and fewer where events
+/// times period would pass 2,400,000.
+pub fn max_events(period: Period) -> usize
+    ensures value { result ≡ limits.max_events period }
+    ensures few { result ≤ 20000 }
+    ensures small { result * period ≤ 2400000 }
 {
-    20_000
+    (2_400_000 / usize::from(period.get())).min(20_000)
 }
 
-/// How many activities an instance of this period may have.
-pub fn max_activities(_period: Period) -> usize
-    ensures { result ≡ limits.max_activities _period }
+/// How many activities an instance of this period may have: 100,000, and fewer where activities times
+/// period would pass 12,000,000.
+pub fn max_activities(period: Period) -> usize
+    ensures value { result ≡ limits.max_activities period }
+    ensures few { result ≤ 100000 }
+    ensures small { result * period ≤ 12000000 }
 {
-    100_000
+    (12_000_000 / usize::from(period.get())).min(100_000)
 }

@@ -1,7 +1,7 @@
 //! The periods of timetables.
 
 ghost use Rattle.std.specs.Prelude.{◌≡◌, ℕ, ◌≤◌, SomeIff};
-ghost use Rattle.pesp_base.specs.declared.limits.TheConstants.{LEAST_PERIOD, GREATEST_PERIOD};
+ghost use Rattle.pesp_base.specs.Limits.{least_period, greatest_period};
 
 use crate::{GREATEST_PERIOD, LEAST_PERIOD};
 use std::marker::Model;
@@ -17,7 +17,7 @@ impl Model for Period {
 
     ghost view = { λ a. a.value };
 
-    ghost invariant = { λ a. (LEAST_PERIOD ≤ a.value) × (a.value ≤ GREATEST_PERIOD) };
+    ghost invariant = { λ a. (least_period ≤ a.value) × (a.value ≤ greatest_period) };
 
     ghost inverse = { λ n. record { value = n } };
 }
@@ -25,7 +25,7 @@ impl Model for Period {
 impl Period {
     /// The period, where it is within the limits.
     pub fn new(value: u16) -> Option<Period>
-        ensures { SomeIff result ((LEAST_PERIOD ≤ value) × (value ≤ GREATEST_PERIOD)) value }
+        ensures { SomeIff result ((least_period ≤ value) × (value ≤ greatest_period)) value }
     {
         if value >= LEAST_PERIOD && value <= GREATEST_PERIOD {
             Some(Period { value })
@@ -36,7 +36,7 @@ impl Period {
 
     pub fn get(self) -> u16
         ensures value { result ≡ self }
-        ensures limits { (LEAST_PERIOD ≤ self) × (self ≤ GREATEST_PERIOD) }
+        ensures limits { (least_period ≤ self) × (self ≤ greatest_period) }
     {
         self.value
     }

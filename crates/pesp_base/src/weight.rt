@@ -1,7 +1,7 @@
 //! The weights of activities.
 
 ghost use Rattle.std.specs.Prelude.{◌≡◌, ℕ, ◌≤◌, SomeIff};
-ghost use Rattle.pesp_base.specs.declared.limits.TheConstants.{GREATEST_WEIGHT};
+ghost use Rattle.pesp_base.specs.Limits.{greatest_weight};
 
 use crate::GREATEST_WEIGHT;
 use std::marker::Model;
@@ -17,7 +17,7 @@ impl Model for Weight {
 
     ghost view = { λ a. a.value };
 
-    ghost invariant = { λ a. a.value ≤ GREATEST_WEIGHT };
+    ghost invariant = { λ a. a.value ≤ greatest_weight };
 
     ghost inverse = { λ n. record { value = n } };
 }
@@ -25,7 +25,7 @@ impl Model for Weight {
 impl Weight {
     /// The weight, where it is within the limit.
     pub fn new(value: u32) -> Option<Weight>
-        ensures { SomeIff result (value ≤ GREATEST_WEIGHT) value }
+        ensures { SomeIff result (value ≤ greatest_weight) value }
     {
         if value <= GREATEST_WEIGHT {
             Some(Weight { value })
@@ -36,7 +36,7 @@ impl Weight {
 
     pub fn get(self) -> u32
         ensures value { result ≡ self }
-        ensures limit { self ≤ GREATEST_WEIGHT }
+        ensures limit { self ≤ greatest_weight }
     {
         self.value
     }

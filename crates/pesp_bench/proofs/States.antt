@@ -13,7 +13,7 @@ use Rattle.pesp_instance.specs.declared.edit.Edit.{Edit}
 use Rattle.pesp_instance.specs.declared.edit.Edit.TheVariants.{AddEvent, DropEvent, Fix, Unfix, AddActivity, DropActivity, SetSpan, SetWeight, SetEnds}
 use Rattle.pesp_instance.specs.declared.event.Event.{Event}
 use Rattle.pesp_instance.specs.Edited.{edited, effect}
-use Rattle.pesp_instance.specs.Network.{IsNetwork, Network, has_event}
+use Rattle.pesp_instance.specs.Network.{IsNetwork, Network, has_event, new_event}
 use Rattle.pesp_instance.proofs.Rising.{Rises, Rises-from_increasing, increasing_from_rises}
 use Rattle.pesp_tension.specs.Timetables.{IsRefusalBy, IsSetRefusal, Times, set_time, time_of, timed_events, with_time, without_time}
 use Rattle.pesp_domains.proofs.Edits.{accepted, effect_is, has_out, has_put, keeps_fix, keeps_unfix}
@@ -24,6 +24,7 @@ use Rattle.pesp_search.specs.Optima.{IsOptimum}
 use Rattle.pesp_instance.proofs.Tables.{same_test}
 use Rattle.pesp_bench.specs.State.{IsState, IsTimeRefusal, State, timed_state, times_after}
 use Rattle.pesp_bench.proofs.Entries.{found, found_put, found_without, key, put_last, rises_put, rises_without, room}
+use Rattle.pesp_base.proofs.Orders.{nat_le_not}
 
 -- the events that have a time ascend
 ascend : (I : Network) (pushed : List Pair) (m : Times) (known : Option Answer) → IsState I pushed m known → Rises key m.entries
@@ -35,7 +36,7 @@ ascend I pushed m known s = Rises-from_increasing key m.entries s.rising
 events_stay : (I : Network) (edit : Edit) (m : Times) → Rises key m.entries → ((q : ℕ) → IsSome (time_of m q) → IsTrue (has_event I q))
     → (q : ℕ) → IsSome (time_of (times_after edit m) q) → IsTrue (has_event (effect I edit) q)
 events_stay I (AddEvent e) m rises each q some =
-    let v : Event = record { id = e; fixed = None } in
+    let v : Event = new_event e in
     rw (has_put I.events v q) (elim (q == e) as (λ b. IsTrue (cond b true (has_event I q))) [ true ↦ refl | false ↦ each q some ])
 events_stay I (DropEvent e) m rises each q some =
     let w = found_without e q m.entries rises some in
@@ -131,9 +132,6 @@ pub after_set : (I : Network) (pushed : List Pair) (m n : Times) (known : Option
 after_set I pushed m n known e t (Ok done) s is ok same = after_time I pushed m n known e t s is (accepted (faults m e t) (with_time m e t) n ok)
 after_set I pushed m n known e t (Err refusal) s is ok same = rw same s
 
-nat_le_not : (n m : ℕ) → m < n → nat_le n m ≡ false
-nat_le_not n m l = grind (arith, l)
-
 -- why a time is not set
 pub set_refused : (s : State) (pushed : List Pair) (e t : ℕ) (answer : Result (Unit {0}) Refusal)
     → IsState s.instance pushed s.times s.known → IsNetwork s.instance → IsTrue (has_event s.instance e)
@@ -148,7 +146,8 @@ set_refused s pushed e t (Err refusal) st network is err = by (nat_le s.times.pe
         by_time (Some u) at = refl
         by_time None at =
             let l = room s.times.entries s.instance.events e t (ascend s.instance pushed s.times s.known st) (Rises-from_increasing (λ x. x.id) s.instance.events network.events_rise) st.events is at in
-            nat_le_not (max_events s.times.period) (length s.times.entries) (let k = network.few_events in omega (arith, l, k))
+            let few : length s.times.entries < max_events s.instance.period = let k = network.few_events in omega (arith, l, k) in
+            rw st.period (nat_le_not (max_events s.instance.period) (length s.times.entries) few)
 
     state_is : timed_state s e t ≡ unless_refused (when (nat_le s.times.period t) (no.TimeOutOfRange t) ∷ []) (record s { times = with_time s.times e t })
     state_is = rw (is, st.period) refl

@@ -5,7 +5,6 @@ mod edits;
 mod searches;
 
 ghost use Rattle.std.specs.Prelude.{◌≡◌, ℕ, [], None, IsTrue, IsSome, IfSome, option_copied};
-ghost use Rattle.pesp_instance.specs.Network.{IsNetwork};
 ghost use Rattle.pesp_instance.specs.Network.{has_event};
 ghost use Rattle.pesp_tension.specs.Timetables.{no_times, time_of};
 ghost use Rattle.pesp_search.specs.Optima.{IsAnswer};

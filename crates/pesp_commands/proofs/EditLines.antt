@@ -2,10 +2,11 @@
 use Rattle.std.proofs.Common.{ℕ, ◌≤◌, [], ◌∷◌, codes, decimal, pos, refl, arith}
 use Rattle.std.proofs.lemmas.Int.{ints}
 use Rattle.pesp_base.specs.declared.activity.Activity.{Activity}
-use Rattle.pesp_base.specs.declared.limits.TheConstants.{GREATEST_NUMBER, GREATEST_WEIGHT}
+use Rattle.pesp_base.specs.Limits.{greatest_number, greatest_weight}
+use Rattle.pesp_instance.specs.declared.edit.Edit.{Edit}
 use Rattle.pesp_instance.specs.declared.edit.Edit.TheVariants.{AddActivity, AddEvent, Fix}
 use Rattle.pesp_instance.specs.Network.{IsActivity}
-use Rattle.pesplib_writer.specs.Script.{activity_line, event_line, fix_entry, fix_line}
+use Rattle.pesplib_writer.specs.Script.{edit_line}
 use Rattle.pesplib_writer.specs.Texts.{activity_fields}
 use Rattle.pesp_commands.specs.declared.command.Command.TheVariants as command
 use Rattle.pesp_commands.specs.declared.parsing.TheConstants.{GREATEST_TIME}
@@ -28,8 +29,8 @@ name_activity : IsPlain (codes "activity")
 name_activity = plain_name (codes "activity") refl refl (omega arith) (omega arith)
 
 -- the number of an event or an activity
-id_number : (n : ℕ) → n ≤ GREATEST_NUMBER → IsNumber id (decimal n) (pos n)
-id_number n h = decimal_number GREATEST_NUMBER n h (omega arith)
+id_number : (n : ℕ) → n ≤ greatest_number → IsNumber id (decimal n) (pos n)
+id_number n h = decimal_number greatest_number n h (omega arith)
 
 -- the forms of the three edits that scripts have
 abbrev add_event : Form
@@ -43,24 +44,28 @@ add_activity =
     with_span (codes "add activity") (id ∷ id ∷ id ∷ bound ∷ bound ∷ weight ∷ []) 3
     (λ ns. command.Edit (AddActivity (record { id = natural ns 0; from = natural ns 1; to = natural ns 2; span = span_at ns 3; weight = natural ns 5 })))
 
+-- the line of an edit says the edit
+abbrev pub Says : Edit → Type 0
+Says edit = SaysEdit edit (edit_line edit)
+
 -- an event is added
-pub event_says : (e : ℕ) → e ≤ GREATEST_NUMBER → SaysEdit (AddEvent e) (event_line e)
+pub event_says : (e : ℕ) → e ≤ greatest_number → Says (AddEvent e)
 event_says e h =
     says_form add_event (AddEvent e) (decimal e ∷ []) (pos e ∷ []) (name_add, (name_event, tt)) (one_more (id_number e h) none) (omega arith) refl refl refl
 
 -- an event's time is fixed
-pub fix_says : (x : ℕ × ℕ) → x.0 ≤ GREATEST_NUMBER → x.1 ≤ GREATEST_TIME → SaysEdit (fix_entry x) (fix_line x)
-fix_says x h t =
-    says_form fix (fix_entry x) (decimal x.0 ∷ decimal x.1 ∷ []) (pos x.0 ∷ pos x.1 ∷ []) (name_fix, tt)
-    (one_more (id_number x.0 h) (one_more (decimal_number GREATEST_TIME x.1 t (omega arith)) none)) (omega arith) refl refl refl
+pub fix_says : (e t : ℕ) → e ≤ greatest_number → t ≤ GREATEST_TIME → Says (Fix e t)
+fix_says e t number time =
+    says_form fix (Fix e t) (decimal e ∷ decimal t ∷ []) (pos e ∷ pos t ∷ []) (name_fix, tt)
+    (one_more (id_number e number) (one_more (decimal_number GREATEST_TIME t time (omega arith)) none)) (omega arith) refl refl refl
 
 -- an activity is added
-pub activity_says : (a : Activity) → IsActivity a → a.from ≤ GREATEST_NUMBER → a.to ≤ GREATEST_NUMBER → SaysEdit (AddActivity a) (activity_line a)
+pub activity_says : (a : Activity) → IsActivity a → a.from ≤ greatest_number → a.to ≤ greatest_number → Says (AddActivity a)
 activity_says a is from to =
     says_form add_activity (AddActivity a) (activity_fields a) (pos a.id ∷ pos a.from ∷ pos a.to ∷ a.span.lower ∷ a.span.upper ∷ pos a.weight ∷ [])
     (name_add, (name_activity, tt))
     (one_more (id_number a.id is.number) (one_more (id_number a.from from) (one_more (id_number a.to to)
     (one_more (signed_number a.span.lower is.bounds.above_least (omega (arith, ints, is.bounds.in_order, is.bounds.below_greatest)))
     (one_more (signed_number a.span.upper (omega (arith, ints, is.bounds.above_least, is.bounds.in_order)) is.bounds.below_greatest)
-    (one_more (decimal_number GREATEST_WEIGHT a.weight is.weight (omega arith)) none))))))
+    (one_more (decimal_number greatest_weight a.weight is.weight (omega arith)) none))))))
     (omega arith) refl (not_less a.span.lower a.span.upper is.bounds.in_order) refl

@@ -8,8 +8,8 @@ use Rattle.pesp_commands.specs.declared.command.Command.{Command}
 use Rattle.pesp_commands.specs.declared.name.Name.{Name}
 use Rattle.pesp_commands.specs.declared.parsing.ParseFault.{ParseFault}
 use Rattle.pesp_commands.specs.declared.parsing.ParseFault.TheVariants as fault
-use Rattle.pesp_commands.specs.Forms.{AreBehind, Arguments, as_said, faults_in, first_fault, first_of, form_for, said, unless_faulty, values}
-use Rattle.pesp_commands.specs.Parsed.{Form, arguments, form_faults, form_of, forms, number_faults, number_of, parsed, parsed_by, parsed_words}
+use Rattle.pesp_commands.specs.Forms.{AreBehind, Arguments, as_said, faults_in, first_fault, first_of, said, unless_faulty, values}
+use Rattle.pesp_commands.specs.Parsed.{Form, arguments, form_faults, form_for, form_of, names, number_faults, number_of, parsed, parsed_by, parsed_words}
 use Rattle.pesp_commands.specs.Words.{words_of, texts}
 
 -- ---- a name and the numbers behind it
@@ -72,7 +72,7 @@ found_passes p q (y ∷ xs) x all e = go (q y) (p y) refl all e (λ rest. found_
 is_short : Form → Bool
 is_short form = nat_lt (length form.name + length form.ranges) 9
 
-are_short : list_all is_short forms ≡ true
+are_short : list_all is_short (map form_for names) ≡ true
 unfolding is_short
 are_short = refl
 
@@ -105,7 +105,7 @@ first_words w ws =
           let eight : length (take 8 ws) ≡ 8 = length-take-le 8 ws (omega arith) in
           ap (λ f. parsed_by f (w ∷ take 8 ws)) (form_of-take w ws)
           ∙ too_many (w ∷ take 8 ws) (w ∷ ws) (form_of (w ∷ ws)) (omega arith) (omega arith)
-          (λ form e. found_passes (λ f. starts_with bytes_eq (w ∷ ws) f.name) is_short forms form are_short e)
+          (λ form e. found_passes (λ f. starts_with bytes_eq (w ∷ ws) f.name) is_short (map form_for names) form are_short e)
     ]
 
 -- a word that begins with a hash

@@ -9,7 +9,7 @@ use Rattle.std.proofs.lemmas.Fmt.{decimal_nonempty, length-decimal-le, length_si
 use Rattle.std.proofs.lemmas.Int.{ints}
 use Rattle.pesp_base.proofs.Decimals.{AreBetween, decimal_between, number_value-decimal, number_value-signed_decimal, signed_decimal_between}
 use Rattle.pesp_base.specs.Texts.{number_value}
-use Rattle.pesp_base.specs.declared.limits.TheConstants.{GREATEST_BOUND, LEAST_BOUND}
+use Rattle.pesp_base.specs.Limits.{greatest_bound, least_bound}
 use Rattle.pesp_lines.specs.Lines.{is_line_feed, IsUncut}
 use Rattle.pesp_commands.specs.Words.{is_space}
 use Rattle.pesp_commands.specs.Parsed.{Range, bound}
@@ -96,17 +96,17 @@ decimal_number high n h most = record {
   not_above = not_less (pos n) (pos high) (naturals_in_order n high h);
 }
 
-small_bound : (z : ℤ) → LEAST_BOUND ≤ℤ z → z ≤ℤ GREATEST_BOUND → mag z + 1 < 10 ^ 10
+small_bound : (z : ℤ) → least_bound ≤ℤ z → z ≤ℤ greatest_bound → mag z + 1 < 10 ^ 10
 small_bound (pos n) low high = omega (arith, ints, high)
 small_bound (negsuc n) low high = omega (arith, ints, low)
 
 -- a bound of a span
-pub signed_number : (z : ℤ) → LEAST_BOUND ≤ℤ z → z ≤ℤ GREATEST_BOUND → IsNumber bound (signed_decimal z) z
+pub signed_number : (z : ℤ) → least_bound ≤ℤ z → z ≤ℤ greatest_bound → IsNumber bound (signed_decimal z) z
 signed_number z low high =
     let small : mag z + 1 < 10 ^ 10 = small_bound z low high in
     record {
       plain = plain_signed z small;
       reads = number_value-signed_decimal z (omega (arith, small));
-      not_below = not_less LEAST_BOUND z low;
-      not_above = not_less z GREATEST_BOUND high;
+      not_below = not_less least_bound z low;
+      not_above = not_less z greatest_bound high;
     }

@@ -1,47 +1,17 @@
 -- The forms of commands by their names, and the first fault of the numbers behind a name.
-use Rattle.std.specs.Prelude.{ℕ, ◌+◌, ◌≡◌, ◌≤◌, Bool, not, ◌==◌, int_lt, List, [], ◌∷◌, ◌++◌, length, map, slice_index_or, ℤ, unsigned_abs, Option, Some, None, option_map, bytes_eq, Result, Ok, Err}
+use Rattle.std.specs.Prelude.{ℕ, ◌+◌, ◌≡◌, ◌≤◌, Bool, not, ◌==◌, int_lt, List, [], ◌∷◌, ◌++◌, length, map, ℤ, unsigned_abs, Option, Some, None, option_map, bytes_eq, Result, Ok, Err}
+use Rattle.std.specs.Borrow.{Bor}
 use Rattle.std.specs.List.{starts_with}
 use Rattle.pesp_base.specs.declared.activity.Activity.{Activity}
 use Rattle.pesp_base.specs.Numbers.{number_in}
 use Rattle.pesp_base.specs.Refusals.{when}
 use Rattle.pesp_commands.specs.declared.command.Command.{Command}
-use Rattle.pesp_commands.specs.declared.command.Command.TheVariants as command
 use Rattle.pesp_commands.specs.declared.name.Name.{Name}
-use Rattle.pesp_commands.specs.declared.name.Name.TheVariants as name
 use Rattle.pesp_commands.specs.declared.numbers.ActivityWords.{ActivityWords}
 use Rattle.pesp_commands.specs.declared.parsing.ParseFault.{ParseFault}
 use Rattle.pesp_commands.specs.declared.parsing.ParseFault.TheVariants as fault
-use Rattle.pesp_commands.specs.Parsed.{Range, Form, arguments, fault_at, forms, bound, id, number_faults, number_of, plain, weight}
-
--- the place of a name's form among the forms
-abbrev pub place_of : Name → ℕ
-place_of name.AddEvent = 0
-place_of name.DropEvent = 1
-place_of name.Fix = 2
-place_of name.Unfix = 3
-place_of name.AddActivity = 4
-place_of name.DropActivity = 5
-place_of name.Span = 6
-place_of name.Weight = 7
-place_of name.Ends = 8
-place_of name.Time = 9
-place_of name.Untime = 10
-place_of name.Adopt = 11
-place_of name.Domain = 12
-place_of name.Domains = 13
-place_of name.Tensions = 14
-place_of name.Violations = 15
-place_of name.Cost = 16
-place_of name.Optimum = 17
-place_of name.Try = 18
-place_of name.Dump = 19
-
--- a form that no name has
-abbrev pub no_form : Form
-no_form = plain [] [] (λ ns. command.Dump)
-
-abbrev pub form_for : Name → Form
-form_for name = slice_index_or forms (place_of name) no_form
+use Rattle.pesp_commands.specs.Parsed.{Range, Form, arguments, fault_at, form_for, bound, id, number_faults, number_of, weight}
+use Rattle.pesp_commands.specs.Words.{texts}
 
 -- the words behind a command's name, the first of which stands at a place of the line
 pub record Arguments : Type 0 where
@@ -107,6 +77,11 @@ begins_with words form = starts_with bytes_eq words form.name
 -- the form of a name that was found
 abbrev pub form_found : Option (Name × Arguments) → Option Form
 form_found found = option_map (λ p. form_for p.0) found
+
+-- the words of a command are those of its form, of which there are two at most
+pub record IsNamed (row : Bor (List (Bor (List ℕ))) × Name) : Type 0 where
+  pub words : texts row.0.now ≡ (form_for row.1).name
+  pub few : length row.0.now ≤ 2
 
 -- the words behind a form's name
 pub record AreBehind (line : List (List ℕ)) (form : Form) (a : Arguments) : Type 0 where

@@ -3,7 +3,7 @@ use Rattle.std.specs.Prelude.{ℕ, ◌+◌, Bool, false, not, ◌==◌, int_lt, 
 use Rattle.std.specs.List.{starts_with}
 use Rattle.pesp_base.specs.declared.activity.Activity.{Activity}
 use Rattle.pesp_base.specs.Bounds.{Bounds}
-use Rattle.pesp_base.specs.declared.limits.TheConstants.{GREATEST_NUMBER, GREATEST_WEIGHT, LEAST_BOUND, GREATEST_BOUND}
+use Rattle.pesp_base.specs.Limits.{greatest_number, greatest_weight, least_bound, greatest_bound}
 use Rattle.pesp_base.specs.declared.number.NumberFault.{NumberFault}
 use Rattle.pesp_base.specs.declared.number.NumberFault.TheVariants as number
 use Rattle.pesp_base.specs.Numbers.{number_in}
@@ -12,9 +12,10 @@ use Rattle.pesp_base.specs.Texts.{number_value}
 use Rattle.pesp_instance.specs.declared.edit.Edit.TheVariants.{AddEvent, DropEvent, Fix, Unfix, AddActivity, DropActivity, SetSpan, SetWeight, SetEnds}
 use Rattle.pesp_commands.specs.declared.command.Command.{Command}
 use Rattle.pesp_commands.specs.declared.command.Command.TheVariants as command
+use Rattle.pesp_commands.specs.declared.name.Name.{Name}
+use Rattle.pesp_commands.specs.declared.name.Name.TheVariants as name
 use Rattle.pesp_commands.specs.declared.parsing.ParseFault.{ParseFault}
 use Rattle.pesp_commands.specs.declared.parsing.ParseFault.TheVariants as fault
-use Rattle.pesp_commands.specs.declared.parsing.TheConstants.{GREATEST_TIME, GREATEST_LIMIT}
 use Rattle.pesp_commands.specs.Words.{words_of}
 
 -- the least and the greatest number that a word may be
@@ -24,20 +25,20 @@ pub record Range : Type 0 where
 
 -- the number of an event or an activity
 abbrev pub id : Range
-id = record { low = pos 0; high = pos GREATEST_NUMBER }
+id = record { low = pos 0; high = pos greatest_number }
 
 abbrev pub bound : Range
-bound = record { low = LEAST_BOUND; high = GREATEST_BOUND }
+bound = record { low = least_bound; high = greatest_bound }
 
 abbrev pub weight : Range
-weight = record { low = pos 0; high = pos GREATEST_WEIGHT }
+weight = record { low = pos 0; high = pos greatest_weight }
 
 abbrev pub time : Range
-time = record { low = pos 0; high = pos GREATEST_TIME }
+time = record { low = pos 0; high = pos 65535 }
 
 -- the nodes that a search may visit
 abbrev pub limit : Range
-limit = record { low = pos 0; high = pos GREATEST_LIMIT }
+limit = record { low = pos 0; high = pos 1000000000000 }
 
 -- a command's name, the ranges of the numbers behind it, whether these are two crossed bounds, and the command that they make
 pub record Form : Type 0 where
@@ -83,29 +84,36 @@ plain name ranges made = record { name = words_of name; ranges = ranges; is_cros
 abbrev pub with_span : List ℕ → List Range → ℕ → (List ℤ → Command) → Form
 with_span name ranges k made = record { name = words_of name; ranges = ranges; is_crossed = crosses_at k; made = made }
 
--- the commands
-abbrev pub forms : List Form
-forms =
-    plain (codes "add event") (id ∷ []) (λ ns. command.Edit (AddEvent (natural ns 0)))
-    ∷ plain (codes "drop event") (id ∷ []) (λ ns. command.Edit (DropEvent (natural ns 0)))
-    ∷ plain (codes "fix") (id ∷ time ∷ []) (λ ns. command.Edit (Fix (natural ns 0) (natural ns 1)))
-    ∷ plain (codes "unfix") (id ∷ []) (λ ns. command.Edit (Unfix (natural ns 0)))
-    ∷ with_span (codes "add activity") activity_ranges 3 (λ ns. command.Edit (AddActivity (activity_of ns)))
-    ∷ plain (codes "drop activity") (id ∷ []) (λ ns. command.Edit (DropActivity (natural ns 0)))
-    ∷ with_span (codes "span") (id ∷ bound ∷ bound ∷ []) 1 (λ ns. command.Edit (SetSpan (natural ns 0) (span_at ns 1)))
-    ∷ plain (codes "weight") (id ∷ weight ∷ []) (λ ns. command.Edit (SetWeight (natural ns 0) (natural ns 1)))
-    ∷ plain (codes "ends") (id ∷ id ∷ id ∷ []) (λ ns. command.Edit (SetEnds (natural ns 0) (natural ns 1) (natural ns 2)))
-    ∷ plain (codes "time") (id ∷ time ∷ []) (λ ns. command.Time (natural ns 0) (natural ns 1))
-    ∷ plain (codes "untime") (id ∷ []) (λ ns. command.Untime (natural ns 0))
-    ∷ plain (codes "adopt") [] (λ ns. command.Adopt)
-    ∷ plain (codes "domain") (id ∷ []) (λ ns. command.Domain (natural ns 0))
-    ∷ plain (codes "domains") [] (λ ns. command.Domains)
-    ∷ plain (codes "tensions") [] (λ ns. command.Tensions)
-    ∷ plain (codes "violations") [] (λ ns. command.Violations)
-    ∷ plain (codes "cost") [] (λ ns. command.Cost)
-    ∷ plain (codes "optimum") [] (λ ns. command.Optimum)
-    ∷ plain (codes "try") (limit ∷ []) (λ ns. command.TryOptimum (natural ns 0))
-    ∷ plain (codes "dump") [] (λ ns. command.Dump) ∷ []
+-- the form of each command
+abbrev pub form_for : Name → Form
+form_for name.AddEvent = plain (codes "add event") (id ∷ []) (λ ns. command.Edit (AddEvent (natural ns 0)))
+form_for name.DropEvent = plain (codes "drop event") (id ∷ []) (λ ns. command.Edit (DropEvent (natural ns 0)))
+form_for name.Fix = plain (codes "fix") (id ∷ time ∷ []) (λ ns. command.Edit (Fix (natural ns 0) (natural ns 1)))
+form_for name.Unfix = plain (codes "unfix") (id ∷ []) (λ ns. command.Edit (Unfix (natural ns 0)))
+form_for name.AddActivity = with_span (codes "add activity") activity_ranges 3 (λ ns. command.Edit (AddActivity (activity_of ns)))
+form_for name.DropActivity = plain (codes "drop activity") (id ∷ []) (λ ns. command.Edit (DropActivity (natural ns 0)))
+form_for name.Span = with_span (codes "span") (id ∷ bound ∷ bound ∷ []) 1 (λ ns. command.Edit (SetSpan (natural ns 0) (span_at ns 1)))
+form_for name.Weight = plain (codes "weight") (id ∷ weight ∷ []) (λ ns. command.Edit (SetWeight (natural ns 0) (natural ns 1)))
+form_for name.Ends = plain (codes "ends") (id ∷ id ∷ id ∷ []) (λ ns. command.Edit (SetEnds (natural ns 0) (natural ns 1) (natural ns 2)))
+form_for name.Time = plain (codes "time") (id ∷ time ∷ []) (λ ns. command.Time (natural ns 0) (natural ns 1))
+form_for name.Untime = plain (codes "untime") (id ∷ []) (λ ns. command.Untime (natural ns 0))
+form_for name.Adopt = plain (codes "adopt") [] (λ ns. command.Adopt)
+form_for name.Domain = plain (codes "domain") (id ∷ []) (λ ns. command.Domain (natural ns 0))
+form_for name.Domains = plain (codes "domains") [] (λ ns. command.Domains)
+form_for name.Tensions = plain (codes "tensions") [] (λ ns. command.Tensions)
+form_for name.Violations = plain (codes "violations") [] (λ ns. command.Violations)
+form_for name.Cost = plain (codes "cost") [] (λ ns. command.Cost)
+form_for name.Optimum = plain (codes "optimum") [] (λ ns. command.Optimum)
+form_for name.Try = plain (codes "try") (limit ∷ []) (λ ns. command.TryOptimum (natural ns 0))
+form_for name.Dump = plain (codes "dump") [] (λ ns. command.Dump)
+
+-- the commands, none left out
+abbrev pub names : List Name
+names =
+    name.AddEvent ∷ name.DropEvent ∷ name.Fix ∷ name.Unfix ∷ name.AddActivity
+    ∷ name.DropActivity ∷ name.Span ∷ name.Weight ∷ name.Ends ∷ name.Time
+    ∷ name.Untime ∷ name.Adopt ∷ name.Domain ∷ name.Domains ∷ name.Tensions
+    ∷ name.Violations ∷ name.Cost ∷ name.Optimum ∷ name.Try ∷ name.Dump ∷ []
 
 -- the fault of the k-th word, which is no number or one outside its range
 abbrev pub fault_at : ℕ → Result ℤ NumberFault → Option ParseFault
@@ -141,7 +149,7 @@ parsed_by (Some form) words = unless_refused (form_faults form words) (Some (for
 
 -- the form whose name the words begin with
 abbrev pub form_of : List (List ℕ) → Option Form
-form_of words = find (λ form. starts_with bytes_eq words form.name) forms
+form_of words = find (λ form. starts_with bytes_eq words form.name) (map form_for names)
 
 -- what words say: nothing where there is none or the first begins with a hash
 abbrev pub parsed_words : List (List ℕ) → Result (Option Command) ParseFault

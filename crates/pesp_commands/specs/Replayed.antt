@@ -1,19 +1,18 @@
 -- What a script makes of the instance without events.
-use Rattle.std.specs.Prelude.{◌≡◌, ◌⊎◌, ℕ, ◌+◌, ◌<◌, ◌≤◌, nat_lt, Bool, true, false, List, [], ◌∷◌, map, length, Option, Some, None, Result, Ok, Err, IfErr, MatchResult}
+use Rattle.std.specs.Prelude.{◌≡◌, ◌⊎◌, ℕ, ◌+◌, ◌-◌, ◌<◌, ◌≤◌, nat_lt, Bool, true, false, IsTrue, List, [], ◌∷◌, map, length, slice_index_or, Option, Some, None, Result, Ok, Err, IfErr, MatchResult}
 use Rattle.pesp_base.specs.declared.refusal.Refusal.{Refusal}
 use Rattle.pesp_base.specs.declared.refusal.Refusal.TheVariants as no
 use Rattle.pesp_instance.specs.declared.edit.Edit.{Edit}
 use Rattle.pesp_instance.specs.Network.{Network, IsNetwork}
-use Rattle.pesp_instance.specs.Edited.{edited, empty_network}
+use Rattle.pesp_instance.specs.Edited.{edited, empty_network, grows}
 use Rattle.pesplib_writer.specs.Script.{script, script_edits, script_head, script_lines}
 use Rattle.pesp_commands.specs.declared.command.Command.{Command}
 use Rattle.pesp_commands.specs.declared.command.Command.TheVariants as command
-use Rattle.pesp_lines.specs.declared.limits.TheConstants.{MOST_LINES, LONGEST_LINE}
 use Rattle.pesp_commands.specs.declared.parsing.ParseFault.{ParseFault}
 use Rattle.pesp_commands.specs.declared.replaying.ReplayFault.{ReplayFault}
 use Rattle.pesp_commands.specs.declared.replaying.ReplayKind.{ReplayKind}
 use Rattle.pesp_commands.specs.declared.replaying.ReplayKind.TheVariants as kind
-use Rattle.pesp_lines.specs.Lines.{lines_of}
+use Rattle.pesp_lines.specs.Lines.{lines_of, longest_line, most_lines}
 use Rattle.pesp_commands.specs.Parsed.{parsed}
 
 -- an edited instance, or its refusal as a script's fault
@@ -36,7 +35,7 @@ within_limits false false after = after
 
 -- the instance after the n-th line
 abbrev pub after_line : ℕ → Network → List ℕ → Result Network ReplayKind
-after_line n I line = within_limits (nat_lt MOST_LINES n) (nat_lt LONGEST_LINE (length line)) (after_said I (parsed line))
+after_line n I line = within_limits (nat_lt most_lines n) (nat_lt longest_line (length line)) (after_said I (parsed line))
 
 -- what comes of the instance after the n-th line, or that line's fault
 abbrev pub on_line : ℕ → (Network → Result Network ReplayFault) → Result Network ReplayKind → Result Network ReplayFault
@@ -52,25 +51,36 @@ replayed_from n I (line ∷ lines) = on_line n (λ J. replayed_from (n + 1) J li
 abbrev pub replayed : ℕ → List ℕ → Result Network ReplayFault
 replayed period bytes = replayed_from 1 (empty_network period) (lines_of bytes)
 
--- want of memory at one of the lines, before which none is faulty
-pub record IsMemoryFault (lines : ℕ) (stands : Result Network ReplayFault) (found : ReplayFault) : Type 0 where
+-- whether what a line says is an edit that may need memory
+abbrev pub may_grow : Result (Option Command) ParseFault → Bool
+may_grow (Ok (Some (command.Edit edit))) = grows edit
+may_grow other = false
+
+-- the line of a number, from 1
+abbrev pub line_at : List (List ℕ) → ℕ → List ℕ
+line_at lines n = slice_index_or lines (n - 1) []
+
+-- want of memory at one of the lines, an edit that may grow: neither it nor a line before it is faulty
+pub record IsMemoryFault (lines : List (List ℕ)) (stands : Result Network ReplayFault) (found : ReplayFault) : Type 0 where
   pub kind : found.kind ≡ kind.Refused no.Memory
   pub from_one : 0 < found.line
-  pub in_script : found.line ≤ lines
-  pub none_before : IfErr stands (λ first. found.line ≤ first.line)
+  pub in_script : found.line ≤ length lines
+  pub grows : IsTrue (may_grow (parsed (line_at lines found.line)))
+  pub none_faulty : IfErr stands (λ first. found.line < first.line)
 
 -- the fault of a script's first faulty line, or want of memory
 abbrev pub IsReplayFault : List ℕ → Result Network ReplayFault → ReplayFault → Type 0
-IsReplayFault bytes stands found = (stands ≡ Err found) ⊎ IsMemoryFault (length (lines_of bytes)) stands found
+IsReplayFault bytes stands found = (stands ≡ Err found) ⊎ IsMemoryFault (lines_of bytes) stands found
 
 -- a line that says an edit
 abbrev pub said : Edit → Result (Option Command) ParseFault
 said edit = Ok (Some (command.Edit edit))
 
--- the script of an instance begins with a comment, and each later line says the edit that it was written for
+-- the script of an instance has these lines: a comment, and lines of which each says the edit that it was written for
 pub record IsSaid (I : Network) : Type 0 where
+  pub lines : lines_of (script I) ≡ script_head I ∷ script_lines I
   pub head : parsed (script_head I) ≡ Ok None
-  pub lines : map parsed (script_lines I) ≡ map said (script_edits I)
+  pub edits : map parsed (script_lines I) ≡ map said (script_edits I)
 
 -- where the bytes are the script of an instance, the answer is that instance, or want of memory
 abbrev pub GivesBack : ℕ → List ℕ → Result Network ReplayFault → Type 0

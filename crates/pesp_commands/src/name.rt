@@ -1,13 +1,14 @@
 //! The names of commands.
 
-ghost use Rattle.std.specs.Prelude.{◌≡◌, ◌≤◌, find, is_some, length, map, IfSome};
-ghost use Rattle.pesp_commands.specs.Forms.{AreBehind, begins_with, form_for, form_found};
-ghost use Rattle.pesp_commands.specs.Parsed.{form_of};
+ghost use Rattle.std.specs.Prelude.{◌≡◌, ◌≤◌, ◌+◌, All, bytes_eq, drop, find, is_some, length, map, IfSome};
+ghost use Rattle.std.specs.List.{starts_with};
+ghost use Rattle.pesp_commands.specs.Forms.{AreBehind, IsNamed, begins_with, form_found};
+ghost use Rattle.pesp_commands.specs.Parsed.{form_for, form_of};
 ghost use Rattle.pesp_commands.specs.Words.{texts};
 
 use crate::numbers::Numbers;
 
-/// The commands, in the order in which they are looked for.
+/// The commands.
 #[derive(Clone, Copy)]
 pub(crate) enum Name {
     AddEvent,
@@ -32,80 +33,56 @@ pub(crate) enum Name {
     Dump,
 }
 
-const NAMES: [Name; 20] = [
-    Name::AddEvent,
-    Name::DropEvent,
-    Name::Fix,
-    Name::Unfix,
-    Name::AddActivity,
-    Name::DropActivity,
-    Name::Span,
-    Name::Weight,
-    Name::Ends,
-    Name::Time,
-    Name::Untime,
-    Name::Adopt,
-    Name::Domain,
-    Name::Domains,
-    Name::Tensions,
-    Name::Violations,
-    Name::Cost,
-    Name::Optimum,
-    Name::Try,
-    Name::Dump,
+/// The words of each command, in the order in which they are looked for.
+const NAMES: [(&[&[u8]], Name); 20] = [
+    (&[b"add", b"event"], Name::AddEvent),
+    (&[b"drop", b"event"], Name::DropEvent),
+    (&[b"fix"], Name::Fix),
+    (&[b"unfix"], Name::Unfix),
+    (&[b"add", b"activity"], Name::AddActivity),
+    (&[b"drop", b"activity"], Name::DropActivity),
+    (&[b"span"], Name::Span),
+    (&[b"weight"], Name::Weight),
+    (&[b"ends"], Name::Ends),
+    (&[b"time"], Name::Time),
+    (&[b"untime"], Name::Untime),
+    (&[b"adopt"], Name::Adopt),
+    (&[b"domain"], Name::Domain),
+    (&[b"domains"], Name::Domains),
+    (&[b"tensions"], Name::Tensions),
+    (&[b"violations"], Name::Violations),
+    (&[b"cost"], Name::Cost),
+    (&[b"optimum"], Name::Optimum),
+    (&[b"try"], Name::Try),
+    (&[b"dump"], Name::Dump),
 ];
 
-impl Name {
-    /// The words that stand for the command.
-    fn words(self) -> &'static [&'static [u8]]
-        ensures words { texts result.now ≡ (form_for self).name }
-        ensures few { length result.now ≤ 2 }
-    {
-        match self {
-            Name::AddEvent => &[b"add", b"event"],
-            Name::DropEvent => &[b"drop", b"event"],
-            Name::Fix => &[b"fix"],
-            Name::Unfix => &[b"unfix"],
-            Name::AddActivity => &[b"add", b"activity"],
-            Name::DropActivity => &[b"drop", b"activity"],
-            Name::Span => &[b"span"],
-            Name::Weight => &[b"weight"],
-            Name::Ends => &[b"ends"],
-            Name::Time => &[b"time"],
-            Name::Untime => &[b"untime"],
-            Name::Adopt => &[b"adopt"],
-            Name::Domain => &[b"domain"],
-            Name::Domains => &[b"domains"],
-            Name::Tensions => &[b"tensions"],
-            Name::Violations => &[b"violations"],
-            Name::Cost => &[b"cost"],
-            Name::Optimum => &[b"optimum"],
-            Name::Try => &[b"try"],
-            Name::Dump => &[b"dump"],
-        }
-    }
-
-    /// The words behind the command's own ones, where the words begin with these.
-    fn numbers<'a>(self, words: &'a [&'a [u8]]) -> Option<Numbers<'a>>
-        ensures begins { is_some result ≡ begins_with (texts words.now) (form_for self) }
-        ensures numbers { IfSome result (AreBehind (texts words.now) (form_for self)) }
-    {
-        let own = self.words();
-        if words.starts_with(own) {
-            Some(Numbers::behind(words, own.len()))
-        } else {
-            None
-        }
+/// The words behind a command's own ones, where the words begin with these.
+fn numbers_behind<'a>(own: &'static [&'static [u8]], words: &'a [&'a [u8]]) -> Option<Numbers<'a>>
+    requires { length own.now ≤ 2 }
+    ensures begins { is_some result ≡ starts_with bytes_eq (texts words.now) (texts own.now) }
+    ensures within { IfSome result (λ _. length own.now ≤ length words.now) }
+    ensures words { IfSome result (λ a. a.words ≡ drop (length own.now) (texts words.now)) }
+    ensures place { IfSome result (λ a. a.place ≡ length own.now + 1) }
+{
+    if words.starts_with(&*own) {
+        Some(Numbers::behind(words, own.len()))
+    } else {
+        None
     }
 }
 
 /// The first of the commands that the words name, and the words behind its name.
-fn first_named<'a>(names: &[Name], words: &'a [&'a [u8]]) -> Option<(Name, Numbers<'a>)>
-    ensures form { form_found result ≡ find (begins_with (texts words.now)) (map form_for names.now) }
+fn first_named<'a>(
+    names: &[(&'static [&'static [u8]], Name)],
+    words: &'a [&'a [u8]],
+) -> Option<(Name, Numbers<'a>)>
+    requires { All IsNamed names.now }
+    ensures form { form_found result ≡ find (begins_with (texts words.now)) (map (λ row. form_for row.1) names.now) }
     ensures numbers { IfSome result (λ p. AreBehind (texts words.now) (form_for p.0) p.1) }
 {
-    for name in names {
-        if let Some(numbers) = name.numbers(words) {
+    for (own, name) in names {
+        if let Some(numbers) = numbers_behind(own, words) {
             return Some((*name, numbers));
         }
     }

@@ -1,7 +1,7 @@
 //! One word of a command as a number.
 
 ghost use Rattle.std.specs.Prelude.{◌≡◌, ◌≤◌, ◌≤ℤ◌, ◌<ℤ◌, pos, neg_ℤ, unsigned_abs, IfOk, IfErr, None, Some};
-ghost use Rattle.pesp_base.specs.declared.limits.TheConstants.{LEAST_BOUND, GREATEST_BOUND};
+ghost use Rattle.pesp_base.specs.Limits.{least_bound, greatest_bound};
 ghost use Rattle.pesp_base.specs.declared.number.TheConstants.{NUMBER_CAP};
 ghost use Rattle.pesp_commands.specs.declared.parsing.TheConstants.{GREATEST_LIMIT};
 ghost use Rattle.pesp_commands.specs.Forms.{word_fault};
@@ -82,7 +82,7 @@ pub(crate) fn time_at(place: u8, word: &[u8]) -> Result<u16, ParseFault>
 pub(crate) fn bound_at(place: u8, word: &[u8]) -> Result<i32, ParseFault>
     ensures no_fault { IfOk result (λ bound. word_fault place ranges.bound word.now ≡ None) }
     ensures value { IfOk result (λ bound. bound ≡ number_of word.now) }
-    ensures within { IfOk result (λ bound. (LEAST_BOUND ≤ℤ bound) × (bound ≤ℤ GREATEST_BOUND)) }
+    ensures within { IfOk result (λ bound. (least_bound ≤ℤ bound) × (bound ≤ℤ greatest_bound)) }
     ensures fault { IfErr result (λ fault. word_fault place ranges.bound word.now ≡ Some fault) }
 {
     let number = number_at(

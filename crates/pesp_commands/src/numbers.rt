@@ -1,7 +1,7 @@
 //! The numbers behind a command's name.
 
 ghost use Rattle.std.specs.Prelude.{◌≡◌, ◌≤◌, ◌≤ℤ◌, IfOk, IfErr, None, Some, false, true, int_lt};
-ghost use Rattle.pesp_base.specs.declared.limits.TheConstants.{LEAST_BOUND, GREATEST_BOUND};
+ghost use Rattle.pesp_base.specs.Limits.{least_bound, greatest_bound};
 ghost use Rattle.pesp_commands.specs.declared.parsing.ParseFault.TheVariants as says;
 ghost use Rattle.pesp_commands.specs.Forms.{Arguments, activity_faults, activity_from, first_of};
 ghost use Rattle.pesp_commands.specs.Words.{texts};
@@ -13,8 +13,8 @@ use std::marker::Model;
 
 /// The span of two bounds that are within the limits.
 fn span_between(lower: i32, upper: i32) -> Result<Span, ParseFault>
-    requires above_least { (LEAST_BOUND ≤ℤ lower) × (LEAST_BOUND ≤ℤ upper) }
-    requires below_greatest { (lower ≤ℤ GREATEST_BOUND) × (upper ≤ℤ GREATEST_BOUND) }
+    requires above_least { (least_bound ≤ℤ lower) × (least_bound ≤ℤ upper) }
+    requires below_greatest { (lower ≤ℤ greatest_bound) × (upper ≤ℤ greatest_bound) }
     ensures in_order { IfOk result (λ span. int_lt upper lower ≡ false) }
     ensures value { IfOk result (λ span. span ≡ record { lower = lower; upper = upper }) }
     ensures crossed { IfErr result (λ fault. int_lt upper lower ≡ true) }

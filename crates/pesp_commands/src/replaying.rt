@@ -1,9 +1,10 @@
 //! Scripts, which build instances.
 
 ghost use Rattle.std.specs.Prelude.{◌≡◌, Ok, OnOk, IfOk, IfErr};
-ghost use Rattle.pesp_instance.specs.Edited.{edited};
+ghost use Rattle.pesp_instance.specs.Edited.{edited, grows};
 ghost use Rattle.pesp_commands.specs.LineFaults.{IsLineFault};
-ghost use Rattle.pesp_commands.specs.Replayed.{after_line, or_refused, replayed, IsReplayFault, GivesBack};
+ghost use Rattle.pesp_commands.specs.Parsed.{parsed};
+ghost use Rattle.pesp_commands.specs.Replayed.{after_line, may_grow, or_refused, replayed, IsReplayFault, GivesBack};
 
 use crate::{Command, ParseFault, parse};
 use pesp_base::{Period, Refusal};
@@ -36,7 +37,7 @@ pub struct ReplayFault {
 /// Makes an edit, or answers its refusal.
 fn make_edit(instance: &mut Instance, edit: &Edit) -> Result<(), ReplayKind>
     ensures ok { OnOk result (or_refused (edited instance.old edit.now) ≡ Ok instance.new) }
-    ensures fault { IfErr result (IsLineFault (or_refused (edited instance.old edit.now))) }
+    ensures fault { IfErr result (IsLineFault (or_refused (edited instance.old edit.now)) (grows edit.now)) }
 {
     match instance.apply(edit) {
         Ok(()) => Ok(()),
@@ -48,7 +49,7 @@ fn make_edit(instance: &mut Instance, edit: &Edit) -> Result<(), ReplayKind>
 /// `NotAnEdit`, `Refused`.
 fn take_line(instance: &mut Instance, number: u64, line: &[u8]) -> Result<(), ReplayKind>
     ensures ok { OnOk result (after_line number instance.old line.now ≡ Ok instance.new) }
-    ensures fault { IfErr result (IsLineFault (after_line number instance.old line.now)) }
+    ensures fault { IfErr result (IsLineFault (after_line number instance.old line.now) (may_grow (parsed line.now))) }
 {
     if number > MOST_LINES {
         return Err(ReplayKind::TooManyLines);

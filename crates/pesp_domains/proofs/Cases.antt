@@ -2,11 +2,10 @@
 use Rattle.std.proofs.Common.{ℕ, ◌==◌, Bool, ℤ, pos, negsuc, refl, List, [], ◌∷◌, map, Some, None}
 use Rattle.std.specs.List.{list_any, range_with_len}
 use Rattle.std.proofs.lemmas.Bool.{false≢true}
-use Rattle.pesp_base.specs.declared.activity.Activity.{Activity}
+use Rattle.pesp_base.proofs.Samples.{signed_arc as arc}
 use Rattle.pesp_instance.specs.declared.edit.Edit.TheVariants as do_
-use Rattle.pesp_instance.specs.declared.event.Event.{Event}
 use Rattle.pesp_instance.specs.Edited.{after, empty_network}
-use Rattle.pesp_instance.specs.Network.{Network}
+use Rattle.pesp_instance.specs.Network.{Network, new_event}
 use Rattle.pesp_domains.specs.declared.pair.Pair.{Pair}
 use Rattle.pesp_domains.specs.Domains.{InDomains, IsDomain}
 use Rattle.pesp_domains.proofs.Sweeps.{swept, swept_row}
@@ -23,20 +22,13 @@ HasDomain I pushes e residues = IsDomain I pushes e (row_of I.period residues)
 abbrev all_ten : List ℕ
 all_ten = range_with_len 0 10
 
--- an activity, in the order of a file's row
-abbrev arc : ℕ → ℕ → ℕ → ℤ → ℤ → ℕ → Activity
-arc id from to lower upper weight = record { id = id; from = from; to = to; span = record { lower = lower; upper = upper }; weight = weight }
-
-abbrev free : ℕ → Event
-free e = record { id = e; fixed = None }
-
 abbrev pair : ℕ → ℕ → Pair
 pair e r = record { event = e; residue = r }
 
 -- ---- two events, and an activity each way between them
 
 abbrev two : Network
-two = record { period = 10; events = free 1 ∷ free 2 ∷ []; activities = arc 1 1 2 (pos 3) (pos 5) 2 ∷ arc 2 2 1 (pos 4) (pos 6) 1 ∷ [] }
+two = record { period = 10; events = new_event 1 ∷ new_event 2 ∷ []; activities = arc 1 1 2 (pos 3) (pos 5) 2 ∷ arc 2 2 1 (pos 4) (pos 6) 1 ∷ [] }
 
 two_rows : HasDomain two [] 1 all_ten × HasDomain two [] 2 all_ten
 two_rows = (swept_row two [] 0 refl 1 _ refl refl, swept_row two [] 0 refl 2 _ refl refl)
@@ -115,7 +107,7 @@ push_empties = (swept_row infeasible one_push 3 refl 1 _ refl refl, swept_row in
 abbrev four : Network
 four = record {
   period = 3;
-  events = free 1 ∷ free 2 ∷ free 3 ∷ free 4 ∷ [];
+  events = new_event 1 ∷ new_event 2 ∷ new_event 3 ∷ new_event 4 ∷ [];
   activities =
       arc 1 1 2 (pos 1) (pos 2) 1 ∷ arc 2 1 3 (pos 1) (pos 2) 1 ∷ arc 3 2 3 (pos 1) (pos 2) 1
       ∷ arc 4 1 4 (pos 1) (pos 2) 1 ∷ arc 5 2 4 (pos 1) (pos 2) 1 ∷ arc 6 3 4 (pos 1) (pos 2) 1 ∷ [];
@@ -137,7 +129,7 @@ loop_row = swept_row loop [] 0 refl 1 _ refl refl
 
 -- from two before to one after
 abbrev negative : Network
-negative = record { period = 10; events = record { id = 1; fixed = Some 0 } ∷ free 2 ∷ []; activities = arc 1 1 2 (negsuc 1) (pos 1) 1 ∷ [] }
+negative = record { period = 10; events = record { id = 1; fixed = Some 0 } ∷ new_event 2 ∷ []; activities = arc 1 1 2 (negsuc 1) (pos 1) 1 ∷ [] }
 
 negative_row : HasDomain negative [] 2 (0 ∷ 1 ∷ 8 ∷ 9 ∷ [])
 negative_row = swept_row negative [] 2 refl 2 _ refl refl

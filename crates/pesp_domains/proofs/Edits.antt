@@ -14,12 +14,10 @@ use Rattle.pesp_instance.specs.declared.edit.Edit.{Edit}
 use Rattle.pesp_instance.specs.declared.edit.Edit.TheVariants.{AddEvent, DropEvent, Fix, Unfix, AddActivity, DropActivity, SetSpan, SetWeight, SetEnds}
 use Rattle.pesp_instance.specs.declared.event.Event.{Event}
 use Rattle.pesp_instance.specs.Edited.{IsRefusal, edited, effect, refusals}
-use Rattle.pesp_instance.specs.Network.{HasEnds, IsNetwork, Network, has_event, is_end_of}
+use Rattle.pesp_instance.specs.Network.{HasEnds, IsNetwork, Network, has_event, is_end_of, new_event}
+use Rattle.pesp_instance.proofs.Numbers.{event_number as number}
 use Rattle.pesp_instance.proofs.Rising.{Rises, Rises-from_increasing, filter_above-above, filter_below-above, length-change_in, length-take_out, with_number-change_in, with_number-put_in, with_number-take_out}
 use Rattle.pesp_domains.specs.Rows.{AreRowsOf, Rows, SetsRow, row_at}
-
-abbrev number : Event → ℕ
-number x = x.id
 
 -- an accepted edit has its effect
 pub accepted : {X E : Type 0} (refusals : List (Option E)) (x y : X) → unless_refused refusals x ≡ Ok y → y ≡ x
@@ -70,7 +68,7 @@ length_if false row other = refl
 
 pub rows_added : (I : Network) (n : ℕ) (before after : Rows) → AreRowsOf I before → SetsRow n (Some (replicate I.period true)) before after → AreRowsOf (effect I (AddEvent n)) after
 rows_added I n before after rows sets e =
-    let v : Event = record { id = n; fixed = None } in
+    let v : Event = new_event n in
     rw (sets e, length_if (e == n) (Some (replicate I.period true)) (row_at before e), length-replicate I.period true, rows e)
     (choose_then (e == n) (has_event I e) I.period ∙ ap (λ b. if b then Some I.period else None) (sym (has_put I.events v e)))
 
@@ -147,7 +145,7 @@ no_activity_at events e (a ∷ activities) ends none =
 
 dropped_again : (I : Network) (e : ℕ) → IsNetwork I → with_number number e I.events ≡ None → edited (effect I (AddEvent e)) (DropEvent e) ≡ Ok I
 dropped_again I e network none =
-    let v : Event = record { id = e; fixed = None } in
+    let v : Event = new_event e in
     let there_is : has_event (effect I (AddEvent e)) e ≡ true = has_put I.events v e ∙ rw (eq-eqb e e refl) refl in
     rw (there_is, no_activity_at I.events e I.activities network.ends none)
     (ap (λ events. Ok (record I { events = events })) (taken_out e None I.events (Rises-from_increasing number I.events network.events_rise) none))
@@ -204,10 +202,6 @@ few_left I J edit ok added = rw (effect_is I J edit ok) (by edit added)
     by (SetSpan n span) added = omega arith
     by (SetWeight n weight) added = omega arith
     by (SetEnds n from to) added = omega arith
-
-pub on_err : {E P : Type 0} (answer : Result (Unit {0}) E) → true ≡ is_err answer → OnErr answer P → P
-on_err (Ok done) is err = absurd (false≢true (sym is))
-on_err (Err e) is err = err
 
 pub drops_not_adds : (edit : Edit) (d : ℕ) → edit ≡ DropEvent d → (e : ℕ) → edit ≡ AddEvent e → ⊥
 drops_not_adds edit d drops e adds = false≢true (ap is_drop (sym adds ∙ drops))

@@ -2,8 +2,9 @@ mod Cases
 pub mod Edits
 pub mod Families
 pub mod Laws
-mod Opened
-mod Passes
-mod Pushes
+pub mod Opened
+pub mod Passes
+pub mod Pushes
+pub mod Removals
 mod RowLaws
 pub mod Sweeps

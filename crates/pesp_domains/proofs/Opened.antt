@@ -6,7 +6,7 @@ use Rattle.std.proofs.lemmas.Bool.{false≢true, cases_eq, eq-eqb, ne_eqb, lt-lt
 use Rattle.std.proofs.lemmas.List.{length-replicate}
 use Rattle.pesp_base.specs.Numbered.{with_number}
 use Rattle.pesp_instance.specs.declared.event.Event.{Event}
-use Rattle.pesp_instance.specs.Network.{Network, agrees_with, fixed_of, has_event}
+use Rattle.pesp_instance.specs.Network.{Network, admits, fixed_of, has_event}
 use Rattle.pesp_domains.specs.declared.pair.Pair.{Pair}
 use Rattle.pesp_domains.specs.Domains.{IsDomain, holds}
 use Rattle.pesp_domains.specs.Rows.{AreRowsOf, HaveSameShape, OpensRow, Rows, SetsRow, has, is_open, row_at}
@@ -70,8 +70,8 @@ opened_all I S same =
       exact = λ e r. (
         (λ h. let w = parts (has_event I e) (is_open (fixed_of I e) I.period r) (sym (same e r) ∙ h) in record {
           of_event = w.0;
-          below = ltb→lt r I.period (subst T (sym (and_left (nat_lt r I.period) (agrees_with (fixed_of I e) r) w.1)) tt);
-          fixed = and_right (nat_lt r I.period) (agrees_with (fixed_of I e) r) w.1;
+          below = ltb→lt r I.period (subst T (sym (and_left (nat_lt r I.period) (admits I e r) w.1)) tt);
+          fixed = and_right (nat_lt r I.period) (admits I e r) w.1;
           pushed = λ s i. absurd (not_in_none _ i);
         }),
         (λ h. same e r ∙ rw (h.of_event, lt-ltb r I.period h.below) h.fixed),

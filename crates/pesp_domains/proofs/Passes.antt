@@ -10,6 +10,7 @@ use Rattle.pesp_domains.specs.declared.side.Side.{Side}
 use Rattle.pesp_domains.specs.declared.side.Side.TheVariants.{Tail, Head}
 use Rattle.pesp_domains.specs.Domains.{InDomains, Joins, other, own}
 use Rattle.pesp_domains.specs.Sweeps.{AreAdmitted, Covers, IsAlone, IsPass, IsSettledAt, Of, Pairs, Settles, Shrinks, all_pairs, held}
+use Rattle.pesp_domains.specs.Removals.{without}
 use Rattle.pesp_domains.proofs.Families.{and_left, count_less, here_or_there, in_all_pairs}
 use Rattle.pesp_domains.proofs.Laws.{InDomains-admitted, InDomains-stands, settled_domains}
 
@@ -53,10 +54,6 @@ pass_then I S S' S'' c c' h k =
 
 -- ---- a pair goes
 
--- the set without a pair
-abbrev pub without : Pairs → ℕ → ℕ → Pairs
-without S event residue e r = S e r && not (e == event && r == residue)
-
 and_same : (a : Bool) → (a && not false) ≡ a
 and_same true = refl
 and_same false = refl
@@ -64,14 +61,14 @@ and_same false = refl
 same_pair : (e r : ℕ) → (e == e && r == r) ≡ true
 same_pair e r = rw (eq-eqb e e refl, eq-eqb r r refl) refl
 
-without_other : (S : Pairs) (event residue e r : ℕ) → (e ≡ event → r ≡ residue → ⊥) → without S event residue e r ≡ S e r
+pub without_other : (S : Pairs) (event residue e r : ℕ) → (e ≡ event → r ≡ residue → ⊥) → without S event residue e r ≡ S e r
 without_other S event residue e r apart =
     elim (cases_eq e event) [
       | inr other ↦ rw (ne_eqb e event other) (and_same (S e r))
       | inl same ↦ rw (eq-eqb e event same, ne_eqb r residue (apart same)) (and_same (S e r))
     ]
 
-without_pair : (S : Pairs) (event residue : ℕ) → without S event residue event residue ≡ false
+pub without_pair : (S : Pairs) (event residue : ℕ) → without S event residue event residue ≡ false
 without_pair S event residue = rw (same_pair event residue) (and_false (S event residue))
   where
     and_false : (b : Bool) → (b && not true) ≡ false

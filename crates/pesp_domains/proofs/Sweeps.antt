@@ -8,7 +8,7 @@ use Rattle.std.proofs.lemmas.List.{get_or_past}
 use Rattle.pesp_base.specs.declared.activity.Activity.{Activity}
 use Rattle.pesp_base.specs.Tensions.{is_met}
 use Rattle.pesp_base.proofs.Laws.{met_is}
-use Rattle.pesp_instance.specs.Network.{Network, agrees_with, fixed_of, has_event}
+use Rattle.pesp_instance.specs.Network.{Network, admits, has_event}
 use Rattle.pesp_instance.proofs.Rising.{length-filter_le}
 use Rattle.pesp_domains.specs.declared.pair.Pair.{Pair}
 use Rattle.pesp_domains.specs.declared.side.Side.{Side}
@@ -48,7 +48,7 @@ agrees_with_all pushes p = list_all (λ q. not (q.event == p.event) || q.residue
 module _ (I : Network) (pushes : List Pair) where
   -- whether the pair is of the instance, and agrees with the fixed time and the pushed residue of its event
   abbrev is_admitted : Pair → Bool
-  is_admitted p = has_event I p.event && nat_lt p.residue I.period && agrees_with (fixed_of I p.event) p.residue && agrees_with_all pushes p
+  is_admitted p = has_event I p.event && nat_lt p.residue I.period && admits I p.event p.residue && agrees_with_all pushes p
 
   -- whether the pair is admitted, and has a partner in the list along each activity at each end that is its event
   abbrev stands : List Pair → Pair → Bool
@@ -122,7 +122,7 @@ admitted_is I pushes p =
     Decides-like (is_admitted I pushes p)
     (λ h. record { of_event = h.0.0.0; below = h.0.0.1; fixed = h.0.1; pushed = h.1 })
     (λ h. (((h.of_event, h.below), h.fixed), h.pushed))
-    (Decides-and _ _ (Decides-and _ _ (Decides-and _ _ (itself (has_event I p.event)) (Decides-ltb p.residue I.period)) (itself (agrees_with (fixed_of I p.event) p.residue))) (agrees_is pushes p))
+    (Decides-and _ _ (Decides-and _ _ (Decides-and _ _ (itself (has_event I p.event)) (Decides-ltb p.residue I.period)) (itself (admits I p.event p.residue))) (agrees_is pushes p))
 
 module _ (period : ℕ) (some : 0 < period) where
   -- an activity is met where the test says so

@@ -3,7 +3,7 @@ use Rattle.std.specs.Prelude.{◌≡◌, ℕ, ◌<◌, ◌↔◌, Bool, false, I
 use Rattle.std.specs.List.{Contains, range_with_len}
 use Rattle.pesp_base.specs.declared.activity.Activity.{Activity}
 use Rattle.pesp_base.specs.Tensions.{IsMet}
-use Rattle.pesp_instance.specs.Network.{Network, agrees_with, fixed_of, has_event}
+use Rattle.pesp_instance.specs.Network.{Network, admits, has_event}
 use Rattle.pesp_domains.specs.declared.pair.Pair.{Pair}
 use Rattle.pesp_domains.specs.declared.side.Side.{Side}
 use Rattle.pesp_domains.specs.declared.side.Side.TheVariants.{Tail, Head}
@@ -26,11 +26,11 @@ abbrev pub Joins : Side → ℕ → Activity → ℕ → ℕ → Type 0
 Joins Tail period a r s = IsMet period a.span r s
 Joins Head period a r s = IsMet period a.span s r
 
--- the pair is of the instance, and agrees with the fixed time and the pushed residue of its event
+-- the pair is of the instance, its event admits the residue, and a pushed residue of its event is this one
 pub record IsAdmitted (I : Network) (pushes : List Pair) (e r : ℕ) : Type 0 where
   pub of_event : IsTrue (has_event I e)
   pub below : r < I.period
-  pub fixed : IsTrue (agrees_with (fixed_of I e) r)
+  pub fixed : IsTrue (admits I e r)
   pub pushed : (s : ℕ) → In pushes e s → s ≡ r
 
 -- the pair at this end of the activity has a partner in S along it

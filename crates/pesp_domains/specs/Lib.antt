@@ -1,4 +1,5 @@
 pub mod Domains
 pub mod Kept
+pub mod Removals
 pub mod Rows
 pub mod Sweeps

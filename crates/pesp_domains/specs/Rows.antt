@@ -31,9 +31,9 @@ HaveSameShape before after = (e : ℕ) → option_map length (row_at after e) �
 abbrev pub SetsRow : ℕ → Option (List Bool) → Rows → Rows → Type 0
 SetsRow event row before after = (e : ℕ) → row_at after e ≡ (if e == event then row else row_at before e)
 
--- whether a row has the residue of a number of residues, and the residue agrees with a fixed time
+-- whether the residue is one of so many, and agrees with a fixed time
 abbrev pub is_open : Option ℕ → ℕ → ℕ → Bool
-is_open fixed long r = nat_lt r long && agrees_with fixed r
+is_open fixed long r = nat_lt r long && agrees_with long fixed r
 
 -- the event's row holds each residue that agrees with the fixed time, and no other event's row changes
 abbrev pub OpensRow : ℕ → Option ℕ → Rows → Rows → Type 0

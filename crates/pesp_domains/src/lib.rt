@@ -6,6 +6,7 @@
 mod keeper;
 mod pair;
 mod plain;
+pub mod removal;
 mod row;
 mod rows;
 mod side;

@@ -1,6 +1,6 @@
 //! Rows of residues.
 
-ghost use Rattle.std.specs.Prelude.{◌≡◌, ℕ, ◌==◌, ◌&&◌, not, nat_le, ◌-◌, true, replicate, length, find, IfOk};
+ghost use Rattle.std.specs.Prelude.{◌≡◌, ℕ, ◌==◌, ◌&&◌, ◌||◌, ◌<◌, not, nat_le, ◌-◌, true, replicate, length, find, IfOk};
 ghost use Rattle.std.specs.List.{range_with_len};
 ghost use Rattle.pesp_domains.specs.Domains.{holds, residues};
 ghost use Rattle.pesp_domains.specs.Rows.{is_open};
@@ -17,18 +17,18 @@ pub struct Row {
 
 impl Model for Row {
     ghost use Rattle.std.specs.Prelude.{List, Bool, length, ◌≤◌};
-    ghost use Rattle.pesp_base.specs.declared.limits.TheConstants.{GREATEST_PERIOD};
+    ghost use Rattle.pesp_base.specs.Limits.{greatest_period};
 
     ghost Value = { List Bool };
 
     ghost view = { λ a. a.tests.items };
 
-    ghost invariant = { λ a. length a.tests.items ≤ GREATEST_PERIOD };
+    ghost invariant = { λ a. length a.tests.items ≤ greatest_period };
 }
 
 impl Row {
     /// The row of all residues.
-    pub(crate) fn full(alloc: Global, period: Period) -> Result<Row, AllocError>
+    pub fn full(alloc: Global, period: Period) -> Result<Row, AllocError>
         ensures { IfOk result (λ row. row ≡ replicate period true) }
     {
         let tests = vec![in alloc; true; period.get() as usize]?;
@@ -74,13 +74,23 @@ impl Row {
     }
 
     /// Takes a residue out.
-    pub(crate) fn take_out(&mut self, residue: u16)
+    pub fn take_out(&mut self, residue: u16)
         ensures long { length self.new ≡ length self.old }
         ensures holds { (r : ℕ) → holds self.new r ≡ (holds self.old r && not (r == residue)) }
     {
         if self.holds(residue) {
             self.tests[residue as usize] = false;
         }
+    }
+
+    /// Puts a residue below the period in.
+    pub fn put_in(&mut self, residue: u16)
+        requires { residue < length self.old }
+        ensures long { length self.new ≡ length self.old }
+        ensures holds { (r : ℕ) → holds self.new r ≡ (holds self.old r || r == residue) }
+    {
+        let place = residue as usize;
+        self.tests[place] = true;
     }
 
     /// Takes all other residues out.
@@ -96,7 +106,7 @@ impl Row {
     }
 
     /// Puts all residues in, or the fixed one alone.
-    pub(crate) fn open(&mut self, fixed: Option<u16>)
+    pub fn open(&mut self, fixed: Option<u16>)
         ensures long { length self.new ≡ length self.old }
         ensures holds { (r : ℕ) → holds self.new r ≡ is_open fixed (length self.old) r }
     {

@@ -1,30 +1,24 @@
 -- What an accepted edit makes of an instance is an instance.
-use Rattle.std.proofs.Common.{◌≡◌, ℕ, ◌<◌, ◌≤◌, true, false, cond, ◌==◌, List, [], ◌∷◌, length, map, filter, find, Option, Some, None, Result, Ok, Err, is_err, OnOk, IfSome, IsTrue, is_some, option_map, slice_index_or, refl, ap, ◌∙◌, arith, All}
+use Rattle.std.proofs.Common.{◌≡◌, ℕ, ◌<◌, ◌≤◌, true, false, cond, ◌==◌, List, [], ◌∷◌, length, map, filter, find, Option, Some, None, Result, Ok, Err, is_err, OnOk, OnErr, IfSome, IsTrue, is_some, option_map, slice_index_or, refl, ap, ◌∙◌, arith, All}
 use Rattle.std.proofs.lemmas.Bool.{eqb-true, or_parts}
 use Rattle.std.proofs.lemmas.List.Elements.{All-nil, All-cons, All-weaker}
 use Rattle.std.specs.List.Sorted.{IsStrictlyIncreasing}
 use Rattle.pesp_base.specs.declared.activity.Activity.{Activity}
-use Rattle.pesp_base.specs.declared.limits.TheConstants.{GREATEST_NUMBER}
-use Rattle.pesp_base.specs.Limits.{max_events, max_activities}
+use Rattle.pesp_base.specs.Limits.{greatest_number, max_activities, max_events}
 use Rattle.pesp_base.specs.Numbered.{with_number, put_in, take_out, change_in}
 use Rattle.pesp_instance.specs.Edited.{effect, refixed, changed}
-use Rattle.pesp_instance.specs.Network.{Event, Network, is_end_of, IsEvent, IsActivity, HasEnds, IsNetwork}
+use Rattle.pesp_instance.specs.Network.{Event, Network, is_end_of, new_event, IsEvent, IsActivity, HasEnds, IsNetwork}
 use Rattle.pesp_instance.specs.declared.edit.Edit.TheVariants.{AddEvent, DropEvent, AddActivity, DropActivity}
+use Rattle.pesp_instance.proofs.Numbers.{activity_number as id_of, event_number as number}
 use Rattle.pesp_instance.proofs.Rising.{Rises-from_increasing, increasing_from_rises, Rises-put_in, Rises-take_out, Rises-change_in, All-put_in, All-take_out, All-change_in, length-put_in, length-take_out, length-change_in, with_number-put_in, with_number-take_out, with_number-change_in, number-with_number, change_in-with_number}
-
-abbrev number : Event → ℕ
-number e = e.id
-
-abbrev id_of : Activity → ℕ
-id_of a = a.id
 
 -- the ends are still events where each event is still one
 HasEnds-kept : (old new : List Event) → ((n : ℕ) → IsTrue (is_some (with_number number n old)) → IsTrue (is_some (with_number number n new))) → (a : Activity) → HasEnds old a → HasEnds new a
 HasEnds-kept old new kept a ends = record { from = kept a.from ends.from; to = kept a.to ends.to }
 
-pub added_event : (I : Network) (e : ℕ) → IsNetwork I → e ≤ GREATEST_NUMBER → with_number number e I.events ≡ None → length I.events < max_events I.period → IsNetwork (effect I (AddEvent e))
+pub added_event : (I : Network) (e : ℕ) → IsNetwork I → e ≤ greatest_number → with_number number e I.events ≡ None → length I.events < max_events I.period → IsNetwork (effect I (AddEvent e))
 added_event I e net limit absent few =
-    let new : Event = record { id = e; fixed = None } in record {
+    let new : Event = new_event e in record {
       period_low = net.period_low;
       period_high = net.period_high;
       events_rise = increasing_from_rises number _ (Rises-put_in number new I.events (Rises-from_increasing number I.events net.events_rise));
@@ -126,6 +120,10 @@ changed_activity I n change keeps within ends net = record {
 pub on_ok : {E P : Type 0} (r : Result (Unit {0}) E) → false ≡ is_err r → OnOk r P → P
 on_ok (Ok x) is ok = ok
 on_ok (Err e) is ok = absurd (cc)
+
+pub on_err : {E P : Type 0} (r : Result (Unit {0}) E) → true ≡ is_err r → OnErr r P → P
+on_err (Ok x) is err = absurd (cc)
+on_err (Err e) is err = err
 
 pub none_from : {X : Type 0} (o : Option X) → is_some o ≡ false → o ≡ None
 none_from None is = refl

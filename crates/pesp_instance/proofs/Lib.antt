@@ -1,7 +1,8 @@
-mod Rows
+mod Cases
 pub mod Effects
 pub mod Links
 pub mod Listed
+pub mod Numbers
 pub mod Relisted
 pub mod Rising
 pub mod Tables

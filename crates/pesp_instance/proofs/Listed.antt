@@ -15,6 +15,7 @@ use Rattle.pesp_base.specs.declared.activity.Activity.{Activity}
 use Rattle.pesp_base.specs.Numbered.{with_number}
 use Rattle.pesp_instance.specs.Ends.{pair_cmp, lists, is_end_in, AreListed, pairs_at, named_by, AreNames}
 use Rattle.pesp_instance.specs.Network.{is_end_of}
+use Rattle.pesp_instance.proofs.Numbers.{activity_number as id_of}
 use Rattle.pesp_instance.proofs.Rising.{IsAbove, IsAbove-less, IsAbove-filter, Rises, Rises-filter, All-found}
 
 -- a look-up by comparison tests for the pair itself
@@ -127,9 +128,6 @@ listed-numbers_at e n (p ∷ pairs) =
     ])
 
 -- ---- the numbers of the activities around an event
-
-abbrev id_of : Activity → ℕ
-id_of a = a.id
 
 none_above : (n : ℕ) (as' : List Activity) → IsAbove id_of n as' → list_any (λ k. k == n) (map id_of as') ≡ false
 none_above n [] above = refl

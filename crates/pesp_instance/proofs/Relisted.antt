@@ -5,10 +5,8 @@ use Rattle.pesp_base.specs.declared.activity.Activity.{Activity}
 use Rattle.pesp_base.specs.Numbered.{with_number, put_in, take_out, change_in}
 use Rattle.pesp_instance.specs.Ends.{lists, is_end_in, AreListed}
 use Rattle.pesp_instance.specs.Network.{is_end_of}
+use Rattle.pesp_instance.proofs.Numbers.{activity_number as id_of}
 use Rattle.pesp_instance.proofs.Rising.{with_number-put_in, with_number-take_out, with_number-change_in, number-with_number}
-
-abbrev id_of : Activity → ℕ
-id_of a = a.id
 
 joined_here : (b : Bool) → ((b && true) || false) ≡ b
 joined_here true = refl
@@ -37,6 +35,14 @@ moved_elsewhere true true l = refl
 moved_elsewhere true false l = refl
 moved_elsewhere false true l = refl
 moved_elsewhere false false l = refl
+
+undone_here : (b : Bool) → (not (b && true) && ((b && true) || false)) ≡ false
+undone_here true = refl
+undone_here false = refl
+
+undone_elsewhere : (b l : Bool) → (not (b && false) && ((b && false) || l)) ≡ l
+undone_elsewhere true l = refl
+undone_elsewhere false l = refl
 
 module _ (activities : List Activity) where
   abbrev stored : ℕ → Option Activity
@@ -89,3 +95,13 @@ module _ (activities : List Activity) where
       untouched (Some x) at apart =
           let other : (x.id == m) ≡ false = ne_eqb x.id m (λ same. apart (sym (number-with_number id_of n activities x at) ∙ same)) in
           rw other refl
+
+  -- a new activity that is listed and taken away again leaves each activity listed at its ends
+  pub AreListed-undone : (old more new : List (ℕ × ℕ)) (a : Activity) → AreListed old activities → stored a.id ≡ None → ((e n : ℕ) → lists more e n ≡ ((is_end_of e a && a.id == n) || lists old e n)) → ((e n : ℕ) → lists new e n ≡ (not (is_end_of e a && a.id == n) && lists more e n)) → AreListed new activities
+  AreListed-undone old more new a listed absent linked unlinked e n =
+      unlinked e n ∙ rw (linked e n) (elim (cases_eq a.id n) [
+        | inl same ↦
+            rw (eq-eqb a.id n same, none_listed old e a.id n listed absent same)
+            (undone_here (is_end_of e a) ∙ sym (ap (is_end_in e) (ap stored (sym same) ∙ absent)))
+        | inr apart ↦ rw (ne_eqb a.id n apart) (undone_elsewhere (is_end_of e a) (lists old e n) ∙ listed e n)
+      ])

@@ -105,7 +105,7 @@ keys-resolved : {V : Type 0} (slots : List (Option V)) (es : List (ℕ × ℕ)) 
 keys-resolved slots [] linked = refl
 keys-resolved slots (e ∷ es) linked = rw (value_at _ linked.0).1 (ap (λ ks. e.0 ∷ ks) (keys-resolved slots es linked.2))
 
-length-values_of : {V : Type 0} (ps : List (ℕ × V)) → length (values_of ps) ≡ length ps
+pub length-values_of : {V : Type 0} (ps : List (ℕ × V)) → length (values_of ps) ≡ length ps
 length-values_of [] = refl
 length-values_of (p ∷ ps) = omega (arith, length-values_of ps)
 

@@ -9,7 +9,7 @@ use Rattle.pesp_base.specs.Numbered.{put_in, take_out, change_in}
 use Rattle.pesp_base.specs.Refusals.{when, unless_refused}
 use Rattle.pesp_instance.specs.declared.edit.Edit.{Edit}
 use Rattle.pesp_instance.specs.declared.edit.Edit.TheVariants.{AddEvent, DropEvent, Fix, Unfix, AddActivity, DropActivity, SetSpan, SetWeight, SetEnds}
-use Rattle.pesp_instance.specs.Network.{Network, has_event, fixed_of, activity_of, is_end_of}
+use Rattle.pesp_instance.specs.Network.{Network, activity_of, fixed_of, has_event, is_end_of, new_event}
 
 -- the instance without events
 abbrev pub empty_network : ℕ → Network
@@ -47,7 +47,7 @@ changed I n change = record I { activities = change_in (λ a. a.id) n change I.a
 
 -- the instance after an edit that is accepted
 abbrev pub effect : Network → Edit → Network
-effect I (AddEvent e) = record I { events = put_in (λ x. x.id) (record { id = e; fixed = None }) I.events }
+effect I (AddEvent e) = record I { events = put_in (λ x. x.id) (new_event e) I.events }
 effect I (DropEvent e) = record I { events = take_out (λ x. x.id) e I.events }
 effect I (Fix e t) = refixed I e (Some t)
 effect I (Unfix e) = refixed I e None

@@ -3,9 +3,8 @@ pub use Rattle.pesp_instance.specs.declared.event.Event.{Event}
 use Rattle.std.specs.Prelude.{ℕ, ◌<◌, ◌≤◌, Bool, true, ◌||◌, ◌==◌, is_some, List, map, filter, length, Option, Some, None, option_and_then, All, IfSome, IsTrue}
 use Rattle.std.specs.List.Sorted.{IsStrictlyIncreasing}
 use Rattle.pesp_base.specs.declared.activity.Activity.{Activity}
-use Rattle.pesp_base.specs.declared.limits.TheConstants.{GREATEST_NUMBER, GREATEST_PERIOD, GREATEST_WEIGHT, LEAST_PERIOD}
 use Rattle.pesp_base.specs.Bounds.{AreBounds}
-use Rattle.pesp_base.specs.Limits.{max_events, max_activities}
+use Rattle.pesp_base.specs.Limits.{greatest_number, greatest_period, greatest_weight, least_period, max_events, max_activities}
 use Rattle.pesp_base.specs.Numbered.{with_number}
 
 -- a period, and the events and the activities, each ascending by number
@@ -14,10 +13,14 @@ pub record Network : Type 0 where
   pub events : List Event
   pub activities : List Activity
 
--- whether a time agrees with an event's fixed time, which an event without one leaves open
-abbrev pub agrees_with : Option ℕ → ℕ → Bool
-agrees_with None time = true
-agrees_with (Some fixed) time = fixed == time
+-- an event without a fixed time
+abbrev pub new_event : ℕ → Event
+new_event e = record { id = e; fixed = None }
+
+-- whether a residue of this period agrees with an event's fixed time, which an event without one leaves open
+abbrev pub agrees_with : ℕ → Option ℕ → ℕ → Bool
+agrees_with period None residue = true
+agrees_with period (Some fixed) residue = fixed == residue
 
 -- the numbers of the events, ascending
 abbrev pub event_ids : Network → List ℕ
@@ -34,6 +37,10 @@ has_event I e = is_some (event_of I e)
 abbrev pub fixed_of : Network → ℕ → Option ℕ
 fixed_of I e = option_and_then (λ x. x.fixed) (event_of I e)
 
+-- whether the event of a number may stand at the residue, by its fixed time
+abbrev pub admits : Network → ℕ → ℕ → Bool
+admits I e residue = agrees_with I.period (fixed_of I e) residue
+
 -- the activity of a number
 abbrev pub activity_of : Network → ℕ → Option Activity
 activity_of I n = with_number (λ a. a.id) n I.activities
@@ -48,14 +55,14 @@ around I e = filter (is_end_of e) I.activities
 
 -- the event's number is within the limit, and its fixed time below the period
 pub record IsEvent (period : ℕ) (e : Event) : Type 0 where
-  pub number : e.id ≤ GREATEST_NUMBER
+  pub number : e.id ≤ greatest_number
   pub fixed : IfSome e.fixed (λ t. t < period)
 
 -- the activity's number, bounds and weight are within the limits
 pub record IsActivity (a : Activity) : Type 0 where
-  pub number : a.id ≤ GREATEST_NUMBER
+  pub number : a.id ≤ greatest_number
   pub bounds : AreBounds a.span.lower a.span.upper
-  pub weight : a.weight ≤ GREATEST_WEIGHT
+  pub weight : a.weight ≤ greatest_weight
 
 -- both ends of the activity are events
 pub record HasEnds (events : List Event) (a : Activity) : Type 0 where
@@ -64,8 +71,8 @@ pub record HasEnds (events : List Event) (a : Activity) : Type 0 where
 
 -- each number stands once, all numbers, times and counts are within their limits, and activities lead between events
 pub record IsNetwork (I : Network) : Type 0 where
-  pub period_low : LEAST_PERIOD ≤ I.period
-  pub period_high : I.period ≤ GREATEST_PERIOD
+  pub period_low : least_period ≤ I.period
+  pub period_high : I.period ≤ greatest_period
   pub events_rise : IsStrictlyIncreasing (event_ids I)
   pub events_within : All (IsEvent I.period) I.events
   pub few_events : length I.events ≤ max_events I.period

@@ -2,7 +2,7 @@
 
 ghost use Rattle.std.specs.Prelude.{◌≡◌, ℕ, ◌≤◌, [], true, false, IfOk, OnOk, OnErr, not, ◌==◌, ◌&&◌, ◌||◌, if◌then◌else◌};
 ghost use Rattle.std.specs.List.Sorted.{IsStrictlySortedBy};
-ghost use Rattle.pesp_base.specs.declared.limits.TheConstants.{GREATEST_NUMBER};
+ghost use Rattle.pesp_base.specs.Limits.{greatest_number};
 ghost use Rattle.pesp_instance.specs.Ends.{pair_cmp, lists, pairs_at, ListTheSame, ListsMore, ListsLess, is_pair_of, is_old_pair_of};
 ghost use Rattle.pesp_instance.specs.Network.{is_end_of};
 
@@ -44,7 +44,7 @@ impl Ends {
 
     /// The pairs of an event, by rising number.
     pub fn at(&self, event: u32) -> btree_set::Range<'_, (u32, u32)>
-        requires { event ≤ GREATEST_NUMBER }
+        requires { event ≤ greatest_number }
         ensures value { result ≡ pairs_at event self.now }
         ensures ordered { IsStrictlySortedBy pair_cmp self.now }
     {

@@ -1,7 +1,7 @@
 //! What has a number.
 
 ghost use Rattle.std.specs.Prelude.{◌≡◌, ◌≤◌};
-ghost use Rattle.pesp_base.specs.declared.limits.TheConstants.{GREATEST_NUMBER};
+ghost use Rattle.pesp_base.specs.Limits.{greatest_number};
 
 use crate::Event;
 use pesp_base::Activity;
@@ -14,7 +14,7 @@ pub trait Numbered: Copy {
 
     fn number(&self) -> u32
         ensures value { result ≡ number self.now }
-        ensures limit { result ≤ GREATEST_NUMBER };
+        ensures limit { result ≤ greatest_number };
 }
 
 impl Numbered for Event {

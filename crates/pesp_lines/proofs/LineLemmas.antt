@@ -1,14 +1,26 @@
 -- The lines of what was read, as they are taken from it one after the other.
-use Rattle.std.proofs.Common.{◌≡◌, ℕ, ◌+◌, ◌<◌, Bool, true, false, cond, List, [], ◌∷◌, ◌++◌, length, take, count_by, refl, sym, ap, ◌∙◌, append_assoc, append-nil, zero-add, one-add, arith}
+use Rattle.std.proofs.Common.{◌≡◌, ℕ, zero, suc, ◌+◌, ◌<◌, Bool, true, false, cond, List, [], ◌∷◌, ◌++◌, length, take, drop, slice_index, count_by, refl, sym, ap, ◌∙◌, append_assoc, append-nil, add-one, zero-add, one-add, arith}
 use Rattle.std.proofs.lemmas.List.{take_at}
 use Rattle.std.proofs.lemmas.List.Sums.{sum_by-cons}
 use Rattle.pesp_base.specs.Texts.{as_lines}
+use Rattle.pesp_lines.specs.declared.line_reader.Front.TheVariants as fronts
+use Rattle.pesp_lines.specs.Fronts.{IsFront}
 use Rattle.pesp_lines.specs.Lines.{IsUncut, before_pieces, cut_at, ended_lines, is_line_feed, lines_of}
 use Rattle.pesp_lines.proofs.CutLemmas.{AreLines, cut_ended, cut_whole}
 
 -- a line and its line feed, and what is behind them
 pub lines_of-ended : (line rest : List ℕ) → IsUncut is_line_feed line → lines_of (line ++ 10 ∷ rest) ≡ line ∷ lines_of rest
 lines_of-ended line rest whole = cut_ended is_line_feed line 10 rest whole refl
+
+-- the bytes before a line feed, and those behind it
+line_feed_between : (held : List ℕ) (n : ℕ) → n < length held → slice_index held n ≡ 10 → held ≡ take n held ++ 10 ∷ drop (suc n) held
+line_feed_between [] n low at = absurd (omega (arith, low))
+line_feed_between (b ∷ held) zero low at = ap (λ x. x ∷ held) at
+line_feed_between (b ∷ held) (suc n) low at = ap (λ l. b ∷ l) (line_feed_between held n (omega (arith, low)) at)
+
+-- a line at the front, and what is held behind it
+pub line_at_front : (held : List ℕ) (n : ℕ) → IsFront held (fronts.Line n) → held ≡ take n held ++ 10 ∷ drop (n + 1) held
+line_at_front held n front = rw (add-one n) (line_feed_between held n front.0 front.1)
 
 -- a last line without a line feed
 pub lines_of-last : (line : List ℕ) → IsUncut is_line_feed line → 0 < length line → lines_of line ≡ line ∷ []

@@ -1,7 +1,6 @@
 -- A text is cut at its first line feed.
-use Rattle.std.proofs.Common.{◌≡◌, ℕ, zero, suc, ◌<◌, ◌≤◌, Bool, true, false, List, [], ◌∷◌, ◌++◌, length, take, drop, slice_index, ap, ◌∙◌, arith}
-use Rattle.std.proofs.lemmas.Bool.{eqb-true}
-use Rattle.pesp_lines.specs.Lines.{IsUncut, before_pieces, cut_at, is_line_feed}
+use Rattle.std.proofs.Common.{◌≡◌, ℕ, zero, suc, ◌<◌, ◌≤◌, Bool, true, false, List, [], ◌∷◌, length, take, drop, slice_index, ap, ◌∙◌, arith}
+use Rattle.pesp_lines.specs.Lines.{IsUncut, before_pieces, cut_at}
 use Rattle.pesp_lines.proofs.CutLemmas.{cut_whole}
 
 -- each byte is looked at, and none ends a piece
@@ -29,10 +28,3 @@ cut_first ends (b ∷ bytes) zero low none at = ap (λ t. before_pieces t b (cut
 cut_first ends (b ∷ bytes) (suc i) low none at =
     ap (λ t. before_pieces t b (cut_at ends bytes)) (none 0 (omega arith))
     ∙ ap (before_pieces false b) (cut_first ends bytes i (omega (arith, low)) (λ k below. none (suc k) (omega (arith, below))) at)
-
--- a line feed stands between what is before it and what is behind it
-pub line_feed_between : (bytes : List ℕ) (i : ℕ) → i < length bytes → is_line_feed (slice_index bytes i) ≡ true
-    → (rest : List ℕ) × (bytes ≡ take i bytes ++ 10 ∷ rest)
-line_feed_between [] i low at = absurd (omega (arith, low))
-line_feed_between (b ∷ bytes) zero low at = (bytes, ap (λ x. x ∷ bytes) (eqb-true b 10 at))
-line_feed_between (b ∷ bytes) (suc i) low at = let (rest, e) = line_feed_between bytes i (omega (arith, low)) at in (rest, ap (λ l. b ∷ l) e)

@@ -1,10 +1,11 @@
 //! Lines of a stream, one at a time.
 
-ghost use Rattle.std.specs.Prelude.{◌≡◌, ◌≢◌, ℕ, ◌-◌, ◌≤◌, ◌<◌, [], ◌++◌, List, drop, length, slice_range, take, IfOk, IfSome, MatchOption, OnErr, not, true, false, IsTrue};
+ghost use Rattle.std.specs.Prelude.{◌≡◌, ◌≢◌, ◌↔◌, ℕ, ◌-◌, ◌≤◌, ◌<◌, [], ◌++◌, List, drop, length, slice_range, take, IfOk, IfSome, MatchOption, OnErr, not, true, false, IsTrue};
 ghost use Rattle.std.specs.Io.KnownBytes.{Consumes, IsAtEnd};
 ghost use Rattle.pesp_lines.specs.declared.line_reader.TheConstants.{ROOM};
 ghost use Rattle.pesp_lines.specs.Devices.{MarksFailure};
 ghost use Rattle.pesp_lines.specs.declared.line_reader.Front.TheVariants as fronts;
+ghost use Rattle.pesp_lines.specs.Lines.{longest_line};
 ghost use Rattle.pesp_lines.specs.Fronts.{IsFront, IsUnended};
 
 use crate::{ByteSource, Failed, LONGEST_LINE};
@@ -121,14 +122,24 @@ fn pack(buffer: &mut [u8], start: usize, end: usize) -> usize
     end - start
 }
 
+/// Whether a line may have so many bytes.
+fn is_short(length: usize) -> bool
+    ensures { IsTrue result ↔ length ≤ longest_line }
+{
+    length <= LONGEST_LINE
+}
+
 /// What stands at the front, where these bytes tell it.
 fn front_of(held: &[u8]) -> Option<Front>
     ensures front { MatchOption result (IsUnended held.now) (IsFront held.now) }
     ensures told { IfSome result (λ front. front ≢ fronts.Last) }
 {
     match memchr(b'\n', held) {
-        Some(length) if length <= LONGEST_LINE => Some(Front::Line(length)),
-        None if held.len() <= LONGEST_LINE => None,
+        Some(length) if is_short(length) => Some(Front::Line(length)),
+        None if is_short(held.len()) => None,
         _ => Some(Front::TooLong),
     }
 }
+
+#[cfg(test)]
+mod tests;

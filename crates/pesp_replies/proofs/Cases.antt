@@ -3,6 +3,7 @@ use Rattle.std.proofs.Common.{ℕ, refl, pos, [], ◌∷◌, None, codes}
 use Rattle.std.specs.Fmt.{digits}
 use Rattle.pesp_base.specs.declared.activity.Activity.{Activity}
 use Rattle.pesp_base.specs.Texts.{as_lines}
+use Rattle.pesp_instance.specs.Network.{Network, new_event}
 use Rattle.pesp_tension.specs.Timetables.{no_times}
 use Rattle.pesp_replies.specs.Legal.{Work}
 use Rattle.pesp_replies.specs.Transcripts.{IsTranscript}
@@ -15,7 +16,7 @@ abbrev two : Work
 two = record {
   instance = record {
     period = 10;
-    events = record { id = 1; fixed = None } ∷ record { id = 2; fixed = None } ∷ [];
+    events = new_event 1 ∷ new_event 2 ∷ [];
     activities = arc 1 1 2 3 5 2 ∷ arc 2 2 1 4 6 1 ∷ [];
   };
   times = no_times 10;

@@ -1,16 +1,15 @@
 -- Costs: what is known of a path is no more than what times that extend it cost, all of it where the path has all events, and each further time adds what lies behind it.
 use Rattle.std.proofs.Common.{◌≡◌, ℕ, zero, suc, ◌+◌, ◌-◌, ◌*◌, ◌<◌, ◌≤◌, ◌==◌, nat_lt, nat_le, Bool, true, false, cond, ◌&&◌, IsTrue, List, [], ◌∷◌, ◌++◌, length, map, filter, get_or, Option, Some, None, is_some, refl, sym, ◌∙◌, ap, inl, inr, arith, All, sum_by, zero-add}
 use Rattle.std.specs.BTreeMap.{is_at}
-use Rattle.std.specs.List.{zip}
+use Rattle.std.specs.List.{Contains, zip}
 use Rattle.std.specs.Map.{lookup}
 use Rattle.std.specs.Ordering.{nat_cmp}
 use Rattle.std.proofs.lemmas.Bool.{and_parts, cases_Bool, cases_order, eq-eqb, eqb-false, eqb-true, false≢true, le-leb, le-ltb, lt-leb, lt-ltb, ne_eqb}
-use Rattle.std.proofs.lemmas.List.Elements.{All-filter, All-head, All-tail}
+use Rattle.std.proofs.lemmas.List.Elements.{All-filter, All-head, All-tail, All-contains_itself}
 use Rattle.std.proofs.lemmas.List.Sums.{sum_by-cons, sum_by-le, sum_by-le-sum_by}
 use Rattle.std.proofs.lemmas.Nat.{mul-le}
 use Rattle.pesp_base.specs.declared.activity.Activity.{Activity}
-use Rattle.pesp_base.specs.declared.limits.TheConstants.{GREATEST_PERIOD, GREATEST_WEIGHT}
-use Rattle.pesp_base.specs.Limits.{max_activities}
+use Rattle.pesp_base.specs.Limits.{greatest_period, greatest_weight, max_activities}
 use Rattle.pesp_base.specs.Numbered.{with_number}
 use Rattle.pesp_base.specs.Tensions.{slack_of}
 use Rattle.pesp_base.proofs.Laws.{residue_below}
@@ -30,8 +29,12 @@ time_in ids times e = lookup (is_at (nat_cmp e)) (zip ids times)
 
 -- ---- sums
 
+-- what holds of each member of a list holds of the list
+pub All-of_members : {X : Type 0} (P : X → Type 0) (xs : List X) → ((x : X) → Contains xs x → P x) → All P xs
+All-of_members P xs each k d l = each (get_or xs k d) (All-contains_itself xs k d l)
+
 -- two sums are equal where their terms are
-sum_same : {X : Type 0} (f g : X → ℕ) (xs : List X) → All (λ x. f x ≡ g x) xs → sum_by f xs ≡ sum_by g xs
+pub sum_same : {X : Type 0} (f g : X → ℕ) (xs : List X) → All (λ x. f x ≡ g x) xs → sum_by f xs ≡ sum_by g xs
 sum_same f g [] same = refl
 sum_same f g (x ∷ xs) same =
     let here = All-head (λ y. f y ≡ g y) x xs same in
@@ -246,15 +249,15 @@ known_step I path t network room =
 -- ---- how much it may be
 
 -- an activity costs at most the greatest weight at the greatest slack
-cost_small : (I : Network) (m : Times) (a : Activity) → IsNetwork I → m.period ≡ I.period → IsActivity a → cost_in m a ≤ GREATEST_WEIGHT * (GREATEST_PERIOD - 1)
+cost_small : (I : Network) (m : Times) (a : Activity) → IsNetwork I → m.period ≡ I.period → IsActivity a → cost_in m a ≤ greatest_weight * (greatest_period - 1)
 cost_small I m a network same is =
     let some : 0 < m.period = omega (arith, network.period_low, same) in
     let slack : slack_of m.period a.span (time_at m a.from) (time_at m a.to) < m.period = residue_below m.period _ some in
-    mul-le a.weight _ GREATEST_WEIGHT (GREATEST_PERIOD - 1) is.weight (omega (arith, slack, network.period_high, same))
+    mul-le a.weight _ greatest_weight (greatest_period - 1) is.weight (omega (arith, slack, network.period_high, same))
 
-share_small : (I : Network) (path : List ℕ) (a : Activity) → IsNetwork I → IsActivity a → known_share I path a ≤ GREATEST_WEIGHT * (GREATEST_PERIOD - 1)
+share_small : (I : Network) (path : List ℕ) (a : Activity) → IsNetwork I → IsActivity a → known_share I path a ≤ greatest_weight * (greatest_period - 1)
 share_small I path a network is =
-    elim (is_some (time_of (timetable_of I path) a.from) && is_some (time_of (timetable_of I path) a.to)) as (λ b. cond b (cost_in (timetable_of I path) a) 0 ≤ GREATEST_WEIGHT * (GREATEST_PERIOD - 1)) [
+    elim (is_some (time_of (timetable_of I path) a.from) && is_some (time_of (timetable_of I path) a.to)) as (λ b. cond b (cost_in (timetable_of I path) a) 0 ≤ greatest_weight * (greatest_period - 1)) [
       | true ↦ cost_small I (timetable_of I path) a network refl is
       | false ↦ omega arith
     ]
@@ -267,17 +270,17 @@ sum_small f xs most n each few =
     omega (arith, all, more)
 
 -- what is known of a path is small
-pub known_small : (I : Network) (path : List ℕ) → IsNetwork I → known_cost I path ≤ GREATEST_WEIGHT * (GREATEST_PERIOD - 1) * max_activities I.period
+pub known_small : (I : Network) (path : List ℕ) → IsNetwork I → known_cost I path ≤ greatest_weight * (greatest_period - 1) * max_activities I.period
 known_small I path network =
-    sum_small (known_share I path) I.activities (GREATEST_WEIGHT * (GREATEST_PERIOD - 1)) (max_activities I.period)
+    sum_small (known_share I path) I.activities (greatest_weight * (greatest_period - 1)) (max_activities I.period)
     (λ k d l. share_small I path _ network (network.activities_within k d l)) network.few_activities
 
 -- and so is what one time more adds
 pub behind_small : (I : Network) (m : Times) (e : ℕ) → IsNetwork I → m.period ≡ I.period
-    → sum_by (cost_in m) (filter (is_behind e) (around I e)) ≤ GREATEST_WEIGHT * (GREATEST_PERIOD - 1) * max_activities I.period
+    → sum_by (cost_in m) (filter (is_behind e) (around I e)) ≤ greatest_weight * (greatest_period - 1) * max_activities I.period
 behind_small I m e network same =
-    let P : Activity → Type 0 = λ a. cost_in m a ≤ GREATEST_WEIGHT * (GREATEST_PERIOD - 1) in
+    let P : Activity → Type 0 = λ a. cost_in m a ≤ greatest_weight * (greatest_period - 1) in
     let all : All P I.activities = λ k d l. cost_small I m _ network same (network.activities_within k d l) in
-    sum_small (cost_in m) (filter (is_behind e) (around I e)) (GREATEST_WEIGHT * (GREATEST_PERIOD - 1)) (max_activities I.period)
+    sum_small (cost_in m) (filter (is_behind e) (around I e)) (greatest_weight * (greatest_period - 1)) (max_activities I.period)
     (All-filter (is_behind e) P (around I e) (All-filter (is_end_of e) P I.activities all))
     (omega (arith, length-filter_le (is_behind e) (around I e), length-filter_le (is_end_of e) I.activities, network.few_activities))

@@ -1,9 +1,8 @@
 -- Whether a residue is in a domain, and whether a path is dead, is decided; so the tree has a size.
-use Rattle.std.proofs.Common.{◌≡◌, ℕ, ◌+◌, zero, suc, ◌==◌, true, false, cond, is_some, IsTrue, Some, List, [], ◌∷◌, ◌++◌, length, slice_index, map, refl, sym, subst, ◌∙◌, inl, inr, ◌⊎◌, arith}
+use Rattle.std.proofs.Common.{◌≡◌, ℕ, ◌+◌, zero, suc, true, false, IsTrue, List, [], ◌∷◌, ◌++◌, length, slice_index, refl, sym, subst, ◌∙◌, inl, inr, ◌⊎◌, arith}
 use Rattle.std.specs.List.{Contains, range_with_len}
-use Rattle.std.proofs.lemmas.Bool.{eqb-true, false≢true}
-use Rattle.pesp_base.specs.Numbered.{with_number}
-use Rattle.pesp_instance.specs.declared.event.Event.{Event}
+use Rattle.std.proofs.lemmas.Bool.{false≢true}
+use Rattle.std.proofs.lemmas.List.Elements.{All-contains_itself}
 use Rattle.pesp_instance.specs.Network.{Network, event_ids, has_event}
 use Rattle.pesp_domains.specs.declared.pair.Pair.{Pair}
 use Rattle.pesp_domains.specs.Domains.{InDomains}
@@ -11,6 +10,7 @@ use Rattle.pesp_domains.proofs.Families.{here, here_or_there, in_range, not_in_n
 use Rattle.pesp_domains.proofs.Laws.{InDomains-admitted}
 use Rattle.pesp_domains.proofs.Sweeps.{is_in, left, swept, swept_at_last}
 use Rattle.pesp_search.specs.Places.{IsDead, pairs_of}
+use Rattle.pesp_search.proofs.Events.{place_of}
 use Rattle.pesp_search.specs.Tree.{IsSize, IsSumFrom}
 
 -- whether a residue is in the domain of an event is decided
@@ -38,15 +38,6 @@ any_decided P each (x ∷ xs) =
       ]
     ]
 
--- an event that a list has is among its numbers
-among_ids : (e : ℕ) (xs : List Event) → IsTrue (is_some (with_number (λ x. x.id) e xs)) → Contains (map (λ x. x.id) xs) e
-among_ids e [] has = absurd (false≢true has)
-among_ids e (x ∷ xs) has =
-    elim (x.id == e) as (λ b. (x.id == e) ≡ b → IsTrue (is_some (cond b (Some x) (with_number (λ y. y.id) e xs))) → Contains (map (λ y. y.id) (x ∷ xs)) e) [
-      | true ↦ λ same _. subst (λ k. Contains (map (λ y. y.id) (x ∷ xs)) k) (eqb-true x.id e same) (here x.id (map (λ y. y.id) xs))
-      | false ↦ λ _ later. there e x.id (map (λ y. y.id) xs) (among_ids e xs later)
-    ] refl has
-
 -- the event is of the instance, and its domain is empty
 abbrev IsBare : Network → List Pair → ℕ → Type 0
 IsBare I pushes e = IsTrue (has_event I e) × ((r : ℕ) → InDomains I pushes e r → ⊥)
@@ -68,8 +59,11 @@ dead_decided I path =
     let pushes : List Pair = pairs_of (event_ids I) path in
     elim (any_decided (IsBare I pushes) (bare_decided I pushes) (event_ids I)) [
       | inl some ↦ inl (some.0, some.2.0, some.2.1)
-      | inr none ↦ inr (λ dead. none dead.0 (among_ids dead.0 I.events dead.1) (dead.1, dead.2))
+      | inr none ↦ inr (λ dead. none dead.0 (of_event dead.0 dead.1) (dead.1, dead.2))
     ]
+  where
+    of_event : (e : ℕ) → IsTrue (has_event I e) → Contains (event_ids I) e
+    of_event e is = let w = place_of I e is in subst (Contains (event_ids I)) w.2 (All-contains_itself (event_ids I) w.0 0 w.1)
 
 -- where there is a size below each residue, there is a sum
 sum_exists : (I : Network) (free : ℕ) (path : List ℕ) → ((r : ℕ) → (n : ℕ) × IsSize I free (path ++ r ∷ []) n) → (residues from : ℕ) → (n : ℕ) × IsSumFrom (IsSize I free) I path residues from n
@@ -90,3 +84,7 @@ size_exists I (suc free) path =
       | inl dead ↦ (0, inl (dead, refl))
       | inr live ↦ let sum = sum_exists I free path (λ r. size_exists I free (path ++ r ∷ [])) I.period 0 in (sum.0, inr (live, sum.1))
     ]
+
+-- and a sum over any residues
+pub sum_there : (I : Network) (free : ℕ) (path : List ℕ) (residues from : ℕ) → (n : ℕ) × IsSumFrom (IsSize I free) I path residues from n
+sum_there I free path = sum_exists I free path (λ r. size_exists I free (path ++ r ∷ []))

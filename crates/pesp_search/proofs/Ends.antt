@@ -1,5 +1,5 @@
 -- How a search ends: at a stop, or when nothing is left.
-use Rattle.std.proofs.Common.{◌≡◌, ◌≢◌, ℕ, zero, suc, ◌+◌, ◌-◌, ◌^◌, ◌<◌, ◌≤◌, Bool, true, false, List, [], length, get_or, Option, Some, None, IfSome, IsSomeAnd, MatchOption, refl, sym, ap, subst, ◌∙◌, inl, inr, arith}
+use Rattle.std.proofs.Common.{◌≡◌, ◌≢◌, ℕ, zero, suc, ◌+◌, ◌-◌, ◌^◌, ◌<◌, ◌≤◌, Bool, true, false, List, [], length, get_or, Option, Some, None, IfSome, IsSomeAnd, refl, sym, ap, subst, ◌∙◌, inl, inr, arith}
 use Rattle.std.specs.Map.{values_of}
 use Rattle.std.proofs.lemmas.Bool.{cases_lt, false≢true, lt-ltb, le-ltb}
 use Rattle.pesp_instance.specs.Network.{IsNetwork, Network, event_ids}
@@ -7,13 +7,13 @@ use Rattle.pesp_domains.specs.declared.pair.Pair.{Pair}
 use Rattle.pesp_tension.specs.Answers.{cost_of}
 use Rattle.pesp_tension.specs.Timetables.{Times}
 use Rattle.pesp_search.specs.declared.answer.Best.{Best}
-use Rattle.pesp_search.specs.Found.{AtLeast, IsAbove, IsBest, under_bound}
+use Rattle.pesp_search.specs.Found.{AtLeast, IsAbove, IsBest, IsTold, under_bound}
 use Rattle.pesp_search.specs.declared.answer.Answer.{Answer}
 use Rattle.pesp_search.specs.declared.answer.Answer.TheVariants.{Infeasible, Optimal}
 use Rattle.pesp_search.specs.declared.answer.Tried.{Tried}
 use Rattle.pesp_search.specs.declared.answer.Tried.TheVariants.{Done, Stopped}
 use Rattle.pesp_search.specs.Optima.{IsAnswer, IsBound, IsMember}
-use Rattle.pesp_search.specs.Places.{IsDead, timetable_of}
+use Rattle.pesp_search.specs.Places.{IsDead}
 use Rattle.pesp_search.specs.Walk.{IsAt, IsFull, IsNext, IsOver, IsSpent, IsStuck, full_cost, known_cost}
 use Rattle.pesp_search.specs.Tree.{AreNodes, IsPlaceOf, IsTreeSize}
 use Rattle.pesp_search.specs.Tried.{IsBestSoFar, IsEnd, IsFound, IsOutcome, IsWithin, MayTry}
@@ -25,10 +25,6 @@ use Rattle.pesp_search.proofs.Placed.{before_decided, place_after}
 use Rattle.pesp_search.proofs.Sizes.{IsCounted, counted_below, size_unique}
 use Rattle.pesp_search.proofs.Stations.{at_end}
 use Rattle.pesp_search.proofs.Timed.{place_has_event, values_of-zip}
-
--- the best is what was found, as a timetable
-abbrev pub IsTold : Network → Option ℕ → Bool → List ℕ → Option Best → Type 0
-IsTold I limit found times best = MatchOption best (found ≡ false) (λ b. (found ≡ true) × (limit ≡ Some b.cost) × (b.times ≡ timetable_of I times))
 
 -- ---- limits
 

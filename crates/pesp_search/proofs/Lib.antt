@@ -1,7 +1,10 @@
 pub mod BestSoFar
+mod Cases
+pub mod Counted
 pub mod Costs
 pub mod Decided
 pub mod Ends
+pub mod Enumerated
 pub mod Events
 pub mod Fronts
 pub mod Members

@@ -1,5 +1,5 @@
 -- Members and domains: the pairs of a full list of times that extends the path are in the domains under it; and where every event has a time and a domain that is not empty, the path is full.
-use Rattle.std.proofs.Common.{◌≡◌, ℕ, ◌<◌, ◌≤◌, ◌↔◌, List, [], ◌∷◌, length, get_or, is_some, option_and_then, Some, None, refl, sym, ◌∙◌, ap, subst, inl, inr, arith, IsTrue}
+use Rattle.std.proofs.Common.{◌≡◌, ℕ, ◌<◌, ◌↔◌, List, [], ◌∷◌, length, get_or, is_some, option_and_then, Some, None, refl, sym, ◌∙◌, ap, subst, inl, inr, arith, IsTrue}
 use Rattle.std.specs.List.{All, Contains, zip}
 use Rattle.std.specs.Map.{values_of}
 use Rattle.std.proofs.lemmas.List.Elements.{All-get_or, All-contains, All-contains_itself}
@@ -7,7 +7,7 @@ use Rattle.pesp_base.specs.declared.activity.Activity.{Activity}
 use Rattle.pesp_base.specs.Tensions.{IsMet}
 use Rattle.pesp_base.proofs.Laws.{met_is}
 use Rattle.pesp_instance.specs.declared.event.Event.{Event}
-use Rattle.pesp_instance.specs.Network.{Network, IsNetwork, HasEnds, agrees_with, event_ids, event_of, fixed_of, has_event}
+use Rattle.pesp_instance.specs.Network.{Network, IsNetwork, HasEnds, admits, agrees_with, event_ids, event_of, fixed_of, has_event}
 use Rattle.pesp_instance.proofs.Rising.{All-found, IfSome-with_number, number-with_number}
 use Rattle.pesp_domains.specs.declared.pair.Pair.{Pair}
 use Rattle.pesp_domains.specs.declared.side.Side.{Side}
@@ -17,8 +17,8 @@ use Rattle.pesp_domains.proofs.Laws.{InDomains-stands, InDomains-admitted}
 use Rattle.pesp_tension.specs.Timetables.{Times}
 use Rattle.pesp_tension.specs.Answers.{agrees, meets, time_at}
 use Rattle.pesp_search.specs.Optima.{IsMember, Precedes}
-use Rattle.pesp_search.specs.Places.{at, pairs_of, timetable_of}
-use Rattle.pesp_search.specs.Walk.{Before, Extends, IsFull, IsNext, IsSpent, Nothing}
+use Rattle.pesp_search.specs.Places.{HasEmpty, at, pairs_of, timetable_of}
+use Rattle.pesp_search.specs.Walk.{Before, Extends, HasEach, IsEmptyFrom, IsFull, IsLeastFrom, IsNext, IsSpent, Nothing}
 use Rattle.pesp_search.proofs.Timed.{at_place, event_of_pair, events_ascend, extends_in, keys_of-zip, length-values_of, pair_of_event, pairs_only, place_has_event, values_of-zip, zip-of_entries}
 
 -- both ends of an activity of the instance are events
@@ -55,7 +55,7 @@ member_in_domains I path times ok full extends e is =
               record {
                 of_event = event;
                 below = below f s i;
-                fixed = subst (λ t. IsTrue (agrees_with (fixed_of I f) t)) same (full.fixed f event);
+                fixed = subst (λ t. IsTrue (admits I f t)) same (full.fixed f event);
                 pushed = λ t j. sym (event_of_pair I times f t ok (extends_in (event_ids I) times path f t extends j)).1 ∙ same;
               };
           partner = λ side a is here.
@@ -64,7 +64,7 @@ member_in_domains I path times ok full extends e is =
         }
 
 -- a path of all events, under which no domain is empty, is full
-pub path_is_full : (I : Network) (path : List ℕ) → IsNetwork I → length path ≡ length (event_ids I) → All (λ t. t < I.period) path → ((e : ℕ) → IsTrue (has_event I e) → (r : ℕ) × InDomains I (pairs_of (event_ids I) path) e r) → IsFull I path
+pub path_is_full : (I : Network) (path : List ℕ) → IsNetwork I → length path ≡ length (event_ids I) → All (λ t. t < I.period) path → HasEach I (pairs_of (event_ids I) path) → IsFull I path
 path_is_full I path ok long below live =
     record {
       events = long;
@@ -76,7 +76,7 @@ path_is_full I path ok long below live =
           (subst (λ r. IsMet I.period a.span r partner.0) (sym (only a.from w.0 w.1)) partner.2);
       fixed = λ e is.
           let w = live e is in
-          subst (λ t. IsTrue (agrees_with (fixed_of I e) t)) (sym (only e w.0 w.1)) (InDomains-admitted I pushes e w.0 w.1).fixed;
+          subst (λ t. IsTrue (admits I e t)) (sym (only e w.0 w.1)) (InDomains-admitted I pushes e w.0 w.1).fixed;
     }
   where
     pushes : List Pair
@@ -93,23 +93,27 @@ meets_is : (I : Network) (times : List ℕ) (a : Activity) → IsNetwork I → I
 meets_is I times a ok = met_is I.period a.span (at I times a.from) (at I times a.to) (omega (arith, ok.period_low))
 
 -- a timetable that agrees with each event agrees with the fixed time of each number
-agreed : (I : Network) (m : Times) (e : ℕ) → All (λ x. IsTrue (agrees m x)) I.events → IsTrue (agrees_with (fixed_of I e) (time_at m e))
+agreed : (I : Network) (m : Times) (e : ℕ) → All (λ x. IsTrue (agrees m x)) I.events → IsTrue (agrees_with m.period (fixed_of I e) (time_at m e))
 agreed I m e all =
-    elim (event_of I e) as (λ o. event_of I e ≡ o → IsTrue (agrees_with (option_and_then (λ x. x.fixed) o) (time_at m e))) [
+    elim (event_of I e) as (λ o. event_of I e ≡ o → IsTrue (agrees_with m.period (option_and_then (λ x. x.fixed) o) (time_at m e))) [
       | None ↦ λ _. refl
       | Some x ↦ λ found.
-          subst (λ f. IsTrue (agrees_with x.fixed (time_at m f))) (number-with_number (λ y. y.id) e I.events x found)
+          subst (λ f. IsTrue (agrees_with m.period x.fixed (time_at m f))) (number-with_number (λ y. y.id) e I.events x found)
           (IfSome-with_number (λ y. y.id) (λ y. IsTrue (agrees m y)) e I.events x all found)
     ] refl
+
+-- a member is the timetable of its times
+pub member_timed : (I : Network) (m : Times) → IsMember I m → m ≡ timetable_of I (values_of m.entries)
+member_timed I m member =
+    ap (λ p. let n : Times = record { period = p; entries = m.entries } in n) member.period
+    ∙ ap (λ es. let n : Times = record { period = I.period; entries = es } in n) (sym (zip-of_entries m.entries) ∙ ap (λ ks. zip ks (values_of m.entries)) member.events)
 
 -- the times of a member are full, and it is their timetable
 pub full_of_member : (I : Network) (m : Times) → IsNetwork I → IsMember I m → (times : List ℕ) × IsFull I times × (m ≡ timetable_of I times)
 full_of_member I m ok member = (values_of m.entries, full, same)
   where
     same : m ≡ timetable_of I (values_of m.entries)
-    same =
-        ap (λ p. let n : Times = record { period = p; entries = m.entries } in n) member.period
-        ∙ ap (λ es. let n : Times = record { period = I.period; entries = es } in n) (sym (zip-of_entries m.entries) ∙ ap (λ ks. zip ks (values_of m.entries)) member.events)
+    same = member_timed I m member
 
     full : IsFull I (values_of m.entries)
     full =
@@ -119,7 +123,7 @@ full_of_member I m ok member = (values_of m.entries, full, same)
           met = λ a is.
               (meets_is I (values_of m.entries) a ok).0
               (subst (λ n. IsTrue (meets n a)) same (All-contains (λ b. IsTrue (meets m b)) I.activities a member.met is));
-          fixed = λ e _. subst (λ n. IsTrue (agrees_with (fixed_of I e) (time_at n e))) same (agreed I m e member.fixed);
+          fixed = λ e _. subst (λ n. IsTrue (agrees_with n.period (fixed_of I e) (time_at n e))) same (agreed I m e member.fixed);
         }
 
 -- the timetable of a full list of times is a member
@@ -135,7 +139,7 @@ member_of_full I times ok full =
       fixed = λ k d l.
           let x : Event = get_or I.events k d in
           let found : event_of I x.id ≡ Some x = All-found (λ y. y.id) I.events (events_ascend I ok) k d l in
-          subst (λ o. IsTrue (agrees_with (option_and_then (λ y. y.fixed) o) (at I times x.id))) found (full.fixed x.id (ap is_some found));
+          subst (λ o. IsTrue (agrees_with I.period (option_and_then (λ y. y.fixed) o) (at I times x.id))) found (full.fixed x.id (ap is_some found));
     }
 
 -- values beside the same keys are in the same order as the entries
@@ -153,7 +157,7 @@ before_of_precedes I xs ys _ _ h = before_of_zipped (event_ids I) xs ys h
 -- ---- what to do at a place
 
 -- where some event has no residue left, no full list of times extends the path
-pub spent_dead : (I : Network) (pushes : List Pair) (path : List ℕ) (from : ℕ) → IsNetwork I → pushes ≡ pairs_of (event_ids I) path → (e : ℕ) × IsTrue (has_event I e) × ((r : ℕ) → InDomains I pushes e r → ⊥) → IsSpent Nothing I path from
+pub spent_dead : (I : Network) (pushes : List Pair) (path : List ℕ) (from : ℕ) → IsNetwork I → pushes ≡ pairs_of (event_ids I) path → HasEmpty I pushes → IsSpent Nothing I path from
 spent_dead I pushes path from ok is (e, event, dead) =
     record {
       passes = λ times full x _. dead (at I times e) (subst (λ ps. InDomains I ps e (at I times e)) (sym is) (member_in_domains I path times ok full x e event));
@@ -168,12 +172,12 @@ next_in_domains I pushes path times ok is room full x =
     (subst (λ ps. InDomains I ps next (at I times next)) (sym is) (member_in_domains I path times ok full x next (place_has_event I (length path) room)))
 
 -- where the next event has no residue left from here on, no full list of times goes on from here
-pub spent_none : (I : Network) (pushes : List Pair) (path : List ℕ) (from : ℕ) → IsNetwork I → pushes ≡ pairs_of (event_ids I) path → length path < length (event_ids I) → ((r : ℕ) → from ≤ r → InDomains I pushes (get_or (event_ids I) (length path) 0) r → ⊥) → IsSpent Nothing I path from
+pub spent_none : (I : Network) (pushes : List Pair) (path : List ℕ) (from : ℕ) → IsNetwork I → pushes ≡ pairs_of (event_ids I) path → length path < length (event_ids I) → IsEmptyFrom I pushes (get_or (event_ids I) (length path) 0) from → IsSpent Nothing I path from
 spent_none I pushes path from ok is room none =
     record { passes = λ times full x above. none _ (above (omega (arith, room, full.events))) (next_in_domains I pushes path times ok is room full x) }
 
 -- the least residue of the next event from here on is the one to try
-pub next_some : (I : Network) (pushes : List Pair) (path : List ℕ) (from r : ℕ) → IsNetwork I → pushes ≡ pairs_of (event_ids I) path → length path < length (event_ids I) → ((e : ℕ) → IsTrue (has_event I e) → (s : ℕ) × InDomains I pushes e s) → (from ≤ r) × InDomains I pushes (get_or (event_ids I) (length path) 0) r × ((s : ℕ) → from ≤ s → s < r → InDomains I pushes (get_or (event_ids I) (length path) 0) s → ⊥) → IsNext Nothing I path from r
+pub next_some : (I : Network) (pushes : List Pair) (path : List ℕ) (from r : ℕ) → IsNetwork I → pushes ≡ pairs_of (event_ids I) path → length path < length (event_ids I) → HasEach I pushes → IsLeastFrom I pushes (get_or (event_ids I) (length path) 0) from r → IsNext Nothing I path from r
 next_some I pushes path from r ok is room live (above, inside, between) =
     let next : ℕ = get_or (event_ids I) (length path) 0 in
     record {
@@ -187,6 +191,6 @@ next_some I pushes path from r ok is room live (above, inside, between) =
     }
 
 -- a path of all events is full where each of them has a residue left
-pub done_live : (I : Network) (pushes : List Pair) (path : List ℕ) → IsNetwork I → pushes ≡ pairs_of (event_ids I) path → length path ≡ length (event_ids I) → All (λ t. t < I.period) path → ((e : ℕ) → IsTrue (has_event I e) → (r : ℕ) × InDomains I pushes e r) → IsFull I path
+pub done_live : (I : Network) (pushes : List Pair) (path : List ℕ) → IsNetwork I → pushes ≡ pairs_of (event_ids I) path → length path ≡ length (event_ids I) → All (λ t. t < I.period) path → HasEach I pushes → IsFull I path
 done_live I pushes path ok is long below live =
-    path_is_full I path ok long below (subst (λ ps. (e : ℕ) → IsTrue (has_event I e) → (r : ℕ) × InDomains I ps e r) is live)
+    path_is_full I path ok long below (subst (HasEach I) is live)

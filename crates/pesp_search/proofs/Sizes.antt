@@ -125,7 +125,7 @@ no_nodes I = counted_nodes I [] 0 0 (counted_start I)
 -- ---- one size
 
 -- where there is at most one size below each residue, there is at most one sum
-sum_unique : (I : Network) (free : ℕ) (path : List ℕ) → ((r m n : ℕ) → IsSize I free (path ++ r ∷ []) m → IsSize I free (path ++ r ∷ []) n → m ≡ n)
+pub sum_unique : (I : Network) (free : ℕ) (path : List ℕ) → ((r m n : ℕ) → IsSize I free (path ++ r ∷ []) m → IsSize I free (path ++ r ∷ []) n → m ≡ n)
     → (residues from m n : ℕ) → IsSumFrom (IsSize I free) I path residues from m → IsSumFrom (IsSize I free) I path residues from n → m ≡ n
 sum_unique I free path one zero from m n sum other = sum ∙ sym other
 sum_unique I free path one (suc residues) from m n (inl out) (inl also) = sum_unique I free path one residues (suc from) m n out.1 also.1

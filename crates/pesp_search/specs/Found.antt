@@ -1,6 +1,9 @@
 -- What a search has found so far.
-use Rattle.std.specs.Prelude.{◌≡◌, ℕ, ◌+◌, ◌-◌, ◌^◌, ◌<◌, ◌≤◌, Bool, true, false, nat_lt, if◌then◌else◌, List, Option, Some, None, IfSome}
+use Rattle.std.specs.Prelude.{◌≡◌, ℕ, ◌+◌, ◌-◌, ◌^◌, ◌<◌, ◌≤◌, Bool, true, false, nat_lt, if◌then◌else◌, List, Option, Some, None, IfSome, MatchOption}
 use Rattle.pesp_instance.specs.Network.{Network}
+use Rattle.pesp_search.specs.declared.answer.Best.{Best}
+use Rattle.pesp_search.specs.declared.incumbent.Incumbent.{Incumbent}
+use Rattle.pesp_search.specs.Places.{timetable_of}
 use Rattle.pesp_search.specs.Walk.{Before, IsFull, full_cost}
 
 -- the times cost at least the limit; with none there are no such times
@@ -15,6 +18,14 @@ pub record IsBest (I : Network) (under limit : Option ℕ) (found : Bool) (times
   pub full : found ≡ true → IsFull I times
   pub below : found ≡ true → IfSome under (λ u. full_cost I times < u)
   pub first : found ≡ true → (others : List ℕ) → IsFull I others → Before others times 0 → full_cost I times < full_cost I others
+
+-- what was the best so far under any limit of the caller still is
+abbrev pub StaysBest : Network → Incumbent → Incumbent → Type 0
+StaysBest I old new = (under : Option ℕ) → IsBest I under old.limit old.is_found old.times.items → IsBest I under new.limit new.is_found new.times.items
+
+-- what is told is what was found, at its cost and as a timetable, or nothing where nothing was
+abbrev pub IsTold : Network → Option ℕ → Bool → List ℕ → Option Best → Type 0
+IsTold I limit found times best = MatchOption best (found ≡ false) (λ b. (found ≡ true) × (limit ≡ Some b.cost) × (b.times ≡ timetable_of I times))
 
 -- some times cost less, where a limit is given
 abbrev pub IsAbove : Network → Option ℕ → Type 0

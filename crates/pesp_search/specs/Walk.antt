@@ -3,7 +3,7 @@ use Rattle.std.specs.Prelude.{◌≡◌, ℕ, ◌<◌, ◌≤◌, ◌⊎◌, ◌
 use Rattle.std.specs.List.{Contains}
 use Rattle.pesp_base.specs.declared.activity.Activity.{Activity}
 use Rattle.pesp_base.specs.Tensions.{IsMet}
-use Rattle.pesp_instance.specs.Network.{Network, agrees_with, event_ids, fixed_of, has_event}
+use Rattle.pesp_instance.specs.Network.{Network, admits, event_ids, has_event}
 use Rattle.pesp_domains.specs.declared.pair.Pair.{Pair}
 use Rattle.pesp_domains.specs.Domains.{InDomains}
 use Rattle.pesp_tension.specs.Answers.{cost_in}
@@ -19,7 +19,7 @@ pub record IsFull (I : Network) (times : List ℕ) : Type 0 where
   pub events : length times ≡ length (event_ids I)
   pub below : All (λ t. t < I.period) times
   pub met : (a : Activity) → Contains I.activities a → IsMet I.period a.span (at I times a.from) (at I times a.to)
-  pub fixed : (e : ℕ) → IsTrue (has_event I e) → IsTrue (agrees_with (fixed_of I e) (at I times e))
+  pub fixed : (e : ℕ) → IsTrue (has_event I e) → IsTrue (admits I e (at I times e))
 
 -- the times come before the place, in the order by the first event at which two differ
 abbrev pub Before : List ℕ → List ℕ → ℕ → Type 0
@@ -46,6 +46,10 @@ IsEmptyFrom I pushes e from = (r : ℕ) → from ≤ r → InDomains I pushes e 
 -- r is the event's least residue from this one on
 abbrev pub IsLeastFrom : Network → List Pair → ℕ → ℕ → ℕ → Type 0
 IsLeastFrom I pushes e from r = (from ≤ r) × InDomains I pushes e r × ((s : ℕ) → from ≤ s → s < r → InDomains I pushes e s → ⊥)
+
+-- that residue, or none where none is left
+abbrev pub IsLeastLeft : Network → List Pair → ℕ → ℕ → Option ℕ → Type 0
+IsLeastLeft I pushes e from least = MatchOption least (IsEmptyFrom I pushes e from) (IsLeastFrom I pushes e from)
 
 -- ---- what to do at a place, where P holds of each full list of times that may be passed over
 

@@ -1,12 +1,11 @@
 //! Where a search stands.
 
-ghost use Rattle.std.specs.Prelude.{◌≡◌, ◌≤◌, ◌<◌, ◌*◌, ◌-◌, ◌++◌, ◌∷◌, [], IsSome, IsTrue, IfOk, None, MatchOption, length, filter, sum_by, slice_index, vec_capacity};
-ghost use Rattle.pesp_base.specs.declared.limits.TheConstants.{GREATEST_PERIOD, GREATEST_WEIGHT};
-ghost use Rattle.pesp_base.specs.Limits.{max_activities};
+ghost use Rattle.std.specs.Prelude.{◌≡◌, ◌≤◌, ◌<◌, ◌*◌, ◌-◌, ◌++◌, ◌∷◌, [], IsSome, IsTrue, IfOk, None, length, filter, sum_by, slice_index, vec_capacity};
+ghost use Rattle.pesp_base.specs.Limits.{greatest_period, greatest_weight, max_activities};
 ghost use Rattle.pesp_instance.specs.Network.{IsNetwork, around, event_ids};
 ghost use Rattle.pesp_tension.specs.Answers.{cost_in, first_missing};
 ghost use Rattle.pesp_tension.specs.Timetables.{time_of, with_time};
-ghost use Rattle.pesp_search.specs.Branch.{IsBranch, IsFront, is_behind};
+ghost use Rattle.pesp_search.specs.Branch.{IsBranch, IsFront, IsPopped, is_behind};
 
 use pesp_base::{Activity, EventId, Memory};
 use pesp_instance::Instance;
@@ -16,8 +15,9 @@ use std::alloc::Global;
 /// The times of the first events, and what they are known to cost.
 #[derive(Drop)]
 pub(crate) struct Branch {
+    // One for each pushed pair, in the order of the events.
     pub(crate) times: Vec<u16>,
-    // Of the activities both of whose ends have times.
+    // That of the activities both of whose ends have times.
     pub(crate) cost: u64,
     // The times, and for each event behind them some time, so that setting one takes no memory.
     pub(crate) timetable: Timetable,
@@ -34,7 +34,7 @@ fn is_behind(activity: &Activity, event: EventId) -> bool
 fn cost_behind(instance: &Instance, timetable: &Timetable, event: EventId) -> u64
     requires { first_missing instance.now timetable.now ≡ None }
     ensures value { result ≡ sum_by (cost_in timetable.now) (filter (is_behind event) (around instance.now event)) }
-    ensures small { result ≤ GREATEST_WEIGHT * (GREATEST_PERIOD - 1) * max_activities instance.now.period }
+    ensures small { result ≤ greatest_weight * (greatest_period - 1) * max_activities instance.now.period }
 {
     let mut cost = 0;
     for activity in instance.around(event) {
@@ -105,7 +105,7 @@ impl Branch {
         requires branch { IsBranch instance.now self.old.times.items self.old.cost self.old.timetable (vec_capacity self.old.times) }
         requires events { events.now ≡ event_ids instance.now }
         ensures branch { IsBranch instance.now self.new.times.items self.new.cost self.new.timetable (vec_capacity self.new.times) }
-        ensures times { MatchOption result ((self.old.times.items ≡ []) × (self.new.times.items ≡ [])) (λ time. self.old.times.items ≡ self.new.times.items ++ time ∷ []) }
+        ensures times { IsPopped self.old.times.items self.new.times.items result }
     {
         let time = self.times.pop()?;
         let event = events[self.times.len()];

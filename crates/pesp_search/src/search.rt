@@ -1,16 +1,16 @@
 //! The search.
 
-ghost use Rattle.std.specs.Prelude.{◌≡◌, ◌≢◌, ℕ, ◌<◌, ◌≤◌, ◌+◌, ◌++◌, ◌∷◌, [], true, false, Some, None, IsTrue, IsSome, IfOk, IfSome, IfNone, MatchOption, List, All, Option, length};
+ghost use Rattle.std.specs.Prelude.{◌≡◌, ◌≢◌, ℕ, ◌<◌, ◌≤◌, ◌+◌, ◌++◌, ◌∷◌, [], true, false, Some, None, IsTrue, IsSome, IfOk, IfSome, IfNone, List, All, length};
 ghost use Rattle.pesp_instance.specs.Network.{IsNetwork, Network, event_ids, has_event};
 ghost use Rattle.pesp_domains.specs.declared.pair.Pair.{Pair};
 ghost use Rattle.pesp_domains.specs.Domains.{In};
 ghost use Rattle.pesp_search.specs.declared.answer.Answer.TheVariants as answers;
 ghost use Rattle.pesp_search.specs.declared.answer.Tried.TheVariants as attempts;
 ghost use Rattle.pesp_search.specs.Branch.{IsFront};
-ghost use Rattle.pesp_search.specs.Found.{AtLeast, IsBest};
+ghost use Rattle.pesp_search.specs.Found.{AtLeast, IsTold, StaysBest};
 ghost use Rattle.pesp_search.specs.Optima.{IsAnswer, IsBound};
 ghost use Rattle.pesp_search.specs.Places.{IsDead, timetable_of};
-ghost use Rattle.pesp_search.specs.Walk.{IsAt, IsNext, IsOver, IsSpent, known_cost};
+ghost use Rattle.pesp_search.specs.Walk.{IsAt, IsOver, IsStep, known_cost};
 ghost use Rattle.pesp_search.specs.Tree.{AreNodes};
 ghost use Rattle.pesp_search.specs.Tried.{IsEnd, IsOutcome, MayTry};
 
@@ -27,8 +27,11 @@ use std::alloc::Global;
 /// What a search ends with.
 #[derive(Drop)]
 struct Outcome {
+    // None where no times within the bound were found.
     best: Option<Best>,
+    // Whether the limit was reached where another residue was to be tried.
     is_stopped: bool,
+    // One for each push.
     nodes: u64,
 }
 
@@ -63,8 +66,8 @@ fn visit<K: Keeper>(
     requires times { length incumbent.old.times.items ≡ length (event_ids (K.network keeper.now)) }
     ensures at { IsAt (AtLeast (K.network keeper.now) incumbent.new.limit) (K.network keeper.now) (K.pushes keeper.now) branch.now.times.items from }
     ensures times { length incumbent.new.times.items ≡ length (event_ids (K.network keeper.now)) }
-    ensures best { (under : Option ℕ) → IsBest (K.network keeper.now) under incumbent.old.limit incumbent.old.is_found incumbent.old.times.items → IsBest (K.network keeper.now) under incumbent.new.limit incumbent.new.is_found incumbent.new.times.items }
-    ensures next { MatchOption result (IsSpent (AtLeast (K.network keeper.now) incumbent.new.limit) (K.network keeper.now) branch.now.times.items from) (λ r. IsNext (AtLeast (K.network keeper.now) incumbent.new.limit) (K.network keeper.now) branch.now.times.items from r) }
+    ensures best { StaysBest (K.network keeper.now) incumbent.old incumbent.new }
+    ensures next { IsStep (AtLeast (K.network keeper.now) incumbent.new.limit) (K.network keeper.now) branch.now.times.items from result }
     ensures same { IfSome result (λ _. (incumbent.new.limit ≡ incumbent.old.limit) × (incumbent.new.is_found ≡ incumbent.old.is_found)) }
     ensures over { IfNone result (IsOver (K.network keeper.now) incumbent.old.limit branch.now.times.items from) }
 {
@@ -94,7 +97,7 @@ fn descend<K: Keeper>(keeper: &mut K, event: EventId, residue: u16, nodes: u64) 
     nodes.saturating_add(1)
 }
 
-/// Whether as many nodes were visited as the limit, if there is one.
+/// Whether as many nodes were counted as the limit, if there is one.
 fn is_spent(limit: Option<u64>, nodes: u64) -> bool
     ensures yes { result ≡ true → limit ≡ Some nodes }
     ensures no { result ≡ false → IfSome limit (λ l. l ≢ nodes) }
@@ -143,7 +146,7 @@ fn best_of(
     requires long { length incumbent.now.times.items ≡ length (event_ids instance.now) }
     requires below { incumbent.now.is_found ≡ true → All (λ t. t < instance.now.period) incumbent.now.times.items }
     requires costs { incumbent.now.is_found ≡ true → IsSome incumbent.now.limit }
-    ensures { MatchOption result (incumbent.now.is_found ≡ false) (λ best. (incumbent.now.is_found ≡ true) × (incumbent.now.limit ≡ Some best.cost) × (best.times ≡ timetable_of instance.now incumbent.now.times.items)) }
+    ensures { IsTold instance.now incumbent.now.limit incumbent.now.is_found incumbent.now.times.items result }
 {
     match incumbent.limit {
         Some(cost) if incumbent.is_found => {
@@ -172,10 +175,15 @@ fn search<K: Keeper>(
     ensures network { K.network keeper.new ≡ K.network keeper.old }
     ensures pushes { K.pushes keeper.new ≡ [] }
 {
+    // The order in which the tree gives them their times.
     let events = events_of(alloc, keeper.instance())?;
+    // The times that the keeper has pushed, none at first.
     let mut branch = Branch::new(alloc, keeper.instance())?;
+    // The best times so far, which no times before the place where the search stands undercut.
     let mut incumbent = Incumbent::new(alloc, events.len(), bound)?;
+    // The least residue that is yet to be tried at the event behind the branch.
     let mut from = 0;
+    // One for each push, those that were popped included.
     let mut nodes = 0;
     'places: loop {
         match visit(keeper, &events, &branch, from, &mut incumbent) {
@@ -229,7 +237,7 @@ fn answer_of(best: Option<Best>) -> Answer
 ///
 /// The optimum is the first timetable of least cost: of those that meet everything none costs less, and
 /// each one that has a smaller time at the first event at which the two differ costs more. A node is one
-/// pushed pair; there are no more than the tree without cuts has. Where a bound is given, some timetable that
+/// pushed pair; no more are told than the tree without cuts has. Where a bound is given, some timetable that
 /// meets everything has to cost at most that. The keeper is left as it was.
 pub fn best<K: Keeper>(
     alloc: Global,
@@ -248,7 +256,7 @@ pub fn best<K: Keeper>(
     Ok((answer_of(outcome.best), outcome.nodes))
 }
 
-/// The optimum as [`best`] finds it, or what was found when as many nodes were visited as the limit.
+/// The optimum as [`best`] finds it, or what was found when as many nodes were counted as the limit.
 ///
 /// It stops only where the tree has more nodes than the limit. Where some timetable that meets everything
 /// within the bound is reached by the limit in the tree without cuts, what it stops with costs no more than that one.

@@ -18,7 +18,7 @@ use Rattle.clap.specs.declared.builder.value_parser.Reading.TheVariants.{AsWritt
 use Rattle.clap.specs.declared.builder.value_parser.ValueParser.TheVariants.{Signed}
 use Rattle.clap.specs.declared.parser.matches.ValueSource.TheVariants.{CommandLine, DefaultValue}
 use Rattle.clap.proofs.ValueTestLemmas.{accepts-Accepts}
-use Rattle.pesp_base.specs.declared.limits.TheConstants.{GREATEST_PERIOD, LEAST_PERIOD}
+use Rattle.pesp_base.specs.Limits.{greatest_period, least_period}
 use Rattle.pesp_shell.specs.Settings.{activities_rule, check_rule, file_rule, period_rule, pespbench}
 use Rattle.pesp_shell.proofs.RowLemmas.{Each, each_more, each_weaker, found_row, given_at, kept_row, new_row, read_at, set_joins, some_row, values_join}
 use Rattle.pesp_shell.proofs.FaultlessWords.{AllKeep, Keeps, level_keeps, no_fault}
@@ -64,7 +64,7 @@ test_passes false k e = cc
 -- ---- what the words give
 
 abbrev is_limited : Text → Bool
-is_limited text = accepts false (Signed (pos LEAST_PERIOD) (pos GREATEST_PERIOD)) text
+is_limited text = accepts false (Signed (pos least_period) (pos greatest_period)) text
 
 -- the words gave one period, within the limits
 record IsGivenPeriod (r : Row) : Type 0 where
@@ -113,10 +113,10 @@ activities = with_index 1 (filled activities_rule)
 abbrev help : Rule
 help = with_index 1 (filled help_rule)
 
-one_period : (text : Text) (rows : List Row) → or_else (repeat_fault false (codes "period") rows) (or_else (value_kinds false (Signed (pos LEAST_PERIOD) (pos GREATEST_PERIOD)) text) []) ≡ []
+one_period : (text : Text) (rows : List Row) → or_else (repeat_fault false (codes "period") rows) (or_else (value_kinds false (Signed (pos least_period) (pos greatest_period)) text) []) ≡ []
     → AreGiven rows → AreGiven (with_values (codes "period") WithoutMinus CommandLine (text ∷ []) (without (codes "period") rows))
 one_period text rows e g =
-    let s = set_use (codes "period") rows (or_else (value_kinds false (Signed (pos LEAST_PERIOD) (pos GREATEST_PERIOD)) text) []) e in
+    let s = set_use (codes "period") rows (or_else (value_kinds false (Signed (pos least_period) (pos greatest_period)) text) []) e in
     let row = new_row (codes "period") WithoutMinus CommandLine (text ∷ []) in
     let given : IsGivenRow row = record {
       period = λ h. record { text = text; values = refl; accepted = test_passes (is_limited text) [] s.1; reading = refl; source = refl };
@@ -287,7 +287,7 @@ pub record HasPeriod (rows : List Row) : Type 0 where
   pub text : Text
   pub first : first_of (codes "period") rows ≡ Some text
   pub read : one_of (codes "period") rows ≡ Some (without_minus text)
-  pub accepted : IsSignedIn (pos LEAST_PERIOD) (pos GREATEST_PERIOD) text
+  pub accepted : IsSignedIn (pos least_period) (pos greatest_period) text
   pub default : is_given (codes "period") rows ≡ false → text ≡ codes "60"
 
 -- the flag reads true where the words give it, and else false
@@ -303,7 +303,7 @@ period_in rows ready =
       text = row.text;
       first = ap (option_and_then (λ (x : Row). slice_get x.values 0)) found.1 ∙ ap (λ (vs : List Text). slice_get vs 0) row.values;
       read = read_at (codes "period") rows found.0 WithoutMinus row.text found.1 row.reading row.values;
-      accepted = accepts-Accepts false (Signed (pos LEAST_PERIOD) (pos GREATEST_PERIOD)) row.text row.accepted;
+      accepted = accepts-Accepts false (Signed (pos least_period) (pos greatest_period)) row.text row.accepted;
       default = λ none. elim row.source [
         | inl given ↦ absurd (true≢false (sym (given_at (codes "period") rows found.0 (Some CommandLine) found.1 given) ∙ none))
         | inr fallback ↦ fallback.1

@@ -15,7 +15,7 @@ use Rattle.clap.specs.Values.{IsSignedIn}
 use Rattle.clap.specs.Walk.{Row, Text, first_of, one_of, rows_of}
 use Rattle.clap.specs.declared.parser.matches.ArgMatches.{ArgMatches}
 use Rattle.clap.proofs.WalkLemmas.{one_text-rows}
-use Rattle.pesp_base.specs.declared.limits.TheConstants.{GREATEST_PERIOD, LEAST_PERIOD}
+use Rattle.pesp_base.specs.Limits.{greatest_period, least_period}
 use Rattle.pesp_shell.specs.Settings.{pespbench}
 use Rattle.pesp_shell.proofs.FaultlessSettings.{HasPeriod, ReadsFlag, line_has_period}
 
@@ -57,12 +57,12 @@ without_minus-cond (x ∷ xs) = go (x == 45)
 
 -- a text within limits above zero reads as the number that it writes
 pub limited_reads : (E : Type 0) (G : List ℕ → Result ℕ E → Type 0) (t : Text) (r : Option ℕ)
-    → ReadsOne G (without_minus t) r → ((u : Text) (x : Result ℕ E) → G u x → ParsesUnsigned 16 10 u x) → IsSignedIn (pos LEAST_PERIOD) (pos GREATEST_PERIOD) t
-    → (n : ℕ) × (r ≡ Some n) × (LEAST_PERIOD ≤ n) × (n ≤ GREATEST_PERIOD) × (signed_digits_value 10 t ≡ pos n)
+    → ReadsOne G (without_minus t) r → ((u : Text) (x : Result ℕ E) → G u x → ParsesUnsigned 16 10 u x) → IsSignedIn (pos least_period) (pos greatest_period) t
+    → (n : ℕ) × (r ≡ Some n) × (least_period ≤ n) × (n ≤ greatest_period) × (signed_digits_value 10 t ≡ pos n)
 limited_reads E G t r read only passed = go (starts_with_minus t) refl r (subst (λ (u : Text). ReadsOne G u r) (without_minus-cond t) read)
   where
     go : (b : Bool) → starts_with_minus t ≡ b → (o : Option ℕ) → ReadsOne G (cond (starts_with_minus t) (drop 1 t) t) o
-        → (n : ℕ) × (o ≡ Some n) × (LEAST_PERIOD ≤ n) × (n ≤ GREATEST_PERIOD) × (signed_digits_value 10 t ≡ pos n)
+        → (n : ℕ) × (o ≡ Some n) × (least_period ≤ n) × (n ≤ greatest_period) × (signed_digits_value 10 t ≡ pos n)
     go true minus o h =
         let low_ok = rw minus at passed.2 in
         absurd (omega (arith, ints))
@@ -79,14 +79,14 @@ limited_reads E G t r read only passed = go (starts_with_minus t) refl r (subst 
 
 -- the number is what the words write, or else 60
 pub record IsPeriodOf (rows : List Row) (n : ℕ) : Type 0 where
-  pub least : LEAST_PERIOD ≤ n
-  pub greatest : n ≤ GREATEST_PERIOD
+  pub least : least_period ≤ n
+  pub greatest : n ≤ greatest_period
   pub written : option_map (signed_digits_value 10) (first_of (codes "period") rows) ≡ Some (pos n)
   pub default : is_given (codes "period") rows ≡ false → n ≡ 60
 
 module _ (E : Type 0) (G : List ℕ → Result ℕ E → Type 0) (m : ArgMatches) (rows : List Row) (are : rows_of (found_of m) ≡ rows) (has : HasPeriod rows) (r : Option ℕ)
     (reads : (t : Text) → one_text (found_of m) (codes "period") ≡ Some t → ReadsOne G t r) (only : (u : Text) (x : Result ℕ E) → G u x → ParsesUnsigned 16 10 u x) where
-  number : (n : ℕ) × (r ≡ Some n) × (LEAST_PERIOD ≤ n) × (n ≤ GREATEST_PERIOD) × (signed_digits_value 10 has.text ≡ pos n)
+  number : (n : ℕ) × (r ≡ Some n) × (least_period ≤ n) × (n ≤ greatest_period) × (signed_digits_value 10 has.text ≡ pos n)
   number =
       let text : one_text (found_of m) (codes "period") ≡ Some (without_minus has.text) = one_text-rows (found_of m) (codes "period") ∙ ap (one_of (codes "period")) are ∙ has.read in
       limited_reads E G has.text r (reads (without_minus has.text) text) only has.accepted
@@ -99,8 +99,8 @@ module _ (E : Type 0) (G : List ℕ → Result ℕ E → Type 0) (m : ArgMatches
       let got = number in
       let same : got.0 ≡ n = some_is got.0 n (sym got.1 ∙ is) in
       record {
-        least = subst (λ (k : ℕ). LEAST_PERIOD ≤ k) same got.2;
-        greatest = subst (λ (k : ℕ). k ≤ GREATEST_PERIOD) same got.3;
+        least = subst (λ (k : ℕ). least_period ≤ k) same got.2;
+        greatest = subst (λ (k : ℕ). k ≤ greatest_period) same got.3;
         written = ap (option_map (signed_digits_value 10)) has.first ∙ ap Some (got.4 ∙ ap pos same);
         default = λ none. pos_is n 60 (ap pos (sym same) ∙ sym got.4 ∙ ap (signed_digits_value 10) (has.default none));
       }

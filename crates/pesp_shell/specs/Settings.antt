@@ -6,7 +6,7 @@ use Rattle.clap.specs.Takes.{is_given}
 use Rattle.clap.specs.Words.{App, Row, Rule, Text, first_of, matches_of, new_app, new_rule, with_rule}
 use Rattle.clap.specs.declared.builder.ArgAction.TheVariants.{SetTrue}
 use Rattle.clap.specs.declared.builder.ValueParser.TheVariants.{Signed}
-use Rattle.pesp_base.specs.declared.limits.TheConstants.{LEAST_PERIOD, GREATEST_PERIOD}
+use Rattle.pesp_base.specs.Limits.{least_period, greatest_period}
 use Rattle.pesp_shell.specs.declared.arguments.Settings.{Settings}
 
 -- `--period T`: a number within the limits, and 60 where the words give none
@@ -15,7 +15,7 @@ period_rule = record (new_rule (codes "period")) {
   long = Some (codes "period");
   value_names = 1;
   defaults = codes "60" ∷ [];
-  parser = Some (Signed (pos LEAST_PERIOD) (pos GREATEST_PERIOD));
+  parser = Some (Signed (pos least_period) (pos greatest_period));
 }
 
 -- `--name FILE`

@@ -1,2 +1,2 @@
-mod Rows
+mod Cases
 pub mod Timed

@@ -37,7 +37,7 @@ unmet_among m activities = map (λ a. of_.Activity a.id) (filter (λ a. not (mee
 
 -- whether the event's time agrees with its fixed time
 abbrev pub agrees : Times → Event → Bool
-agrees m e = agrees_with e.fixed (time_at m e.id)
+agrees m e = agrees_with m.period e.fixed (time_at m e.id)
 
 -- the events of a list that stand at another time than their fixed one
 abbrev pub moved_among : Times → List Event → List Violation

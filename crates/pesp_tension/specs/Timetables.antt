@@ -3,10 +3,9 @@ use Rattle.std.specs.Prelude.{◌≡◌, ℕ, ◌<◌, ◌≤◌, nat_le, is_non
 use Rattle.std.specs.Ordering.{nat_cmp}
 use Rattle.std.specs.BTreeMap.{is_at, insert_entry}
 use Rattle.std.specs.Map.{keys_of, values_of, lookup, remove_entry}
-use Rattle.pesp_base.specs.declared.limits.TheConstants.{GREATEST_NUMBER}
+use Rattle.pesp_base.specs.Limits.{greatest_number, max_events}
 use Rattle.pesp_base.specs.declared.refusal.Refusal.{Refusal}
 use Rattle.pesp_base.specs.declared.refusal.Refusal.TheVariants as no
-use Rattle.pesp_base.specs.Limits.{max_events}
 use Rattle.pesp_base.specs.Refusals.{when, unless_refused}
 
 -- a period, and the times of events, ascending by event
@@ -50,6 +49,6 @@ IsSetRefusal m e t refusal = IsRefusalBy m e (set_time m e t) refusal
 
 -- the numbers of events, their times and their count are within the limits
 pub record IsTimetable (m : Times) : Type 0 where
-  pub numbers : All (λ e. e ≤ GREATEST_NUMBER) (keys_of m.entries)
+  pub numbers : All (λ e. e ≤ greatest_number) (keys_of m.entries)
   pub times : All (λ t. t < m.period) (values_of m.entries)
   pub few : length m.entries ≤ max_events m.period

@@ -3,7 +3,7 @@
 //! Each answer first looks for an event without a time, and so each look-up behind that finds one.
 
 ghost use Rattle.std.specs.Prelude.{◌≡◌, ◌≤◌, ◌*◌, ◌-◌, ◌++◌, All, Ok, IfOk, IfErr, OnOk, None, IsSome};
-ghost use Rattle.pesp_base.specs.declared.limits.TheConstants.{GREATEST_PERIOD, GREATEST_WEIGHT};
+ghost use Rattle.pesp_base.specs.Limits.{greatest_period, greatest_weight};
 ghost use Rattle.pesp_tension.specs.Timetables.{time_of};
 ghost use Rattle.pesp_tension.specs.Answers.{AreTimes, IsRefusalOf, IsTimed, agrees, cost_in, cost_of, first_missing, meets, moved_among, tension_in, tensions_of, time_at, unmet_among, violations_of, where_timed};
 
@@ -75,7 +75,7 @@ pub(crate) fn is_met_at(activity: &Activity, timetable: &Timetable, times: (u16,
 pub(crate) fn cost_at(activity: &Activity, timetable: &Timetable, times: (u16, u16)) -> u64
     requires { AreTimes timetable.now activity.now times }
     ensures value { result ≡ cost_in timetable.now activity.now }
-    ensures small { result ≤ GREATEST_WEIGHT * (GREATEST_PERIOD - 1) }
+    ensures small { result ≤ greatest_weight * (greatest_period - 1) }
 {
     let (from, to) = times;
     let slack = slack(timetable.period(), activity.span, from, to);
@@ -102,7 +102,7 @@ fn is_met(activity: &Activity, timetable: &Timetable) -> bool
 pub fn cost_of_activity(activity: &Activity, timetable: &Timetable) -> u64
     requires { IsTimed timetable.now activity.now }
     ensures value { result ≡ cost_in timetable.now activity.now }
-    ensures small { result ≤ GREATEST_WEIGHT * (GREATEST_PERIOD - 1) }
+    ensures small { result ≤ greatest_weight * (greatest_period - 1) }
 {
     cost_at(activity, timetable, times_of_ends(activity, timetable))
 }
@@ -112,10 +112,7 @@ fn is_at_fixed(event: &Event, timetable: &Timetable) -> bool
     requires { IsSome (time_of timetable.now event.now.id) }
     ensures { result ≡ agrees timetable.now event.now }
 {
-    match event.fixed {
-        Some(fixed) => timetable.get(event.id).unwrap() == fixed,
-        None => true,
-    }
+    event.admits(timetable.period(), timetable.get(event.id).unwrap())
 }
 
 fn list_tensions(

@@ -1,7 +1,7 @@
 //! Tensions, violations and cost at once.
 
 ghost use Rattle.std.specs.Prelude.{◌≡◌, ◌≤◌, ◌+◌, ◌*◌, ◌-◌, ◌^◌, ◌++◌, [], ◌∷◌, IfOk, IfErr, OnOk, None};
-ghost use Rattle.pesp_base.specs.declared.limits.TheConstants.{GREATEST_PERIOD, GREATEST_WEIGHT};
+ghost use Rattle.pesp_base.specs.Limits.{greatest_period, greatest_weight};
 ghost use Rattle.pesp_tension.specs.Answers.{IsRefusalOf, IsTimed, cost_in, first_missing, tension_in, tensions_of, unmet_among, where_timed};
 ghost use Rattle.pesp_tension.specs.Assessed.{IsAssessment, IsBehind};
 
@@ -26,11 +26,11 @@ fn add_activity(
     timetable: &Timetable,
 ) -> Result<(), AllocError>
     requires timed { IsTimed timetable.now activity.now }
-    requires room { assessment.old.cost + GREATEST_WEIGHT * (GREATEST_PERIOD - 1) ≤ 2 ^ 64 - 1 }
+    requires room { assessment.old.cost + greatest_weight * (greatest_period - 1) ≤ 2 ^ 64 - 1 }
     ensures tensions { OnOk result (assessment.new.tensions.items ≡ assessment.old.tensions.items ++ tension_in timetable.now activity.now ∷ []) }
     ensures violations { OnOk result (assessment.new.violations.items ≡ assessment.old.violations.items ++ unmet_among timetable.now (activity.now ∷ [])) }
     ensures cost { OnOk result (assessment.new.cost ≡ assessment.old.cost + cost_in timetable.now activity.now) }
-    ensures small { OnOk result (assessment.new.cost ≤ assessment.old.cost + GREATEST_WEIGHT * (GREATEST_PERIOD - 1)) }
+    ensures small { OnOk result (assessment.new.cost ≤ assessment.old.cost + greatest_weight * (greatest_period - 1)) }
 {
     let times = times_of_ends(activity, timetable);
     assessment

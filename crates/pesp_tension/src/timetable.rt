@@ -111,7 +111,7 @@ impl Timetable {
 #[cfg(test)]
 mod tests {
     use crate::Timetable;
-    use pesp_base::{EventId, Period, Refusal};
+    use pesp_base::{EventId, Period, Refusal, max_events};
     use std::test::Fail;
 
     #[test]
@@ -137,11 +137,13 @@ mod tests {
 
     #[test]
     fn as_many_times_as_events(rt: HostRuntime) -> Result<(), Fail> {
-        let mut timetable = Timetable::new(rt.alloc(), Period::new(10).ok_or("no period")?);
-        for number in 0..20_000u32 {
+        let period = Period::new(10).ok_or("no period")?;
+        let mut timetable = Timetable::new(rt.alloc(), period);
+        let most = max_events(period) as u32;
+        for number in 0..most {
             timetable.set(EventId::new(number).ok_or("no event number")?, 0)?;
         }
-        let one_more = EventId::new(20_000).ok_or("no event number")?;
+        let one_more = EventId::new(most).ok_or("no event number")?;
         let old = EventId::new(7).ok_or("no event number")?;
         assert_eq!(rt; timetable.set(one_more, 1), Err(Refusal::TooManyEvents));
         assert_eq!(rt; timetable.get(one_more), None);

@@ -22,13 +22,13 @@ pub struct Walk<'a> {
 impl<'a> Model for Walk<'a> {
     ghost use Rattle.std.specs.Prelude.{ℕ, List, ◌≤◌, All};
     ghost use Rattle.std.specs.Map.{keys_of};
-    ghost use Rattle.pesp_base.specs.declared.limits.TheConstants.{GREATEST_NUMBER};
+    ghost use Rattle.pesp_base.specs.Limits.{greatest_number};
 
     ghost Value = { List (ℕ × ℕ) };
 
     ghost view = { λ w. w.entries };
 
-    ghost invariant = { λ w. All (λ e. e ≤ GREATEST_NUMBER) (keys_of w.entries) };
+    ghost invariant = { λ w. All (λ e. e ≤ greatest_number) (keys_of w.entries) };
 }
 
 impl<'a> Iterator for Walk<'a> {

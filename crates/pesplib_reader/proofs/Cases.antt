@@ -3,7 +3,7 @@ use Rattle.std.proofs.Common.{◌≡◌, ℕ, refl, pos, [], ◌∷◌, Some, No
 use Rattle.csv.specs.Reading.{records_from, strip_bom}
 use Rattle.csv.specs.Machine.{next_record}
 use Rattle.pesp_base.specs.declared.activity.Activity.{Activity}
-use Rattle.pesp_instance.specs.Network.{Network}
+use Rattle.pesp_instance.specs.Network.{Network, new_event}
 use Rattle.pesp_instance.specs.Edited.{empty_network}
 use Rattle.pesplib_reader.specs.declared.fault.ReadFault.{ReadFault}
 use Rattle.pesplib_reader.specs.declared.fault.FaultKind.{FaultKind}
@@ -11,10 +11,7 @@ use Rattle.pesplib_reader.specs.declared.fault.FaultKind.TheVariants as fault
 use Rattle.pesplib_reader.specs.Records.{trim}
 use Rattle.pesplib_reader.specs.Rows.{weight_fault, weight_value}
 use Rattle.pesplib_reader.specs.Reading.{activities_read, times_read, fixed_read, with_fixed}
-
--- an activity with these numbers
-abbrev arc : ℕ → ℕ → ℕ → ℕ → ℕ → ℕ → Activity
-arc id from to lower upper weight = record { id = id; from = from; to = to; span = record { lower = pos lower; upper = pos upper }; weight = weight }
+use Rattle.pesp_base.proofs.Samples.{arc}
 
 -- a fault at a record
 abbrev faulty : {X : Type 0} → ℕ → FaultKind → Result X ReadFault
@@ -24,7 +21,7 @@ faulty place kind = Err (record { place = place; kind = kind })
 abbrev two : Network
 two = record {
   period = 10;
-  events = record { id = 1; fixed = None } ∷ record { id = 2; fixed = None } ∷ [];
+  events = new_event 1 ∷ new_event 2 ∷ [];
   activities = arc 1 1 2 3 5 2 ∷ arc 2 2 1 4 6 1 ∷ [];
 }
 
@@ -119,7 +116,7 @@ one_fixed : fixed_read two (codes "1; 12") ≡ Ok (record { period = 10; entries
 unfolding records_from strip_bom next_record weight_fault
 one_fixed = refl
 
-event_fixed : with_fixed two (record { period = 10; entries = (2, 4) ∷ [] }) ≡ record two { events = record { id = 1; fixed = None } ∷ record { id = 2; fixed = Some 4 } ∷ [] }
+event_fixed : with_fixed two (record { period = 10; entries = (2, 4) ∷ [] }) ≡ record two { events = new_event 1 ∷ record { id = 2; fixed = Some 4 } ∷ [] }
 event_fixed = refl
 
 weight_with_a_point : weight_fault (codes "2.") ≡ None

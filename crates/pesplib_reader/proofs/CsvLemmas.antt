@@ -1,9 +1,12 @@
 -- The records of a text, read one after another.
-use Rattle.std.proofs.Common.{◌≡◌, ℕ, zero, suc, ◌+◌, ◌<◌, ◌≤◌, ◌==◌, ◌&&◌, Bool, true, false, cond, List, [], ◌∷◌, ◌++◌, length, Option, Some, None, unwrap_or, Result, Ok, Err, IfOk, OnOk, refl, sym, ap, subst, ◌∙◌, arith, add-one, inl}
+use Rattle.std.proofs.Common.{◌≡◌, ℕ, zero, suc, ◌+◌, ◌<◌, ◌≤◌, ◌==◌, ◌&&◌, Bool, true, false, cond, List, [], ◌∷◌, ◌++◌, length, Option, Some, None, unwrap_or, Result, Ok, Err, IfOk, IfErr, OnOk, refl, sym, ap, subst, ◌∙◌, arith, add-one, inl, inr}
 use Rattle.std.specs.Borrow.{Bor}
 use Rattle.std.proofs.lemmas.Bool.{and_parts, eqb-true}
 use Rattle.csv.specs.Machine.{Read, after_end, ends_at_end, ends_with, field_after, fields_after, in_field, is_byte, is_end, line_feed, next_record, start_field, start_record, step}
-use Rattle.csv.specs.Reading.{is_bom, records, strip_bom, ReadRecord, Reached, Ready, reader_config, reader_state, reader_trim, records_from, records_next, took_first}
+use Rattle.csv.specs.Reading.{is_bom, strip_bom, ReadRecord, Reached, Ready, error_kind, is_flexible, names_headers, reader_config, reader_headers, reader_state, reader_trim, records_from, records_next, took_first, ExplainsRead}
+use Rattle.csv.specs.declared.error.Error.{Error}
+use Rattle.csv.specs.declared.error.ErrorKind.{ErrorKind}
+use Rattle.csv.specs.declared.error.ErrorKind.TheVariants as error
 use Rattle.csv.specs.declared.parser.Action.{Action}
 use Rattle.csv.specs.declared.parser.Action.TheVariants as act
 use Rattle.csv.specs.declared.parser.Config.{Config}
@@ -13,8 +16,8 @@ use Rattle.csv.specs.declared.parser.Terminator.{Terminator}
 use Rattle.csv.specs.declared.parser.Terminator.TheVariants as term
 use Rattle.csv.specs.declared.reader.Trim.TheVariants as trim_of
 use Rattle.csv.proofs.ReadFacts.{rows-end, rows-more}
-use Rattle.pesplib_reader.specs.Records.{separator_of}
-use Rattle.pesplib_reader.specs.Left.{BytesReader, IsBetween, left_of, source_in, unread}
+use Rattle.pesplib_reader.specs.Records.{records_of, separator_of, with_separator}
+use Rattle.pesplib_reader.specs.Left.{BytesReader, IsBetween, IsOfMemory, left_of, source_in, unread}
 
 -- ---- a byte that ends a record leaves the machine between two records
 
@@ -167,8 +170,8 @@ module _ (a b : BytesReader) (fields : List (List ℕ)) (h : IsBetween a) where
         ∙ ap (λ cfg. records_from cfg (length (unread b) + 1) (reader_state b) (unread b)) (sym r.2)
         ∙ sym (left_is b))
 
-    stays : took_first b ≡ true → IsBetween b
-    stays taken = record { plain = r.3 ∙ h.plain; ready = inl taken; known = found.1; between = between }
+    stays : took_first b ≡ true → is_flexible b ≡ is_flexible a → IsBetween b
+    stays taken same = record { plain = r.3 ∙ h.plain; flexible = same ∙ h.flexible; ready = inl taken; known = found.1; between = between }
 
 -- the same of what a read answered
 module _ (a b : BytesReader) (fields : List (List ℕ)) (h : IsBetween a) where
@@ -190,13 +193,37 @@ module _ (a b : BytesReader) (fields : List (List ℕ)) (h : IsBetween a) where
     answered_next (Ok found) reads = λ e. next a b fields h (read_as found true e (reads h.plain h.ready))
     answered_next (Err e) reads = tt
 
-    pub answered_between : (r : Result Bool E) → Reads r → Begins r → IfOk r (λ found. found ≡ true → IsBetween b)
-    answered_between (Ok found) reads begins = λ e. stays a b fields h (read_as found true e (reads h.plain h.ready)) (begins h.plain)
-    answered_between (Err e) reads begins = tt
+    abbrev Keeps : Result Bool E → Type 0
+    Keeps r = OnOk r (is_flexible b ≡ is_flexible a)
+
+    pub answered_between : (r : Result Bool E) → Reads r → Begins r → Keeps r → IfOk r (λ found. found ≡ true → IsBetween b)
+    answered_between (Ok found) reads begins keeps = λ e. stays a b fields h (read_as found true e (reads h.plain h.ready)) (begins h.plain) keeps
+    answered_between (Err e) reads begins keeps = tt
 
     pub answered_shorter : (r : Result Bool E) → Reads r → IfOk r (λ found. found ≡ true → length (unread b) < length (unread a))
     answered_shorter (Ok found) reads = λ e. shorter a b fields h (read_as found true e (reads h.plain h.ready))
     answered_shorter (Err e) reads = tt
+
+-- ---- why a read failed: records of any lengths are taken, and as bytes
+
+module _ (a b : BytesReader) (h : IsBetween a) where
+  of_memory : (k : ErrorKind) → ExplainsRead told a b false k → IsOfMemory k
+  of_memory error.OutOfMemory why = tt
+  of_memory (error.Io e) why = tt
+  of_memory (error.UnequalLengths pos expected len) why = absurd (differ (sym h.flexible ∙ why.0))
+    where
+      differ : true ≡ false → ⊥
+      differ e = cc
+  of_memory (error.Utf8 pos e) why = absurd (differ why.0)
+    where
+      differ : false ≡ true → ⊥
+      differ e = cc
+  of_memory (error.Serialize text) why = why
+  of_memory (error.Deserialize pos e) why = why
+
+  pub failed_of_memory : (r : Result Bool Error) → IfErr r (λ e. Ready a → ExplainsRead told a b false (error_kind e)) → IfErr r (λ e. IsOfMemory (error_kind e))
+  failed_of_memory (Ok _) why = tt
+  failed_of_memory (Err e) why = of_memory (error_kind e) (why h.ready)
 
 -- ---- a reader at the start of a text
 
@@ -208,32 +235,39 @@ marked a b c rest true e =
     let others = and_parts (a == 0xEF) (b == 0xBB) parts.0 in
     rw (eqb-true a 0xEF others.0, eqb-true b 0xBB others.1, eqb-true c 0xBF parts.1) refl
 
-pub same_separator : (bytes : List ℕ) → separator_of (strip_bom bytes) ≡ separator_of bytes
+same_separator : (bytes : List ℕ) → separator_of (strip_bom bytes) ≡ separator_of bytes
 unfolding strip_bom
 same_separator [] = refl
 same_separator (a ∷ []) = refl
 same_separator (a ∷ b ∷ []) = refl
 same_separator (a ∷ b ∷ c ∷ rest) = marked a b c rest (is_bom a b c) refl
 
-pub length-strip_bom : (bytes : List ℕ) → length (strip_bom bytes) ≤ length bytes
+length-strip_bom : (bytes : List ℕ) → length (strip_bom bytes) ≤ length bytes
 unfolding strip_bom
 length-strip_bom [] = omega arith
 length-strip_bom (a ∷ []) = omega arith
 length-strip_bom (a ∷ b ∷ []) = omega arith
 length-strip_bom (a ∷ b ∷ c ∷ rest) = elim (is_bom a b c) as (λ t. length (cond t rest (a ∷ b ∷ c ∷ rest)) ≤ length (a ∷ b ∷ c ∷ rest)) [ true ↦ omega arith | false ↦ omega arith ]
 
-module _ (r : BytesReader) (text : List ℕ) (source : source_in r ≡ Some text) (state : reader_state r ≡ st.StartRecord) where
-  pub opened_known : source_in r ≡ Some (unread r)
-  opened_known = source ∙ ap (λ xs. Some xs) (sym (is_unread r text source))
+module _ (r : BytesReader) (bytes : List ℕ) (source : source_in r ≡ Some (strip_bom bytes)) (state : reader_state r ≡ st.StartRecord) where
+  opened_unread : unread r ≡ strip_bom bytes
+  opened_unread = is_unread r (strip_bom bytes) source
 
-  pub opened_between : ends_at_end (reader_state r) ≡ false
-  opened_between = rw state refl
+  pub opened_between : reader_trim r ≡ trim_of.None → is_flexible r ≡ true → names_headers r ≡ false → reader_headers r ≡ None → IsBetween r
+  opened_between plain flexible headers none =
+      record {
+        plain = plain;
+        flexible = flexible;
+        ready = inr (inr (headers, none));
+        known = source ∙ ap (λ xs. Some xs) (sym opened_unread);
+        between = rw state refl;
+      }
 
-  pub opened_left : (cfg : Config) → reader_config r ≡ cfg → left_of r ≡ records cfg text
-  opened_left cfg e =
-      left_is r ∙ ap (λ d. records_from d (length (unread r) + 1) (reader_state r) (unread r)) e
-      ∙ ap (λ s. records_from cfg (length (unread r) + 1) s (unread r)) state
-      ∙ ap (λ xs. records_from cfg (length xs + 1) st.StartRecord xs) (is_unread r text source)
+  pub opened_left : reader_config r ≡ with_separator (separator_of bytes) → left_of r ≡ records_of bytes
+  opened_left e =
+      left_is r ∙ ap (λ d. records_from d (length (unread r) + 1) (reader_state r) (unread r)) (e ∙ ap with_separator (sym (same_separator bytes)))
+      ∙ ap (λ s. records_from (with_separator (separator_of (strip_bom bytes))) (length (unread r) + 1) s (unread r)) state
+      ∙ ap (λ xs. records_from (with_separator (separator_of (strip_bom bytes))) (length xs + 1) st.StartRecord xs) opened_unread
 
-  pub opened_unread : unread r ≡ text
-  opened_unread = is_unread r text source
+  pub opened_short : length (unread r) ≤ length bytes
+  opened_short = rw opened_unread (length-strip_bom bytes)

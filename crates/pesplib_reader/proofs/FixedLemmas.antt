@@ -12,7 +12,7 @@ use Rattle.pesp_base.specs.Tensions.{residue}
 use Rattle.pesp_base.proofs.Laws.{residue_below}
 use Rattle.pesp_instance.specs.declared.edit.Edit.TheVariants.{Fix}
 use Rattle.pesp_instance.specs.declared.event.Event.{Event}
-use Rattle.pesp_instance.specs.Edited.{IsRefusal, edited, refixed}
+use Rattle.pesp_instance.specs.Edited.{IsRefusal, edited, effect}
 use Rattle.pesp_instance.specs.Network.{Network, event_of, has_event}
 use Rattle.pesp_instance.proofs.Rising.{with_number-change_in}
 use Rattle.pesp_tension.specs.Timetables.{Times, no_times, time_of}
@@ -73,7 +73,7 @@ module _ (I : Network) where
 -- ---- a time that is fixed
 
 abbrev pub with_fix : Network → ℕ × ℕ → Network
-with_fix J x = refixed J x.0 (Some x.1)
+with_fix J x = effect J (Fix x.0 x.1)
 
 module _ (J : Network) (e t : ℕ) (known : has_event J e ≡ true) (below : t < J.period) where
   fix_stands : {X : Type 0} (x : X) → unless_refused (when (not (has_event J e)) (no.NoEvent e) ∷ when (nat_le J.period t) (no.TimeOutOfRange t) ∷ []) x ≡ Ok x

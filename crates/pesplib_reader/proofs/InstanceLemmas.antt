@@ -9,7 +9,7 @@ use Rattle.pesp_base.specs.Refusals.{unless_refused, when}
 use Rattle.pesp_instance.specs.declared.edit.Edit.TheVariants.{AddActivity, AddEvent}
 use Rattle.pesp_instance.specs.declared.event.Event.{Event}
 use Rattle.pesp_instance.specs.Edited.{IsRefusal, edited, effect}
-use Rattle.pesp_instance.specs.Network.{Network, activity_of, event_of, has_event}
+use Rattle.pesp_instance.specs.Network.{Network, activity_of, event_of, has_event, new_event}
 use Rattle.pesp_instance.proofs.Rising.{length-put_in, with_number-put_in}
 use Rattle.pesplib_reader.specs.declared.fault.FaultKind.TheVariants as fault
 use Rattle.pesplib_reader.specs.Reading.{activity_taken, with_activity, with_ends, with_event}
@@ -73,11 +73,19 @@ module _ (I : Network) (a : Activity) where
       could (Ok J) e is = subst (λ t. IsTakeFault t fault.Memory) (sym (taken_at_once few J e)) refl
       could (Err r) e is = absurd (cc)
 
+  -- ---- ends do not change the period
+
+  event_period : (J : Network) (e : ℕ) → (with_event J e).period ≡ J.period
+  event_period J e = elim (has_event J e) as (λ t. (cond t J (effect J (AddEvent e))).period ≡ J.period) [ true ↦ refl | false ↦ refl ]
+
+  ends_period : (with_ends I a).period ≡ I.period
+  ends_period = event_period (with_event I a.from) a.to ∙ event_period I a.from
+
   -- ---- how many events there are with the ends
 
   count_new : (J : Network) (e : ℕ) → has_event J e ≡ false → length (with_event J e).events ≡ length J.events + 1
   count_new J e new =
-      ap (λ t. length (cond t J (effect J (AddEvent e))).events) new ∙ length-put_in (λ (x : Event). x.id) (record { id = e; fixed = None }) J.events (none (event_of J e) new)
+      ap (λ t. length (cond t J (effect J (AddEvent e))).events) new ∙ length-put_in (λ (x : Event). x.id) (new_event e) J.events (none (event_of J e) new)
     where
       none : (o : Option Event) → is_some o ≡ false → o ≡ None
       none None h = refl
@@ -107,8 +115,8 @@ module _ (I : Network) (a : Activity) where
 
   there_new : (J : Network) (e f : ℕ) → has_event (effect J (AddEvent e)) f ≡ ((e == f) || has_event J f)
   there_new J e f =
-      ap is_some (with_number-put_in (λ (x : Event). x.id) f (record { id = e; fixed = None }) J.events)
-      ∙ elim (e == f) as (λ t. is_some (cond t (Some (record { id = e; fixed = None })) (event_of J f)) ≡ (t || has_event J f)) [ true ↦ refl | false ↦ refl ]
+      ap is_some (with_number-put_in (λ (x : Event). x.id) f (new_event e) J.events)
+      ∙ elim (e == f) as (λ t. is_some (cond t (Some (new_event e)) (event_of J f)) ≡ (t || has_event J f)) [ true ↦ refl | false ↦ refl ]
 
   there : (J : Network) (e f : ℕ) → has_event (with_event J e) f ≡ ((e == f) || has_event J f)
   there J e f =
@@ -183,4 +191,5 @@ module _ (I J : Network) (a : Activity) where
   few_events h =
       let facts = few_by (is_some (activity_of I a.id)) (too_many_events I a) (nat_le (max_activities I.period) (length I.activities)) (with_activity I a) h in
       let le : length (with_ends I a).events ≤ max_events I.period = ltb-false (max_events I.period) (length (with_ends I a).events) facts.0 in
-      subst (λ (K : Network). length K.events ≤ max_events K.period) facts.1 le
+      subst (λ (K : Network). length K.events ≤ max_events K.period) facts.1
+      (subst (λ period. length (with_ends I a).events ≤ max_events period) (sym (ends_period I a)) le)

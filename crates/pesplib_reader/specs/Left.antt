@@ -1,9 +1,11 @@
 -- What is left of a file that is read record by record.
-use Rattle.std.specs.Prelude.{◌≡◌, ℕ, ◌+◌, ◌-◌, ◌<◌, ◌≤◌, ◌^◌, Bool, false, ◌||◌, ◌&&◌, not, if◌then◌else◌, List, [], ◌∷◌, map, length, Option, Some, unwrap_or}
+use Rattle.std.specs.Prelude.{◌≡◌, ℕ, ◌+◌, ◌-◌, ◌<◌, ◌≤◌, ◌^◌, Bool, true, false, ◌||◌, ◌&&◌, not, if◌then◌else◌, List, [], ◌∷◌, map, length, Option, Some, unwrap_or, ⊤}
 use Rattle.std.specs.Borrow.{Bor}
 use Rattle.csv.specs.Machine.{ends_at_end}
-use Rattle.csv.specs.Reading.{Ready, reader_config, reader_state, reader_trim, records_from, source_of}
+use Rattle.csv.specs.Reading.{Ready, is_flexible, reader_config, reader_state, reader_trim, records_from, source_of}
 use Rattle.csv.specs.Records as csv
+use Rattle.csv.specs.declared.error.ErrorKind.{ErrorKind}
+use Rattle.csv.specs.declared.error.ErrorKind.TheVariants as error
 use Rattle.csv.specs.declared.reader.Reader.{Reader}
 use Rattle.csv.specs.declared.reader.Trim.TheVariants as trim_of
 use Rattle.pesplib_reader.specs.declared.fault.ReadFault.{ReadFault}
@@ -27,9 +29,19 @@ unread r = unwrap_or (source_in r) []
 unfoldable pub left_of : BytesReader → List (List (List ℕ))
 left_of r = records_from (reader_config r) (length (unread r) + 1) (reader_state r) (unread r)
 
--- a reader that stands between two records of bytes that are known, and gives each field as it is
+-- an error of memory or of the device: not of a record's length, nor of its text
+abbrev pub IsOfMemory : ErrorKind → Type 0
+IsOfMemory error.OutOfMemory = ⊤
+IsOfMemory (error.Io e) = ⊤
+IsOfMemory (error.UnequalLengths pos expected len) = ⊥
+IsOfMemory (error.Utf8 pos e) = ⊥
+IsOfMemory (error.Serialize text) = ⊥
+IsOfMemory (error.Deserialize pos e) = ⊥
+
+-- a reader that stands between two records of bytes that are known, and takes records of any lengths and each field as it is
 pub record IsBetween (r : BytesReader) : Type 0 where
   pub plain : reader_trim r ≡ trim_of.None
+  pub flexible : is_flexible r ≡ true
   pub ready : Ready r
   pub known : source_in r ≡ Some (unread r)
   pub between : ends_at_end (reader_state r) ≡ false

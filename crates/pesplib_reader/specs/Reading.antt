@@ -5,8 +5,8 @@ use Rattle.pesp_base.specs.declared.activity.Activity.{Activity}
 use Rattle.pesp_base.specs.Limits.{max_activities, max_events}
 use Rattle.pesp_base.specs.Tensions.{residue}
 use Rattle.pesp_instance.specs.Network.{Network, has_event, activity_of}
-use Rattle.pesp_instance.specs.Edited.{effect, empty_network, refixed}
-use Rattle.pesp_instance.specs.declared.edit.Edit.TheVariants.{AddEvent, AddActivity}
+use Rattle.pesp_instance.specs.Edited.{effect, empty_network}
+use Rattle.pesp_instance.specs.declared.edit.Edit.TheVariants.{AddActivity, AddEvent, Fix}
 use Rattle.pesp_tension.specs.Timetables.{Times, no_times, time_of, with_time}
 use Rattle.pesplib_reader.specs.declared.fault.ReadFault.{ReadFault}
 use Rattle.pesplib_reader.specs.declared.fault.FaultKind.{FaultKind}
@@ -96,7 +96,7 @@ fixed_read I bytes = taken (fixed_faults_behind I) with_time_row (no_times I.per
 
 -- the instance with these times fixed
 abbrev pub with_fixed : Network → Times → Network
-with_fixed I m = fold (λ J x. refixed J x.0 (Some x.1)) I m.entries
+with_fixed I m = fold (λ J x. effect J (Fix x.0 x.1)) I m.entries
 
 -- these times may be fixed: their events are those of the instance, and they are below its period
 abbrev pub AreFixable : Network → List (ℕ × ℕ) → Type 0

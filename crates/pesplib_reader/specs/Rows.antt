@@ -4,11 +4,14 @@ use Rattle.std.specs.Char.{is_ascii_digit}
 use Rattle.std.specs.List.{list_all, list_any, before_first, after_first}
 use Rattle.pesp_base.specs.Refusals.{when}
 use Rattle.pesp_base.specs.declared.activity.Activity.{Activity}
-use Rattle.pesp_base.specs.declared.limits.TheConstants.{GREATEST_NUMBER, GREATEST_WEIGHT, LEAST_BOUND, GREATEST_BOUND}
+use Rattle.pesp_base.specs.Limits.{greatest_bound, greatest_number, greatest_weight, least_bound}
 use Rattle.pesp_base.specs.Texts.{number_value}
 use Rattle.pesplib_reader.specs.declared.fault.FaultKind.{FaultKind}
 use Rattle.pesplib_reader.specs.declared.fault.FaultKind.TheVariants as fault
-use Rattle.pesplib_reader.specs.declared.rows.TheConstants.{GREATEST_TIME}
+
+-- the greatest time that a file may hold; the least is as far below 0
+abbrev pub greatest_time : ℕ
+greatest_time = 1000000000
 
 -- the k-th field, from 1
 abbrev pub field : List (List ℕ) → ℕ → List ℕ
@@ -50,7 +53,7 @@ abbrev pub decimal_fault : List ℕ → Option ℤ → Option FaultKind
 decimal_fault digits number =
     if not (list_all is_ascii_digit digits) || is_none number then Some (fault.BadNumber 6)
     else if list_any is_not_zero digits then Some fault.FractionalWeight
-    else range_fault 6 (pos 0) (pos GREATEST_WEIGHT) number
+    else range_fault 6 (pos 0) (pos greatest_weight) number
 
 -- a weight is a number, or a number with a point and zeros behind it
 unfoldable pub weight_fault : List ℕ → Option FaultKind
@@ -74,11 +77,11 @@ activity_in fields = record {
 abbrev pub activity_faults : List (List ℕ) → List (Option FaultKind)
 activity_faults fields =
     when (not (length fields == 6)) fault.FieldCount
-    ∷ number_fault 1 (pos 0) (pos GREATEST_NUMBER) (field fields 1)
-    ∷ number_fault 2 (pos 0) (pos GREATEST_NUMBER) (field fields 2)
-    ∷ number_fault 3 (pos 0) (pos GREATEST_NUMBER) (field fields 3)
-    ∷ number_fault 4 LEAST_BOUND GREATEST_BOUND (field fields 4)
-    ∷ number_fault 5 LEAST_BOUND GREATEST_BOUND (field fields 5)
+    ∷ number_fault 1 (pos 0) (pos greatest_number) (field fields 1)
+    ∷ number_fault 2 (pos 0) (pos greatest_number) (field fields 2)
+    ∷ number_fault 3 (pos 0) (pos greatest_number) (field fields 3)
+    ∷ number_fault 4 least_bound greatest_bound (field fields 4)
+    ∷ number_fault 5 least_bound greatest_bound (field fields 5)
     ∷ weight_fault (field fields 6)
     ∷ when (int_lt (value (field fields 5)) (value (field fields 4))) fault.Crossed ∷ []
 
@@ -86,5 +89,5 @@ activity_faults fields =
 abbrev pub time_faults : List (List ℕ) → List (Option FaultKind)
 time_faults fields =
     when (not (length fields == 2)) fault.FieldCount
-    ∷ number_fault 1 (pos 0) (pos GREATEST_NUMBER) (field fields 1)
-    ∷ number_fault 2 (neg_ℤ (pos GREATEST_TIME)) (pos GREATEST_TIME) (field fields 2) ∷ []
+    ∷ number_fault 1 (pos 0) (pos greatest_number) (field fields 1)
+    ∷ number_fault 2 (neg_ℤ (pos greatest_time)) (pos greatest_time) (field fields 2) ∷ []

@@ -1,9 +1,12 @@
 //! The records of a file, as `csv` cuts them, and which of them are rows.
 
-ghost use Rattle.std.specs.Prelude.{◌≡◌, ◌≢◌, ◌<◌, ◌+◌, ◌∷◌, ◌||◌, [], true, false, length, slice_index_or, IfOk, IfErr, OnOk, MatchOption, List, ℕ};
+ghost use Rattle.std.specs.Prelude.{◌≡◌, ◌≢◌, ◌<◌, ◌+◌, ◌∷◌, ◌||◌, [], true, false, length, None, Some, slice_index_or, IfOk, IfErr, OnOk, MatchOption, List, ℕ};
+ghost use Rattle.csv.specs.Reading.{error_kind, is_flexible, names_headers, reader_config, reader_headers, reader_state, reader_trim, strip_bom};
 ghost use Rattle.csv.specs.Records.{fields_of};
+ghost use Rattle.csv.specs.declared.parser.State.TheVariants as st;
+ghost use Rattle.csv.specs.declared.reader.Trim.TheVariants as trim_of;
 ghost use Rattle.pesplib_reader.specs.declared.fault.FaultKind.TheVariants as kind;
-ghost use Rattle.pesplib_reader.specs.Left.{IsBetween, IsNextRow, IsReading, IsWant, count_of, is_row, left_of, rows_left, trimmed_fields, unread};
+ghost use Rattle.pesplib_reader.specs.Left.{IsBetween, IsNextRow, IsOfMemory, IsReading, IsWant, count_of, is_row, left_of, rows_left, source_in, trimmed_fields, unread};
 ghost use Rattle.pesplib_reader.specs.Records as file;
 ghost use Rattle.pesplib_reader.specs.RowFields.{activity_fields, time_fields};
 
@@ -32,11 +35,16 @@ fn separator(bytes: &[u8]) -> u8
     if bytes.contains(&b';') { b';' } else { b',' }
 }
 
-/// A reader at the first record.
+/// A reader at the first record, with the file's separator and `csv`'s defaults otherwise, but that it
+/// takes records of any lengths and no header row.
 fn reader(alloc: Global, bytes: &[u8]) -> Reader<&[u8]>
-    ensures between { IsBetween result }
-    ensures records { left_of result ≡ file.records_of bytes.now }
-    ensures short { length (unread result) < length bytes.now + 1 }
+    ensures config { reader_config result ≡ file.with_separator (file.separator_of bytes.now) }
+    ensures flexible { is_flexible result ≡ true }
+    ensures headers { names_headers result ≡ false }
+    ensures no_header { reader_headers result ≡ None }
+    ensures plain { reader_trim result ≡ trim_of.None }
+    ensures start { reader_state result ≡ st.StartRecord }
+    ensures source { source_in result ≡ Some (strip_bom bytes.now) }
 {
     ReaderBuilder::new()
         .delimiter(separator(bytes))
@@ -52,6 +60,7 @@ fn read_record(reader: &mut Reader<&[u8]>, fields: &mut ByteRecord) -> Result<bo
     ensures next { IfOk result (λ found. found ≡ true → left_of reader.old ≡ fields_of fields.new ∷ left_of reader.new) }
     ensures between { IfOk result (λ found. found ≡ true → IsBetween reader.new) }
     ensures shorter { IfOk result (λ found. found ≡ true → length (unread reader.new) < length (unread reader.old)) }
+    ensures memory { IfErr result (λ error. IsOfMemory (error_kind error)) }
 {
     reader.read_byte_record(fields)
 }

@@ -6,7 +6,7 @@ ghost use Rattle.std.specs.Prelude.{◌≡◌, ◌≤◌, ◌≤ℤ◌, ◌<ℤ�
 ghost use Rattle.std.specs.Char.{is_ascii_digit};
 ghost use Rattle.std.specs.List.{list_all, list_any};
 ghost use Rattle.pesp_base.specs.Refusals.{unless_refused};
-ghost use Rattle.pesp_base.specs.declared.limits.TheConstants.{GREATEST_NUMBER, GREATEST_WEIGHT, LEAST_BOUND, GREATEST_BOUND};
+ghost use Rattle.pesp_base.specs.Limits.{greatest_bound, greatest_number, greatest_weight, least_bound};
 ghost use Rattle.pesp_base.specs.declared.number.TheConstants.{NUMBER_CAP};
 ghost use Rattle.pesplib_reader.specs.Rows.{number_fault, value, natural, whole_part, decimals, is_not_zero, weight_fault, weight_value};
 
@@ -65,19 +65,19 @@ fn natural_field(field: u8, text: &[u8], greatest: u32) -> Result<u32, FaultKind
 }
 
 fn event_field(field: u8, text: &[u8]) -> Result<EventId, FaultKind>
-    ensures no_fault { IfOk result (λ event. number_fault field (pos 0) (pos GREATEST_NUMBER) text.now ≡ None) }
+    ensures no_fault { IfOk result (λ event. number_fault field (pos 0) (pos greatest_number) text.now ≡ None) }
     ensures value { IfOk result (λ event. event ≡ natural text.now) }
-    ensures fault { IfErr result (λ kind. number_fault field (pos 0) (pos GREATEST_NUMBER) text.now ≡ Some kind) }
+    ensures fault { IfErr result (λ kind. number_fault field (pos 0) (pos greatest_number) text.now ≡ Some kind) }
 {
     let number = natural_field(field, text, GREATEST_NUMBER)?;
     Ok(EventId::new(number).unwrap())
 }
 
 fn bound_field(field: u8, text: &[u8]) -> Result<i32, FaultKind>
-    ensures no_fault { IfOk result (λ bound. number_fault field LEAST_BOUND GREATEST_BOUND text.now ≡ None) }
+    ensures no_fault { IfOk result (λ bound. number_fault field least_bound greatest_bound text.now ≡ None) }
     ensures value { IfOk result (λ bound. bound ≡ value text.now) }
-    ensures within { IfOk result (λ bound. (LEAST_BOUND ≤ℤ bound) × (bound ≤ℤ GREATEST_BOUND)) }
-    ensures fault { IfErr result (λ kind. number_fault field LEAST_BOUND GREATEST_BOUND text.now ≡ Some kind) }
+    ensures within { IfOk result (λ bound. (least_bound ≤ℤ bound) × (bound ≤ℤ greatest_bound)) }
+    ensures fault { IfErr result (λ kind. number_fault field least_bound greatest_bound text.now ≡ Some kind) }
 {
     let bound = number_field(
         field,
@@ -117,7 +117,7 @@ fn is_some_not_zero(digits: &[u8]) -> bool
 fn weight_field(text: &[u8]) -> Result<u32, FaultKind>
     ensures no_fault { IfOk result (λ weight. weight_fault text.now ≡ None) }
     ensures value { IfOk result (λ weight. weight ≡ weight_value text.now) }
-    ensures within { IfOk result (λ weight. weight ≤ GREATEST_WEIGHT) }
+    ensures within { IfOk result (λ weight. weight ≤ greatest_weight) }
     ensures fault { IfErr result (λ kind. weight_fault text.now ≡ Some kind) }
 {
     let (whole, decimals) = at_point(text);

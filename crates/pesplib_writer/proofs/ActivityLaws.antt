@@ -10,7 +10,7 @@ use Rattle.pesp_base.specs.Numbered.{with_number}
 use Rattle.pesp_instance.specs.declared.event.Event.{Event}
 use Rattle.pesp_instance.specs.declared.edit.Edit.TheVariants.{AddActivity, AddEvent}
 use Rattle.pesp_instance.specs.Edited.{effect}
-use Rattle.pesp_instance.specs.Network.{Network, is_end_of}
+use Rattle.pesp_instance.specs.Network.{Network, is_end_of, new_event}
 use Rattle.pesp_instance.proofs.Rising.{Rises, length-filter_le}
 use Rattle.pesplib_reader.specs.Reading.{activity_faults_behind, activity_taken, instance_faults, with_activity, with_activity_row, with_ends, with_event}
 use Rattle.pesplib_reader.specs.Rows.{activity_faults, activity_in}
@@ -23,18 +23,9 @@ use Rattle.pesplib_writer.proofs.FieldLaws.{IsWithin, activity_back, activity_is
 use Rattle.pesplib_writer.proofs.OrderLaws.{IsBelow, below_after, put_in-below, with_number-below}
 use Rattle.pesplib_writer.proofs.RecordLaws.{AreRows}
 use Rattle.pesplib_writer.proofs.RowLaws.{numbered}
+use Rattle.pesp_instance.proofs.Numbers.{activity_number, event_number}
 
 -- the number of an event, and of an activity
-abbrev pub event_number : Event → ℕ
-event_number e = e.id
-
-abbrev pub activity_number : Activity → ℕ
-activity_number a = a.id
-
--- the event of a number, without a fixed time
-abbrev pub bare : ℕ → Event
-bare e = record { id = e; fixed = None }
-
 -- whether a number is an end of an activity
 abbrev pub is_used : List Activity → ℕ → Bool
 is_used activities n = is_some (find (is_end_of n) activities)
@@ -79,7 +70,7 @@ module _ (period : ℕ) (events : List Event) (rises : Rises event_number events
 
   -- the event is there, without a fixed time
   abbrev pub IsBare : ℕ → Type 0
-  IsBare e = with_number event_number e events ≡ Some (bare e)
+  IsBare e = with_number event_number e events ≡ Some (new_event e)
 
   -- one event more, which may have passed already
   one_end : (test : ℕ → Bool) (done : List Activity) (e : ℕ) → IsBare e → with_event (holding test done) e ≡ holding (or_at test e) done
@@ -91,7 +82,7 @@ module _ (period : ℕ) (events : List Event) (rises : Rises event_number events
             ∙ same_test test (or_at test e) done (λ n. passes_already test e n passes)
         | false ↦ λ fails.
             ap (λ b. cond b before (effect before (AddEvent e))) (ap is_some (with_number-failed event_number test e events fails))
-            ∙ ap (λ es. record { period = period; events = es; activities = done }) (put_in-kept event_number test (bare e) fails events rises is)
+            ∙ ap (λ es. record { period = period; events = es; activities = done }) (put_in-kept event_number test (new_event e) fails events rises is)
       ] refl
 
   -- the instance of these activities, and of the events that are their ends

@@ -3,21 +3,18 @@ use Rattle.std.proofs.Common.{◌≡◌, ℕ, refl, pos, [], ◌∷◌, None, Ok
 use Rattle.std.specs.Fmt.{digits}
 use Rattle.pesp_base.specs.declared.activity.Activity.{Activity}
 use Rattle.pesp_base.specs.Texts.{as_lines}
-use Rattle.pesp_instance.specs.Network.{Network}
+use Rattle.pesp_instance.specs.Network.{Network, new_event}
 use Rattle.pesp_instance.specs.Edited.{after, empty_network}
 use Rattle.pesp_instance.specs.declared.edit.Edit.TheVariants as do_
 use Rattle.pesplib_writer.specs.Texts.{activities_text, fixed_text, times_text, unfixed}
 use Rattle.pesplib_writer.specs.Script.{applied, script, script_edits}
-
--- an activity with these numbers
-abbrev arc : ℕ → ℕ → ℕ → ℕ → ℕ → ℕ → Activity
-arc id from to lower upper weight = record { id = id; from = from; to = to; span = record { lower = pos lower; upper = pos upper }; weight = weight }
+use Rattle.pesp_base.proofs.Samples.{arc}
 
 -- two events, and an activity each way between them
 abbrev two : Network
 two = record {
   period = 10;
-  events = record { id = 1; fixed = None } ∷ record { id = 2; fixed = None } ∷ [];
+  events = new_event 1 ∷ new_event 2 ∷ [];
   activities = arc 1 1 2 3 5 2 ∷ arc 2 2 1 4 6 1 ∷ [];
 }
 

@@ -8,7 +8,7 @@ use Rattle.std.specs.Fmt.{signed_decimal}
 use Rattle.std.specs.Int.Signed.{mag}
 use Rattle.std.specs.List.{position_or_len}
 use Rattle.pesp_base.specs.declared.activity.Activity.{Activity}
-use Rattle.pesp_base.specs.declared.limits.TheConstants.{GREATEST_NUMBER, GREATEST_WEIGHT, LEAST_BOUND, GREATEST_BOUND}
+use Rattle.pesp_base.specs.Limits.{greatest_bound, greatest_number, greatest_weight, least_bound}
 use Rattle.pesp_base.specs.Bounds.{AreBounds}
 use Rattle.pesp_base.specs.Numbered.{with_number}
 use Rattle.pesp_base.specs.Refusals.{unless_refused, when}
@@ -19,7 +19,7 @@ use Rattle.pesp_instance.specs.Network.{IsActivity, IsEvent}
 use Rattle.pesp_instance.proofs.Rising.{IfSome-with_number, number-with_number}
 use Rattle.pesplib_reader.specs.declared.fault.FaultKind.{FaultKind}
 use Rattle.pesplib_reader.specs.declared.fault.FaultKind.TheVariants as fault
-use Rattle.pesplib_reader.specs.Rows.{activity_faults, activity_in, decimal_fault, decimals, is_point, natural, number_fault, range_fault, time_faults, value, weight_fault, weight_value, whole_part}
+use Rattle.pesplib_reader.specs.Rows.{greatest_time, activity_faults, activity_in, decimal_fault, decimals, is_point, natural, number_fault, range_fault, time_faults, value, weight_fault, weight_value, whole_part}
 use Rattle.pesplib_writer.specs.Texts.{activity_fields}
 use Rattle.pesplib_writer.proofs.RecordLaws.{AreFields, IsField, IsRow}
 
@@ -49,23 +49,23 @@ at_most : (n most : ℕ) → n ≤ most → pos n ≤ℤ pos most
 at_most n most le = omega (arith, ints, le)
 
 -- a number of an event or an activity
-number_stands : (k n : ℕ) → n ≤ GREATEST_NUMBER → number_fault k (pos 0) (pos GREATEST_NUMBER) (decimal n) ≡ None
-number_stands k n le = decimal_in_limits n (omega (arith, le)) k (pos 0) (pos GREATEST_NUMBER) (not_negative n) (at_most n GREATEST_NUMBER le)
+number_stands : (k n : ℕ) → n ≤ greatest_number → number_fault k (pos 0) (pos greatest_number) (decimal n) ≡ None
+number_stands k n le = decimal_in_limits n (omega (arith, le)) k (pos 0) (pos greatest_number) (not_negative n) (at_most n greatest_number le)
 
-module _ (z : ℤ) (low : LEAST_BOUND ≤ℤ z) (high : z ≤ℤ GREATEST_BOUND) where
+module _ (z : ℤ) (low : least_bound ≤ℤ z) (high : z ≤ℤ greatest_bound) where
   -- a bound is small enough to be written
   small_bound : mag z < 2 ^ 63
   small_bound = small z low high
     where
-      small : (y : ℤ) → LEAST_BOUND ≤ℤ y → y ≤ℤ GREATEST_BOUND → mag y < 2 ^ 63
+      small : (y : ℤ) → least_bound ≤ℤ y → y ≤ℤ greatest_bound → mag y < 2 ^ 63
       small (pos n) g h = omega (arith, ints, g, h)
       small (negsuc n) g h = omega (arith, ints, g, h)
 
   value_of_bound : value (signed_decimal z) ≡ z
   value_of_bound = ap (λ o. unwrap_or o (pos 0)) (number_value-signed_decimal z small_bound)
 
-  bound_stands : (k : ℕ) → number_fault k LEAST_BOUND GREATEST_BOUND (signed_decimal z) ≡ None
-  bound_stands k = ap (range_fault k LEAST_BOUND GREATEST_BOUND) (number_value-signed_decimal z small_bound) ∙ in_limits k LEAST_BOUND GREATEST_BOUND z low high
+  bound_stands : (k : ℕ) → number_fault k least_bound greatest_bound (signed_decimal z) ≡ None
+  bound_stands k = ap (range_fault k least_bound greatest_bound) (number_value-signed_decimal z small_bound) ∙ in_limits k least_bound greatest_bound z low high
 
 -- ---- a weight, which is written without a point
 
@@ -81,7 +81,7 @@ all_whole text between = take_all (position_or_len is_point text) text (omega (a
 no_decimals : (text : List ℕ) → AreBetween 48 57 text → decimals text ≡ []
 no_decimals text between = drop_all (position_or_len is_point text + 1) text (omega (arith, no_point text between))
 
-module _ (w : ℕ) (le : w ≤ GREATEST_WEIGHT) where
+module _ (w : ℕ) (le : w ≤ greatest_weight) where
   small_weight : w < 2 ^ 64
   small_weight = omega (arith, le)
 
@@ -94,7 +94,7 @@ module _ (w : ℕ) (le : w ≤ GREATEST_WEIGHT) where
       ap (λ ds. decimal_fault ds (number_value (whole_part (decimal w)))) (no_decimals (decimal w) (decimal_between w small_weight))
       ∙ ap (λ t. decimal_fault [] (number_value t)) (all_whole (decimal w) (decimal_between w small_weight))
       ∙ ap (decimal_fault []) (number_value-decimal w small_weight)
-      ∙ in_limits 6 (pos 0) (pos GREATEST_WEIGHT) (pos w) (not_negative w) (at_most w GREATEST_WEIGHT le)
+      ∙ in_limits 6 (pos 0) (pos greatest_weight) (pos w) (not_negative w) (at_most w greatest_weight le)
 
 -- ---- what is written in digits, and a minus
 
@@ -105,11 +105,11 @@ weaker (b ∷ text) between = (omega (arith, between.0), between.1, weaker text 
 decimal_field : (n : ℕ) → n < 2 ^ 64 → IsField (decimal n)
 decimal_field n small = (decimal_nonempty n small, weaker (decimal n) (decimal_between n small))
 
-signed_nonempty : (z : ℤ) → mag z < 2 ^ 63 → 0 < length (signed_decimal z)
+pub signed_nonempty : (z : ℤ) → mag z < 2 ^ 63 → 0 < length (signed_decimal z)
 signed_nonempty (pos n) small = decimal_nonempty n (omega (arith, small))
 signed_nonempty (negsuc n) small = omega arith
 
-bound_field : (z : ℤ) → LEAST_BOUND ≤ℤ z → z ≤ℤ GREATEST_BOUND → IsField (signed_decimal z)
+bound_field : (z : ℤ) → least_bound ≤ℤ z → z ≤ℤ greatest_bound → IsField (signed_decimal z)
 bound_field z low high = (signed_nonempty z (small_bound z low high), signed_decimal_between z (small_bound z low high))
 
 -- ---- the fields of an activity
@@ -117,8 +117,8 @@ bound_field z low high = (signed_nonempty z (small_bound z low high), signed_dec
 -- the numbers, bounds and weight of the activity are within the limits
 pub record IsWithin (a : Activity) : Type 0 where
   pub activity : IsActivity a
-  pub from : a.from ≤ GREATEST_NUMBER
-  pub to : a.to ≤ GREATEST_NUMBER
+  pub from : a.from ≤ greatest_number
+  pub to : a.to ≤ greatest_number
 
 lies_between : (l m u : ℤ) → l ≤ℤ m → m ≤ℤ u → l ≤ℤ u
 lies_between l m u g h = omega (arith, ints, g, h)
@@ -140,11 +140,11 @@ module _ (a : Activity) (is : IsWithin a) where
   abbrev bounds : AreBounds a.span.lower a.span.upper
   bounds = is.activity.bounds
 
-  lower_below : a.span.lower ≤ℤ GREATEST_BOUND
-  lower_below = lies_between a.span.lower a.span.upper GREATEST_BOUND bounds.in_order bounds.below_greatest
+  lower_below : a.span.lower ≤ℤ greatest_bound
+  lower_below = lies_between a.span.lower a.span.upper greatest_bound bounds.in_order bounds.below_greatest
 
-  upper_above : LEAST_BOUND ≤ℤ a.span.upper
-  upper_above = lies_between LEAST_BOUND a.span.lower a.span.upper bounds.above_least bounds.in_order
+  upper_above : least_bound ≤ℤ a.span.upper
+  upper_above = lies_between least_bound a.span.lower a.span.upper bounds.above_least bounds.in_order
 
   -- the fields of an activity read back as the activity
   pub activity_back : activity_in (activity_fields a) ≡ a
@@ -178,9 +178,9 @@ module _ (a : Activity) (is : IsWithin a) where
       (decimal_field a.id (omega (arith, is.activity.number)), (decimal_field a.from (omega (arith, is.from)), (decimal_field a.to (omega (arith, is.to)), lower)))
 
 -- the number of an event is within its limit
-pub event_within : (period n : ℕ) (events : List Event) → All (IsEvent period) events → IsTrue (is_some (with_number (λ (e : Event). e.id) n events)) → n ≤ GREATEST_NUMBER
+pub event_within : (period n : ℕ) (events : List Event) → All (IsEvent period) events → IsTrue (is_some (with_number (λ (e : Event). e.id) n events)) → n ≤ greatest_number
 event_within period n events all is =
-    elim (with_number (λ (e : Event). e.id) n events) as (λ o. with_number (λ (e : Event). e.id) n events ≡ o → is_some o ≡ true → n ≤ GREATEST_NUMBER) [
+    elim (with_number (λ (e : Event). e.id) n events) as (λ o. with_number (λ (e : Event). e.id) n events ≡ o → is_some o ≡ true → n ≤ greatest_number) [
       | None ↦ λ _ none. absurd (cc)
       | Some e ↦ λ at _.
           let same : e.id ≡ n = number-with_number (λ (x : Event). x.id) n events e at in
@@ -189,13 +189,9 @@ event_within period n events all is =
 
 -- ---- the fields of an event and its time
 
--- the greatest time that a file may hold
-abbrev pub greatest_time : ℕ
-greatest_time = 1000000000
-
 -- an event's number and its time are within the limits of a file
 pub record IsTime (x : ℕ × ℕ) : Type 0 where
-  pub event : x.0 ≤ GREATEST_NUMBER
+  pub event : x.0 ≤ greatest_number
   pub time : x.1 ≤ greatest_time
 
 -- the fields of an event and its time

@@ -6,24 +6,25 @@ use Rattle.std.proofs.lemmas.List.Elements.{All-head, All-tail}
 use Rattle.std.specs.List.Sorted.{IsStrictlyIncreasing}
 use Rattle.std.specs.Map.{keys_of}
 use Rattle.pesp_base.specs.declared.activity.Activity.{Activity}
-use Rattle.pesp_base.specs.declared.limits.TheConstants.{GREATEST_PERIOD}
+use Rattle.pesp_base.specs.Limits.{greatest_period}
 use Rattle.pesp_base.specs.Limits.{max_events}
 use Rattle.pesp_base.specs.Numbered.{with_number}
 use Rattle.pesp_base.specs.Texts.{as_lines}
 use Rattle.pesp_instance.specs.declared.event.Event.{Event}
-use Rattle.pesp_instance.specs.Network.{Network, IsNetwork}
+use Rattle.pesp_instance.specs.Network.{Network, IsNetwork, new_event}
 use Rattle.pesp_instance.proofs.Rising.{Rises, Rises-from_increasing}
 use Rattle.pesp_tension.specs.Timetables.{IsTimetable, Times, timed_events}
 use Rattle.pesplib_reader.specs.Reading.{activities_read, activity_faults_behind, time_faults_behind, times_read, with_activity_row, with_time_row}
 use Rattle.pesplib_reader.specs.Records.{rows_of}
 use Rattle.pesplib_reader.specs.Taking.{taken}
 use Rattle.pesplib_writer.specs.Texts.{AreUsed, activities_text, activity_fields, activity_row, row_line, time_row, times_text, unfixed, unfixed_event}
-use Rattle.pesplib_writer.proofs.ActivityLaws.{IsTakable, activities_are_rows, activities_taken, activity_number, bare, built, event_number, is_used}
+use Rattle.pesplib_writer.proofs.ActivityLaws.{IsTakable, activities_are_rows, activities_taken, built, is_used}
 use Rattle.pesplib_writer.proofs.EndLaws.{kept}
 use Rattle.pesplib_writer.proofs.FieldLaws.{event_within, time_fields}
 use Rattle.pesplib_writer.proofs.OrderLaws.{key}
 use Rattle.pesplib_writer.proofs.RowLaws.{numbered, rows_stand}
 use Rattle.pesplib_writer.proofs.TimeLaws.{timed, times_are, times_are_rows, times_taken}
+use Rattle.pesp_instance.proofs.Numbers.{activity_number, event_number}
 
 -- ---- events without their fixed times
 
@@ -33,11 +34,11 @@ same_numbers [] = refl
 same_numbers (e ∷ events) = ap (λ ns. e.id ∷ ns) (same_numbers events)
 
 -- each is found under its number
-bare_found : (n : ℕ) (events : List Event) → IsTrue (is_some (with_number event_number n events)) → with_number event_number n (map unfixed_event events) ≡ Some (bare n)
+bare_found : (n : ℕ) (events : List Event) → IsTrue (is_some (with_number event_number n events)) → with_number event_number n (map unfixed_event events) ≡ Some (new_event n)
 bare_found n [] is = absurd (cc is)
 bare_found n (e ∷ events) is =
-    elim (e.id == n) as (λ b. (e.id == n) ≡ b → is_some (cond b (Some e) (with_number event_number n events)) ≡ true → cond b (Some (unfixed_event e)) (with_number event_number n (map unfixed_event events)) ≡ Some (bare n)) [
-      | true ↦ λ same _. ap (λ m. Some (bare m)) (eqb-true e.id n same)
+    elim (e.id == n) as (λ b. (e.id == n) ≡ b → is_some (cond b (Some e) (with_number event_number n events)) ≡ true → cond b (Some (unfixed_event e)) (with_number event_number n (map unfixed_event events)) ≡ Some (new_event n)) [
+      | true ↦ λ same _. ap (λ m. Some (new_event m)) (eqb-true e.id n same)
       | false ↦ λ _ later. bare_found n events later
     ] refl is
 
@@ -107,7 +108,7 @@ time_lines [] = refl
 time_lines (x ∷ entries) = ap (λ ls. time_row x ∷ ls) (time_lines entries)
 
 -- what is written of a timetable reads back as the timetable
-pub times_stand : (m : Times) → m.period ≤ GREATEST_PERIOD → IsStrictlyIncreasing (timed_events m) → IsTimetable m → times_read m.period (times_text m) ≡ Ok m
+pub times_stand : (m : Times) → m.period ≤ greatest_period → IsStrictlyIncreasing (timed_events m) → IsTimetable m → times_read m.period (times_text m) ≡ Ok m
 times_stand m le rises is =
     let all = times_are m.period m.entries le is.numbers is.times in
     let rising = Rises-from_increasing key m.entries (subst IsStrictlyIncreasing (same_keys m.entries) rises) in

@@ -13,12 +13,13 @@ use Rattle.pesp_instance.specs.declared.edit.Edit.{Edit}
 use Rattle.pesp_instance.specs.declared.edit.Edit.TheVariants.{AddEvent, Fix, AddActivity}
 use Rattle.pesp_instance.specs.Edited.{edited, effect, empty_network}
 use Rattle.pesp_instance.specs.declared.event.Event.{Event}
-use Rattle.pesp_instance.specs.Network.{Network, IsNetwork, IsEvent, HasEnds, event_ids, has_event, activity_of}
+use Rattle.pesp_instance.specs.Network.{Network, IsNetwork, IsEvent, HasEnds, event_ids, has_event, activity_of, new_event}
 use Rattle.pesp_instance.proofs.Rising.{IsAbove, Rises, Rises-from_increasing, change_in-above}
 use Rattle.pesplib_reader.proofs.FixedLemmas.{fix_edited}
-use Rattle.pesplib_writer.specs.Script.{applied, fix_entry, on_accepted, script_edits}
-use Rattle.pesplib_writer.specs.Texts.{fixed_entries, fixed_entry, unfixed_event}
+use Rattle.pesplib_writer.specs.Script.{applied, fix_edit, on_accepted, script_edits}
+use Rattle.pesplib_writer.specs.Texts.{unfixed_event}
 use Rattle.pesplib_writer.proofs.OrderLaws.{above_before, below_after, put_in-below, with_number-below}
+use Rattle.pesp_instance.proofs.Numbers.{activity_number as id_of, event_number as number}
 
 -- ---- a number that is above those before it
 
@@ -64,15 +65,6 @@ first_applied I J edit edits h = ap (on_accepted (λ K. applied K edits)) h
 
 -- ---- the events
 
-abbrev number : Event → ℕ
-number e = e.id
-
-abbrev id_of : Activity → ℕ
-id_of a = a.id
-
-abbrev bare : ℕ → Event
-bare e = record { id = e; fixed = None }
-
 module _ (period : ℕ) where
   abbrev with_events : List Event → Network
   with_events events = record { period = period; events = events; activities = [] }
@@ -80,29 +72,29 @@ module _ (period : ℕ) where
   event_accepted : (p q : Bool) (a b : Refusal) (J : Network) → p ≡ false → q ≡ false → unless_refused (when p a ∷ when q b ∷ []) J ≡ Ok J
   event_accepted p q a b J new room = rw (new, room) refl
 
-  event_added : (done rest : List Event) (e : ℕ) → Rises number (done ++ bare e ∷ rest) → length done < max_events period
-      → edited (with_events done) (AddEvent e) ≡ Ok (with_events (done ++ bare e ∷ []))
+  event_added : (done rest : List Event) (e : ℕ) → Rises number (done ++ new_event e ∷ rest) → length done < max_events period
+      → edited (with_events done) (AddEvent e) ≡ Ok (with_events (done ++ new_event e ∷ []))
   event_added done rest e rises room =
       event_accepted (has_event (with_events done) e) (nat_le (max_events period) (length done)) _ _ (effect (with_events done) (AddEvent e))
-      (ap is_some (before_absent number done (bare e) rest rises)) (lt-leb (max_events period) (length done) room)
-      ∙ ap (λ events. Ok (with_events events)) (put_behind number done (bare e) rest rises)
+      (ap is_some (before_absent number done (new_event e) rest rises)) (lt-leb (max_events period) (length done) room)
+      ∙ ap (λ events. Ok (with_events events)) (put_behind number done (new_event e) rest rises)
 
-  events_added : (done : List Event) (numbers : List ℕ) → Rises number (done ++ map bare numbers) → length done + length numbers ≤ max_events period
-      → applied (with_events done) (map AddEvent numbers) ≡ Ok (with_events (done ++ map bare numbers))
+  events_added : (done : List Event) (numbers : List ℕ) → Rises number (done ++ map new_event numbers) → length done + length numbers ≤ max_events period
+      → applied (with_events done) (map AddEvent numbers) ≡ Ok (with_events (done ++ map new_event numbers))
   events_added done [] rises few = ap (λ events. Ok (with_events events)) (sym (append-nil done))
   events_added done (e ∷ numbers) rises few =
-      let joins = append_assoc done (bare e ∷ []) (map bare numbers) in
-      let more : Rises number ((done ++ bare e ∷ []) ++ map bare numbers) = rw joins rises in
-      let room : length (done ++ bare e ∷ []) + length numbers ≤ max_events period = omega (arith, few, length-append done (bare e ∷ [])) in
-      first_applied (with_events done) (with_events (done ++ bare e ∷ [])) (AddEvent e) (map AddEvent numbers) (event_added done (map bare numbers) e rises (omega (arith, few)))
-      ∙ events_added (done ++ bare e ∷ []) numbers more room
+      let joins = append_assoc done (new_event e ∷ []) (map new_event numbers) in
+      let more : Rises number ((done ++ new_event e ∷ []) ++ map new_event numbers) = rw joins rises in
+      let room : length (done ++ new_event e ∷ []) + length numbers ≤ max_events period = omega (arith, few, length-append done (new_event e ∷ [])) in
+      first_applied (with_events done) (with_events (done ++ new_event e ∷ [])) (AddEvent e) (map AddEvent numbers) (event_added done (map new_event numbers) e rises (omega (arith, few)))
+      ∙ events_added (done ++ new_event e ∷ []) numbers more room
       ∙ ap (λ events. Ok (with_events events)) joins
 
 -- ---- their fixed times
 
-bare-unfixed : (events : List Event) → map bare (map number events) ≡ map unfixed_event events
-bare-unfixed [] = refl
-bare-unfixed (e ∷ events) = ap (λ rest. unfixed_event e ∷ rest) (bare-unfixed events)
+new_event-unfixed : (events : List Event) → map new_event (map number events) ≡ map unfixed_event events
+new_event-unfixed [] = refl
+new_event-unfixed (e ∷ events) = ap (λ rest. unfixed_event e ∷ rest) (new_event-unfixed events)
 
 unfixed_above : (n : ℕ) (events : List Event) → IsAbove number n events → IsAbove number n (map unfixed_event events)
 unfixed_above n [] above = tt
@@ -132,22 +124,22 @@ module _ (period : ℕ) where
       ∙ ap (λ events. Ok (with_events period events)) (change_between number (λ x. record x { fixed = Some t }) done (unfixed_event e) rest rises ∙ ap (λ x. done ++ x ∷ rest) same)
 
   times_fixed : (done events : List Event) → Rises number (done ++ events) → All (IsEvent period) events
-      → applied (with_events period (done ++ map unfixed_event events)) (map fix_entry (filter_map fixed_entry events)) ≡ Ok (with_events period (done ++ events))
+      → applied (with_events period (done ++ map unfixed_event events)) (filter_map fix_edit events) ≡ Ok (with_events period (done ++ events))
   times_fixed done [] rises within = refl
   times_fixed done (e ∷ events) rises within =
       let joins = append_assoc done (e ∷ []) events in
       let more : Rises number ((done ++ e ∷ []) ++ events) = rw joins rises in
-      let later : applied (with_events period (done ++ e ∷ map unfixed_event events)) (map fix_entry (filter_map fixed_entry events)) ≡ Ok (with_events period (done ++ e ∷ events)) =
-      ap (λ es. applied (with_events period es) (map fix_entry (filter_map fixed_entry events))) (sym (append_assoc done (e ∷ []) (map unfixed_event events)))
+      let later : applied (with_events period (done ++ e ∷ map unfixed_event events)) (filter_map fix_edit events) ≡ Ok (with_events period (done ++ e ∷ events)) =
+      ap (λ es. applied (with_events period es) (filter_map fix_edit events)) (sym (append_assoc done (e ∷ []) (map unfixed_event events)))
       ∙ times_fixed (done ++ e ∷ []) events more (All-tail (IsEvent period) e events within)
       ∙ ap (λ es. Ok (with_events period es)) joins in
-      elim e.fixed as (λ o. e.fixed ≡ o → applied (with_events period (done ++ unfixed_event e ∷ map unfixed_event events)) (map fix_entry (cons_option (option_map (λ t. (e.id, t)) o) (filter_map fixed_entry events))) ≡ Ok (with_events period (done ++ e ∷ events))) [
+      elim e.fixed as (λ o. e.fixed ≡ o → applied (with_events period (done ++ unfixed_event e ∷ map unfixed_event events)) (cons_option (option_map (Fix e.id) o) (filter_map fix_edit events)) ≡ Ok (with_events period (done ++ e ∷ events))) [
         | None ↦ λ is.
             let same : unfixed_event e ≡ e = ap (λ (fixed : Option ℕ). record e { fixed = fixed }) (sym is) in
-            ap (λ x. applied (with_events period (done ++ x ∷ map unfixed_event events)) (map fix_entry (filter_map fixed_entry events))) same ∙ later
+            ap (λ x. applied (with_events period (done ++ x ∷ map unfixed_event events)) (filter_map fix_edit events)) same ∙ later
         | Some t ↦ λ is.
             let below : t < period = rw is at (All-head (IsEvent period) e events within).fixed in
-            first_applied (with_events period (done ++ unfixed_event e ∷ map unfixed_event events)) (with_events period (done ++ e ∷ map unfixed_event events)) (Fix e.id t) (map fix_entry (filter_map fixed_entry events))
+            first_applied (with_events period (done ++ unfixed_event e ∷ map unfixed_event events)) (with_events period (done ++ e ∷ map unfixed_event events)) (Fix e.id t) (filter_map fix_edit events)
             (time_fixed done (map unfixed_event events) e t (rises_unfixed done (e ∷ events) rises) below is)
             ∙ later
       ] refl
@@ -185,12 +177,12 @@ pub script_builds : (I : Network) → IsNetwork I → applied (empty_network I.p
 script_builds I net =
     let events_rise = Rises-from_increasing number I.events net.events_rise in
     let activities_rise = Rises-from_increasing id_of I.activities net.activities_rise in
-    let bare_rise : Rises number (map bare (event_ids I)) = rw (bare-unfixed I.events) (unfixed_rise I.events events_rise) in
+    let bare_rise : Rises number (map new_event (event_ids I)) = rw (new_event-unfixed I.events) (unfixed_rise I.events events_rise) in
     let few : length {A = Event} [] + length (event_ids I) ≤ max_events I.period = omega (arith, net.few_events, length-map I.events number) in
     let few_activities : length {A = Activity} [] + length I.activities ≤ max_activities I.period = omega (arith, net.few_activities) in
     let events : applied (empty_network I.period) (map AddEvent (event_ids I)) ≡ Ok (with_events I.period (map unfixed_event I.events)) =
-    events_added I.period [] (event_ids I) bare_rise few ∙ ap (λ es. Ok (with_events I.period es)) (bare-unfixed I.events) in
-    ap (applied (empty_network I.period)) (append_assoc (map AddEvent (event_ids I)) (map fix_entry (fixed_entries I)) (map AddActivity I.activities))
-    ∙ then_applied (empty_network I.period) (with_events I.period (map unfixed_event I.events)) (map AddEvent (event_ids I)) (map fix_entry (fixed_entries I) ++ map AddActivity I.activities) events
-    ∙ then_applied (with_events I.period (map unfixed_event I.events)) (with_events I.period I.events) (map fix_entry (fixed_entries I)) (map AddActivity I.activities) (times_fixed I.period [] I.events events_rise net.events_within)
+    events_added I.period [] (event_ids I) bare_rise few ∙ ap (λ es. Ok (with_events I.period es)) (new_event-unfixed I.events) in
+    ap (applied (empty_network I.period)) (append_assoc (map AddEvent (event_ids I)) (filter_map fix_edit I.events) (map AddActivity I.activities))
+    ∙ then_applied (empty_network I.period) (with_events I.period (map unfixed_event I.events)) (map AddEvent (event_ids I)) (filter_map fix_edit I.events ++ map AddActivity I.activities) events
+    ∙ then_applied (with_events I.period (map unfixed_event I.events)) (with_events I.period I.events) (filter_map fix_edit I.events) (map AddActivity I.activities) (times_fixed I.period [] I.events events_rise net.events_within)
     ∙ activities_added I.period I.events [] I.activities activities_rise net.ends few_activities

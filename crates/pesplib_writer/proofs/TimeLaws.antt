@@ -5,8 +5,7 @@ use Rattle.std.proofs.lemmas.Bool.{lt-leb}
 use Rattle.std.proofs.lemmas.List.{append-nil}
 use Rattle.std.proofs.lemmas.List.Elements.{All-head, All-tail}
 use Rattle.std.specs.Map.{keys_of, values_of}
-use Rattle.pesp_base.specs.declared.limits.TheConstants.{GREATEST_NUMBER, GREATEST_PERIOD}
-use Rattle.pesp_base.specs.Limits.{max_events}
+use Rattle.pesp_base.specs.Limits.{greatest_number, greatest_period, max_events}
 use Rattle.pesp_base.specs.Refusals.{unless_refused, when}
 use Rattle.pesp_base.specs.Tensions.{residue}
 use Rattle.pesp_instance.proofs.Rising.{Rises}
@@ -32,14 +31,14 @@ module _ (period : ℕ) where
   AreTimes (x ∷ entries) = IsTime x × (x.1 < period) × AreTimes entries
 
   -- the entries of a timetable are such entries
-  pub times_are : (entries : List (ℕ × ℕ)) → period ≤ GREATEST_PERIOD → All (λ e. e ≤ GREATEST_NUMBER) (keys_of entries) → All (λ t. t < period) (values_of entries) → AreTimes entries
+  pub times_are : (entries : List (ℕ × ℕ)) → period ≤ greatest_period → All (λ e. e ≤ greatest_number) (keys_of entries) → All (λ t. t < period) (values_of entries) → AreTimes entries
   times_are [] le numbers times = tt
   times_are (x ∷ entries) le numbers times =
-      let number : x.0 ≤ GREATEST_NUMBER = All-head (λ e. e ≤ GREATEST_NUMBER) x.0 (keys_of entries) numbers in
+      let number : x.0 ≤ greatest_number = All-head (λ e. e ≤ greatest_number) x.0 (keys_of entries) numbers in
       let below : x.1 < period = All-head (λ t. t < period) x.1 (values_of entries) times in (
         record { event = number; time = omega (arith, below, le) },
         below,
-        times_are entries le (All-tail (λ e. e ≤ GREATEST_NUMBER) x.0 (keys_of entries) numbers) (All-tail (λ t. t < period) x.1 (values_of entries) times),
+        times_are entries le (All-tail (λ e. e ≤ greatest_number) x.0 (keys_of entries) numbers) (All-tail (λ t. t < period) x.1 (values_of entries) times),
       )
 
   -- their fields are rows

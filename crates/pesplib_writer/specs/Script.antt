@@ -1,34 +1,38 @@
 -- The script that builds an instance.
-use Rattle.std.specs.Prelude.{ℕ, List, [], ◌∷◌, ◌++◌, map, length, codes, decimal, Result, Ok, Err}
-use Rattle.pesp_base.specs.declared.activity.Activity.{Activity}
+use Rattle.std.specs.Prelude.{ℕ, List, [], ◌∷◌, ◌++◌, map, filter_map, length, codes, decimal, Option, option_map, Result, Ok, Err}
+use Rattle.std.specs.Fmt.{signed_decimal}
 use Rattle.pesp_base.specs.declared.refusal.Refusal.{Refusal}
 use Rattle.pesp_base.specs.Texts.{words_line, as_lines}
 use Rattle.pesp_instance.specs.declared.edit.Edit.{Edit}
-use Rattle.pesp_instance.specs.declared.edit.Edit.TheVariants.{AddEvent, Fix, AddActivity}
+use Rattle.pesp_instance.specs.declared.edit.Edit.TheVariants.{AddEvent, DropEvent, Fix, Unfix, AddActivity, DropActivity, SetSpan, SetWeight, SetEnds}
+use Rattle.pesp_instance.specs.declared.event.Event.{Event}
 use Rattle.pesp_instance.specs.Edited.{edited}
 use Rattle.pesp_instance.specs.Network.{Network, event_ids}
-use Rattle.pesplib_writer.specs.Texts.{activity_fields, fixed_entries}
+use Rattle.pesplib_writer.specs.Texts.{activity_fields}
 
--- an event's fixed time is set
-abbrev pub fix_entry : ℕ × ℕ → Edit
-fix_entry x = Fix x.0 x.1
+-- the edit that sets an event's fixed time, if it has one
+abbrev pub fix_edit : Event → Option Edit
+fix_edit e = option_map (Fix e.id) e.fixed
 
 -- the edits that build an instance: its events, their fixed times, and its activities
 abbrev pub script_edits : Network → List Edit
-script_edits I = map AddEvent (event_ids I) ++ map fix_entry (fixed_entries I) ++ map AddActivity I.activities
+script_edits I = map AddEvent (event_ids I) ++ filter_map fix_edit I.events ++ map AddActivity I.activities
 
-abbrev pub event_line : ℕ → List ℕ
-event_line e = words_line (codes "add event" ∷ decimal e ∷ [])
+-- the line that says an edit
+abbrev pub edit_line : Edit → List ℕ
+edit_line (AddEvent e) = words_line (codes "add event" ∷ decimal e ∷ [])
+edit_line (DropEvent e) = words_line (codes "drop event" ∷ decimal e ∷ [])
+edit_line (Fix e t) = words_line (codes "fix" ∷ decimal e ∷ decimal t ∷ [])
+edit_line (Unfix e) = words_line (codes "unfix" ∷ decimal e ∷ [])
+edit_line (AddActivity a) = words_line (codes "add activity" ∷ activity_fields a)
+edit_line (DropActivity n) = words_line (codes "drop activity" ∷ decimal n ∷ [])
+edit_line (SetSpan n span) = words_line (codes "span" ∷ decimal n ∷ signed_decimal span.lower ∷ signed_decimal span.upper ∷ [])
+edit_line (SetWeight n weight) = words_line (codes "weight" ∷ decimal n ∷ decimal weight ∷ [])
+edit_line (SetEnds n from to) = words_line (codes "ends" ∷ decimal n ∷ decimal from ∷ decimal to ∷ [])
 
-abbrev pub fix_line : ℕ × ℕ → List ℕ
-fix_line x = words_line (codes "fix" ∷ decimal x.0 ∷ decimal x.1 ∷ [])
-
-abbrev pub activity_line : Activity → List ℕ
-activity_line a = words_line (codes "add activity" ∷ activity_fields a)
-
--- the lines of those edits
+-- the lines of an instance's script, behind the first one
 abbrev pub script_lines : Network → List (List ℕ)
-script_lines I = map event_line (event_ids I) ++ map fix_line (fixed_entries I) ++ map activity_line I.activities
+script_lines I = map edit_line (script_edits I)
 
 -- the comment in front: the period, and how many lines follow
 abbrev pub script_head : Network → List ℕ

@@ -44,7 +44,7 @@ fn put_fixed(text: &mut Vec<u8>, instance: &Instance) -> Result<(), AllocError>
     ensures { OnOk result (text.new.items ≡ text.old.items ++ fixed_text instance.now) }
 {
     for event in instance.events() {
-        if let Some(time) = event.fixed {
+        if let Some(time) = event.fixed_time() {
             put_time(text, event.id, time)?;
         }
     }

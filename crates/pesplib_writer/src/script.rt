@@ -1,12 +1,12 @@
 //! The script that builds an instance.
 
-ghost use Rattle.std.specs.Prelude.{◌≡◌, ◌≤◌, ◌++◌, [], ◌∷◌, Ok, IfOk, OnOk, length, map, decimal, codes};
+ghost use Rattle.std.specs.Prelude.{◌≡◌, ◌≤◌, ◌++◌, [], ◌∷◌, Ok, IfOk, OnOk, length, map, filter_map, decimal, codes};
 ghost use Rattle.pesp_base.specs.Texts.{as_lines, words_line};
 ghost use Rattle.pesp_base.specs.Limits.{max_events};
+ghost use Rattle.pesp_instance.specs.declared.edit.Edit.TheVariants.{AddEvent, Fix, AddActivity};
 ghost use Rattle.pesp_instance.specs.Edited.{empty_network};
 ghost use Rattle.pesp_instance.specs.Network.{IsNetwork, event_ids};
-ghost use Rattle.pesplib_writer.specs.Texts.{fixed_entries};
-ghost use Rattle.pesplib_writer.specs.Script.{activity_line, applied, event_line, fix_line, script, script_edits, script_lines};
+ghost use Rattle.pesplib_writer.specs.Script.{applied, edit_line, fix_edit, script, script_edits, script_lines};
 
 use crate::fields::put_fields;
 use crate::text::{put, put_between};
@@ -16,12 +16,12 @@ use std::alloc::{AllocError, Global};
 
 /// How many events have a fixed time.
 fn fixed_count(instance: &Instance) -> usize
-    ensures count { result ≡ length (fixed_entries instance.now) }
+    ensures count { result ≡ length (filter_map fix_edit instance.now.events) }
     ensures few { result ≤ max_events instance.now.period }
 {
     let mut count = 0;
     for event in instance.events() {
-        if event.fixed.is_some() {
+        if event.fixed_time().is_some() {
             count += 1;
         }
     }
@@ -45,7 +45,7 @@ fn put_head(text: &mut Vec<u8>, period: Period, lines: usize) -> Result<(), Allo
 }
 
 fn put_events(text: &mut Vec<u8>, instance: &Instance) -> Result<(), AllocError>
-    ensures { OnOk result (text.new.items ≡ text.old.items ++ as_lines (map event_line (event_ids instance.now))) }
+    ensures { OnOk result (text.new.items ≡ text.old.items ++ as_lines (map edit_line (map AddEvent (event_ids instance.now)))) }
 {
     for event in instance.events() {
         put_between(text, b"add event ", u64::from(event.id.get()), b"\n")?;
@@ -55,17 +55,17 @@ fn put_events(text: &mut Vec<u8>, instance: &Instance) -> Result<(), AllocError>
 
 /// The line that fixes an event's time.
 fn put_fix(text: &mut Vec<u8>, event: EventId, time: u16) -> Result<(), AllocError>
-    ensures { OnOk result (text.new.items ≡ text.old.items ++ (fix_line (event, time) ++ 10 ∷ [])) }
+    ensures { OnOk result (text.new.items ≡ text.old.items ++ (edit_line (Fix event time) ++ 10 ∷ [])) }
 {
     put_between(text, b"fix ", u64::from(event.get()), b" ")?;
     put_between(text, b"", u64::from(time), b"\n")
 }
 
 fn put_fixes(text: &mut Vec<u8>, instance: &Instance) -> Result<(), AllocError>
-    ensures { OnOk result (text.new.items ≡ text.old.items ++ as_lines (map fix_line (fixed_entries instance.now))) }
+    ensures { OnOk result (text.new.items ≡ text.old.items ++ as_lines (map edit_line (filter_map fix_edit instance.now.events))) }
 {
     for event in instance.events() {
-        if let Some(time) = event.fixed {
+        if let Some(time) = event.fixed_time() {
             put_fix(text, event.id, time)?;
         }
     }
@@ -74,7 +74,7 @@ fn put_fixes(text: &mut Vec<u8>, instance: &Instance) -> Result<(), AllocError>
 
 /// The line that adds an activity.
 fn put_activity(text: &mut Vec<u8>, activity: &Activity) -> Result<(), AllocError>
-    ensures { OnOk result (text.new.items ≡ text.old.items ++ (activity_line activity.now ++ 10 ∷ [])) }
+    ensures { OnOk result (text.new.items ≡ text.old.items ++ (edit_line (AddActivity activity.now) ++ 10 ∷ [])) }
 {
     put(text, b"add activity ")?;
     put_fields(text, activity, b" ")?;
@@ -82,7 +82,7 @@ fn put_activity(text: &mut Vec<u8>, activity: &Activity) -> Result<(), AllocErro
 }
 
 fn put_activities(text: &mut Vec<u8>, instance: &Instance) -> Result<(), AllocError>
-    ensures { OnOk result (text.new.items ≡ text.old.items ++ as_lines (map activity_line (instance.now).activities)) }
+    ensures { OnOk result (text.new.items ≡ text.old.items ++ as_lines (map edit_line (map AddActivity instance.now.activities))) }
 {
     for activity in instance.activities() {
         put_activity(text, activity)?;

@@ -1,30 +1,43 @@
 //! Texts and numbers, put behind what is written already; numbers are written by `itoa`.
+//!
+//! A call finds no memory only where the text has no room, and a text keeps the room that it has.
 
-ghost use Rattle.std.specs.Prelude.{◌≡◌, ◌++◌, OnOk, decimal};
+ghost use Rattle.std.specs.Prelude.{◌≡◌, ◌≤◌, ◌++◌, [], ◌∷◌, OnOk, OnErr, decimal, vec_capacity};
 ghost use Rattle.std.specs.Fmt.{signed_decimal};
+ghost use Rattle.pesplib_writer.specs.Puts.{HasNoRoom, IsPutInPart};
 
 use itoa::Buffer;
 use std::alloc::AllocError;
 
-/// Puts bytes behind a text.
+/// Puts bytes behind a text. Where memory is wanting the text is as it was.
 pub fn put(text: &mut Vec<u8>, bytes: &[u8]) -> Result<(), AllocError>
-    ensures { OnOk result (text.new.items ≡ text.old.items ++ bytes.now) }
+    ensures text { OnOk result (text.new.items ≡ text.old.items ++ bytes.now) }
+    ensures unchanged { OnErr result (text.new.items ≡ text.old.items) }
+    ensures full { OnErr result (HasNoRoom text.old bytes.now) }
+    ensures room { vec_capacity text.old ≤ vec_capacity text.new }
 {
     text.extend_from_slice(bytes)
 }
 
-/// Puts a number in digits, without zeros in front.
+/// Puts a number in digits, without zeros in front. Where memory is wanting the text is as it was.
 pub fn put_number(text: &mut Vec<u8>, number: u64) -> Result<(), AllocError>
-    ensures { OnOk result (text.new.items ≡ text.old.items ++ decimal number) }
+    ensures text { OnOk result (text.new.items ≡ text.old.items ++ decimal number) }
+    ensures unchanged { OnErr result (text.new.items ≡ text.old.items) }
+    ensures full { OnErr result (HasNoRoom text.old (decimal number)) }
+    ensures room { vec_capacity text.old ≤ vec_capacity text.new }
 {
     let mut buffer = Buffer::new();
     let digits = buffer.format(number);
     put(text, digits.as_bytes())
 }
 
-/// Puts a number in digits, with `-` in front where it is below 0.
+/// Puts a number in digits, with `-` in front where it is below 0. Where memory is wanting the text is
+/// as it was.
 pub fn put_signed(text: &mut Vec<u8>, number: i32) -> Result<(), AllocError>
-    ensures { OnOk result (text.new.items ≡ text.old.items ++ signed_decimal number) }
+    ensures text { OnOk result (text.new.items ≡ text.old.items ++ signed_decimal number) }
+    ensures unchanged { OnErr result (text.new.items ≡ text.old.items) }
+    ensures full { OnErr result (HasNoRoom text.old (signed_decimal number)) }
+    ensures room { vec_capacity text.old ≤ vec_capacity text.new }
 {
     let mut buffer = Buffer::new();
     let signed = buffer.format(number);
@@ -32,13 +45,19 @@ pub fn put_signed(text: &mut Vec<u8>, number: i32) -> Result<(), AllocError>
 }
 
 /// Puts a number between two texts.
+///
+/// Where memory is wanting the text is as it was, or has the first text behind it, or that and the
+/// number.
 pub fn put_between(
     text: &mut Vec<u8>,
     before: &[u8],
     number: u64,
     after: &[u8],
 ) -> Result<(), AllocError>
-    ensures { OnOk result (text.new.items ≡ text.old.items ++ (before.now ++ (decimal number ++ after.now))) }
+    ensures text { OnOk result (text.new.items ≡ text.old.items ++ (before.now ++ (decimal number ++ after.now))) }
+    ensures in_part { OnErr result (IsPutInPart text.old.items text.new.items (before.now ∷ decimal number ∷ after.now ∷ [])) }
+    ensures full { OnErr result (HasNoRoom text.old (before.now ++ (decimal number ++ after.now))) }
+    ensures room { vec_capacity text.old ≤ vec_capacity text.new }
 {
     put(text, before)?;
     put_number(text, number)?;

@@ -1,6 +1,6 @@
 //! The optimum: found, kept, and taken as the working timetable.
 
-ghost use Rattle.std.specs.Prelude.{◌≡◌, ℕ, IfOk, IfErr, IfSome, IsOkAnd, IsSomeAnd, OnOk, OnErr, Some};
+ghost use Rattle.std.specs.Prelude.{◌≡◌, ℕ, IfOk, IfErr, IfSome, IsOkAnd, IsSomeAnd, OnOk, OnErr, Some, None};
 ghost use Rattle.pesp_base.specs.declared.refusal.Refusal.TheVariants as no;
 ghost use Rattle.std.specs.List.Sorted.{IsStrictlyIncreasing};
 ghost use Rattle.pesp_tension.specs.Timetables.{timed_events};
@@ -43,6 +43,7 @@ fn optimum_of(alloc: Global, answer: &Answer) -> Result<Timetable, Refusal>
 
 impl<K: Keeper> Bench<K> {
     /// Finds the optimum, where it is not known, or refusal 10.
+    #[tactic(auto, using(pesp_search::proofs::Sizes::no_nodes))]
     pub fn find_optimum(&mut self, alloc: Global) -> Result<(), Refusal>
         ensures ok { OnOk result (IsSomeAnd self.new.known (IsAnswer self.old.instance)) }
         ensures searched { IsSearched self.old self.new }
@@ -62,17 +63,20 @@ impl<K: Keeper> Bench<K> {
         Ok(())
     }
 
-    /// The optimum, or refusal 10, which comes only where it is not known. What this leaves is what [`Bench::find_optimum`] leaves.
+    /// The optimum, or refusal 10: what [`Bench::find_optimum`] makes known, and a known one as it is.
+    ///
+    /// No clause says what this leaves, since the answer is borrowed from the workbench.
     pub fn optimum(&mut self, alloc: Global) -> Result<&Answer, Refusal>
         ensures ok { IfOk result (λ answer. IsAnswer self.old.instance answer.now) }
         ensures kept { IfSome self.old.known (λ known. IsOkAnd result (λ answer. answer.now ≡ known)) }
-        ensures refused { IfErr result (λ refusal. refusal ≡ no.Memory) }
+        ensures refused { IfErr result (λ refusal. (refusal ≡ no.Memory) × (self.old.known ≡ None)) }
     {
         self.find_optimum(alloc)?;
         Ok(self.known.as_ref().unwrap())
     }
 
     /// Looks for the optimum by at most so many nodes, where it is not known, or refusal 10.
+    #[tactic(auto, using(pesp_search::proofs::Sizes::no_nodes))]
     pub fn try_optimum(&mut self, alloc: Global, limit: u64) -> Result<Attempt, Refusal>
         ensures ok { IfOk result (IsAttempt self.new limit) }
         ensures searched { IsSearched self.old self.new }

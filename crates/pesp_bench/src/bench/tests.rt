@@ -117,6 +117,21 @@ fn optimum_is_found_and_kept(rt: HostRuntime) {
 }
 
 #[test]
+fn optimum_leaves_all_but_what_is_known(rt: HostRuntime) {
+    let mut bench = two_activities(&rt);
+    assert_eq!(rt; bench.set_time(event(&rt, 1), 7), Ok(()));
+    let served: &[(bool, &str)] = &[(false, "found"), (true, "known before")];
+    for (is_known, message) in served {
+        assert!(rt; bench.optimum(rt.alloc()).is_ok(), "{message}: memory");
+        assert_known(&rt, &bench, 4, &[(1, 0), (2, 4)], message);
+        assert_times(&rt, bench.timetable(), &[(1, 7)], message);
+        assert_eq!(rt; bench.last_nodes() == 0, *is_known, "{message}");
+        assert_eq!(rt; bench.instance().event_count(), 2, "{message}");
+        assert_eq!(rt; bench.instance().activity_count(), 2, "{message}");
+    }
+}
+
+#[test]
 fn limited_tries(rt: HostRuntime) {
     let mut bench = two_activities(&rt);
     let tried = bench.try_optimum(rt.alloc(), 0);

@@ -1,7 +1,9 @@
 //! The worked examples, and the limits.
 
 use crate::{Edit, Instance};
-use pesp_base::{Activity, ActivityId, EventId, Period, Refusal, Span, Weight};
+use pesp_base::{
+    Activity, ActivityId, EventId, Period, Refusal, Span, Weight, max_activities, max_events,
+};
 use std::process::Abort;
 
 fn event(rt: &impl Abort, number: u32) -> EventId {
@@ -171,7 +173,9 @@ fn walks(rt: HostRuntime) {
 #[test]
 fn limits(rt: HostRuntime) {
     let mut instance = empty(&rt, 60);
-    for number in 0..20_000 {
+    let most_events = max_events(instance.period()) as u32;
+    let most_activities = max_activities(instance.period()) as u32;
+    for number in 0..most_events {
         accepted(
             &rt,
             &mut instance,
@@ -179,24 +183,38 @@ fn limits(rt: HostRuntime) {
             "an event",
         );
     }
-    let one_more = Edit::AddEvent(event(&rt, 20_000));
+    let one_more = Edit::AddEvent(event(&rt, most_events));
     refused(
         &rt,
         &mut instance,
         one_more,
         Refusal::TooManyEvents,
-        "event 20,001",
+        "one event too many",
     );
-    for number in 0..100_000 {
-        let one = activity(&rt, number, number % 20_000, number / 5);
+    for number in 0..most_activities {
+        let one = activity(&rt, number, number % most_events, number / 5);
         accepted(&rt, &mut instance, Edit::AddActivity(one), "an activity");
     }
-    let one_more = Edit::AddActivity(activity(&rt, 100_000, 1, 2));
+    let one_more = Edit::AddActivity(activity(&rt, most_activities, 1, 2));
     refused(
         &rt,
         &mut instance,
         one_more,
         Refusal::TooManyActivities,
-        "activity 100,001",
+        "one activity too many",
     );
+}
+
+#[test]
+fn the_same_ends(rt: HostRuntime) {
+    let mut instance = two_activities(&rt);
+    let (one, two) = (event(&rt, 1), event(&rt, 2));
+    accepted(
+        &rt,
+        &mut instance,
+        Edit::SetEnds(id(&rt, 1), one, two),
+        "activity 1 stays where it is",
+    );
+    assert_around(&rt, &instance, 1, &[1, 2]);
+    assert_around(&rt, &instance, 2, &[1, 2]);
 }

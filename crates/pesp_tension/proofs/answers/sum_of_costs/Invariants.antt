@@ -1,7 +1,6 @@
 -- The costs of the activities that are left are to come, and their ends have times; each costs at most the greatest weight at the greatest slack.
 use Rattle.std.proofs.Common.{◌≡◌, ◌≤◌, ◌+◌, ◌*◌, ◌-◌, sum_by, length, All}
-use Rattle.pesp_base.specs.declared.limits.TheConstants.{GREATEST_PERIOD, GREATEST_WEIGHT}
-use Rattle.pesp_base.specs.Limits.{max_activities}
+use Rattle.pesp_base.specs.Limits.{greatest_period, greatest_weight, max_activities}
 use Rattle.pesp_tension.specs.Answers.{IsTimed, cost_in, cost_of}
 use Rattle.pesp_tension.proofs.answers.sum_of_costs.Given as goal
 
@@ -10,6 +9,6 @@ invariant-loop-activity l = record {
   can_next : (goal.iterator-loop-activity).can_next l.activity-iterator;
   is_finite : (goal.iterator-loop-activity).is_finite l.activity-iterator;
   left : l.cost + sum_by (cost_in l.timetable) l.activity-iterator ≡ cost_of l.instance l.timetable;
-  small : l.cost + GREATEST_WEIGHT * (GREATEST_PERIOD - 1) * length l.activity-iterator ≤ GREATEST_WEIGHT * (GREATEST_PERIOD - 1) * max_activities l.instance.period;
+  small : l.cost + greatest_weight * (greatest_period - 1) * length l.activity-iterator ≤ greatest_weight * (greatest_period - 1) * max_activities l.instance.period;
   timed : All (IsTimed l.timetable) l.activity-iterator;
 }

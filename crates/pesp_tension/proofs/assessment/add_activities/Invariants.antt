@@ -1,7 +1,6 @@
 -- What the activities that are left answer is to come, and their ends have times; each costs at most the greatest weight at the greatest slack.
 use Rattle.std.proofs.Common.{◌≡◌, ◌≤◌, ◌+◌, ◌*◌, ◌-◌, ◌++◌, map, sum_by, length, All}
-use Rattle.pesp_base.specs.declared.limits.TheConstants.{GREATEST_PERIOD, GREATEST_WEIGHT}
-use Rattle.pesp_base.specs.Limits.{max_activities}
+use Rattle.pesp_base.specs.Limits.{greatest_period, greatest_weight, max_activities}
 use Rattle.pesp_tension.specs.Answers.{IsTimed, cost_in, cost_of, tension_in, tensions_of, unmet_among}
 use Rattle.pesp_tension.proofs.assessment.add_activities.Given as goal
 
@@ -12,6 +11,6 @@ invariant-loop-activity l = record {
   tensions : l.assessment.tensions.items ++ map (tension_in l.timetable) l.activity-iterator ≡ l.fn.assessment.tensions.items ++ tensions_of l.instance l.timetable;
   violations : l.assessment.violations.items ++ unmet_among l.timetable l.activity-iterator ≡ l.fn.assessment.violations.items ++ unmet_among l.timetable l.instance.activities;
   cost : l.assessment.cost + sum_by (cost_in l.timetable) l.activity-iterator ≡ l.fn.assessment.cost + cost_of l.instance l.timetable;
-  small : l.assessment.cost + GREATEST_WEIGHT * (GREATEST_PERIOD - 1) * length l.activity-iterator ≤ GREATEST_WEIGHT * (GREATEST_PERIOD - 1) * max_activities l.instance.period;
+  small : l.assessment.cost + greatest_weight * (greatest_period - 1) * length l.activity-iterator ≤ greatest_weight * (greatest_period - 1) * max_activities l.instance.period;
   timed : All (IsTimed l.timetable) l.activity-iterator;
 }

@@ -1,3 +1,4 @@
+-- Want of memory stands where the reading stopped, and a fault is that of the row that was read last.
 use Rattle.std.proofs.Common.{arith}
 use Rattle.std.proofs.lemmas.Result.{err_from_is_err_and}
 use Rattle.pesp_tension.specs.Timetables.{no_times}

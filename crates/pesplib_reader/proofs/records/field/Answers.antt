@@ -1,3 +1,4 @@
+-- A field of a record is trimmed where it is there.
 use Rattle.std.proofs.Common.{◌∙◌}
 use Rattle.pesplib_reader.proofs.FieldLemmas.{field_found, no_field_found}
 use Rattle.pesplib_reader.proofs.records.field.Goals as goal

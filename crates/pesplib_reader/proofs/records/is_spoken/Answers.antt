@@ -1,3 +1,4 @@
+-- A record without fields is blank, and else its first byte decides.
 use Rattle.std.proofs.Common.{◌∙◌, sym, ap}
 use Rattle.std.specs.Prelude.{not}
 use Rattle.pesplib_reader.proofs.FieldLemmas.{spoken_if, unspoken_if}

@@ -1,3 +1,4 @@
+-- Two fields are those of the row, and trimming leaves their count.
 use Rattle.std.proofs.Common.{◌∙◌, sym}
 use Rattle.pesplib_reader.specs.Left.{trimmed_fields}
 use Rattle.pesplib_reader.proofs.FieldLemmas.{length-trimmed, two_fields}

@@ -1,3 +1,4 @@
+-- A number within its limits is the one that the text writes.
 use Rattle.std.proofs.Common.{rules, ◌≡◌}
 use Rattle.pesplib_reader.proofs.RowLemmas.{number_found}
 use Rattle.pesplib_reader.specs.Rows.{value}

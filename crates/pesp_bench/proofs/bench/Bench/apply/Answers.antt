@@ -1,3 +1,4 @@
+-- An event with a time is still an event after an accepted edit, and nothing is known.
 use Rattle.std.proofs.Common.{None, subst, sym}
 use Rattle.pesp_bench.specs.State.{IsState}
 use Rattle.pesp_bench.proofs.States.{after_edit}

@@ -3,11 +3,11 @@ use Rattle.std.proofs.Common.{◌≡◌, [], ap, subst, sym, ◌∙◌, arith, S
 use Rattle.pesp_instance.specs.declared.edit.Edit.TheVariants.{AddEvent, DropEvent}
 use Rattle.pesp_instance.specs.Edited.{edited}
 use Rattle.pesp_instance.specs.Network.{Network}
-use Rattle.pesp_instance.proofs.Effects.{on_ok}
+use Rattle.pesp_instance.proofs.Effects.{on_err, on_ok}
 use Rattle.pesp_domains.specs.Kept.{Kept}
 use Rattle.pesp_domains.specs.Rows.{AreRowsOf, SetsRow, has}
 use Rattle.pesp_domains.specs.Sweeps.{AreDomains}
-use Rattle.pesp_domains.proofs.Edits.{drops_not_adds, effect_is, few_left, on_err, rows_added, rows_dropped, rows_same, undone}
+use Rattle.pesp_domains.proofs.Edits.{drops_not_adds, effect_is, few_left, rows_added, rows_dropped, rows_same, undone}
 use Rattle.pesp_domains.proofs.Pushes.{kept_again, pushed_none}
 use Rattle.pesp_domains.proofs.plain.PlainKeeperKeeper.apply.Goals as goal
 use Rattle.pesp_domains.proofs.plain.PlainKeeperKeeper.apply.Goals.{in-AddEvent+else-is_err, in-DropEvent, in_default}

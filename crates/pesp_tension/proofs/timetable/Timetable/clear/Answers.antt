@@ -1,12 +1,12 @@
 -- What is left of a timetable is within the limits.
 use Rattle.std.proofs.Common.{◌<◌, ◌≤◌, arith}
 use Rattle.std.proofs.lemmas.Map.Views.{All-map-remove_entry}
-use Rattle.pesp_base.specs.declared.limits.TheConstants.{GREATEST_NUMBER}
+use Rattle.pesp_base.specs.Limits.{greatest_number}
 use Rattle.pesp_tension.proofs.timetable.Timetable.clear.Goals as goal
 
 pub invariant_of-self : goal.invariant_of-self
 invariant_of-self c = record {
-  numbers = rw c.remove.ensures.entries (All-map-remove_entry _ (λ e. e.0) (λ n. n ≤ GREATEST_NUMBER) c.self.inside.times.entries c.self.invariant.numbers);
+  numbers = rw c.remove.ensures.entries (All-map-remove_entry _ (λ e. e.0) (λ n. n ≤ greatest_number) c.self.inside.times.entries c.self.invariant.numbers);
   times = rw c.remove.ensures.entries (All-map-remove_entry _ (λ e. e.1) (λ t. t < c.self.inside.period) c.self.inside.times.entries c.self.invariant.times);
   few = omega arith;
 }

@@ -2,7 +2,7 @@
 use Rattle.std.proofs.Common.{◌≡◌, ◌<◌, ◌≤◌, ◌+◌, ℕ, Option, Some, None, is_some, if◌then◌else◌, length, refl, arith, rules}
 use Rattle.std.specs.Ordering.{nat_cmp}
 use Rattle.std.proofs.lemmas.Map.Views.{All-keys-insert_entry, All-values-insert_entry}
-use Rattle.pesp_base.specs.declared.limits.TheConstants.{GREATEST_NUMBER}
+use Rattle.pesp_base.specs.Limits.{greatest_number}
 use Rattle.pesp_tension.proofs.timetable.Timetable.put.Goals as goal
 use Rattle.pesp_tension.proofs.timetable.Timetable.put.Goals.{in-Ok, in-Err}
 
@@ -16,7 +16,7 @@ invariant_of-self c =
     let room = rw (← c.self.view_is) at c.requires.room in
     elim c.match-insert.branch [
       | in-Ok w ↦ record {
-        numbers = rw w.in-Ok.ensures.entries (All-keys-insert_entry nat_cmp _ c.args.time (λ e. e ≤ GREATEST_NUMBER) _ c.self.invariant.numbers (omega arith));
+        numbers = rw w.in-Ok.ensures.entries (All-keys-insert_entry nat_cmp _ c.args.time (λ e. e ≤ greatest_number) _ c.self.invariant.numbers (omega arith));
         times = rw w.in-Ok.ensures.entries (All-values-insert_entry nat_cmp c.get.result c.args.time (λ t. t < c.self.inside.period) _ c.self.invariant.times (search rules));
         few = few_after w.in-Ok.field-0 (length c.self.inside.times.entries) _ _ w.in-Ok.ensures.len c.self.invariant.few (λ none. room (search (rules, none)));
       }

@@ -1,0 +1,294 @@
+"""Streams of commands with what comes out, for tests/commands.py. ` / ` stands for a line end."""
+
+NOTHING = ""
+TWO = "1; 1; 2; 3; 5; 2 / 2; 2; 1; 4; 6; 1"
+THREE = "1; 1; 2; 1; 2; 0 / 2; 1; 3; 1; 2; 0 / 3; 2; 3; 1; 2; 0"
+
+TEN = "0 1 2 3 4 5 6 7 8 9"
+FULL = f"domains 2 / 1: {TEN} / 2: {TEN}"
+BEST = "optimum 4 2 / 1 0 / 2 4"
+SCRIPT = (
+    "# period 10 lines 4 / add event 1 / add event 2 / add activity 1 1 2 3 5 2 / add activity 2 2 1 4 6 1"
+)
+OF_THREE = "optimum 0 3 / 1 0 / 2 1 / 3 2"
+OF_THREE_WEIGHTED = "optimum 1 3 / 1 0 / 2 1 / 3 2"
+
+# Of each: its name, the period, the activities, the lines, and the replies.
+CASES = [
+    (
+        "empty instance",
+        10,
+        NOTHING,
+        "domains / optimum / cost / dump / tensions / violations / adopt / try 0",
+        "domains 0 / optimum 0 0 / cost 0 / # period 10 lines 0 / tensions 0 / violations 0 / ok / optimum 0 0",
+    ),
+    ("two activities", 10, TWO, "optimum", BEST),
+    ("a fixed event narrows domains", 10, TWO, "fix 1 0 / domains", "ok / domains 2 / 1: 0 / 2: 4 5"),
+    ("infeasible with full domains", 10, TWO, "span 1 3 3 / domains / optimum", f"ok / {FULL} / infeasible"),
+    (
+        "infeasible with empty domains",
+        10,
+        TWO,
+        "span 1 3 3 / fix 1 0 / domains / optimum / add event 3 / domain 3 / optimum",
+        f"ok / ok / domains 2 / 1: / 2: / infeasible / ok / 3: {TEN} / infeasible",
+    ),
+    (
+        "a fixed time that goes refills both rows",
+        10,
+        TWO,
+        "fix 1 0 / span 1 3 4 / domains / unfix 1 / domains",
+        f"ok / ok / domains 2 / 1: 0 / 2: 4 / ok / {FULL}",
+    ),
+    (
+        "three events, ties by number",
+        3,
+        THREE,
+        "optimum / weight 1 1 / weight 2 1 / weight 3 1 / optimum",
+        f"{OF_THREE} / ok / ok / ok / {OF_THREE_WEIGHTED}",
+    ),
+    (
+        "four events at period three",
+        3,
+        THREE,
+        "weight 1 1 / weight 2 1 / weight 3 1 / add event 4 / add activity 4 1 4 1 2 1 / add activity 5 2 4 1 2 1"
+        " / add activity 6 3 4 1 2 1 / domains / optimum / drop activity 6 / optimum",
+        "ok / ok / ok / ok / ok / ok / ok / domains 4 / 1: 0 1 2 / 2: 0 1 2 / 3: 0 1 2 / 4: 0 1 2 / infeasible / ok"
+        " / optimum 2 4 / 1 0 / 2 1 / 3 2 / 4 2",
+    ),
+    (
+        "a loop",
+        10,
+        "3; 1; 1; 1; 2; 1",
+        "domain 1 / optimum / span 3 0 0 / optimum",
+        f"1: {TEN} / infeasible / ok / optimum 0 1 / 1 0",
+    ),
+    (
+        "negative and full spans",
+        10,
+        "1; 1; 2; -2; 1; 1",
+        "fix 1 0 / domain 2 / span 1 7 16 / domain 2",
+        f"ok / 2: 0 1 8 9 / ok / 2: {TEN}",
+    ),
+    ("limited tries", 10, TWO, "try 0 / try 1000000 / try 0", f"stopped none / {BEST} / {BEST}"),
+    ("a try within the size", 10, TWO, "fix 1 0 / try 3", f"ok / {BEST}"),
+    ("a try within the size of a free event", 10, TWO, "try 30", BEST),
+    (
+        "a known optimum is told by every try until an edit",
+        10,
+        TWO,
+        "optimum / try 0 / time 1 0 / untime 1 / try 0 / weight 1 1 / try 0 / adopt / try 0",
+        f"{BEST} / {BEST} / ok / ok / {BEST} / ok / stopped none / ok / optimum 3 2 / 1 0 / 2 4",
+    ),
+    (
+        "known to be infeasible",
+        10,
+        TWO,
+        "span 1 3 3 / try 0 / adopt / try 0",
+        "ok / stopped none / refused 12 infeasible / infeasible",
+    ),
+    ("an empty domain is infeasible without a node", 10, TWO, "span 1 3 3 / fix 1 0 / try 0", "ok / ok / infeasible"),
+    (
+        "a cheaper timetable at a later place",
+        10,
+        "1; 1; 2; 3; 12; 1",
+        "try 2 / try 1000 / optimum",
+        "stopped 7 2 / 1 0 / 2 0 / optimum 0 2 / 1 0 / 2 3 / optimum 0 2 / 1 0 / 2 3",
+    ),
+    (
+        "refusals and dump",
+        10,
+        TWO,
+        "drop event 1 / add event 1 / unfix 1 / dump",
+        "refused 3 event 1 is used by activity 1 / refused 1 event 1 exists / refused 9 event 1 is not fixed"
+        f" / {SCRIPT}",
+    ),
+    (
+        "the dump replayed",
+        10,
+        NOTHING,
+        f"{SCRIPT} / dump / optimum / fix 1 0 / domains",
+        f"ok / ok / ok / ok / {SCRIPT} / {BEST} / ok / domains 2 / 1: 0 / 2: 4 5",
+    ),
+    (
+        "a lone event dumped",
+        10,
+        NOTHING,
+        "add event 7 / fix 7 3 / dump",
+        "ok / ok / # period 10 lines 2 / add event 7 / fix 7 3",
+    ),
+    (
+        "stored run",
+        60,
+        NOTHING,
+        "add event 2 / add event 1 / add activity 1 1 2 3 5 2 / optimum",
+        "ok / ok / ok / optimum 0 2 / 1 0 / 2 3",
+    ),
+    (
+        "working timetable",
+        10,
+        TWO,
+        "time 1 0 / time 2 12 / cost / time 2 3 / cost / untime 2 / untime 2 / adopt / cost / span 1 3 3 / adopt / cost",
+        "ok / refused 4 time 12 is out of range / refused 11 event 2 has no time / ok / cost 3 / ok"
+        " / refused 11 event 2 has no time / ok / cost 4 / ok / refused 12 infeasible / cost 4",
+    ),
+    (
+        "violations with a fixed event",
+        10,
+        TWO,
+        "fix 1 5 / time 1 0 / time 2 3 / violations",
+        "ok / ok / ok / violations 2 / activity 2 / event 1",
+    ),
+    (
+        "tensions, violations and cost",
+        10,
+        TWO,
+        "time 1 0 / time 2 3 / tensions / violations / cost",
+        "ok / ok / tensions 2 / 1 3 0 / 2 7 3 / violations 1 / activity 2 / cost 3",
+    ),
+    ("a fixed time moved", 10, TWO, "fix 1 0 / fix 1 1 / domains", "ok / ok / domains 2 / 1: 1 / 2: 5 6"),
+    (
+        "the old optimum is no longer first",
+        10,
+        "1; 1; 2; 3; 5; 0",
+        "fix 1 5 / optimum / unfix 1 / optimum",
+        "ok / optimum 0 2 / 1 5 / 2 0 / ok / optimum 0 2 / 1 0 / 2 3",
+    ),
+    (
+        "ends changed",
+        10,
+        TWO,
+        "add event 3 / ends 2 3 1 / optimum / drop event 2",
+        "ok / ok / optimum 0 3 / 1 0 / 2 3 / 3 6 / refused 3 event 2 is used by activity 1",
+    ),
+    (
+        "edits that keep the answer or change it",
+        10,
+        TWO,
+        "optimum / span 1 3 4 / fix 1 0 / add activity 3 1 2 4 9 7 / optimum / unfix 1 / drop activity 3 / span 1 3 5"
+        " / weight 1 1 / optimum / weight 1 3 / optimum / fix 1 3 / weight 1 2 / optimum",
+        f"{BEST} / ok / ok / ok / {BEST} / ok / ok / ok / ok / optimum 3 2 / 1 0 / 2 4 / ok / optimum 5 2 / 1 0 / 2 4"
+        " / ok / ok / optimum 4 2 / 1 3 / 2 7",
+    ),
+    (
+        "a dropped event forgets its time and its fixed time",
+        10,
+        NOTHING,
+        "add event 1 / time 1 3 / fix 1 4 / violations / drop event 1 / add event 1 / violations / unfix 1",
+        "ok / ok / ok / violations 1 / event 1 / ok / ok / refused 11 event 1 has no time"
+        " / refused 9 event 1 is not fixed",
+    ),
+    (
+        "the least event without a time, lone ones too",
+        10,
+        TWO,
+        "add event 0 / tensions / time 0 9 / violations / time 1 0 / cost / time 2 4 / cost",
+        "ok / refused 11 event 0 has no time / ok / refused 11 event 1 has no time / ok"
+        " / refused 11 event 2 has no time / ok / cost 4",
+    ),
+]
+
+# Refusals of lines at period 10 over TWO, with event 3 added and event 1 fixed; the first that holds is told.
+REFUSALS = {
+    "add event 1": "refused 1 event 1 exists",
+    "drop event 9": "refused 2 no event 9",
+    "drop event 1": "refused 3 event 1 is used by activity 1",
+    "drop event 2": "refused 3 event 2 is used by activity 1",
+    "fix 9 0": "refused 2 no event 9",
+    "fix 9 65535": "refused 2 no event 9",
+    "fix 1 10": "refused 4 time 10 is out of range",
+    "fix 1 65535": "refused 4 time 65535 is out of range",
+    "unfix 9": "refused 2 no event 9",
+    "unfix 2": "refused 9 event 2 is not fixed",
+    "add activity 1 8 9 0 0 0": "refused 5 activity 1 exists",
+    "add activity 3 8 9 0 0 0": "refused 2 no event 8",
+    "add activity 3 1 9 0 0 0": "refused 2 no event 9",
+    "drop activity 3": "refused 6 no activity 3",
+    "span 3 0 0": "refused 6 no activity 3",
+    "weight 3 0": "refused 6 no activity 3",
+    "ends 3 8 9": "refused 6 no activity 3",
+    "ends 1 8 9": "refused 2 no event 8",
+    "ends 1 1 9": "refused 2 no event 9",
+    "time 9 65535": "refused 2 no event 9",
+    "time 1 10": "refused 4 time 10 is out of range",
+    "untime 9": "refused 2 no event 9",
+    "untime 1": "refused 11 event 1 has no time",
+    "domain 9": "refused 2 no event 9",
+    "tensions": "refused 11 event 1 has no time",
+    "violations": "refused 11 event 1 has no time",
+    "cost": "refused 11 event 1 has no time",
+    "drop event 0999999999": "refused 2 no event 999999999",
+}
+
+# Lines that are no command, and those that are none by their form alone.
+FAULTS = {
+    "add": "fault unknown command",
+    "drop": "fault unknown command",
+    "add 1": "fault unknown command",
+    "add events 1": "fault unknown command",
+    "drop x": "fault unknown command",
+    "Fix 1 2": "fault unknown command",
+    "COST": "fault unknown command",
+    "fixed 1 2": "fault unknown command",
+    "x" * 4_096: "fault unknown command",
+    "\xff": "fault unknown command",
+    "\ufeffcost": "fault unknown command",
+    "\x0ccost": "fault unknown command",
+    "\0": "fault unknown command",
+    "quit": "fault unknown command",
+    "help": "fault unknown command",
+    "1; 1; 2; 3; 5; 2": "fault unknown command",
+    "add event": "fault wrong number of words",
+    "add event 1 2": "fault wrong number of words",
+    "add activity 1 1 2 3 5": "fault wrong number of words",
+    "fix 1": "fault wrong number of words",
+    "fix x": "fault wrong number of words",
+    "fix 1 2 # late": "fault wrong number of words",
+    "cost 1": "fault wrong number of words",
+    "dump #": "fault wrong number of words",
+    "try": "fault wrong number of words",
+    "fix x 1": "fault word 2 is not a number",
+    "fix x y": "fault word 2 is not a number",
+    "fix 1 y": "fault word 3 is not a number",
+    "fix 1000000000 y": "fault word 2 is out of range",
+    "fix 1 2.0": "fault word 3 is not a number",
+    "fix 1 0x2": "fault word 3 is not a number",
+    "fix 1 +-2": "fault word 3 is not a number",
+    "fix 1 -": "fault word 3 is not a number",
+    "weight 1 2.0": "fault word 3 is not a number",
+    "add event 1000000000": "fault word 3 is out of range",
+    "add event x": "fault word 3 is not a number",
+    "fix 1 70000": "fault word 3 is out of range",
+    "fix 1 65536": "fault word 3 is out of range",
+    "fix 1 -1": "fault word 3 is out of range",
+    "fix 1 " + "9" * 4_000: "fault word 3 is out of range",
+    "fix 1 18446744073709551616": "fault word 3 is out of range",
+    "time 1 65536": "fault word 3 is out of range",
+    "weight 1 1000000001": "fault word 3 is out of range",
+    "weight 1 -1": "fault word 3 is out of range",
+    "span 1 -1000001 0": "fault word 3 is out of range",
+    "span 1 0 1000001": "fault word 4 is out of range",
+    "span 1 5 3": "fault lower bound above upper bound",
+    "span 1 5 -1000001": "fault word 4 is out of range",
+    "add activity 1 1 2 5 3 0": "fault lower bound above upper bound",
+    "add activity 1 1 2 5 3 x": "fault word 8 is not a number",
+    "try 1000000000001": "fault word 2 is out of range",
+    "try -1": "fault word 2 is out of range",
+    "domain -1": "fault word 2 is out of range",
+    "domain 1000000000": "fault word 2 is out of range",
+}
+
+# Lines without a reply.
+SILENT = ["", " ", "\t \r", "# text", "#", " \t#cost", "#add event 9", "\r", " " * 4_096, "#" + "x" * 4_095]
+
+# Other spellings of commands over TWO at period 10, with their replies.
+SPELLINGS = {
+    "fix 1 " + "0" * 4_000: "ok",
+    "fix 1 -0": "ok",
+    "\t fix\t1 \r +007 \r": "ok",
+    "add  event\t9\r": "ok",
+    "untime\r2": "refused 11 event 2 has no time",
+    "domain\t+01": f"1: {TEN}",
+    "span 1 -1000000 1000000": "ok",
+    "weight 1 1000000000": "ok",
+    "try 1000000000000": BEST,
+}

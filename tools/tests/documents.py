@@ -1,0 +1,134 @@
+"""The sessions that documents show, played."""
+
+import os
+import re
+
+from tests.file_cases import ABSENT, ACTIVITIES, CROSSED, EVENT_TWICE, EVENTS, FIELDS, FRACTION, TWICE, bad, out
+from tests.harness import TOP, run
+from tests.parsing import COMMANDS
+
+
+class Shown:
+    """A command of a document, the lines that are typed into it, and those that it prints."""
+
+    def __init__(self, command):
+        self.command = command
+        self.typed = []
+        self.printed = []
+
+    def add(self, line):
+        """Takes the next line of the document; one that begins with `> ` is typed."""
+        if line.startswith("> "):
+            self.typed.append((len(self.printed), line[2:]))
+        else:
+            self.printed.append(line)
+
+    def script(self):
+        """The command as a shell is given it."""
+        command = self.command.replace("tools/pespbench", "pespbench")
+        typed = "".join(f"{line}\n" for _, line in self.typed)
+        return f"{command} <<'END'\n{typed}END" if typed else command
+
+    def wanted(self):
+        return "".join(f"{line}\n" for line in self.printed)
+
+    def shows_whole_replies(self):
+        """Whether below each typed line stands its own reply: those of the lines before are whole."""
+        places = [place for place, _ in self.typed]
+        return set(places) <= set(ends_of_replies(self.printed))
+
+
+def ends_of_replies(lines):
+    """The places between replies: a header tells how many lines follow it."""
+    place, ends = 0, [0]
+    while place < len(lines):
+        words = lines[place].split()
+        counts = {"domains": 1, "tensions": 1, "violations": 1, "optimum": 2, "stopped": 2, "#": 4}
+        last = words[min(counts.get(words[0], 0), len(words) - 1)] if words else ""
+        place += 1 + (int(last) if words[0] in counts and last.isdigit() else 0)
+        ends.append(place)
+    return ends
+
+
+def sessions(path):
+    """The blocks of a document that show a session: lists of a command and the lines that it prints."""
+    text = path.read_text()
+    if path.suffix == ".md":
+        blocks = re.findall(r"^```console\n(.*?)^```$", text, re.M | re.S)
+    else:
+        blocks = re.findall(r"^\.EX\n(.*?)^\.EE$", text, re.M | re.S)
+        blocks = [block.replace("\\-", "-").replace("\\e", "\\") for block in blocks]
+    for block in blocks:
+        session = []
+        for line in block.splitlines():
+            if line.startswith("$ "):
+                session.append(Shown(line[2:]))
+            elif session:
+                session[-1].add(line)
+        if session:
+            yield session
+
+
+def play(suite, session):
+    """What a shell at the top of the repository prints for each command of a session."""
+    mark = "-- next command --"
+    script = ["exec 2>&1", "last=0"]
+    for shown in session:
+        script += [f"printf '%s\\n' '{mark}'", "(exit $last)", shown.script(), "last=$?"]
+    path = f"{suite.folder / 'bin'}:{os.environ['PATH']}"
+    came = run(["sh", "-c", "\n".join(script)], cwd=TOP, env={**os.environ, "PATH": path})
+    return came["standard output"].decode().split(f"{mark}\n")[1:]
+
+
+def documents(suite):
+    commands = suite.folder / "bin"
+    commands.mkdir()
+    (commands / "pespbench").symlink_to(suite.program)
+    paths = [TOP / "README.md", *(TOP / "docs").glob("*.md"), *(TOP / "examples").glob("**/*.md")]
+    for path in sorted([*paths, *(TOP / "man").glob("*.1")]):
+        for number, session in enumerate(sessions(path) if path.exists() else [], 1):
+            titles = [f"what command {place} prints, {shown.command}," for place, shown in enumerate(session, 1)]
+            wanted = dict(zip(titles, [shown.wanted() for shown in session]))
+            printed = play(suite, session)
+            came = dict(zip(titles, [*printed, *["nothing"] * len(titles)]))
+            suite.note(f"{path.relative_to(TOP)}, session {number}", wanted, came)
+            whole = all(shown.shows_whole_replies() for shown in session)
+            suite.holds(f"{path.relative_to(TOP)}, session {number} has each reply below its line", whole)
+
+
+# What the documents have to name: the faults of files, refusals, faults of lines, and what ends a run.
+TEXTS = [FIELDS, bad("k"), out("k"), FRACTION, CROSSED, TWICE, EVENT_TWICE, ABSENT, EVENTS, ACTIVITIES, "out of memory"]
+TEXTS += [f"refused {number} " for number in (1, 2, 3, 4, 5, 6, 7, 8, 9, 11, 12)]
+TEXTS += ["is used by activity", "is not fixed", "has no time", "refused 12 infeasible", "stopped none"]
+TEXTS += ["unknown command", "wrong number of words", "fault lower bound above upper bound", "commands cannot be read"]
+TEXTS += ["replies cannot be written", "is longer than 4096 bytes", "more than 1000000 lines", "out of memory at line"]
+
+
+def named_texts(suite):
+    for path in [TOP / "docs/FORMATS.md", TOP / "man/pespbench.1"]:
+        for text in [*TEXTS, *COMMANDS]:
+            found = {"found": text in path.read_text()}
+            suite.note(f"{path.relative_to(TOP)} has '{text}'", {"found": True}, found)
+
+
+def shown_scripts(suite):
+    """A block of Python in a document is a part of a script of examples/."""
+    scripts = [path.read_text() for path in (TOP / "examples").glob("*.py")]
+    for name, wanted in {"README.md": "class Refused", "docs/FORMATS.md": "replies = {}"}.items():
+        blocks = re.findall(r"^```python\n(.*?)^```$", (TOP / name).read_text(), re.M | re.S)
+        suite.holds(f"{name} shows Python that has '{wanted}'", any(wanted in block for block in blocks))
+        for block in blocks:
+            suite.holds(f"{name}: {block[:40]!r} stands in examples/", any(block in script for script in scripts))
+
+
+def checks_say_so(suite):
+    """A command line that is shown without commands means a check, and says `--check`."""
+    for path in sorted([TOP / "README.md", *(TOP / "docs").glob("*.md"), *(TOP / "man").glob("*.1")]):
+        for session in sessions(path):
+            for shown in session:
+                is_check = any(line.startswith(("tensions ", "pespbench: ")) for line in shown.printed)
+                is_fine = not is_check or shown.typed or "--check" in shown.command or "|" in shown.command
+                suite.holds(f"{path.relative_to(TOP)} says --check in {shown.command}", is_fine)
+
+
+GROUPS = [documents, named_texts, shown_scripts, checks_say_so]

@@ -1,0 +1,56 @@
+"""The folders of examples/, and the stored run."""
+
+from tests.harness import TOP
+
+FILES = {"fixed": ["--fixed", "fixed"], "times": ["--times", "times"], "activities": ["activities"]}
+
+
+def folders():
+    return sorted(path for path in (TOP / "examples").iterdir() if path.is_dir())
+
+
+def content(path, otherwise=b""):
+    return path.read_bytes() if path.exists() else otherwise
+
+
+def words_of(folder):
+    """The words of an example's command line: without commands it is a check."""
+    given = content(folder / "arguments", None)
+    if given is not None:
+        return given.decode().splitlines()
+    words = [] if (folder / "commands").exists() else ["--check"]
+    return words + [word for name in FILES if (folder / name).exists() for word in FILES[name]]
+
+
+def examples(suite):
+    for folder in folders():
+        suite.case(
+            f"examples/{folder.name}",
+            words_of(folder),
+            status=int(content(folder / "status", b"0")),
+            output=content(folder / "expected"),
+            error=content(folder / "error"),
+            cwd=folder,
+            given=content(folder / "commands", None),
+        )
+        suite.holds(f"examples/{folder.name} is a check or has commands", is_clear(folder))
+        suite.holds(f"examples/README.md names {folder.name}", f"]({folder.name}/README.md)" in listed())
+
+
+def listed():
+    return (TOP / "examples/README.md").read_text()
+
+
+def is_clear(folder):
+    return ("--check" in words_of(folder)) != (folder / "commands").exists()
+
+
+def stored_run(suite):
+    crate = TOP / "crates/pespbench"
+    suite.case("the stored run", [], output=(crate / "stdout").read_bytes(), given=(crate / "stdin").read_bytes())
+    output = b"ok\nok\nok\noptimum 0 2\n1 0\n2 3\n"
+    given = b"add event 2\nadd event 1\nadd activity 1 1 2 3 5 2\noptimum\n"
+    suite.case("the stored run, as the documents have it", [], output=output, given=given)
+
+
+GROUPS = [examples, stored_run]

@@ -1,0 +1,78 @@
+"""Runs groups of tests, each in a process of its own that is ended when its time is over."""
+
+import argparse
+import multiprocessing
+import os
+import pathlib
+import signal
+import tempfile
+import time
+
+from tests import arguments, checks, commands, devices, dialogue, documents, drawing, examples, files, rows
+from tests import scripts, start_script, streams
+from tests.harness import PROGRAM, Suite
+
+TOPICS = [examples, commands, dialogue, streams, arguments, files, rows, checks, devices, scripts, drawing, documents]
+TOPICS += [start_script]
+# A group takes a few seconds; this is the most where it names nothing else.
+SECONDS = 120
+
+
+def groups():
+    return {group.__name__: group for topic in TOPICS for group in topic.GROUPS}
+
+
+def limit_of(group):
+    return getattr(group, "seconds", SECONDS)
+
+
+def alone(group, suite):
+    """Runs a group in a session of its own, so that all that it starts can be ended with it."""
+    os.setsid()
+    group(suite)
+
+
+def run_group(name, group, program, folder):
+    """How many cases of a group passed, and how many failed."""
+    folder.mkdir()
+    tally = folder.with_suffix(".tally")
+    tally.write_text("")
+    process = multiprocessing.get_context("fork").Process(target=alone, args=(group, Suite(program, folder, tally)))
+    process.start()
+    process.join(limit_of(group))
+    fault = "" if process.exitcode == 0 else "it broke off"
+    if process.exitcode is None:
+        fault = f"it is not done within {limit_of(group)} seconds"
+        os.killpg(process.pid, signal.SIGKILL)
+        process.join()
+    if fault:
+        print(f"FAILED group {name}: {fault}")
+    cases = tally.read_text()
+    return cases.count("p"), cases.count("f") + bool(fault)
+
+
+def run_all(chosen, program):
+    passed = failed = 0
+    with tempfile.TemporaryDirectory() as name:
+        for number, (title, group) in enumerate(chosen.items()):
+            began = time.monotonic()
+            counts = run_group(title, group, program, pathlib.Path(name).resolve() / str(number))
+            print(f"{title}: {counts[0]} passed, {counts[1]} failed, {time.monotonic() - began:.1f} s", flush=True)
+            passed, failed = passed + counts[0], failed + counts[1]
+    print(f"{passed} passed, {failed} failed")
+    return failed > 0
+
+
+def main(words):
+    parser = argparse.ArgumentParser(prog="tools/test_program", description="Runs the tests of the built programs.")
+    parser.add_argument("--list", action="store_true", help="print the names of the groups, and the seconds of each")
+    parser.add_argument("--only", action="append", metavar="NAME", choices=groups(), help="run this group alone")
+    parser.add_argument("program", nargs="?", type=pathlib.Path, default=PROGRAM)
+    words = parser.parse_args(words)
+    if words.list:
+        print("\n".join(f"{name} {limit_of(group)}" for name, group in groups().items()))
+        return 0
+    program = words.program.absolute()
+    if not os.access(program, os.X_OK):
+        parser.error(f"there is no program at {program}")
+    return run_all({name: group for name, group in groups().items() if not words.only or name in words.only}, program)

@@ -1,0 +1,93 @@
+"""The forms of files, and faulty rows."""
+
+from tests.file_cases import (
+    ABSENT,
+    ACTIVITIES,
+    ACTIVITY_FAULTS,
+    ACTIVITY_FORMS,
+    CROSSED,
+    EVENT_FAULTS,
+    EVENT_FORMS,
+    EVENT_TWICE,
+    EVENTS,
+    FIXED_FAULTS,
+    TWICE,
+    TWO,
+    TWO_FIXED,
+    TWO_TIMES,
+)
+from tests.harness import record
+from tests.replies import TWO_REPLIES
+
+
+def written_forms(suite):
+    activities, times = suite.file("two", TWO), suite.file("two times", TWO_TIMES)
+    shifted = suite.file("shifted", b"1; 1\n2; 4\n")
+    all_moved = TWO_REPLIES.replace(b"violations 1\nactivity 2\n", b"violations 3\nactivity 2\nevent 1\nevent 2\n")
+    for name, text in ACTIVITY_FORMS.items():
+        words = ["--period", "10", "--times", times, suite.file("activities", text)]
+        suite.check(f"activities: {name}", words, output=TWO_REPLIES)
+    for name, text in EVENT_FORMS.items():
+        path = suite.file("events", text)
+        suite.check(f"times: {name}", ["--period", "10", "--times", path, activities], output=TWO_REPLIES)
+        words = ["--period", "10", "--fixed", path, activities]
+        suite.check(f"fixed: {name}, kept", [*words, "--times", times], output=TWO_REPLIES)
+        suite.check(f"fixed: {name}, not kept", [*words, "--times", shifted], output=all_moved)
+
+
+def faulty_rows(suite):
+    for name, (text, number, kind) in ACTIVITY_FAULTS.items():
+        path = suite.file("faulty", text)
+        suite.check(f"activities: {name}", [path], status=1, error=record("activities", number, kind))
+    activities = suite.file("activities", TWO + b"11; 2; 2; 0; 0; 0")
+    for source, table in [("times", EVENT_FAULTS), ("fixed", EVENT_FAULTS), ("fixed", FIXED_FAULTS)]:
+        for name, (text, number, kind) in table.items():
+            words = [f"--{source}", suite.file("faulty", text), activities]
+            suite.check(f"{source}: {name}", words, status=1, error=record(source, number, kind))
+    words = ["--fixed", suite.file("faulty", TWO_FIXED)]
+    suite.check("fixed: no activities", words, status=1, error=record("fixed", 1, ABSENT))
+    words = ["--fixed", suite.file("faulty", b"7; 0"), "--times", suite.file("times", b"7; 0"), activities]
+    suite.check("fixed: an event of the times alone", words, status=1, error=record("fixed", 1, ABSENT))
+
+
+def loop(number, event):
+    return b"%d; %d; %d; 0; 9; 0\n" % (number, event, event)
+
+
+def too_many_activities(suite):
+    def refused(name, rows, number, kind):
+        error = record("activities", number, kind)
+        suite.check(f"activities: {name}", [suite.file("many", rows)], status=1, error=error)
+
+    loops = b"".join(loop(number, number) for number in range(20_001))
+    refused("loops at 20,001 events", loops, 20_001, EVENTS)
+    without_last = b"".join(loop(number, number) for number in range(19_999))
+    refused("two new events behind 19,999", without_last + b"19999; 20000; 20001; 0; 9; 0", 20_000, EVENTS)
+    between = b"".join(b"%d; 1; 2; 0; 9; 0\n" % number for number in range(100_001))
+    refused("100,001 of them between two events", between, 100_001, ACTIVITIES)
+    full = b"".join(loop(number, number % 20_000) for number in range(100_000))
+    table = {
+        "a new number": (loop(100_000, 0), ACTIVITIES),
+        "a new number and event": (loop(100_000, 20_000), EVENTS),
+        "an old number and a new event": (loop(7, 20_000), TWICE),
+        "crossed bounds and an old number": (b"7; 7; 20000; 1; 0; 0", CROSSED),
+    }
+    for name, (row, kind) in table.items():
+        refused(f"{name} behind 20,000 events and 100,000 activities", full + row, 100_001, kind)
+
+
+def too_many_times(suite):
+    rows = b"".join(b"%d; 0\n" % event for event in range(20_001))
+    words = ["--times", suite.file("many", rows)]
+    suite.check("times: 20,001 of them", words, status=1, error=record("times", 20_001, EVENTS))
+    repeated = rows[: rows.rfind(b"20000;")] + b"0; 0\n"
+    words = ["--times", suite.file("many", repeated)]
+    suite.check("times: a repeat before too many", words, status=1, error=record("times", 20_001, EVENT_TWICE))
+    activities = suite.file("activities", b"".join(loop(event, event) for event in range(20_000)))
+    words = ["--fixed", suite.file("many", rows), activities]
+    suite.check("fixed: 20,001 of them", words, status=1, error=record("fixed", 20_001, ABSENT))
+    words = ["--fixed", suite.file("many", repeated), activities]
+    suite.check("fixed: a repeat behind 20,000", words, status=1, error=record("fixed", 20_001, EVENT_TWICE))
+
+
+GROUPS = [written_forms, faulty_rows, too_many_activities, too_many_times]

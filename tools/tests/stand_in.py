@@ -1,0 +1,165 @@
+#!/usr/bin/env python3
+"""Stands in for the program where the tests themselves are tried: it reads the same words and answers by the model.
+
+usage: tools/test_program tools/tests/stand_in.py
+
+It is test code and slow. It is no part of the product, and nothing is proved of it.
+"""
+
+import argparse
+import os
+import pathlib
+import stat
+import sys
+
+sys.dont_write_bytecode = True
+sys.path.insert(0, str(pathlib.Path(__file__).resolve().parents[1]))
+
+from tests import model, parsing, rules  # noqa: E402
+from tests.harness import NAMES  # noqa: E402
+
+LONGEST_FILE = 67_108_864
+
+
+class End(Exception):
+    """A fault that ends the run, as it is told."""
+
+
+class Once(argparse.Action):
+    """An option that may be given once."""
+
+    def __call__(self, parser, words, value, option=None):
+        if getattr(words, f"has_{self.dest}", False):
+            parser.error(f"{option} is given twice")
+        setattr(words, f"has_{self.dest}", True)
+        setattr(words, self.dest, True if self.nargs == 0 else value)
+
+
+def period(word):
+    value = int(word) if word.lstrip("+").isdigit() else 0
+    if not 2 <= value <= 120:
+        raise argparse.ArgumentTypeError("it is a number from 2 to 120")
+    return value
+
+
+def settings():
+    parser = argparse.ArgumentParser(prog="stand_in.py", allow_abbrev=False, description=__doc__.splitlines()[0])
+    parser.epilog = "It reads commands. Columns: activity; from; to; lower; upper; weight and event; time. "
+    parser.epilog += "Exit status: 0, 1, 2. See docs/FORMATS.md and examples/."
+    parser.add_argument("--period", type=period, default=60, action=Once, help="2 to 120 [default: 60]")
+    parser.add_argument("--fixed", action=Once)
+    parser.add_argument("--times", action=Once)
+    parser.add_argument("--check", nargs=0, action=Once)
+    parser.add_argument("activities", nargs="?", metavar="ACTIVITIES")
+    for word in sys.argv[1:]:
+        try:
+            os.fsencode(word).decode()
+        except UnicodeDecodeError:
+            parser.error("a word is not UTF-8")
+    return parser.parse_args()
+
+
+def read_file(name, path):
+    if path is None:
+        return b""
+    try:
+        with open(path, "rb") as file:
+            if stat.S_ISREG(os.fstat(file.fileno()).st_mode) and os.fstat(file.fileno()).st_size > LONGEST_FILE:
+                raise End(f"{name} file is too long")
+            text = file.read(LONGEST_FILE + 1)
+    except (OSError, ValueError):
+        raise End(f"{name} file cannot be read") from None
+    if len(text) > LONGEST_FILE:
+        raise End(f"{name} file is too long")
+    return text
+
+
+def opening(words, texts):
+    """The model that the files open; what is wrong with them is told by the rules of a check."""
+    checked = rules.check(words.period, **texts)
+    if checked["error"]:
+        raise End(checked["error"].decode().removeprefix("pespbench: ").rstrip("\n"))
+    activities, _ = rules.read_activities(texts["activities"])
+    pairs = [rules.read_events(name, texts[name], lambda *_: None) for name in ("fixed", "times")]
+    return model.Model(words.period, activities, *pairs)
+
+
+def write(lines):
+    try:
+        rest = "".join(f"{line}\n" for line in lines).encode()
+        while rest:
+            rest = rest[os.write(1, rest) :]
+    except OSError:
+        raise End("replies cannot be written") from None
+
+
+def read_lines():
+    """The lines of standard input, each as soon as it is there, with its number."""
+    held, place = b"", 0
+    while True:
+        line, end, rest = held.partition(b"\n")
+        if held and place == parsing.MOST_LINES:
+            raise End(f"more than {parsing.MOST_LINES} lines")
+        if len(line) > parsing.LONGEST_LINE:
+            raise End(f"line {place + 1} is longer than {parsing.LONGEST_LINE} bytes")
+        if end:
+            held, place = rest, place + 1
+            yield line
+            continue
+        try:
+            more = os.read(0, 2_048)
+        except OSError:
+            raise End("commands cannot be read") from None
+        held += more
+        if not more:
+            break
+    if held:
+        yield held
+
+
+class StandIn:
+    """Answers lines; what is known of the optimum is kept, since `try` is then answered by it."""
+
+    def __init__(self, bench):
+        self.bench = bench
+        self.is_known = False
+
+    def reply(self, line):
+        try:
+            name, numbers = parsing.parse(line) or ("", [])
+        except parsing.Fault:
+            name, numbers = "", []
+        lines = self.attempt(*numbers) if name == "try" else self.bench.reply(line)
+        if lines == ["ok"] and name in parsing.EDITS:
+            self.is_known = False
+        elif name in ("optimum", "adopt"):
+            self.is_known = True
+        return lines
+
+    def attempt(self, limit):
+        if not self.is_known:
+            found, self.is_known = self.bench.reached(min(limit, 100_000))
+            if not self.is_known and found:
+                best = min(found, key=self.bench.cost_of)
+                return self.bench.timetable("stopped", self.bench.cost_of(best), best)
+        return self.bench.optimum() if self.is_known else ["stopped none"]
+
+
+def main():
+    words = settings()
+    texts = {name: read_file(name, getattr(words, name)) for name in NAMES}
+    bench = opening(words, texts)
+    if words.check:
+        write([*bench.reply(b"tensions"), *bench.reply(b"violations"), *bench.reply(b"cost")])
+        return
+    stand_in = StandIn(bench)
+    for line in read_lines():
+        write(stand_in.reply(line))
+
+
+if __name__ == "__main__":
+    try:
+        main()
+    except End as end:
+        print(f"pespbench: {end}", file=sys.stderr)
+        sys.exit(1)

@@ -1,0 +1,172 @@
+"""Whole streams: the longest line, the greatest number of lines, and drawn lines beside the model."""
+
+import random
+
+from tests import model
+from tests.commands import model_of
+from tests.file_cases import TWO
+from tests.harness import run, within
+from tests.parsing import COMMANDS, EDITS, LONGEST_LINE, MOST_LINES
+
+COUNTED = {"domains": 1, "tensions": 1, "violations": 1, "optimum": 2, "stopped": 2, "#": 4}
+
+
+def followed(first):
+    """How many lines follow the first line of a reply."""
+    words = first.split()
+    place = COUNTED.get(words[0], len(words))
+    return int(words[place]) if place < len(words) else 0
+
+
+# Lines that are too long, and too many lines
+
+
+def longest_line(suite):
+    fault = "pespbench: line {} is longer than 4096 bytes\n"
+    activities = suite.file("activities", TWO)
+    no_time = b"refused 11 event 1 has no time\n"
+    table = {
+        "4,096 blanks": (b" " * LONGEST_LINE, b"", 0),
+        "4,096 blanks and a line feed": (b" " * LONGEST_LINE + b"\n", b"", 0),
+        "4,097 blanks": (b" " * (LONGEST_LINE + 1), b"", 1),
+        "4,096 blanks and a carriage return": (b" " * LONGEST_LINE + b"\r\n", b"", 1),
+        "a comment of 4,096 bytes": (b"#" + b"x" * (LONGEST_LINE - 1) + b"\ncost\n", no_time, 0),
+        "a comment of 4,097 bytes": (b"#" + b"x" * LONGEST_LINE + b"\ncost\n", b"", 1),
+        "a command within 4,096 bytes": (b"cost".rjust(LONGEST_LINE) + b"\n", no_time, 0),
+        "a command at the end of 4,097 bytes": (b"cost".rjust(LONGEST_LINE + 1) + b"\n", b"", 1),
+        "a long line behind a reply": (b"cost\n" + b"x" * (LONGEST_LINE + 1) + b"\ncost\n", no_time, 2),
+        "a long line behind blank ones": (b"\n#\n\n" + b" " * (LONGEST_LINE + 1), b"", 4),
+        "a line of many megabytes": (b"cost\n" + b"1" * 20_000_000, no_time, 2),
+        "long lines in pieces of a buffer": ((b" " * LONGEST_LINE + b"\n") * 200 + b"cost", no_time, 0),
+    }
+    for name, (given, output, line) in table.items():
+        wanted = {"status": 1, "error": fault.format(line).encode()} if line else {}
+        suite.case(name, ["--period", "10", activities], given=given, output=output, **wanted)
+    with open("/dev/zero", "rb") as zeros:
+        suite.case("a line without end", [], stdin=zeros, status=1, error=fault.format(1).encode())
+
+
+@within(300)
+def number_of_lines(suite):
+    fault = {"status": 1, "error": b"pespbench: more than 1000000 lines\n"}
+    feeds = b"\n" * MOST_LINES
+    suite.case("1,000,000 lines", [], given=feeds)
+    suite.case("one byte more", [], given=feeds + b"#", **fault)
+    suite.case("one line feed more", [], given=feeds + b"\n", **fault)
+    suite.case("one line more that is too long", [], given=feeds + b"x" * 5_000, **fault)
+    suite.case("999,999 lines and one without its end", [], given=feeds[:-1] + b"cost", output=b"cost 0\n")
+    suite.case("a reply at the last line", [], given=feeds[:-1] + b"cost\n", output=b"cost 0\n")
+    suite.case("a reply before too many lines", [], given=feeds[:-1] + b"cost\ncost", output=b"cost 0\n", **fault)
+
+
+@within(300)
+def many_cheap_lines(suite):
+    """1,000,000 lines in bulk; the time is a generous one, against work that grows with what was read."""
+    how = {"seconds": 120}
+    output = b"refused 2 no event 1\n" * MOST_LINES
+    suite.case("1,000,000 refusals", [], given=b"untime 1\n" * MOST_LINES, output=output, **how)
+    output = b"fault unknown command\n" * MOST_LINES
+    suite.case("1,000,000 faults", [], given=b"x\n" * MOST_LINES, output=output, **how)
+
+
+# Drawn lines
+
+
+def drawn_number(draw, count):
+    """A number of an event or activity: most often one that is there."""
+    return draw.randint(1, count) if draw.randrange(12) else draw.choice([0, 9, 77, 999_999_999])
+
+
+def drawn_command(draw, period, name):
+    event, activity = drawn_number(draw, 4), drawn_number(draw, 6)
+    lower = draw.choice([draw.randint(-period, period), draw.randint(0, period)])
+    upper = lower + draw.choice([0, 1, 2, draw.randrange(period), period])
+    time = draw.randrange(period) if draw.randrange(10) else draw.choice([period, period + 1, 65_535])
+    ends = [drawn_number(draw, 4), drawn_number(draw, 4)]
+    weight = draw.choice([0, 1, 1, 2, 3, 10, 1_000_000_000])
+    numbers = {
+        "add activity": [activity, *ends, lower, upper, weight],
+        "span": [activity, lower, upper],
+        "weight": [activity, weight],
+        "ends": [activity, *ends],
+        "fix": [event, time],
+        "time": [event, time],
+        "drop activity": [activity],
+        "try": [draw.choice([0, 1, 2, 3, 5, 10, 50, 200])],
+    }
+    given = numbers.get(name, [event] if COMMANDS[name] else [])
+    return " ".join(map(str, [name, *given]))
+
+
+def drawn_line(draw, period):
+    # The events and activities that are there stay few, and few of them are fixed, so that there is often an optimum.
+    often = ["add event", "add activity", "span", "weight", "time", "try", "optimum", "adopt", "domains"]
+    name = draw.choice([*COMMANDS, *often, "add event", "add activity"])
+    line = drawn_command(draw, period, name)
+    if draw.randrange(20) == 0:
+        shorter = line.rsplit(" ", 1)[0]
+        line = draw.choice(["", "# a", line.upper(), f"{line} 1", shorter, f" \t{line}\r", f"{line}x", "add"])
+    return line.encode()
+
+
+def drawn_lines(draw, period, count):
+    """Lines that most often begin with a network of a few events and activities."""
+    lines = [drawn_line(draw, period) for _ in range(count)]
+    if draw.randrange(10) == 0:
+        return lines
+    events = draw.sample(range(1, 5), draw.randint(2, 4))
+    network = [f"add event {event}" for event in events]
+    for activity in draw.sample(range(1, 7), draw.randint(1, 6)):
+        ends, lower = draw.choices(events, k=2), draw.randint(-period, period)
+        upper = lower + draw.choice([0, 1, 2, draw.randrange(period)])
+        network.append(f"add activity {activity} {ends[0]} {ends[1]} {lower} {upper} {draw.randrange(5)}")
+    return [*(line.encode() for line in network), *lines]
+
+
+def compared(bench, lines, output):
+    """The first line whose reply is not a legal one, with what was wanted and what came; None where there is none."""
+    rest = output.decode("latin-1").split("\n")[:-1]
+    is_known = False
+    for place, line in enumerate(lines, 1):
+        wanted = bench.reply(line)
+        came = rest[: 1 + followed(rest[0])] if wanted and rest and rest[0] else []
+        is_try = came and line.split()[:1] == [b"try"] and came[0].startswith("stopped")
+        legal = not is_known and bench.may_try(int(line.split()[1]), came) if is_try else came == wanted
+        if not legal:
+            return {"line": place, "given": line, "wanted": wanted, "came": came}
+        rest = rest[len(came) :]
+        is_known = knows(is_known, line, came)
+    return {"left": rest} if rest else None
+
+
+def knows(is_known, line, reply):
+    """Whether the optimum is known behind a line: the program may know it longer, but not less long."""
+    name = b" ".join(line.split()[:2]).decode("latin-1") if line[:3] in (b"add", b"dro") else line.split()[:1]
+    name = name if isinstance(name, str) else b"".join(name).decode("latin-1")
+    if not reply or reply[0].startswith("fault"):
+        return is_known
+    if name in ("optimum", "adopt") or name == "try" and not reply[0].startswith("stopped"):
+        return True
+    return is_known and not (name in EDITS and reply == ["ok"])
+
+
+def play(suite, name, bench, words, lines):
+    came = run([suite.program, *words], given=b"\n".join(lines))
+    wanted = {"status": 0, "standard error": b"", "first reply that is wrong": None}
+    wrong = compared(bench, lines, came["standard output"])
+    suite.note(name, wanted, {**came, "first reply that is wrong": wrong})
+
+
+@within(300)
+def drawn_streams(suite):
+    draw = random.Random(1825)
+    for number in range(120):
+        period = draw.choice([2, 3, 4, 5, 7, 10, 12])
+        lines = drawn_lines(draw, period, 60)
+        play(suite, f"drawn stream {number} at period {period}", model.Model(period), ["--period", str(period)], lines)
+    for number in range(30):
+        words = ["--period", "10", suite.file("activities", TWO)]
+        play(suite, f"drawn stream {number} of two trains", model_of(10, TWO), words, drawn_lines(draw, 10, 60))
+
+
+GROUPS = [longest_line, number_of_lines, many_cheap_lines, drawn_streams]
