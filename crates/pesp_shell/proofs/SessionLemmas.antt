@@ -8,10 +8,9 @@ use Rattle.std.proofs.lemmas.Option.{slice_get-get_or}
 use Rattle.std.specs.Io.KnownBytes.{Appends, Consumes, IsAtEnd, Keeps}
 use Rattle.std.proofs.KnownBytes.{Appends-kept, Appends-nil, Appends-trans, Consumes-nil, Consumes-trans}
 use Rattle.pesp_base.specs.Texts.{as_lines}
-use Rattle.pesp_lines.specs.Lines.{IsUncut, ended_lines, is_line_feed, lines_of}
+use Rattle.pesp_lines.specs.Lines.{IsUncut, ended_lines, is_line_feed, lines_of, longest_line, most_lines}
 use Rattle.pesp_lines.specs.Fronts.{IsFront, IsUnended}
 use Rattle.pesp_lines.specs.declared.line_reader.Front.TheVariants as fronts
-use Rattle.pesp_lines.specs.declared.limits.TheConstants.{LONGEST_LINE, MOST_LINES}
 use Rattle.pesp_lines.proofs.CutLemmas.{AreLines}
 use Rattle.pesp_lines.proofs.LineLemmas.{ended_lines-before, lines_of-after, lines_of-ended, lines_of-front, lines_of-last, some_line}
 use Rattle.pesp_replies.specs.Legal.{Work}
@@ -25,7 +24,7 @@ use Rattle.pesp_shell.specs.Runs.{Answers, IsRun, Marks}
 use Rattle.pesp_shell.specs.Sessions.{MayAnswer, MayEndBehind}
 
 abbrev IsShort : List ℕ → Type 0
-IsShort line = length line ≤ LONGEST_LINE
+IsShort line = length line ≤ longest_line
 
 -- so many lines are read and answered, which led the first work to this one, and these bytes are held behind them
 pub record Progress (first now : Work) (left left' written written' : Option (List ℕ)) (held : List ℕ) (done : ℕ) : Type 0 where
@@ -34,7 +33,7 @@ pub record Progress (first now : Work) (left left' written written' : Option (Li
   pub consumed : Consumes left left' (as_lines lines ++ held)
   pub appended : Appends written written' output
   pub whole : AreLines lines
-  pub short : All (λ line. length line ≤ LONGEST_LINE) lines
+  pub short : All (λ line. length line ≤ longest_line) lines
   pub count : length lines ≡ done
   pub leads : Leads first lines output now
 
@@ -56,14 +55,6 @@ moved lines line rest held e =
     ∙ sym (append_assoc (as_lines lines) (line ++ 10 ∷ []) rest)
     ∙ ap (λ bytes. bytes ++ rest) (sym (as_lines-more lines line))
 
--- the line of so many bytes at the front, and what is behind it
-pub front_line : (line rest held : List ℕ) (n : ℕ) → held ≡ line ++ 10 ∷ rest → length line ≡ n → take n held ≡ line
-front_line line rest held n e long = ap (take n) e ∙ take_at line (10 ∷ rest) n long
-
-pub behind_line : (line rest held : List ℕ) (n : ℕ) → held ≡ line ++ 10 ∷ rest → length line ≡ n → drop (n + 1) held ≡ rest
-behind_line line rest held n e long =
-    ap (drop (n + 1)) (e ∙ sym (append_assoc line (10 ∷ []) rest)) ∙ drop_at (line ++ 10 ∷ []) rest (n + 1) (omega (arith, length-append line (10 ∷ []), long))
-
 -- a line that may go on is one line at most, and no long one
 one_line : (held : List ℕ) → IsUnended held → (length (lines_of held) ≤ 1) × All IsShort (lines_of held)
 one_line [] unended = (omega arith, All-nil IsShort)
@@ -81,7 +72,7 @@ leads_on first mid last (line ∷ lines) more output rest (reply, next, tail, le
     (reply, next, tail ++ rest, legal, leads_on next mid last lines more tail rest leads behind, ap (λ o. o ++ rest) whole ∙ append_assoc reply tail rest)
 
 stands : (f : Files) (first last : Work) (lines : List (List ℕ)) (output : List ℕ)
-    → IsOpening f first → length lines ≤ MOST_LINES → All IsShort lines → Leads first lines output last → Answers f lines output
+    → IsOpening f first → length lines ≤ most_lines → All IsShort lines → Leads first lines output last → Answers f lines output
 stands f first last lines output opening few short leads = record { work = first; opening = opening; few = few; short = short; transcript = (last, leads) }
 
 -- ---- before the first line
@@ -141,7 +132,7 @@ module _ (first now : Work) (left left' written written' : Option (List ℕ)) (h
 
   -- a line is answered, and let go
   pub answered : (next : Work) (written'' : Option (List ℕ)) (line rest : List ℕ) (number : ℕ) (mark : Bool) → Progress first now left left' written written' held done
-      → held ≡ line ++ 10 ∷ rest → IsUncut is_line_feed line → length line ≤ LONGEST_LINE
+      → held ≡ line ++ 10 ∷ rest → IsUncut is_line_feed line → length line ≤ longest_line
       → MayAnswer now (line ∷ []) number next written' written'' mark (Ok tt) → Progress first next left left' written written'' rest (done + 1)
   answered next written'' line rest number mark p e whole short (replies, leads, appended) = record {
     lines = p.lines ++ line ∷ [];
@@ -169,15 +160,15 @@ module _ (first now : Work) (left left' written written' : Option (List ℕ)) (h
     kept : (written'' : Option (List ℕ)) → Keeps written' written'' → Appends written written'' p.output
     kept written'' keeps = Appends-kept written written' written'' p.output p.appended keeps
 
-    so_far : done ≤ MOST_LINES → Answers f p.lines p.output
+    so_far : done ≤ most_lines → Answers f p.lines p.output
     so_far few = stands f first now p.lines p.output opening (omega (arith, few, p.count)) p.short p.leads
 
-    first_lines : (n : ℕ) (ls : List (List ℕ)) → n ≡ done → lines_of read ≡ p.lines ++ ls → done ≤ MOST_LINES → Answers f (take n (lines_of read)) p.output
+    first_lines : (n : ℕ) (ls : List (List ℕ)) → n ≡ done → lines_of read ≡ p.lines ++ ls → done ≤ most_lines → Answers f (take n (lines_of read)) p.output
     first_lines n ls same e few =
         subst (λ lines. Answers f lines p.output) (sym (ap (take n) e ∙ take_at p.lines ls n (omega (arith, same, p.count)))) (so_far few)
 
     -- a read failed
-    pub unread : done ≤ MOST_LINES → IsUncut is_line_feed held → IsTrue m.not_read → IsRun f left left' written written' m (Err fault.Read)
+    pub unread : done ≤ most_lines → IsUncut is_line_feed held → IsTrue m.not_read → IsRun f left left' written written' m (Err fault.Read)
     unread few uncut failed = record {
       read = read;
       output = p.output;
@@ -188,7 +179,7 @@ module _ (first now : Work) (left left' written written' : Option (List ℕ)) (h
     }
 
     -- the next line is too long
-    pub too_long : done + 1 ≤ MOST_LINES → IsFront held fronts.TooLong → IsRun f left left' written written' m (Err (fault.LineTooLong (done + 1)))
+    pub too_long : done + 1 ≤ most_lines → IsFront held fronts.TooLong → IsRun f left left' written written' m (Err (fault.LineTooLong (done + 1)))
     too_long few (line, rest, e, uncut, long) =
         let (more, lines, front) = lines_of-front line rest uncut (omega (arith, long)) in
         let all : lines_of read ≡ p.lines ++ ((line ++ more) ∷ lines) = lines_of-after p.lines held p.whole ∙ ap (λ bytes. p.lines ++ lines_of bytes) e ∙ ap (λ ls. p.lines ++ ls) front in
@@ -205,14 +196,14 @@ module _ (first now : Work) (left left' written written' : Option (List ℕ)) (h
           ending = (
             omega arith,
             few,
-            subst (λ o. IsSomeAnd o (λ l. LONGEST_LINE < length l)) (sym it) (omega (arith, length-append line more, long)),
+            subst (λ o. IsSomeAnd o (λ l. longest_line < length l)) (sym it) (omega (arith, length-append line more, long)),
             first_lines (done + 1 - 1) ((line ++ more) ∷ lines) (omega arith) all (omega (arith, few)),
           );
         }
 
     -- the next line, if there is one, is not answered
     pub faulted : (next : Work) (written'' : Option (List ℕ)) (some more : List (List ℕ)) (fault : RunFault)
-        → done + 1 ≤ MOST_LINES → lines_of held ≡ some ++ more → length some ≤ 1 → All IsShort some
+        → done + 1 ≤ most_lines → lines_of held ≡ some ++ more → length some ≤ 1 → All IsShort some
         → MayAnswer now some (done + 1) next written' written'' m.not_written (Err fault) → IsRun f left left' written written'' m (Err fault)
     faulted next written'' some more (fault.Memory line) few e one short (same, there, keeps) =
         let all = all_lines some more p e in record {
@@ -253,7 +244,7 @@ module _ (first now : Work) (left left' written written' : Option (List ℕ)) (h
 
     -- the last line is answered, if there is one, or not
     pub finished : (next : Work) (written'' : Option (List ℕ)) (ended : Result (Unit {0}) RunFault)
-        → done + 1 ≤ MOST_LINES → IsUnended held → IsTrue m.at_end → IsAtEnd left'
+        → done + 1 ≤ most_lines → IsUnended held → IsTrue m.at_end → IsAtEnd left'
         → MayAnswer now (lines_of held) (done + 1) next written' written'' m.not_written ended → IsRun f left left' written written'' m ended
     finished next written'' (Ok done_) few unended at_end none (replies, leads, appended) =
         let one = one_line held unended in
@@ -277,7 +268,7 @@ module _ (first now : Work) (left left' written written' : Option (List ℕ)) (h
 
     -- behind the greatest number of lines
     pub ended : (written'' : Option (List ℕ)) (end : Result (Unit {0}) RunFault)
-        → done ≡ MOST_LINES → Keeps written' written'' → MayEndBehind held left' m end → IsRun f left left' written written'' m end
+        → done ≡ most_lines → Keeps written' written'' → MayEndBehind held left' m end → IsRun f left left' written written'' m end
     ended written'' (Ok done_) full keeps (none, at_end, empty) = record {
       read = read;
       output = p.output;
@@ -321,7 +312,7 @@ module _ (first now : Work) (left left' written written' : Option (List ℕ)) (h
       all = λ ok. absurd (false≢true ok);
       ending = (
         omega (arith, ap length (lines_of-after p.lines held p.whole), length-append p.lines (lines_of held), p.count, some_line held some, full),
-        first_lines MOST_LINES (lines_of held) (sym full) (lines_of-after p.lines held p.whole) (omega (arith, full)),
+        first_lines most_lines (lines_of held) (sym full) (lines_of-after p.lines held p.whole) (omega (arith, full)),
       );
     }
     ended written'' (Err (fault.File source found)) full keeps none = absurd none
