@@ -1,6 +1,9 @@
+pub mod AnsweringLemmas
 pub mod CheckLemmas
 pub mod FaultlessSettings
 pub mod FaultlessWords
+pub mod OpeningLemmas
 pub mod Periods
 pub mod ReadSettings
 pub mod RowLemmas
+pub mod SessionLemmas

@@ -1,2 +1,5 @@
 pub mod Checked
+pub mod Opening
+pub mod Runs
+pub mod Sessions
 pub mod Settings

@@ -5,14 +5,15 @@ ghost use Rattle.std.specs.Option.{option_copied};
 ghost use Rattle.pesp_instance.specs.Network.{Network};
 ghost use Rattle.pesp_tension.specs.Timetables.{Times};
 ghost use Rattle.pesp_replies.specs.Replies.{behind, cost_text, refusal_text, tensions_text, violations_text};
-ghost use Rattle.pesp_shell.specs.Checked.{IsCheck, IsCheckFault, check_text, given, joined};
+ghost use Rattle.pesp_shell.specs.Checked.{IsCheck, IsCheckFault, check_text, joined};
+ghost use Rattle.pesp_shell.specs.Opening.{files};
 
-use crate::{RunFault, Source};
+use crate::RunFault;
+use crate::opening::read;
 use pesp_base::{Period, Refusal};
 use pesp_instance::Instance;
 use pesp_replies::{put_cost, put_refusal, put_tensions, put_violations};
 use pesp_tension::{Assessment, Timetable, assess};
-use pesplib_reader::{read_activities, read_fixed, read_times};
 use std::alloc::{AllocError, Global};
 
 /// The replies to `tensions`, `violations` and `cost`.
@@ -64,24 +65,11 @@ pub fn check(
     times: Option<&[u8]>,
 ) -> Result<Vec<u8>, RunFault>
     ensures replies { IfOk result (λ text. (I : Network) × (f : Times) × (m : Times)
-        × IsCheck period activities.now (given (option_copied fixed.entry)) (given (option_copied times.entry)) text.items I f m) }
-    ensures fault { IfErr result (IsCheckFault period activities.now (given (option_copied fixed.entry)) (given (option_copied times.entry))) }
+        × IsCheck (files period activities.now (option_copied fixed.entry) (option_copied times.entry)) text.items I f m) }
+    ensures fault { IfErr result (IsCheckFault (files period activities.now (option_copied fixed.entry) (option_copied times.entry))) }
 {
-    let mut instance = match read_activities(alloc, period, activities) {
-        Ok(instance) => instance,
-        Err(fault) => return Err(RunFault::in_file(Source::Activities, fault)),
-    };
-    if let Err(fault) = read_fixed(alloc, &mut instance, fixed.unwrap_or(b"")) {
-        return Err(RunFault::in_file(Source::Fixed, fault));
-    }
-    let timetable = match read_times(alloc, period, times.unwrap_or(b"")) {
-        Ok(timetable) => timetable,
-        Err(fault) => return Err(RunFault::in_file(Source::Times, fault)),
-    };
-    match told_check(alloc, &instance, &timetable) {
-        Ok(text) => Ok(text),
-        Err(_) => Err(RunFault::Memory { line: 0 }),
-    }
+    let (instance, timetable) = read(alloc, period, activities, fixed, times)?;
+    told_check(alloc, &instance, &timetable).map_err(|_| RunFault::Memory { line: 0 })
 }
 
 #[cfg(test)]

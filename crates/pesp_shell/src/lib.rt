@@ -1,14 +1,20 @@
-//! The commands, scripts, checks and command line of the workbench.
+//! Runs and checks, and the command line, of the workbench.
 #![tactic(auto)]
 
+mod answering;
 mod arguments;
 mod checking;
+mod opening;
 mod options;
 mod run_fault;
+mod session;
 
 pub use arguments::Settings;
 pub use checking::check;
 pub use options::settings;
 pub use pesp_commands::{Command, ParseFault, ReplayFault, ReplayKind, parse, replay};
+pub use pesp_lines::{ByteSink, ByteSource, Failed, Noted};
+pub use pesp_replies::reply;
 pub use pesplib_reader::{FaultKind, ReadFault};
 pub use run_fault::{RunFault, Source};
+pub use session::run;

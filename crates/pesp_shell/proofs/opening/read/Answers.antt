@@ -1,0 +1,17 @@
+-- The fault of the times comes behind files that can be read.
+use Rattle.std.proofs.Common.{◌≡◌, Ok, ap, rules}
+use Rattle.std.specs.Prelude.{option_copied, is_ok}
+use Rattle.pesp_shell.specs.Opening.{given}
+use Rattle.pesp_shell.specs.declared.run_fault.Source.TheVariants as source
+use Rattle.pesplib_reader.specs.Reading.{fixed_read, times_read}
+use Rattle.pesplib_reader.specs.Taking.{IsReadFault}
+use Rattle.pesp_shell.proofs.opening.read.Goals as goal
+
+pub returns-in-Err-read_times-clause-fault : goal.returns-in-Err-read_times-clause-fault
+returns-in-Err-read_times-clause-fault c =
+    let fixed : c.unwrap_or.result.now ≡ given (option_copied c.args.fixed) = search (rules, c.unwrap_or.ensures) in
+    let times : c.unwrap_or-2.result.now ≡ given (option_copied c.args.times) = search (rules, c.unwrap_or-2.ensures) in
+    let stand = rw fixed at c.in_default.ensures.ok.1 in
+    let found : IsReadFault (given (option_copied c.args.times)) (times_read c.args.period (given (option_copied c.args.times))) c.in-Err-read_times.fault
+        = rw times at c.in-Err-read_times.ensures.fault in
+    (source.Times, c.in-Err-read_times.fault, c.in_file-in-Err-read_times.ensures, (c.in-Ok.instance, c.in-Ok.ensures.ok, ap is_ok stand, found))

@@ -1,0 +1,82 @@
+//! The answers to the lines of a run.
+
+ghost use Rattle.std.specs.Prelude.{◌≡◌, ℕ, [], ◌∷◌, ◌++◌, List, IfErr};
+ghost use Rattle.std.specs.Io.KnownBytes.{Consumes, Keeps};
+ghost use Rattle.pesp_lines.specs.Lines.{IsUncut, is_line_feed, lines_of};
+ghost use Rattle.pesp_replies.specs.Legal.{work_of};
+ghost use Rattle.pesp_shell.specs.Runs.{marks};
+ghost use Rattle.pesp_shell.specs.Sessions.{IsNotWritten, MayAnswer, MayEndBehind};
+
+use crate::RunFault;
+use pesp_bench::Bench;
+use pesp_domains::Keeper;
+use pesp_lines::{ByteSink, ByteSource, Failed, LineReader, put_all};
+use pesp_replies::reply_to_line;
+use std::alloc::Global;
+
+/// Answers the line of this number. The reply is whole before its first byte is written.
+pub(crate) fn answer<K: Keeper, W: ByteSink>(
+    alloc: Global,
+    bench: &mut Bench<K>,
+    number: u64,
+    line: &[u8],
+    sink: &mut W,
+) -> Result<(), RunFault>
+    ensures { MayAnswer (work_of bench.old) (line.now ∷ []) number (work_of bench.new) (W.written sink.old) (W.written sink.new) (W.failed sink.new) result }
+{
+    let Ok(text) = reply_to_line(alloc, bench, line) else {
+        return Err(RunFault::Memory { line: number });
+    };
+    match put_all(sink, text.as_slice()) {
+        Ok(()) => Ok(()),
+        Err(Failed) => Err(RunFault::Write),
+    }
+}
+
+/// Answers the last line, where there is one, and passes all replies on.
+pub(crate) fn answer_last<K: Keeper, W: ByteSink>(
+    alloc: Global,
+    bench: &mut Bench<K>,
+    number: u64,
+    line: &[u8],
+    sink: &mut W,
+) -> Result<(), RunFault>
+    requires { IsUncut is_line_feed line.now }
+    ensures { MayAnswer (work_of bench.old) (lines_of line.now) number (work_of bench.new) (W.written sink.old) (W.written sink.new) (W.failed sink.new) result }
+{
+    if line.is_empty() {
+        return finish(sink);
+    }
+    answer(alloc, bench, number, line, sink)?;
+    finish(sink)
+}
+
+fn finish<W: ByteSink>(sink: &mut W) -> Result<(), RunFault>
+    ensures kept { Keeps (W.written sink.old) (W.written sink.new) }
+    ensures fault { IfErr result (IsNotWritten (W.failed sink.new)) }
+{
+    match sink.finish() {
+        Ok(()) => Ok(()),
+        Err(Failed) => Err(RunFault::Write),
+    }
+}
+
+/// Ends behind the greatest number of lines, where no byte is left.
+pub(crate) fn end<R: ByteSource, W: ByteSink>(
+    lines: &mut LineReader,
+    source: &mut R,
+    sink: &mut W,
+) -> Result<(), RunFault>
+    ensures taken { (bytes : List ℕ) × Consumes (R.left source.old) (R.left source.new) bytes × (lines.new ≡ lines.old ++ bytes) }
+    ensures kept { Keeps (W.written sink.old) (W.written sink.new) }
+    ensures ending { MayEndBehind lines.new (R.left source.new) (marks (R.at_end source.new) (R.failed source.new) (W.failed sink.new)) result }
+{
+    if !lines.held().is_empty() {
+        return Err(RunFault::TooManyLines);
+    }
+    match lines.fill(source) {
+        Ok(true) => Err(RunFault::TooManyLines),
+        Ok(false) => finish(sink),
+        Err(Failed) => Err(RunFault::Read),
+    }
+}

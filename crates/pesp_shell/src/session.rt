@@ -1,0 +1,78 @@
+//! Runs of the workbench over a stream of commands.
+
+ghost use Rattle.std.specs.Prelude.{◌≡◌, ℕ, [], false, option_copied};
+ghost use Rattle.pesp_replies.specs.Legal.{work_of};
+ghost use Rattle.pesp_shell.specs.Opening.{Files, IsOpening, files};
+ghost use Rattle.pesp_shell.specs.Runs.{IsRun, marks};
+
+use crate::RunFault;
+use crate::answering::{answer, answer_last, end};
+use crate::opening::{open, read};
+use pesp_base::Period;
+use pesp_bench::Bench;
+use pesp_domains::Keeper;
+use pesp_lines::{ByteSink, ByteSource, Failed, Front, LineReader, MOST_LINES};
+use std::alloc::Global;
+
+/// Answers each line before it takes more bytes.
+fn answer_all<K: Keeper, R: ByteSource, W: ByteSink>(
+    alloc: Global,
+    bench: &mut Bench<K>,
+    lines: &mut LineReader,
+    source: &mut R,
+    sink: &mut W,
+) -> Result<(), RunFault>
+    requires { lines.old ≡ [] }
+    ensures { (f : Files) → IsOpening f (work_of bench.old)
+        → IsRun f (R.left source.old) (R.left source.new) (W.written sink.old) (W.written sink.new)
+        (marks (R.at_end source.new) (R.failed source.new) (W.failed sink.new)) result }
+{
+    for done in 0..MOST_LINES {
+        let number = done + 1;
+        match lines.look(source) {
+            Ok(Front::Line(length)) => {
+                answer(alloc, bench, number, &lines.held()[..length], sink)?;
+                lines.skip(length + 1);
+            }
+            Ok(Front::Last) => return answer_last(alloc, bench, number, lines.held(), sink),
+            Ok(Front::TooLong) => return Err(RunFault::LineTooLong { line: number }),
+            Err(Failed) => return Err(RunFault::Read),
+        }
+    }
+    end(lines, source, sink)
+}
+
+/// Runs the commands of a stream over the instance and the timetable of the files.
+///
+/// The reply to a line is whole before its first byte is written, and is written before more of the
+/// stream is taken. Without fixed times no event is fixed, and without times the timetable is empty.
+/// Faults in order: the files, want of memory at line 0; then, at the first line that has one,
+/// `TooManyLines`, `LineTooLong`, want of memory, or a device that failed. No device is used behind a fault.
+pub fn run<K: Keeper, R: ByteSource, W: ByteSink>(
+    alloc: Global,
+    period: Period,
+    activities: &[u8],
+    fixed: Option<&[u8]>,
+    times: Option<&[u8]>,
+    reader: &mut R,
+    writer: &mut W,
+) -> Result<(), RunFault>
+    requires reader { R.failed reader.old ≡ false }
+    requires end { R.at_end reader.old ≡ false }
+    requires writer { W.failed writer.old ≡ false }
+    ensures { IsRun (files period activities.now (option_copied fixed.entry) (option_copied times.entry))
+        (R.left reader.old) (R.left reader.new) (W.written writer.old) (W.written writer.new)
+        (marks (R.at_end reader.new) (R.failed reader.new) (W.failed writer.new)) result }
+{
+    let (instance, timetable) = read(alloc, period, activities, fixed, times)?;
+    let Ok(mut bench) = open::<K>(alloc, instance, &timetable) else {
+        return Err(RunFault::Memory { line: 0 });
+    };
+    let Ok(mut lines) = LineReader::new(alloc) else {
+        return Err(RunFault::Memory { line: 0 });
+    };
+    answer_all(alloc, &mut bench, &mut lines, reader, writer)
+}
+
+#[cfg(test)]
+mod tests;
