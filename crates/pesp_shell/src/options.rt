@@ -19,6 +19,22 @@ const PERIOD_HELP: &str = "The period, 2 to 120";
 
 const _: () = prove!(LEAST_PERIOD == 2 && GREATEST_PERIOD == 120);
 
+/// What help says behind the options.
+const MORE_HELP: &str = "\
+Without --check, commands come from standard input, a line each, and each is answered before the next is read:
+  domains, domain E, fix E t, span A l u, optimum, adopt, violations, cost, dump and more
+
+Columns of the files:
+  activities            number; from; to; lower; upper; weight
+  times, fixed times    event; time
+
+Example:
+  printf 'fix 1 0\\ndomains\\n' | pespbench --period 10 examples/two-trains/activities
+
+Exit status: 0 done, or help; 1 a fault, which standard error tells; 2 refused arguments.
+
+docs/FORMATS.md has each command, reply and fault, man/pespbench.1 is the manual page, and examples/ has stories.";
+
 const PERIOD: &str = "period";
 
 const FIXED: &str = "fixed";
@@ -63,11 +79,12 @@ fn command<'a>(alloc: Global) -> Result<Command<'a>, AllocError>
     let times = file_option(alloc, TIMES, "The file of the events' times");
     let check = Arg::new(alloc, CHECK)
         .long(CHECK)
-        .help("Print tensions, violations and cost")
+        .help("Print tensions, violations and cost of the times, and read no commands")
         .action(ArgAction::SetTrue);
     let activities = Arg::new(alloc, ACTIVITIES).help("The file of activities");
     let command = Command::new(alloc, "pespbench")
-        .about("Checks periodic railway timetables")
+        .about("A workbench for periodic railway timetables")
+        .after_help(MORE_HELP)
         .arg(period)?
         .arg(fixed)?
         .arg(times)?

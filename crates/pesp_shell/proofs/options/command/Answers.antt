@@ -10,7 +10,8 @@ unfolding pespbench
 returns c =
     let check_is : rule_of c.action-check.result ≡ check_rule = search rules in
     let activities_is : rule_of c.help-activities.result ≡ activities_rule = search rules in
-    let none : app_of c.about.result ≡ new_app (codes "pespbench") = ap app_of_fields c.about.ensures ∙ c.new-3.ensures.app in
+    let told : app_of c.about.result ≡ new_app (codes "pespbench") = ap app_of_fields c.about.ensures ∙ c.new-3.ensures.app in
+    let none : app_of c.after_help.result ≡ new_app (codes "pespbench") = ap app_of_fields c.after_help.ensures ∙ told in
     let one : App = with_rule (new_app (codes "pespbench")) period_rule in
     let first : app_of c.in_ok-arg.field-0 ≡ one = c.in_ok-arg.ensures.shape c.period_option-period.ensures.local ∙ ap₂ with_rule none c.period_option-period.ensures.rule in
     let two : App = with_rule one (file_rule (codes "fixed")) in
