@@ -60,11 +60,11 @@ set_more I all x rest s next c is set =
     let of_event : has_event I x.0 ≡ true = ap (λ J. has_event J x.0) (sym c.instance) ∙ is in
     let test = λ (x : ℕ × ℕ). has_event I x.0 in
     let same : next ≡ record s { times = with_time s.times x.0 x.1 } =
-        accepted (no_event s.instance x.0 ∷ when (nat_le s.instance.period x.1) (no.TimeOutOfRange x.1) ∷ []) (record s { times = with_time s.times x.0 x.1 }) next set in
+    accepted (no_event s.instance x.0 ∷ when (nat_le s.instance.period x.1) (no.TimeOutOfRange x.1) ∷ []) (record s { times = with_time s.times x.0 x.1 }) next set in
     let head : filter test (x ∷ rest) ≡ x ∷ filter test rest = ap (λ b. cond b (x ∷ filter test rest) (filter test rest)) of_event in
     let entries : filter test all.entries ≡ s.times.entries ++ x ∷ filter test rest = c.entries ∙ ap (λ es. s.times.entries ++ es) head in
     let up : Rises key (s.times.entries ++ x ∷ filter test rest) =
-        subst (Rises key) entries (rises_kept test all.entries (Rises-from_increasing key all.entries c.rising)) in
+    subst (Rises key) entries (rises_kept test all.entries (Rises-from_increasing key all.entries c.rising)) in
     let put : (with_time s.times x.0 x.1).entries ≡ s.times.entries ++ x ∷ [] = put_last s.times.entries (filter test rest) x.0 x.1 up in
     record {
       instance = ap (λ (n : State). n.instance) same ∙ c.instance;

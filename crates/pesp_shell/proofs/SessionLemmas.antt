@@ -185,8 +185,8 @@ module _ (first now : Work) (left left' written written' : Option (List ℕ)) (h
         let all : lines_of read ≡ p.lines ++ ((line ++ more) ∷ lines) = lines_of-after p.lines held p.whole ∙ ap (λ bytes. p.lines ++ lines_of bytes) e ∙ ap (λ ls. p.lines ++ ls) front in
         let there : done + 1 - 1 < length (p.lines ++ ((line ++ more) ∷ lines)) = omega (arith, length-append p.lines ((line ++ more) ∷ lines), p.count) in
         let it : slice_get (lines_of read) (done + 1 - 1) ≡ Some (line ++ more) =
-            ap (λ ls. slice_get ls (done + 1 - 1)) all ∙ slice_get-get_or (p.lines ++ ((line ++ more) ∷ lines)) (done + 1 - 1) [] there
-            ∙ ap Some (get_or_at p.lines (line ++ more) lines [] (done + 1 - 1) (omega (arith, p.count))) in
+        ap (λ ls. slice_get ls (done + 1 - 1)) all ∙ slice_get-get_or (p.lines ++ ((line ++ more) ∷ lines)) (done + 1 - 1) [] there
+        ∙ ap Some (get_or_at p.lines (line ++ more) lines [] (done + 1 - 1) (omega (arith, p.count))) in
         record {
           read = read;
           output = p.output;
@@ -232,9 +232,9 @@ module _ (first now : Work) (left left' written written' : Option (List ℕ)) (h
             length (p.lines ++ some),
             drop n replies,
             subst (λ lines. Answers f lines ((p.output ++ take n replies) ++ drop n replies)) (sym (ap (take (length (p.lines ++ some))) all ∙ take_at (p.lines ++ some) more (length (p.lines ++ some)) refl))
-            (subst (Answers f (p.lines ++ some)) (sym whole)
-            (stands f first last (p.lines ++ some) (p.output ++ replies) opening (omega (arith, length-append p.lines some, p.count, one, few)) (All-append IsShort p.lines some p.short short)
-            (leads_on first now last p.lines some p.output replies p.leads leads))),
+                (subst (Answers f (p.lines ++ some)) (sym whole)
+                (stands f first last (p.lines ++ some) (p.output ++ replies) opening (omega (arith, length-append p.lines some, p.count, one, few)) (All-append IsShort p.lines some p.short short)
+                (leads_on first now last p.lines some p.output replies p.leads leads))),
           );
         }
     faulted next written'' some more (fault.File source found) few e one short none = absurd none
@@ -258,8 +258,8 @@ module _ (first now : Work) (left left' written written' : Option (List ℕ)) (h
           ending = (
             at_end,
             subst (λ lines. Answers f lines (p.output ++ replies)) (sym all)
-            (stands f first next (p.lines ++ lines_of held) (p.output ++ replies) opening (omega (arith, length-append p.lines (lines_of held), p.count, one.0, few)) (All-append IsShort p.lines (lines_of held) p.short one.1)
-            (leads_on first now next p.lines (lines_of held) p.output replies p.leads leads)),
+                (stands f first next (p.lines ++ lines_of held) (p.output ++ replies) opening (omega (arith, length-append p.lines (lines_of held), p.count, one.0, few)) (All-append IsShort p.lines (lines_of held) p.short one.1)
+                (leads_on first now next p.lines (lines_of held) p.output replies p.leads leads)),
           );
         }
     finished next written'' (Err fault) few unended at_end none may =

@@ -13,5 +13,5 @@ returns-in-Err-read_times-clause-fault c =
     let times : c.unwrap_or-2.result.now ≡ given (option_copied c.args.times) = search (rules, c.unwrap_or-2.ensures) in
     let stand = rw fixed at c.in_default.ensures.ok.1 in
     let found : IsReadFault (given (option_copied c.args.times)) (times_read c.args.period (given (option_copied c.args.times))) c.in-Err-read_times.fault
-        = rw times at c.in-Err-read_times.ensures.fault in
+    = rw times at c.in-Err-read_times.ensures.fault in
     (source.Times, c.in-Err-read_times.fault, c.in_file-in-Err-read_times.ensures, (c.in-Ok.instance, c.in-Ok.ensures.ok, ap is_ok stand, found))

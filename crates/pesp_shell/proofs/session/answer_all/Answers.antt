@@ -35,7 +35,7 @@ returns-in-Ok-Last g c =
     let few : c.loop-done.done + 1 ≤ most_lines = omega arith in
     let end = c.in-Ok-Last.ensures.end c.in-Ok-Last.field-0-is in
     let may : MayAnswer (work_of c.loop-done.bench) (lines_of c.look.new.self) (c.loop-done.done + 1) (work_of c.answer_last.new.bench) (g.W.ByteSink.written c.loop-done.sink)
-        (g.W.ByteSink.written c.answer_last.new.sink) (g.W.ByteSink.failed c.answer_last.new.sink) c.answer_last.result = rw c.held-in-Ok-Last.ensures at c.answer_last.ensures in
+    (g.W.ByteSink.written c.answer_last.new.sink) (g.W.ByteSink.failed c.answer_last.new.sink) c.answer_last.result = rw c.held-in-Ok-Last.ensures at c.answer_last.ensures in
     λ f opening. finished _ _ _ _ _ _ _ _ f opening (marks (g.R.ByteSource.at_end c.look.new.source) (g.R.ByteSource.failed c.look.new.source) (g.W.ByteSink.failed c.answer_last.new.sink)) p
     (work_of c.answer_last.new.bench) (g.W.ByteSink.written c.answer_last.new.sink) c.answer_last.result few (rw c.in-Ok-Last.field-0-is at c.in-Ok-Last.ensures.front) end.0 end.1 may
 
@@ -48,16 +48,16 @@ returns-in_err-answer-in-Ok-Line g c =
     let front = rw c.in-Ok-Line.field-0-is at c.in-Ok-Line.ensures.front in
     let same : c.from_residual.result ≡ Err c.in_err-answer-in-Ok-Line.field-0.0 = search rules in
     let may = subst (λ bytes. MayAnswer (work_of c.loop-done.bench) (take n bytes ∷ []) (c.loop-done.done + 1) (work_of c.answer.new.bench) (g.W.ByteSink.written c.loop-done.sink)
-        (g.W.ByteSink.written c.answer.new.sink) (g.W.ByteSink.failed c.answer.new.sink) (Err c.in_err-answer-in-Ok-Line.field-0.0))
-        c.held.ensures c.in_err-answer-in-Ok-Line.ensures in
+    (g.W.ByteSink.written c.answer.new.sink) (g.W.ByteSink.failed c.answer.new.sink) (Err c.in_err-answer-in-Ok-Line.field-0.0))
+    c.held.ensures c.in_err-answer-in-Ok-Line.ensures in
     let one : length (take n held ∷ []) ≤ 1 = omega arith in
     let short : length (take n held) ≤ longest_line = omega (arith, length-take-le n held (omega (arith, front.0)), front.3) in
     let m = marks (g.R.ByteSource.at_end c.look.new.source) (g.R.ByteSource.failed c.look.new.source) (g.W.ByteSink.failed c.answer.new.sink) in
     λ f opening.
-      subst (IsRun f (g.R.ByteSource.left c.args.source.now) (g.R.ByteSource.left c.look.new.source) (g.W.ByteSink.written c.args.sink.now) (g.W.ByteSink.written c.answer.new.sink) m) (sym same)
-      (faulted _ _ _ _ _ _ _ _ f opening m p (work_of c.answer.new.bench) (g.W.ByteSink.written c.answer.new.sink) (take n held ∷ []) (lines_of (drop (n + 1) held)) c.in_err-answer-in-Ok-Line.field-0.0
-      few (ap lines_of (line_at_front held n front) ∙ lines_of-ended (take n held) (drop (n + 1) held) front.2) one
-      (All-cons (λ l. length l ≤ longest_line) (take n held) [] short (All-nil (λ l. length l ≤ longest_line))) may)
+    subst (IsRun f (g.R.ByteSource.left c.args.source.now) (g.R.ByteSource.left c.look.new.source) (g.W.ByteSink.written c.args.sink.now) (g.W.ByteSink.written c.answer.new.sink) m) (sym same)
+    (faulted _ _ _ _ _ _ _ _ f opening m p (work_of c.answer.new.bench) (g.W.ByteSink.written c.answer.new.sink) (take n held ∷ []) (lines_of (drop (n + 1) held)) c.in_err-answer-in-Ok-Line.field-0.0
+    few (ap lines_of (line_at_front held n front) ∙ lines_of-ended (take n held) (drop (n + 1) held) front.2) one
+    (All-cons (λ l. length l ≤ longest_line) (take n held) [] short (All-nil (λ l. length l ≤ longest_line))) may)
 
 pub loop-done-preserved : goal.loop-done-preserved
 loop-done-preserved g c =
@@ -66,8 +66,8 @@ loop-done-preserved g c =
     let n = c.in-Ok-Line.length in
     let front = rw c.in-Ok-Line.field-0-is at c.in-Ok-Line.ensures.front in
     let may = subst (λ bytes. MayAnswer (work_of c.loop-done.bench) (take n bytes ∷ []) (c.loop-done.done + 1) (work_of c.answer.new.bench) (g.W.ByteSink.written c.loop-done.sink)
-        (g.W.ByteSink.written c.answer.new.sink) (g.W.ByteSink.failed c.answer.new.sink) (Ok c.in_ok-answer-in-Ok-Line.field-0))
-        c.held.ensures c.in_ok-answer-in-Ok-Line.ensures in
+    (g.W.ByteSink.written c.answer.new.sink) (g.W.ByteSink.failed c.answer.new.sink) (Ok c.in_ok-answer-in-Ok-Line.field-0))
+    c.held.ensures c.in_ok-answer-in-Ok-Line.ensures in
     let short : length (take n held) ≤ longest_line = omega (arith, length-take-le n held (omega (arith, front.0)), front.3) in
     subst (λ bytes. Progress (work_of c.args.bench.now) (work_of c.answer.new.bench) (g.R.ByteSource.left c.args.source.now) (g.R.ByteSource.left c.look.new.source)
     (g.W.ByteSink.written c.args.sink.now) (g.W.ByteSink.written c.answer.new.sink) bytes (c.loop-done.done + 1)) (sym c.skip.ensures)
