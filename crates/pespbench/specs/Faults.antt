@@ -9,7 +9,11 @@ use Rattle.pespbench.specs.declared.fault.Fault.TheVariants as fault
 -- a fault of the shell, as the program tells it
 abbrev pub fault_of : RunFault → Fault
 fault_of (run.File source f) = fault.Faulty source f
+fault_of run.Read = fault.NotRead
+fault_of run.Write = fault.NotWritten
 fault_of (run.Memory line) = fault.Memory line
+fault_of (run.LineTooLong line) = fault.LineTooLong line
+fault_of run.TooManyLines = fault.TooManyLines
 
 -- the faults of reading a file
 abbrev pub faults_of_file : Source → List Fault

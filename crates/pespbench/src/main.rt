@@ -7,14 +7,16 @@ ghost use Rattle.pespbench.specs.Faults.{faults_of_file};
 ghost use Rattle.pespbench.specs.declared.ending.Ending.TheVariants as ending;
 ghost use Rattle.pespbench.specs.declared.fault.Fault.TheVariants as fault;
 
+mod answering;
 mod ending;
 mod fault;
 mod files;
 
+use answering::answer;
 use ending::Ending;
 use fault::Fault;
-use pesp_shell::{Source, check, settings};
-use std::io::{ErrorKind, Write};
+use pesp_shell::{Noted, Source, settings};
+use std::io::{ErrorKind, Input};
 use std::process::ExitCode;
 use std::rt::{Env, Files};
 use std::{env, io};
@@ -51,27 +53,26 @@ fn contents<R: Files + AllocGlobal>(
 }
 
 /// Does what the words ask for.
-fn work<R: Files + AllocGlobal + Print>(rt: &R, words: &[&str]) -> Result<(), Ending> {
+fn work<R: Files + AllocGlobal + Input + Print>(rt: &R, words: &[&str]) -> Result<(), Ending> {
     let settings = settings(rt.alloc(), words)?;
     let activities = contents(rt, Source::Activities, settings.activities)?;
     let fixed = contents(rt, Source::Fixed, settings.fixed)?;
     let times = contents(rt, Source::Times, settings.times)?;
-    let replies = check(
+    answer(
         rt.alloc(),
-        settings.period,
-        activities.as_ref().map_or(&[], |bytes| bytes.as_slice()),
+        &settings,
+        activities
+            .as_ref()
+            .map_or(b"".as_slice(), |bytes| bytes.as_slice()),
         fixed.as_ref().map(|bytes| bytes.as_slice()),
         times.as_ref().map(|bytes| bytes.as_slice()),
+        &mut Noted::new(rt.reader()),
+        &mut Noted::new(io::writer(rt)),
     )?;
-    let mut output = io::writer(rt);
-    output
-        .write_all(replies.as_slice())
-        .map_err(|_| Fault::NotWritten)?;
-    output.flush().map_err(|_| Fault::NotWritten)?;
     Ok(())
 }
 
-fn run<R: Env + Files + AllocGlobal + Print>(rt: &R) -> Result<(), Ending> {
+fn run<R: Env + Files + AllocGlobal + Input + Print>(rt: &R) -> Result<(), Ending> {
     let words = read_words(rt)?;
     let texts = words
         .iter()
@@ -82,7 +83,7 @@ fn run<R: Env + Files + AllocGlobal + Print>(rt: &R) -> Result<(), Ending> {
 }
 
 /// Runs the program, and tells why where it ends early.
-fn status<R: Env + Files + AllocGlobal + Print + Eprint>(rt: &R) -> ExitCode
+fn status<R: Env + Files + AllocGlobal + Input + Print + Eprint>(rt: &R) -> ExitCode
     ensures { exit_status result ≤ 2 }
 {
     match run(rt) {

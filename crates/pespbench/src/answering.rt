@@ -1,0 +1,71 @@
+//! What the settings ask for: a check, or the replies to commands.
+
+ghost use Rattle.std.specs.Prelude.{◌≡◌, ℕ, List, false, true, OnOk, option_copied};
+ghost use Rattle.std.specs.Io.KnownBytes.{Appends};
+ghost use Rattle.pesp_instance.specs.Network.{Network};
+ghost use Rattle.pesp_tension.specs.Timetables.{Times};
+ghost use Rattle.pesp_shell.specs.Checked.{IsCheck};
+ghost use Rattle.pesp_shell.specs.Opening.{files};
+ghost use Rattle.pesp_shell.specs.Runs.{IsRun, marks};
+
+use pesp_domains::PlainKeeper;
+use pesp_lines::put_all;
+use pesp_shell::{ByteSink, ByteSource, Failed, RunFault, Settings, check, run};
+use std::alloc::Global;
+
+fn write<W: ByteSink>(sink: &mut W, text: &[u8]) -> Result<(), Failed>
+    ensures { OnOk result (Appends (W.written sink.old) (W.written sink.new) text.now) }
+{
+    put_all(sink, text)?;
+    sink.finish()
+}
+
+/// Writes the replies of a check.
+fn write_check<W: ByteSink>(
+    alloc: Global,
+    settings: &Settings,
+    activities: &[u8],
+    fixed: Option<&[u8]>,
+    times: Option<&[u8]>,
+    sink: &mut W,
+) -> Result<(), RunFault>
+    ensures { OnOk result ((text : List ℕ) × (I : Network) × (f : Times) × (m : Times) × Appends (W.written sink.old) (W.written sink.new) text
+        × IsCheck (files settings.now.period activities.now (option_copied fixed.entry) (option_copied times.entry)) text I f m) }
+{
+    let replies = check(alloc, settings.period, activities, fixed, times)?;
+    write(sink, replies.as_slice()).map_err(|_| RunFault::Write)
+}
+
+/// Answers what the settings ask for.
+pub fn answer<R: ByteSource, W: ByteSink>(
+    alloc: Global,
+    settings: &Settings,
+    activities: &[u8],
+    fixed: Option<&[u8]>,
+    times: Option<&[u8]>,
+    source: &mut R,
+    sink: &mut W,
+) -> Result<(), RunFault>
+    requires reader { R.failed source.old ≡ false }
+    requires end { R.at_end source.old ≡ false }
+    requires writer { W.failed sink.old ≡ false }
+    ensures check { settings.now.check ≡ true → OnOk result ((text : List ℕ) × (I : Network) × (f : Times) × (m : Times) × Appends (W.written sink.old) (W.written sink.new) text
+        × IsCheck (files settings.now.period activities.now (option_copied fixed.entry) (option_copied times.entry)) text I f m) }
+    ensures commands { settings.now.check ≡ false → IsRun (files settings.now.period activities.now (option_copied fixed.entry) (option_copied times.entry))
+        (R.left source.old) (R.left source.new) (W.written sink.old) (W.written sink.new)
+        (marks (R.at_end source.new) (R.failed source.new) (W.failed sink.new)) result }
+{
+    if settings.check {
+        write_check(alloc, settings, activities, fixed, times, sink)
+    } else {
+        run::<PlainKeeper, _, _>(
+            alloc,
+            settings.period,
+            activities,
+            fixed,
+            times,
+            source,
+            sink,
+        )
+    }
+}
