@@ -1,4 +1,5 @@
 pub mod AnsweringLemmas
+mod Cases
 pub mod CheckLemmas
 pub mod FaultlessSettings
 pub mod FaultlessWords
