@@ -1,5 +1,5 @@
 -- The numbers of events and activities are within the greatest ones, and each times the period is bounded.
-use Rattle.std.proofs.Common.{ℕ, zero, suc, ◌+◌, ◌*◌, ◌/◌, ◌%◌, ◌<◌, ◌≤◌, ◌≡◌, min, arith, div-add-mod'}
+use Rattle.std.proofs.Common.{ℕ, ◌*◌, ◌/◌, ◌≤◌, arith, div-add-mod'}
 use Rattle.pesp_base.specs.Limits.{max_activities, max_events}
 
 -- a quotient times what it was divided by is at most the whole

@@ -13,6 +13,7 @@ use Rattle.pesp_base.specs.Limits.{greatest_bound, least_bound}
 use Rattle.pesp_lines.specs.Lines.{is_line_feed, IsUncut}
 use Rattle.pesp_commands.specs.Words.{is_space}
 use Rattle.pesp_commands.specs.Parsed.{Range, bound}
+use Rattle.pesplib_writer.proofs.FieldLaws.{signed_nonempty}
 
 -- a short word of one line
 pub record IsPlain (word : List ℕ) : Type 0 where
@@ -64,10 +65,6 @@ pub plain_decimal : (n : ℕ) → n < 10 ^ 10 → IsPlain (decimal n)
 plain_decimal n h =
     plain_between 48 (omega arith) (decimal n) (decimal_between n (omega (arith, h))) (decimal_nonempty n (omega (arith, h)))
     (omega (arith, length-decimal-le 10 n (omega arith) h (omega (arith, h))))
-
-signed_nonempty : (z : ℤ) → mag z < 2 ^ 63 → 0 < length (signed_decimal z)
-signed_nonempty (pos n) h = decimal_nonempty n (omega (arith, h))
-signed_nonempty (negsuc n) h = omega arith
 
 plain_signed : (z : ℤ) → mag z + 1 < 10 ^ 10 → IsPlain (signed_decimal z)
 plain_signed z h =

@@ -1,5 +1,5 @@
 -- Domains of small instances, by computation.
-use Rattle.std.proofs.Common.{ℕ, ◌==◌, Bool, ℤ, pos, negsuc, refl, List, [], ◌∷◌, map, Some, None}
+use Rattle.std.proofs.Common.{ℕ, ◌==◌, Bool, pos, negsuc, refl, List, [], ◌∷◌, map, Some}
 use Rattle.std.specs.List.{list_any, range_with_len}
 use Rattle.std.proofs.lemmas.Bool.{false≢true}
 use Rattle.pesp_base.proofs.Samples.{signed_arc as arc}

@@ -1,6 +1,6 @@
 -- Which events an edited instance has, and how an added event is taken away again.
-use Rattle.std.proofs.Common.{◌≡◌, ℕ, ◌<◌, ltb→lt, T, subst, ◌≤◌, ◌==◌, Bool, true, false, not, cond, nat_lt, nat_le, if◌then◌else◌, List, [], ◌∷◌, ◌++◌, length, filter, find, Option, Some, None, option_map, is_some, Result, Ok, Err, IsTrue, refl, sym, ap, ◌∙◌, inl, inr, arith, All, OnErr, OnOk, IfErr, replicate}
-use Rattle.std.specs.Result.{is_err, is_ok, result_unwrap_or}
+use Rattle.std.proofs.Common.{◌≡◌, ℕ, ◌<◌, ltb→lt, T, subst, ◌≤◌, ◌==◌, Bool, true, false, not, cond, nat_lt, nat_le, if◌then◌else◌, List, [], ◌∷◌, ◌++◌, length, filter, find, Option, Some, None, option_map, is_some, Result, Ok, Err, IsTrue, refl, sym, ap, ◌∙◌, inl, inr, arith, All, OnOk, IfErr, replicate}
+use Rattle.std.specs.Result.{is_ok, result_unwrap_or}
 use Rattle.std.proofs.lemmas.Bool.{false≢true, cases_eq, cases_lt, eq-eqb, ne_eqb, lt-ltb, le-ltb}
 use Rattle.std.proofs.lemmas.List.{length-replicate}
 use Rattle.std.proofs.lemmas.List.Elements.{All-head, All-tail, filter-append}

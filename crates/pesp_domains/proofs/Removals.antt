@@ -1,6 +1,5 @@
 -- What is left when pairs that do not stand are taken out.
-use Rattle.std.proofs.Common.{◌≡◌, ℕ, ◌∙◌, List, [], ◌∷◌, sym, subst, inl, inr}
-use Rattle.std.proofs.lemmas.Bool.{cases_eq}
+use Rattle.std.proofs.Common.{ℕ, ◌∙◌, List, [], ◌∷◌, subst}
 use Rattle.pesp_instance.specs.Network.{Network}
 use Rattle.pesp_domains.specs.declared.pair.Pair.{Pair}
 use Rattle.pesp_domains.specs.Domains.{InDomains, Stands}

@@ -105,9 +105,14 @@ keys-resolved : {V : Type 0} (slots : List (Option V)) (es : List (ℕ × ℕ)) 
 keys-resolved slots [] linked = refl
 keys-resolved slots (e ∷ es) linked = rw (value_at _ linked.0).1 (ap (λ ks. e.0 ∷ ks) (keys-resolved slots es linked.2))
 
-pub length-values_of : {V : Type 0} (ps : List (ℕ × V)) → length (values_of ps) ≡ length ps
+length-values_of : {V : Type 0} (ps : List (ℕ × V)) → length (values_of ps) ≡ length ps
 length-values_of [] = refl
 length-values_of (p ∷ ps) = omega (arith, length-values_of ps)
+
+-- there are as many values as keys
+pub length-values-keys : {V : Type 0} (ps : List (ℕ × V)) → length (values_of ps) ≡ length (keys_of ps)
+length-values-keys [] = refl
+length-values-keys (p ∷ ps) = omega (arith, length-values-keys ps)
 
 -- ---- what a table's contracts say, from its fields
 

@@ -1,9 +1,9 @@
 -- Transcripts of small streams, by computation.
-use Rattle.std.proofs.Common.{refl, [], ◌∷◌, None, codes}
+use Rattle.std.proofs.Common.{refl, [], ◌∷◌, codes}
 use Rattle.std.specs.Fmt.{digits}
 use Rattle.pesp_base.specs.Texts.{as_lines}
 use Rattle.pesp_base.proofs.Samples.{arc}
-use Rattle.pesp_instance.specs.Network.{Network, new_event}
+use Rattle.pesp_instance.specs.Network.{new_event}
 use Rattle.pesp_tension.specs.Timetables.{no_times}
 use Rattle.pesp_replies.specs.Legal.{Work}
 use Rattle.pesp_replies.specs.Transcripts.{IsTranscript}

@@ -1,5 +1,5 @@
 -- The tree and the optimum of small instances, by computation.
-use Rattle.std.proofs.Common.{ℕ, pos, refl, List, [], ◌∷◌, Some, None, inl, arith}
+use Rattle.std.proofs.Common.{ℕ, refl, List, [], ◌∷◌, Some, inl, arith}
 use Rattle.pesp_base.specs.declared.activity.Activity.{Activity}
 use Rattle.pesp_instance.specs.declared.event.Event.{Event}
 use Rattle.pesp_instance.specs.Network.{Network, new_event}

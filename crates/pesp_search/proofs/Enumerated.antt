@@ -13,7 +13,8 @@ use Rattle.pesp_search.specs.declared.answer.Answer.TheVariants.{Infeasible}
 use Rattle.pesp_search.specs.Optima.{IsAnswer, IsMember, IsOptimum, Precedes}
 use Rattle.pesp_search.specs.Places.{timetable_of}
 use Rattle.pesp_search.proofs.Members.{member_timed}
-use Rattle.pesp_search.proofs.Timed.{keys_of-zip, length-values_of}
+use Rattle.pesp_search.proofs.Timed.{keys_of-zip}
+use Rattle.pesp_instance.proofs.Tables.{length-values-keys as length-values_of}
 
 -- whether each list of so many times below the period passes
 abbrev pub every_list : (List ℕ → Bool) → ℕ → ℕ → Bool

@@ -19,7 +19,8 @@ use Rattle.pesp_tension.specs.Answers.{agrees, meets, time_at}
 use Rattle.pesp_search.specs.Optima.{IsMember, Precedes}
 use Rattle.pesp_search.specs.Places.{HasEmpty, at, pairs_of, timetable_of}
 use Rattle.pesp_search.specs.Walk.{Before, Extends, HasEach, IsEmptyFrom, IsFull, IsLeastFrom, IsNext, IsSpent, Nothing}
-use Rattle.pesp_search.proofs.Timed.{at_place, event_of_pair, events_ascend, extends_in, keys_of-zip, length-values_of, pair_of_event, pairs_only, place_has_event, values_of-zip, zip-of_entries}
+use Rattle.pesp_search.proofs.Timed.{at_place, event_of_pair, events_ascend, extends_in, keys_of-zip, pair_of_event, pairs_only, place_has_event, values_of-zip, zip-of_entries}
+use Rattle.pesp_instance.proofs.Tables.{length-values-keys as length-values_of}
 
 -- both ends of an activity of the instance are events
 ends_of : (I : Network) → IsNetwork I → (a : Activity) → Contains I.activities a → HasEnds I.events a

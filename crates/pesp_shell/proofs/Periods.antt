@@ -2,8 +2,8 @@
 use Rattle.std.proofs.Common.{◌≡◌, ℕ, true, false, cond, List, [], ◌∷◌, fold, Option, Some, None, Result, Ok, Err, refl, sym, ap, ◌∙◌}
 use Rattle.pesp_base.specs.Refusals.{unless_refused}
 use Rattle.pesp_instance.specs.Network.{Network, has_event}
-use Rattle.pesp_instance.specs.Edited.{effect, empty_network, refixed}
-use Rattle.pesp_instance.specs.declared.edit.Edit.TheVariants.{AddEvent}
+use Rattle.pesp_instance.specs.Edited.{effect, empty_network}
+use Rattle.pesp_instance.specs.declared.edit.Edit.TheVariants.{AddEvent, Fix}
 use Rattle.pesp_tension.specs.Timetables.{Times, no_times}
 use Rattle.pesplib_reader.specs.declared.fault.FaultKind.{FaultKind}
 use Rattle.pesplib_reader.specs.Records.{Row, rows_of}
@@ -40,9 +40,9 @@ activities_period period bytes I e =
     (λ x fields. event_period (with_event x (activity_in fields).from) (activity_in fields).to ∙ event_period x (activity_in fields).from)
     (rows_of bytes) (empty_network period) I e
 
-fixed_period_from : (entries : List (ℕ × ℕ)) (I : Network) → (fold (λ J x. refixed J x.0 (Some x.1)) I entries).period ≡ I.period
+fixed_period_from : (entries : List (ℕ × ℕ)) (I : Network) → (fold (λ J x. effect J (Fix x.0 x.1)) I entries).period ≡ I.period
 fixed_period_from [] I = refl
-fixed_period_from (x ∷ entries) I = fixed_period_from entries (refixed I x.0 (Some x.1))
+fixed_period_from (x ∷ entries) I = fixed_period_from entries (effect I (Fix x.0 x.1))
 
 pub fixed_period : (I : Network) (m : Times) → (with_fixed I m).period ≡ I.period
 fixed_period I m = fixed_period_from m.entries I

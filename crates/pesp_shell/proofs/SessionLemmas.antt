@@ -1,18 +1,18 @@
 -- What stands between two lines of a run, and how each of its ends follows.
-use Rattle.std.proofs.Common.{◌≡◌, ℕ, ◌+◌, ◌-◌, ◌<◌, ◌≤◌, Bool, List, [], ◌∷◌, ◌++◌, All, length, take, drop, get_or, slice_get, Option, Some, Result, Ok, Err, IsTrue, refl, sym, ap, subst, ◌∙◌, arith, append_assoc, append-nil, length-append, take-append-drop}
-use Rattle.std.specs.Prelude.{IsOk, IsSomeAnd}
+use Rattle.std.proofs.Common.{◌≡◌, ℕ, ◌+◌, ◌-◌, ◌<◌, ◌≤◌, Bool, List, [], ◌∷◌, ◌++◌, All, length, take, drop, slice_get, Option, Some, Result, Ok, Err, IsTrue, refl, sym, ap, subst, ◌∙◌, arith, append_assoc, append-nil, length-append, take-append-drop}
+use Rattle.std.specs.Prelude.{IsSomeAnd}
 use Rattle.std.proofs.lemmas.Bool.{false≢true}
-use Rattle.std.proofs.lemmas.List.{take_at, drop_at, get_or_at}
+use Rattle.std.proofs.lemmas.List.{take_at, get_or_at}
 use Rattle.std.proofs.lemmas.List.Elements.{All-append, All-cons, All-nil}
 use Rattle.std.proofs.lemmas.Option.{slice_get-get_or}
 use Rattle.std.specs.Io.KnownBytes.{Appends, Consumes, IsAtEnd, Keeps}
 use Rattle.std.proofs.KnownBytes.{Appends-kept, Appends-nil, Appends-trans, Consumes-nil, Consumes-trans}
 use Rattle.pesp_base.specs.Texts.{as_lines}
-use Rattle.pesp_lines.specs.Lines.{IsUncut, ended_lines, is_line_feed, lines_of, longest_line, most_lines}
+use Rattle.pesp_lines.specs.Lines.{IsUncut, is_line_feed, lines_of, longest_line, most_lines}
 use Rattle.pesp_lines.specs.Fronts.{IsFront, IsUnended}
 use Rattle.pesp_lines.specs.declared.line_reader.Front.TheVariants as fronts
 use Rattle.pesp_lines.proofs.CutLemmas.{AreLines}
-use Rattle.pesp_lines.proofs.LineLemmas.{ended_lines-before, lines_of-after, lines_of-ended, lines_of-front, lines_of-last, some_line}
+use Rattle.pesp_lines.proofs.LineLemmas.{ended_lines-before, lines_of-after, lines_of-front, lines_of-last, some_line}
 use Rattle.pesp_replies.specs.Legal.{Work}
 use Rattle.pesp_replies.specs.Transcripts.{Leads}
 use Rattle.pesp_shell.specs.declared.run_fault.RunFault.{RunFault}

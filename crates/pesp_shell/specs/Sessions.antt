@@ -1,5 +1,5 @@
 -- How the parts of a run may end.
-use Rattle.std.specs.Prelude.{◌≡◌, ℕ, ◌<◌, Bool, IsTrue, length, take, List, [], ◌++◌, Option, Result, Ok, Err}
+use Rattle.std.specs.Prelude.{◌≡◌, ℕ, ◌<◌, Bool, IsTrue, length, take, List, [], Option, Result, Ok, Err}
 use Rattle.std.specs.Io.KnownBytes.{Appends, IsAtEnd, Keeps}
 use Rattle.pesp_replies.specs.Legal.{Work}
 use Rattle.pesp_replies.specs.Transcripts.{Leads}

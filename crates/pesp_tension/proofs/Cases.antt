@@ -1,5 +1,5 @@
 -- Small cases of the definitions, by computation.
-use Rattle.std.proofs.Common.{◌≡◌, refl, pos, [], ◌∷◌, Some, None, Err, ℕ}
+use Rattle.std.proofs.Common.{◌≡◌, refl, pos, [], ◌∷◌, Some, Err, ℕ}
 use Rattle.pesp_base.specs.declared.refusal.Refusal.TheVariants as no
 use Rattle.pesp_instance.specs.declared.edit.Edit.TheVariants as do_
 use Rattle.pesp_instance.specs.Network.{Network, new_event}

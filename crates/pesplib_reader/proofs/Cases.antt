@@ -1,8 +1,7 @@
 -- Small cases of the definitions, by computation.
-use Rattle.std.proofs.Common.{◌≡◌, ℕ, refl, pos, [], ◌∷◌, Some, None, Ok, Err, Result, codes}
+use Rattle.std.proofs.Common.{◌≡◌, ℕ, refl, [], ◌∷◌, Some, None, Ok, Err, Result, codes}
 use Rattle.csv.specs.Reading.{records_from, strip_bom}
 use Rattle.csv.specs.Machine.{next_record}
-use Rattle.pesp_base.specs.declared.activity.Activity.{Activity}
 use Rattle.pesp_instance.specs.Network.{Network, new_event}
 use Rattle.pesp_instance.specs.Edited.{empty_network}
 use Rattle.pesplib_reader.specs.declared.fault.ReadFault.{ReadFault}

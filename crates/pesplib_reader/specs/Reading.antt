@@ -1,5 +1,5 @@
 -- What files of activities, of times and of fixed times stand for.
-use Rattle.std.specs.Prelude.{◌≡◌, ℕ, ◌<◌, ℤ, true, not, nat_lt, nat_le, is_some, if◌then◌else◌, List, [], ◌∷◌, ◌++◌, length, fold, Option, Some, Result}
+use Rattle.std.specs.Prelude.{◌≡◌, ℕ, ◌<◌, ℤ, true, not, nat_lt, nat_le, is_some, if◌then◌else◌, List, [], ◌∷◌, ◌++◌, length, fold, Option, Result}
 use Rattle.pesp_base.specs.Refusals.{unless_refused, when}
 use Rattle.pesp_base.specs.declared.activity.Activity.{Activity}
 use Rattle.pesp_base.specs.Limits.{max_activities, max_events}

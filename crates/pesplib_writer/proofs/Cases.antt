@@ -1,7 +1,6 @@
 -- Small cases of the definitions, by computation.
-use Rattle.std.proofs.Common.{◌≡◌, ℕ, refl, pos, [], ◌∷◌, None, Ok, codes}
+use Rattle.std.proofs.Common.{◌≡◌, refl, [], ◌∷◌, Ok, codes}
 use Rattle.std.specs.Fmt.{digits}
-use Rattle.pesp_base.specs.declared.activity.Activity.{Activity}
 use Rattle.pesp_base.specs.Texts.{as_lines}
 use Rattle.pesp_instance.specs.Network.{Network, new_event}
 use Rattle.pesp_instance.specs.Edited.{after, empty_network}

@@ -3,8 +3,8 @@ use Rattle.std.proofs.Common.{[], length, ap, ◌∙◌}
 use Rattle.std.specs.Map.{values_of}
 use Rattle.pesp_instance.specs.Network.{event_ids}
 use Rattle.pesp_search.proofs.Placed.{place_exists, place_unique}
-use Rattle.pesp_search.proofs.Timed.{length-values_of}
 use Rattle.pesp_search.proofs.laws.one_place.Goals as goal
+use Rattle.pesp_instance.proofs.Tables.{length-values-keys as length-values_of}
 
 pub returns : goal.returns
 returns c I m network member =

@@ -1,6 +1,6 @@
 -- Nothing was held, and nothing more came.
-use Rattle.std.proofs.Common.{◌≡◌, [], ap, ◌∙◌, arith}
-use Rattle.std.specs.Prelude.{not, length}
+use Rattle.std.proofs.Common.{◌≡◌, [], ap, ◌∙◌}
+use Rattle.std.specs.Prelude.{not}
 use Rattle.std.proofs.lemmas.List.{nil_from_length}
 use Rattle.pesp_shell.specs.Runs.{marks}
 use Rattle.pesp_shell.proofs.AnsweringLemmas.{ended_behind}

@@ -1,9 +1,9 @@
 -- The fault of the times comes behind files that can be read.
-use Rattle.std.proofs.Common.{◌≡◌, Ok, ap, rules}
+use Rattle.std.proofs.Common.{◌≡◌, ap, rules}
 use Rattle.std.specs.Prelude.{option_copied, is_ok}
 use Rattle.pesp_shell.specs.Opening.{given}
 use Rattle.pesp_shell.specs.declared.run_fault.Source.TheVariants as source
-use Rattle.pesplib_reader.specs.Reading.{fixed_read, times_read}
+use Rattle.pesplib_reader.specs.Reading.{times_read}
 use Rattle.pesplib_reader.specs.Taking.{IsReadFault}
 use Rattle.pesp_shell.proofs.opening.read.Goals as goal
 
