@@ -2,6 +2,7 @@
 
 from tests.file_cases import TWO, TWO_FIXED, TWO_TIMES
 from tests.harness import SOME, run, unreadable
+from tests.limits import GREATEST_PERIOD, LEAST_PERIOD
 from tests.replies import EMPTY_REPLIES, FIXED_REPLIES, TWO_REPLIES
 
 
@@ -9,7 +10,7 @@ def help_text(suite):
     for word in ["--help", "-h"]:
         suite.case(f"help by {word}", [word], output=SOME)
     came = run([suite.program, "--help"])["standard output"].decode()
-    for option in ["--period", "--fixed", "--times", "--check", "ACTIVITIES", "2 to 120", "default: 60"]:
+    for option in ["--period", "--fixed", "--times", "--check", "ACTIVITIES", f"{LEAST_PERIOD} to {GREATEST_PERIOD}", "default: 60"]:
         suite.note(f"help names {option}", {"found": True}, {"found": option in came})
     # What a person looks for: an example, the columns, the exit statuses, and where the documents are.
     columns = ["from; to; lower; upper; weight", "event; time"]
@@ -31,7 +32,7 @@ def refused_arguments(suite):
         "--times twice": ["--times", "a", "--times", "a"],
         "--period 0": ["--period", "0"],
         "--period 1": ["--period", "1"],
-        "--period 121": ["--period", "121"],
+        "--period above the greatest": ["--period", str(GREATEST_PERIOD + 1)],
         "--period 65536": ["--period", "65536"],
         "--period -5": ["--period", "-5"],
         "--period x": ["--period", "x"],
@@ -83,7 +84,7 @@ def accepted_arguments(suite):
     words = ["--period=10", "--fixed=-a", "--times=-a", activities]
     suite.check("accepted arguments: a name that begins with a dash", words, output=TWO_REPLIES, cwd=suite.folder)
     suite.check("the file named help", ["help"], status=1, error=unreadable("activities"), cwd=suite.folder)
-    for period in ["2", "120", "060", "+60"]:
+    for period in [str(LEAST_PERIOD), str(GREATEST_PERIOD), "060", "+60"]:
         suite.check(f"--period {period}", ["--period", period], output=EMPTY_REPLIES)
     suite.case("--check alone", ["--check"], output=EMPTY_REPLIES)
     one = suite.file("one", b"1; 1; 2; 59; 59; 1\n")

@@ -6,6 +6,7 @@ from tests import rules
 from tests.drawn_files import Form, damaged, drawn
 from tests.file_cases import TWO, TWO_TIMES
 from tests.harness import NAMES, missing, rows_of, words_for
+from tests.limits import GREATEST_PERIOD, LEAST_PERIOD, MOST_ACTIVITIES, MOST_EVENTS
 
 
 def check_case(suite, name, period, activities, fixed, times, form=None):
@@ -19,18 +20,18 @@ def check_case(suite, name, period, activities, fixed, times, form=None):
 
 def drawn_checks(suite):
     draw = random.Random(1989)
-    for period in [2, 3, 10, 59, 60, 120]:
+    for period in [LEAST_PERIOD, 3, 10, 59, 60, GREATEST_PERIOD]:
         activities, fixed, times = drawn(draw, 400, 60)
         check_case(suite, f"drawn activities at period {period}", period, activities, fixed, times)
     activities, fixed, times = drawn(draw, 300, 300)
     for event in draw.sample(sorted(times), 3):
         del times[event]
     check_case(suite, "drawn activities, three times missing", 60, activities, fixed, times)
-    activities, fixed, times = drawn(draw, 100_000, 20_000)
+    activities, fixed, times = drawn(draw, MOST_ACTIVITIES, MOST_EVENTS)
     check_case(suite, "100,000 activities and 20,000 times", 60, activities, fixed, times)
     for number in range(120):
         activities, fixed, times = drawn(draw, draw.randrange(30), draw.randint(1, 20))
-        period = draw.choice([2, 7, 60, 120])
+        period = draw.choice([LEAST_PERIOD, 7, 60, GREATEST_PERIOD])
         check_case(suite, f"drawn forms, number {number}", period, activities, fixed, times, Form(draw))
 
 
@@ -54,17 +55,17 @@ def limit_checks(suite):
         (0, 0, 0, 1_000_000, 1_000_000, 1_000_000_000),
         (1, 0, greatest, -1_000_000, -1_000_000, 0),
     ]
-    for period in [2, 7, 120]:
+    for period in [LEAST_PERIOD, 7, GREATEST_PERIOD]:
         times = {0: -1_000_000_000, greatest: 1_000_000_000}
         fixed = {greatest: -1_000_000_000, 0: 1_000_000_000}
         check_case(suite, f"values at their limits, period {period}", period, corner, fixed, times)
     weight = 1_000_000_000
     # Each activity has the greatest slack that there is, so this is the greatest cost.
-    most = [(number, 1, 1, 1, 1, weight) for number in range(100_000)]
-    check_case(suite, "the greatest cost", 120, most, {1: 1}, {1: 0})
-    full = [(number, number % 20_000, number * 7 % 20_000, 0, 1, 1) for number in range(100_000)]
-    times = {event: event for event in range(20_000)}
-    fixed = {event: event + (event % 3 == 0) for event in range(20_000)}
+    most = [(number, 1, 1, 1, 1, weight) for number in range(MOST_ACTIVITIES)]
+    check_case(suite, "the greatest cost", GREATEST_PERIOD, most, {1: 1}, {1: 0})
+    full = [(number, number % MOST_EVENTS, number * 7 % MOST_EVENTS, 0, 1, 1) for number in range(MOST_ACTIVITIES)]
+    times = {event: event for event in range(MOST_EVENTS)}
+    fixed = {event: event + (event % 3 == 0) for event in range(MOST_EVENTS)}
     check_case(suite, "20,000 events, each with a fixed time", 60, full, fixed, times)
 
 

@@ -20,6 +20,7 @@ from tests.harness import (
     run,
     words_for,
 )
+from tests.limits import GREATEST_PERIOD, MOST_EVENTS
 from tests.replies import EMPTY_REPLIES
 
 
@@ -142,8 +143,8 @@ def want_of_memory(suite):
 
 def memory_of_commands(suite):
     """The least memory that serves three commands is looked for; with a little less, the greatest reply is refused."""
-    loops = rows_of((event, event, event, 0, 119, 0) for event in range(20_000))
-    words = [suite.program, "--period", "120", suite.file("loops", loops)]
+    loops = rows_of((event, event, event, 0, GREATEST_PERIOD - 1, 0) for event in range(MOST_EVENTS))
+    words = [suite.program, "--period", str(GREATEST_PERIOD), suite.file("loops", loops)]
     given = b"cost\n# a comment\ndomains\ncost\n"
     enough, least = 2_048, 32
 
@@ -157,7 +158,7 @@ def memory_of_commands(suite):
     wanted = {"status": 1, "standard output": no_time, "standard error": b"pespbench: out of memory at line 3\n"}
     suite.note(f"no memory for a reply, with {least} quarters of a megabyte", wanted, come(least))
     output = come(enough + 4)["standard output"]
-    suite.holds("the replies with a megabyte more", output.startswith(no_time + b"domains 20000\n0: 0 1 2"))
+    suite.holds("the replies with a megabyte more", output.startswith(no_time + f"domains {MOST_EVENTS}\n0: 0 1 2".encode()))
     suite.holds("the last of them", output.endswith(no_time))
 
 

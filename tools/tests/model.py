@@ -5,10 +5,8 @@ time of every event in order. `reply` gives the one legal reply to a line; to `t
 tells whether a given one is.
 """
 
+from tests.limits import most_activities, most_events
 from tests.parsing import Fault, parse
-
-MOST_EVENTS = 20_000
-MOST_ACTIVITIES = 100_000
 
 
 class Refused(Exception):
@@ -67,7 +65,7 @@ class Model:
     def add_event(self, event):
         if event in self.events:
             raise Refused(f"1 event {event} exists")
-        if len(self.events) == MOST_EVENTS:
+        if len(self.events) == most_events(self.period):
             raise Refused("7 too many events")
         self.events.add(event)
 
@@ -95,7 +93,7 @@ class Model:
         if activity in self.activities:
             raise Refused(f"5 activity {activity} exists")
         self.no_event(first, last)
-        if len(self.activities) == MOST_ACTIVITIES:
+        if len(self.activities) == most_activities(self.period):
             raise Refused("8 too many activities")
         self.activities[activity] = (first, last, lower, upper, weight)
 

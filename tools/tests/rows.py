@@ -17,6 +17,7 @@ from tests.file_cases import (
     TWO_TIMES,
 )
 from tests.harness import record
+from tests.limits import MOST_ACTIVITIES, MOST_EVENTS
 from tests.replies import TWO_REPLIES
 
 
@@ -59,35 +60,35 @@ def too_many_activities(suite):
         error = record("activities", number, kind)
         suite.check(f"activities: {name}", [suite.file("many", rows)], status=1, error=error)
 
-    loops = b"".join(loop(number, number) for number in range(20_001))
-    refused("loops at 20,001 events", loops, 20_001, EVENTS)
-    without_last = b"".join(loop(number, number) for number in range(19_999))
-    refused("two new events behind 19,999", without_last + b"19999; 20000; 20001; 0; 9; 0", 20_000, EVENTS)
-    between = b"".join(b"%d; 1; 2; 0; 9; 0\n" % number for number in range(100_001))
-    refused("100,001 of them between two events", between, 100_001, ACTIVITIES)
-    full = b"".join(loop(number, number % 20_000) for number in range(100_000))
+    loops = b"".join(loop(number, number) for number in range(MOST_EVENTS + 1))
+    refused("loops at one event too many", loops, MOST_EVENTS + 1, EVENTS)
+    without_last = b"".join(loop(number, number) for number in range(MOST_EVENTS - 1))
+    refused("two new events behind all but one", without_last + f"{MOST_EVENTS - 1}; {MOST_EVENTS}; {MOST_EVENTS + 1}; 0; 9; 0".encode(), MOST_EVENTS, EVENTS)
+    between = b"".join(b"%d; 1; 2; 0; 9; 0\n" % number for number in range(MOST_ACTIVITIES + 1))
+    refused("one too many of them between two events", between, MOST_ACTIVITIES + 1, ACTIVITIES)
+    full = b"".join(loop(number, number % MOST_EVENTS) for number in range(MOST_ACTIVITIES))
     table = {
-        "a new number": (loop(100_000, 0), ACTIVITIES),
-        "a new number and event": (loop(100_000, 20_000), EVENTS),
-        "an old number and a new event": (loop(7, 20_000), TWICE),
-        "crossed bounds and an old number": (b"7; 7; 20000; 1; 0; 0", CROSSED),
+        "a new number": (loop(MOST_ACTIVITIES, 0), ACTIVITIES),
+        "a new number and event": (loop(MOST_ACTIVITIES, MOST_EVENTS), EVENTS),
+        "an old number and a new event": (loop(7, MOST_EVENTS), TWICE),
+        "crossed bounds and an old number": (f"7; 7; {MOST_EVENTS}; 1; 0; 0".encode(), CROSSED),
     }
     for name, (row, kind) in table.items():
-        refused(f"{name} behind 20,000 events and 100,000 activities", full + row, 100_001, kind)
+        refused(f"{name} behind as many as there may be", full + row, MOST_ACTIVITIES + 1, kind)
 
 
 def too_many_times(suite):
-    rows = b"".join(b"%d; 0\n" % event for event in range(20_001))
+    rows = b"".join(b"%d; 0\n" % event for event in range(MOST_EVENTS + 1))
     words = ["--times", suite.file("many", rows)]
-    suite.check("times: 20,001 of them", words, status=1, error=record("times", 20_001, EVENTS))
-    repeated = rows[: rows.rfind(b"20000;")] + b"0; 0\n"
+    suite.check("times: one too many", words, status=1, error=record("times", MOST_EVENTS + 1, EVENTS))
+    repeated = rows[: rows.rfind(b"%d;" % MOST_EVENTS)] + b"0; 0\n"
     words = ["--times", suite.file("many", repeated)]
-    suite.check("times: a repeat before too many", words, status=1, error=record("times", 20_001, EVENT_TWICE))
-    activities = suite.file("activities", b"".join(loop(event, event) for event in range(20_000)))
+    suite.check("times: a repeat before too many", words, status=1, error=record("times", MOST_EVENTS + 1, EVENT_TWICE))
+    activities = suite.file("activities", b"".join(loop(event, event) for event in range(MOST_EVENTS)))
     words = ["--fixed", suite.file("many", rows), activities]
-    suite.check("fixed: 20,001 of them", words, status=1, error=record("fixed", 20_001, ABSENT))
+    suite.check("fixed: one too many", words, status=1, error=record("fixed", MOST_EVENTS + 1, ABSENT))
     words = ["--fixed", suite.file("many", repeated), activities]
-    suite.check("fixed: a repeat behind 20,000", words, status=1, error=record("fixed", 20_001, EVENT_TWICE))
+    suite.check("fixed: a repeat behind as many as there may be", words, status=1, error=record("fixed", MOST_EVENTS + 1, EVENT_TWICE))
 
 
 GROUPS = [written_forms, faulty_rows, too_many_activities, too_many_times]

@@ -5,8 +5,8 @@ tools/test_program compares the program with `check`, for the bytes of three fil
 
 import re
 
-MOST_EVENTS = 20_000
-MOST_ACTIVITIES = 100_000
+from tests.limits import MOST_ACTIVITIES, MOST_EVENTS
+
 NUMBERS = range(0, 1_000_000_000)
 BOUNDS = range(-1_000_000, 1_000_001)
 WEIGHTS = range(0, 1_000_000_001)

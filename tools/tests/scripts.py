@@ -3,6 +3,7 @@
 import random
 
 from tests.harness import rows_of, within
+from tests.limits import GREATEST_PERIOD, LEAST_PERIOD, MOST_ACTIVITIES, MOST_EVENTS
 
 
 def script_of(period, events, fixed, activities):
@@ -15,7 +16,7 @@ def script_of(period, events, fixed, activities):
 
 def drawn_script(draw):
     """A script that builds an instance of a few events in some order, and the script of that instance."""
-    period = draw.choice([2, 10, 60, 120])
+    period = draw.choice([LEAST_PERIOD, 10, 60, GREATEST_PERIOD])
     events = draw.sample(range(1_000_000_000), draw.randrange(1, 9))
     fixed = {event: draw.randrange(period) for event in events if draw.randrange(3) == 0}
     activities = []
@@ -56,11 +57,11 @@ def scripts(suite):
 @within(180)
 def greatest_script(suite):
     """An instance of 20,000 events and 100,000 activities opens from a file, is dumped, and refuses one more of each."""
-    activities = [(number, number % 20_000, number * 7 % 20_000, 0, 119, 1) for number in range(100_000)]
-    words = ["--period", "120", suite.file("activities", rows_of(activities))]
-    given = b"add event 20000\nadd activity 100000 1 1 0 0 0\nadd activity 7 1 1 0 0 0\ndump"
+    activities = [(number, number % MOST_EVENTS, number * 7 % MOST_EVENTS, 0, GREATEST_PERIOD - 1, 1) for number in range(MOST_ACTIVITIES)]
+    words = ["--period", str(GREATEST_PERIOD), suite.file("activities", rows_of(activities))]
+    given = f"add event {MOST_EVENTS}\nadd activity {MOST_ACTIVITIES} 1 1 0 0 0\nadd activity 7 1 1 0 0 0\ndump".encode()
     refusals = "refused 7 too many events\nrefused 8 too many activities\nrefused 5 activity 7 exists\n"
-    script = script_of(120, range(20_000), {}, activities)
+    script = script_of(GREATEST_PERIOD, range(MOST_EVENTS), {}, activities)
     suite.case("the greatest instance", words, given=given, output=(refusals + script).encode())
 
 

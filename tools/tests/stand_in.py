@@ -17,6 +17,7 @@ sys.path.insert(0, str(pathlib.Path(__file__).resolve().parents[1]))
 
 from tests import model, parsing, rules  # noqa: E402
 from tests.harness import NAMES  # noqa: E402
+from tests.limits import GREATEST_PERIOD, LEAST_PERIOD  # noqa: E402
 
 LONGEST_FILE = 67_108_864
 
@@ -37,8 +38,8 @@ class Once(argparse.Action):
 
 def period(word):
     value = int(word) if word.lstrip("+").isdigit() else 0
-    if not 2 <= value <= 120:
-        raise argparse.ArgumentTypeError("it is a number from 2 to 120")
+    if not LEAST_PERIOD <= value <= GREATEST_PERIOD:
+        raise argparse.ArgumentTypeError(f"it is a number from {LEAST_PERIOD} to {GREATEST_PERIOD}")
     return value
 
 
@@ -46,7 +47,7 @@ def settings():
     parser = argparse.ArgumentParser(prog="stand_in.py", allow_abbrev=False, description=__doc__.splitlines()[0])
     parser.epilog = "It reads commands. Columns: activity; from; to; lower; upper; weight and event; time. "
     parser.epilog += "Exit status: 0, 1, 2. See docs/FORMATS.md and examples/."
-    parser.add_argument("--period", type=period, default=60, action=Once, help="2 to 120 [default: 60]")
+    parser.add_argument("--period", type=period, default=60, action=Once, help=f"{LEAST_PERIOD} to {GREATEST_PERIOD} [default: 60]")
     parser.add_argument("--fixed", action=Once)
     parser.add_argument("--times", action=Once)
     parser.add_argument("--check", nargs=0, action=Once)

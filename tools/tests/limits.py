@@ -1,0 +1,19 @@
+"""The limits of periods, events and activities, as docs/FORMATS.md has them."""
+
+LEAST_PERIOD = 2
+GREATEST_PERIOD = 120
+
+
+def most_events(period):
+    """How many events a network of this period may have."""
+    return min(20_000, 2_400_000 // period)
+
+
+def most_activities(period):
+    """How many activities a network of this period may have."""
+    return min(100_000, 12_000_000 // period)
+
+
+# The same at every period there is.
+MOST_EVENTS = most_events(GREATEST_PERIOD)
+MOST_ACTIVITIES = most_activities(GREATEST_PERIOD)
