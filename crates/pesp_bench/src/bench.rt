@@ -88,6 +88,3 @@ impl<K: Keeper> Bench<K> {
         self.nodes
     }
 }
-
-#[cfg(test)]
-mod tests;

@@ -125,6 +125,3 @@ impl Keeper for PlainKeeper {
         remake(&self.instance, &self.pushed, &mut self.rows);
     }
 }
-
-#[cfg(test)]
-mod tests;

@@ -282,6 +282,3 @@ pub fn best_within<K: Keeper>(
     };
     Ok((tried, outcome.nodes))
 }
-
-#[cfg(test)]
-mod tests;

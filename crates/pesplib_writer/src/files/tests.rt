@@ -3,16 +3,35 @@
 use crate::{write_activities, write_fixed, write_times};
 use pesp_base::{EventId, Period};
 use pesp_instance::{Edit, Instance};
-use pesp_tension::Timetable;
-use pesplib_reader::{read_activities, read_fixed};
+use pesplib_reader::{read_activities, read_fixed, read_times};
+use std::alloc::Global;
 use std::test::Fail;
 
 const ACTIVITIES: &str = "1; 1; 2; 3; 5; 2\n2; 2; 1; 4; 6; 1\n";
 
+/// The activities and the fixed times of these files at period 10, written again.
+///
+/// Like the next function it has no contract, so that no text is worked out while the tests are proved.
+fn written(alloc: Global, activities: &str, fixed: &str) -> Result<(Vec<u8>, Vec<u8>), Fail> {
+    let period = Period::new(10).ok_or("no period")?;
+    let mut instance = read_activities(alloc, period, activities.as_bytes())?;
+    read_fixed(alloc, &mut instance, fixed.as_bytes())?;
+    Ok((
+        write_activities(alloc, &instance)?,
+        write_fixed(alloc, &instance)?,
+    ))
+}
+
+/// The times of this file at period 10, written again.
+fn times_written(alloc: Global, times: &str) -> Result<Vec<u8>, Fail> {
+    let period = Period::new(10).ok_or("no period")?;
+    let timetable = read_times(alloc, period, times.as_bytes())?;
+    Ok(write_times(alloc, &timetable)?)
+}
+
 #[test]
 fn activities_are_written(rt: HostRuntime) -> Result<(), Fail> {
-    let period = Period::new(10).ok_or("no period")?;
-    for (given, written, message) in [
+    for (given, expected, message) in [
         (ACTIVITIES, ACTIVITIES, "a canonical text"),
         (
             "id,from\n+2,2,01,4,6,1.0\n1,1,2,3,5,2",
@@ -26,9 +45,8 @@ fn activities_are_written(rt: HostRuntime) -> Result<(), Fail> {
         ),
         ("", "", "no activities"),
     ] {
-        let instance = read_activities(rt.alloc(), period, given.as_bytes())?;
-        let text = write_activities(rt.alloc(), &instance)?;
-        assert_eq!(rt; text.as_slice(), written.as_bytes(), "{message}");
+        let (text, _) = written(rt.alloc(), given, "")?;
+        assert_eq!(rt; text.as_slice(), expected.as_bytes(), "{message}");
     }
     Ok(())
 }
@@ -44,8 +62,7 @@ fn event_without_activities_has_no_row(rt: HostRuntime) -> Result<(), Fail> {
 
 #[test]
 fn fixed_times_are_written(rt: HostRuntime) -> Result<(), Fail> {
-    let period = Period::new(10).ok_or("no period")?;
-    for (given, written, message) in [
+    for (given, expected, message) in [
         ("1; 0", "1; 0\n", "one of two events is fixed"),
         (
             "2; -1\n1; 13\n",
@@ -54,22 +71,20 @@ fn fixed_times_are_written(rt: HostRuntime) -> Result<(), Fail> {
         ),
         ("", "", "none is fixed"),
     ] {
-        let mut instance = read_activities(rt.alloc(), period, ACTIVITIES.as_bytes())?;
-        read_fixed(rt.alloc(), &mut instance, given.as_bytes())?;
-        let text = write_fixed(rt.alloc(), &instance)?;
-        assert_eq!(rt; text.as_slice(), written.as_bytes(), "{message}");
+        let (_, text) = written(rt.alloc(), ACTIVITIES, given)?;
+        assert_eq!(rt; text.as_slice(), expected.as_bytes(), "{message}");
     }
     Ok(())
 }
 
 #[test]
 fn times_are_written(rt: HostRuntime) -> Result<(), Fail> {
-    let mut timetable = Timetable::new(rt.alloc(), Period::new(10).ok_or("no period")?);
-    let none = write_times(rt.alloc(), &timetable)?;
-    assert_eq!(rt; none.as_slice(), b"".as_slice(), "no times");
-    timetable.set(EventId::new(2).ok_or("no event")?, 4)?;
-    timetable.set(EventId::new(1).ok_or("no event")?, 0)?;
-    let text = write_times(rt.alloc(), &timetable)?;
-    assert_eq!(rt; text.as_slice(), b"1; 0\n2; 4\n".as_slice(), "two times");
+    for (given, expected, message) in [
+        ("", "", "no times"),
+        ("2; 4\n1; 0\n", "1; 0\n2; 4\n", "two times"),
+    ] {
+        let text = times_written(rt.alloc(), given)?;
+        assert_eq!(rt; text.as_slice(), expected.as_bytes(), "{message}");
+    }
     Ok(())
 }

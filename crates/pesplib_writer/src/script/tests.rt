@@ -4,11 +4,30 @@ use crate::dump;
 use pesp_base::{EventId, Period};
 use pesp_instance::{Edit, Instance};
 use pesplib_reader::{read_activities, read_fixed};
+use std::alloc::Global;
 use std::test::Fail;
+
+/// The script of the instance of these files at period 10.
+///
+/// Like the next function it has no contract, so that no text is worked out while the tests are proved.
+fn dumped(alloc: Global, activities: &str, fixed: &str) -> Result<Vec<u8>, Fail> {
+    let period = Period::new(10).ok_or("no period")?;
+    let mut instance = read_activities(alloc, period, activities.as_bytes())?;
+    read_fixed(alloc, &mut instance, fixed.as_bytes())?;
+    Ok(dump(alloc, &instance)?)
+}
+
+/// An instance of one event, which is fixed, and nothing else.
+fn lone_event(alloc: Global, event: u32, time: u16) -> Result<Instance, Fail> {
+    let event = EventId::new(event).ok_or("no event")?;
+    let mut instance = Instance::new(alloc, Period::new(10).ok_or("no period")?);
+    instance.apply(&Edit::AddEvent(event))?;
+    instance.apply(&Edit::Fix(event, time))?;
+    Ok(instance)
+}
 
 #[test]
 fn instances_are_dumped(rt: HostRuntime) -> Result<(), Fail> {
-    let period = Period::new(10).ok_or("no period")?;
     for (activities, fixed, script) in [
         (
             "1; 1; 2; 3; 5; 2\n2; 2; 1; 4; 6; 1\n",
@@ -22,9 +41,7 @@ fn instances_are_dumped(rt: HostRuntime) -> Result<(), Fail> {
         ),
         ("", "", "# period 10 lines 0\n"),
     ] {
-        let mut instance = read_activities(rt.alloc(), period, activities.as_bytes())?;
-        read_fixed(rt.alloc(), &mut instance, fixed.as_bytes())?;
-        let text = dump(rt.alloc(), &instance)?;
+        let text = dumped(rt.alloc(), activities, fixed)?;
         assert_eq!(rt; text.as_slice(), script.as_bytes(), "{activities}{fixed}");
     }
     Ok(())
@@ -32,10 +49,7 @@ fn instances_are_dumped(rt: HostRuntime) -> Result<(), Fail> {
 
 #[test]
 fn lone_event_is_dumped(rt: HostRuntime) -> Result<(), Fail> {
-    let seven = EventId::new(7).ok_or("no event")?;
-    let mut instance = Instance::new(rt.alloc(), Period::new(10).ok_or("no period")?);
-    instance.apply(&Edit::AddEvent(seven))?;
-    instance.apply(&Edit::Fix(seven, 3))?;
+    let instance = lone_event(rt.alloc(), 7, 3)?;
     let text = dump(rt.alloc(), &instance)?;
     assert_eq!(rt;
         text.as_slice(),

@@ -1,24 +1,13 @@
-//! The worked examples.
+//! A workbench on the worked examples: its optimum is found, kept and forgotten.
 
-use crate::{Attempt, Bench};
-use pesp_base::{Activity, ActivityId, EventId, Period, Refusal, Span, Weight};
+use crate::made::{activity, event, id, span};
+use pesp_base::{Period, Refusal};
+use pesp_bench::{Attempt, Bench};
 use pesp_domains::{Keeper, PlainKeeper};
 use pesp_instance::{Edit, Instance};
 use pesp_search::Answer;
 use pesp_tension::{Timetable, Violation};
 use std::process::Abort;
-
-fn event(rt: &impl Abort, number: u32) -> EventId {
-    EventId::new(number).expect(rt, "the number of an event")
-}
-
-fn id(rt: &impl Abort, number: u32) -> ActivityId {
-    ActivityId::new(number).expect(rt, "the number of an activity")
-}
-
-fn span(rt: &impl Abort, lower: i32, upper: i32) -> Span {
-    Span::new(lower, upper).expect(rt, "a span")
-}
 
 fn bench(rt: &(impl Abort + AllocGlobal)) -> Bench<PlainKeeper> {
     let period = Period::new(10).expect(rt, "a period");
@@ -38,13 +27,7 @@ fn add_activity(
     bounds: (i32, i32),
     weight: u32,
 ) {
-    let activity = Activity {
-        id: id(rt, number),
-        from: event(rt, ends.0),
-        to: event(rt, ends.1),
-        span: span(rt, bounds.0, bounds.1),
-        weight: Weight::new(weight).expect(rt, "a weight"),
-    };
+    let activity = activity(rt, number, ends, bounds, weight);
     edit(rt, bench, Edit::AddActivity(activity));
 }
 

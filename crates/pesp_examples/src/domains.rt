@@ -1,29 +1,16 @@
-//! The worked examples.
+//! The rows of the worked examples, by edits, pushes and pops.
 
 ghost use Rattle.std.specs.Prelude.{◌≡◌, ℕ, ◌++◌, ◌∷◌, []};
 ghost use Rattle.pesp_domains.specs.Domains.{In};
 
-use crate::{Keeper, PlainKeeper};
-use pesp_base::{Activity, ActivityId, EventId, Period, Span, Weight};
+use crate::made::{activity, event, id, span};
+use pesp_base::{EventId, Period};
+use pesp_domains::{Keeper, PlainKeeper};
 use pesp_instance::{Edit, Instance};
 use std::process::Abort;
 
 /// The residues at period 10.
 const ALL: [u16; 10] = [0, 1, 2, 3, 4, 5, 6, 7, 8, 9];
-
-fn event(rt: &impl Abort, number: u32) -> EventId
-    ensures { result ≡ number }
-{
-    EventId::new(number).expect(rt, "the number of an event")
-}
-
-fn id(rt: &impl Abort, number: u32) -> ActivityId {
-    ActivityId::new(number).expect(rt, "the number of an activity")
-}
-
-fn span(rt: &impl Abort, lower: i32, upper: i32) -> Span {
-    Span::new(lower, upper).expect(rt, "a span")
-}
 
 fn keeper(rt: &(impl Abort + AllocGlobal), period: u16) -> PlainKeeper
     ensures { result.pushes ≡ [] }
@@ -57,13 +44,7 @@ fn add_activity(
     requires { keeper.old.pushes ≡ [] }
     ensures { keeper.new.pushes ≡ [] }
 {
-    let activity = Activity {
-        id: id(rt, number),
-        from: event(rt, ends.0),
-        to: event(rt, ends.1),
-        span: span(rt, bounds.0, bounds.1),
-        weight: Weight::new(1).expect(rt, "a weight"),
-    };
+    let activity = activity(rt, number, ends, bounds, 1);
     edit(rt, keeper, Edit::AddActivity(activity));
 }
 
