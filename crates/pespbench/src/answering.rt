@@ -1,12 +1,11 @@
 //! What the settings ask for: a check, or the replies to commands.
 
-ghost use Rattle.std.specs.Prelude.{◌≡◌, ℕ, List, false, true, OnOk, option_copied};
+ghost use Rattle.std.specs.Prelude.{◌≡◌, ℕ, false, true, take, IfErr, OnErr, OnOk, option_copied};
 ghost use Rattle.std.specs.Io.KnownBytes.{Appends};
-ghost use Rattle.pesp_instance.specs.Network.{Network};
-ghost use Rattle.pesp_tension.specs.Timetables.{Times};
-ghost use Rattle.pesp_shell.specs.Checked.{IsCheck};
+ghost use Rattle.pesp_lines.specs.Devices.{MarksFailure};
 ghost use Rattle.pesp_shell.specs.Opening.{files};
 ghost use Rattle.pesp_shell.specs.Runs.{IsRun, marks};
+ghost use Rattle.pespbench.specs.Checks.{IsUnchecked, IsWritten};
 
 use pesp_domains::PlainKeeper;
 use pesp_lines::put_all;
@@ -14,7 +13,9 @@ use pesp_shell::{ByteSink, ByteSource, Failed, RunFault, Settings, check, run};
 use std::alloc::Global;
 
 fn write<W: ByteSink>(sink: &mut W, text: &[u8]) -> Result<(), Failed>
-    ensures { OnOk result (Appends (W.written sink.old) (W.written sink.new) text.now) }
+    ensures ok { OnOk result (Appends (W.written sink.old) (W.written sink.new) text.now) }
+    ensures err { OnErr result ((n : ℕ) × Appends (W.written sink.old) (W.written sink.new) (take n text.now)) }
+    ensures failure { MarksFailure result (W.failed sink.old) (W.failed sink.new) }
 {
     put_all(sink, text)?;
     sink.finish()
@@ -29,8 +30,8 @@ fn write_check<W: ByteSink>(
     times: Option<&[u8]>,
     sink: &mut W,
 ) -> Result<(), RunFault>
-    ensures { OnOk result ((text : List ℕ) × (I : Network) × (f : Times) × (m : Times) × Appends (W.written sink.old) (W.written sink.new) text
-        × IsCheck (files settings.now.period activities.now (option_copied fixed.entry) (option_copied times.entry)) text I f m) }
+    ensures ok { OnOk result (IsWritten (files settings.now.period activities.now (option_copied fixed.entry) (option_copied times.entry)) (W.written sink.old) (W.written sink.new)) }
+    ensures fault { IfErr result (IsUnchecked (files settings.now.period activities.now (option_copied fixed.entry) (option_copied times.entry)) (W.written sink.old) (W.written sink.new) (W.failed sink.new)) }
 {
     let replies = check(alloc, settings.period, activities, fixed, times)?;
     write(sink, replies.as_slice()).map_err(|_| RunFault::Write)
@@ -49,8 +50,8 @@ pub fn answer<R: ByteSource, W: ByteSink>(
     requires reader { R.failed source.old ≡ false }
     requires end { R.at_end source.old ≡ false }
     requires writer { W.failed sink.old ≡ false }
-    ensures check { settings.now.check ≡ true → OnOk result ((text : List ℕ) × (I : Network) × (f : Times) × (m : Times) × Appends (W.written sink.old) (W.written sink.new) text
-        × IsCheck (files settings.now.period activities.now (option_copied fixed.entry) (option_copied times.entry)) text I f m) }
+    ensures check { settings.now.check ≡ true → OnOk result (IsWritten (files settings.now.period activities.now (option_copied fixed.entry) (option_copied times.entry)) (W.written sink.old) (W.written sink.new)) }
+    ensures unchecked { settings.now.check ≡ true → IfErr result (IsUnchecked (files settings.now.period activities.now (option_copied fixed.entry) (option_copied times.entry)) (W.written sink.old) (W.written sink.new) (W.failed sink.new)) }
     ensures commands { settings.now.check ≡ false → IsRun (files settings.now.period activities.now (option_copied fixed.entry) (option_copied times.entry))
         (R.left source.old) (R.left source.new) (W.written sink.old) (W.written sink.new)
         (marks (R.at_end source.new) (R.failed source.new) (W.failed sink.new)) result }
