@@ -1,0 +1,273 @@
+-- Each accepted edit asks again what was asked before, but where chains begin.
+use Rattle.std.proofs.Common.{◌≡◌, ◌≢◌, ℕ, ◌<◌, ◌==◌, ◌&&◌, not, cond, if◌then◌else◌, Bool, true, false, List, [], ◌∷◌, Option, Some, None, is_some, option_map, Ok, ℤ, pos, neg_ℤ, ◌+ℤ◌, ◌-ℤ◌, ◌*ℤ◌, ◌≤ℤ◌, refl, sym, ap, subst, ◌∙◌, inl, inr, ◌⊎◌, arith, IsTrue, eqb→eq, T}
+use Rattle.std.specs.List.{Contains, range_with_len}
+use Rattle.std.specs.Option.{option_and_then, option_map_or}
+use Rattle.std.specs.Result.{is_ok}
+use Rattle.std.proofs.lemmas.Bool.{and_from, cases_Bool, cases_eq, eq-eqb, ne_eqb, false≢true}
+use Rattle.std.proofs.lemmas.Int.{ints}
+use Rattle.std.proofs.lemmas.List.Elements.{All-contains, All-contains_itself}
+use Rattle.pesp_base.specs.declared.activity.Activity.{Activity}
+use Rattle.pesp_base.specs.declared.refusal.Refusal.{Refusal}
+use Rattle.pesp_base.specs.Bounds.{Bounds}
+use Rattle.pesp_base.specs.Numbered.{change_in, put_in, take_out, with_number}
+use Rattle.pesp_base.specs.Refusals.{unless_refused, when}
+use Rattle.pesp_base.specs.Tensions.{IsMet, is_met, residue}
+use Rattle.pesp_base.proofs.Laws.{met_is, quotient, residue_below, residue_is, spread}
+use Rattle.pesp_instance.specs.declared.edit.Edit.{Edit}
+use Rattle.pesp_instance.specs.declared.edit.Edit.TheVariants.{AddEvent, DropEvent, Fix, Unfix, AddActivity, DropActivity, SetSpan, SetWeight, SetEnds}
+use Rattle.pesp_instance.specs.declared.event.Event.{Event}
+use Rattle.pesp_instance.specs.Edited.{edited, effect, refixed}
+use Rattle.pesp_instance.specs.Network.{IsNetwork, Network, activity_of, admits, agrees_with, event_of, fixed_of, has_event}
+use Rattle.pesp_instance.proofs.Rising.{All-found, IfSome-with_number, number-with_number, Rises-from_increasing, with_number-change_in, with_number-put_in, with_number-take_out}
+use Rattle.pesp_domains.specs.declared.side.Side.{Side}
+use Rattle.pesp_domains.specs.declared.side.Side.TheVariants.{Tail, Head}
+use Rattle.pesp_domains.specs.Domains.{Joins, other, own}
+use Rattle.pesp_domains.proofs.Families.{here, in_range, none_passes, there}
+use Rattle.pesp_counts.specs.Loosened.{AsksAgain, HasHeir}
+use Rattle.pesp_counts.specs.Reached.{admits_more, ends_of, is_edited, is_looser}
+
+abbrev id_of : Activity → ℕ
+id_of a = a.id
+
+abbrev number : Event → ℕ
+number e = e.id
+
+eqb_is : (m n : ℕ) → (m == n) ≡ true → m ≡ n
+eqb_is m n e = eqb→eq m n (subst T (sym e) tt)
+
+-- ---- members and numbers
+
+pub found_in : {X : Type 0} (num : X → ℕ) (n : ℕ) (xs : List X) (x : X) → with_number num n xs ≡ Some x → Contains xs x
+found_in num n xs x is = IfSome-with_number num (Contains xs) n xs x (All-contains_itself xs) is
+
+-- an activity of the instance stands under its number
+activity_found : (I : Network) (a : Activity) → IsNetwork I → Contains I.activities a → activity_of I a.id ≡ Some a
+activity_found I a network is =
+    All-contains (λ b. activity_of I b.id ≡ Some b) I.activities a (All-found id_of I.activities (Rises-from_increasing id_of I.activities network.activities_rise)) is
+
+own_of_ends : (side : Side) (a : Activity) → Contains (ends_of (Some a)) (own side a)
+own_of_ends Tail a = here a.from (a.to ∷ [])
+own_of_ends Head a = there a.to a.from (a.to ∷ []) (here a.to [])
+
+-- the first refusal of an accepted edit does not hold
+pub first_fails : (b : Bool) (refusal : Refusal) (rest : List (Option Refusal)) (x J : Network) → unless_refused (when b refusal ∷ rest) x ≡ Ok J → b ≡ false
+first_fails true refusal rest x J ok = absurd (false≢true (ap is_ok ok))
+first_fails false refusal rest x J ok = refl
+
+-- ---- heirs
+
+itself : (I : Network) (edit : Edit) (side : Side) (a : Activity) → Contains (effect I edit).activities a → is_edited edit a ≡ false → HasHeir I edit side a
+itself I edit side a is unedited =
+    record { heir = a; there = is; own_end = refl; other_end = refl; no_more = λ r s rl sl joins. joins; unedited = inl unedited }
+
+-- an activity of another number stays where one is changed
+others_stay : (I : Network) (n : ℕ) (change : Activity → Activity) → ((a : Activity) → (change a).id ≡ a.id) → (a : Activity) → IsNetwork I → Contains I.activities a → (a.id == n) ≡ false → Contains (change_in id_of n change I.activities) a
+others_stay I n change keeps a network is apart =
+    found_in id_of a.id (change_in id_of n change I.activities) a
+    (with_number-change_in id_of a.id n change keeps I.activities ∙ ap (option_map (λ x. cond (id_of x == n) (change x) x)) (activity_found I a network is) ∙ rw apart refl)
+
+-- and the one of the number is there changed
+one_changes : (I : Network) (n : ℕ) (change : Activity → Activity) → ((a : Activity) → (change a).id ≡ a.id) → (a : Activity) → IsNetwork I → Contains I.activities a → (a.id == n) ≡ true → Contains (change_in id_of n change I.activities) (change a)
+one_changes I n change keeps a network is same =
+    found_in id_of a.id (change_in id_of n change I.activities) (change a)
+    (with_number-change_in id_of a.id n change keeps I.activities ∙ ap (option_map (λ x. cond (id_of x == n) (change x) x)) (activity_found I a network is) ∙ rw same refl)
+
+at_start : (I : Network) (n : ℕ) (side : Side) (a : Activity) → IsNetwork I → Contains I.activities a → (a.id == n) ≡ true → Contains (ends_of (activity_of I n)) (own side a)
+at_start I n side a network is same =
+    subst (λ o. Contains (ends_of o) (own side a)) (sym (activity_found I a network is) ∙ ap (activity_of I) (eqb_is a.id n same)) (own_of_ends side a)
+
+-- ---- spans
+
+-- whole periods change nothing of what meets
+met_ahead : (period : ℕ) (span : Bounds) (r s d : ℕ) (q : ℤ) → pos s -ℤ pos r ≡ pos period *ℤ q +ℤ pos d → IsMet period span r s → IsMet period span 0 d
+met_ahead period span r s d q is m =
+    let e : pos d -ℤ pos 0 +ℤ pos period *ℤ (m.0 +ℤ q) ≡ pos s -ℤ pos r +ℤ pos period *ℤ m.0 = omega (arith, ints, is, spread period m.0 q) in
+    (m.0 +ℤ q, subst (λ x. span.lower ≤ℤ x) (sym e) m.1, subst (λ x. x ≤ℤ span.upper) (sym e) m.2)
+
+met_back : (period : ℕ) (span : Bounds) (r s d : ℕ) (q : ℤ) → pos s -ℤ pos r ≡ pos period *ℤ q +ℤ pos d → IsMet period span 0 d → IsMet period span r s
+met_back period span r s d q is m =
+    let e : pos s -ℤ pos r +ℤ pos period *ℤ (m.0 +ℤ neg_ℤ q) ≡ pos d -ℤ pos 0 +ℤ pos period *ℤ m.0 = omega (arith, ints, is, spread period (m.0 +ℤ neg_ℤ q) q, back) in
+    (m.0 +ℤ neg_ℤ q, subst (λ x. span.lower ≤ℤ x) (sym e) m.1, subst (λ x. x ≤ℤ span.upper) (sym e) m.2)
+  where
+    whole : (m.0 +ℤ neg_ℤ q) +ℤ q ≡ m.0
+    whole = omega (arith, ints)
+
+    back : pos period *ℤ ((m.0 +ℤ neg_ℤ q) +ℤ q) ≡ pos period *ℤ m.0
+    back = ap (λ k. pos period *ℤ k) whole
+
+-- where a span admits no more than another, what it joins the other one joins
+no_more_met : (period : ℕ) (old new : Bounds) → 0 < period → admits_more period old new ≡ false → (r s : ℕ) → IsMet period new r s → IsMet period old r s
+no_more_met period old new some less r s m =
+    let d : ℕ = residue period (pos s -ℤ pos r) in
+    let q : ℤ = quotient period (pos s -ℤ pos r) in
+    let is = residue_is period (pos s -ℤ pos r) some in
+    let met : is_met period new 0 d ≡ true = (met_is period new 0 d some).1 (met_ahead period new r s d q is m) in
+    elim (cases_Bool (is_met period old 0 d)) [
+      | inl old_met ↦ met_back period old r s d q is ((met_is period old 0 d some).0 old_met)
+      | inr not_met ↦
+          absurd (none_passes (λ d. is_met period new 0 d && not (is_met period old 0 d)) (range_with_len 0 period) less d
+          (in_range 0 period d (omega arith) (let l = residue_below period (pos s -ℤ pos r) some in omega (arith, l)))
+          (and_from _ _ met (ap not not_met)))
+    ]
+
+joins_less : (side : Side) (period : ℕ) (a b : Activity) → ((r s : ℕ) → IsMet period b.span r s → IsMet period a.span r s) → (r s : ℕ) → Joins side period b r s → Joins side period a r s
+joins_less Tail period a b less r s m = less r s m
+joins_less Head period a b less r s m = less s r m
+
+own_same : (side : Side) (a b : Activity) → b.from ≡ a.from → b.to ≡ a.to → own side b ≡ own side a
+own_same Tail a b from to = from
+own_same Head a b from to = to
+
+other_same : (side : Side) (a b : Activity) → b.from ≡ a.from → b.to ≡ a.to → other side b ≡ other side a
+other_same Tail a b from to = to
+other_same Head a b from to = from
+
+-- ---- fixed times
+
+fixed_stays : (period : ℕ) (o p : Option Event) → p ≡ o → (r : ℕ) → IsTrue (agrees_with period (option_and_then (λ x. x.fixed) p) r) → IsTrue (agrees_with period (option_and_then (λ x. x.fixed) o) r)
+fixed_stays period o p same r h = subst (λ q. IsTrue (agrees_with period (option_and_then (λ x. x.fixed) q) r)) same h
+
+pub refixed_elsewhere : (I : Network) (n e : ℕ) (fixed : Option ℕ) → e ≢ n → event_of (refixed I n fixed) e ≡ event_of I e
+refixed_elsewhere I n e fixed apart = with_number-change_in number e n (λ x. record x { fixed = fixed }) (λ x. refl) I.events ∙ still (event_of I e) (λ x. number-with_number number e I.events x)
+  where
+    still : (o : Option Event) → ((x : Event) → o ≡ Some x → number x ≡ e) → option_map (λ x. cond (number x == n) (record x { fixed = fixed }) x) o ≡ o
+    still None at = refl
+    still (Some x) at = rw (ne_eqb (number x) n (λ same. apart (sym (at x refl) ∙ same))) refl
+
+pub refixed_here : (I : Network) (n : ℕ) (fixed : Option ℕ) → IsTrue (has_event I n) → fixed_of (refixed I n fixed) n ≡ fixed
+refixed_here I n fixed event = ap (option_and_then (λ x. x.fixed)) (with_number-change_in number n n (λ x. record x { fixed = fixed }) (λ x. refl) I.events) ∙ at (event_of I n) event (λ x. number-with_number number n I.events x)
+  where
+    at : (o : Option Event) → IsTrue (is_some o) → ((x : Event) → o ≡ Some x → number x ≡ n) → option_and_then (λ x. x.fixed) (option_map (λ x. cond (number x == n) (record x { fixed = fixed }) x) o) ≡ fixed
+    at None event is = absurd (false≢true event)
+    at (Some x) event is = rw (eq-eqb (number x) n (is x refl)) refl
+
+-- ---- the nine edits
+
+pub asks_again : (I J : Network) (edit : Edit) → IsNetwork I → edited I edit ≡ Ok J → AsksAgain I edit
+asks_again I J (AddEvent v) network ok =
+    let new : has_event I v ≡ false = first_fails _ _ _ _ J ok in
+    record {
+      period = refl;
+      fixed = λ e r event event' agrees.
+          let apart : v ≢ e = λ same. false≢true (sym new ∙ ap (has_event I) same ∙ event) in
+          let same : event_of (effect I (AddEvent v)) e ≡ event_of I e = with_number-put_in number e (record { id = v; fixed = None }) I.events ∙ rw (ne_eqb v e apart) refl in
+          inl (fixed_stays I.period (event_of I e) (event_of (effect I (AddEvent v)) e) same r agrees);
+      activities = λ side a is. inr (itself I (AddEvent v) side a is refl);
+    }
+asks_again I J (DropEvent n) network ok =
+    record {
+      period = refl;
+      fixed = λ e r event event' agrees.
+          let found = with_number-take_out number e n I.events in
+          let apart : (e == n) ≡ false =
+          elim (cases_Bool (e == n)) [
+            | inr no_one ↦ no_one
+            | inl same ↦ let gone : event_of (effect I (DropEvent n)) e ≡ None = found ∙ rw same refl in absurd (false≢true (sym (ap is_some gone) ∙ event'))
+          ]
+          in
+          let stays : event_of (effect I (DropEvent n)) e ≡ event_of I e = found ∙ rw apart refl in
+          inl (fixed_stays I.period (event_of I e) (event_of (effect I (DropEvent n)) e) stays r agrees);
+      activities = λ side a is. inr (itself I (DropEvent n) side a is refl);
+    }
+asks_again I J (Fix n t) network ok =
+    record {
+      period = refl;
+      fixed = λ e r event event' agrees.
+          elim (cases_eq e n) [
+            | inr apart ↦ inl (fixed_stays I.period (event_of I e) (event_of (effect I (Fix n t)) e) (refixed_elsewhere I n e (Some t) apart) r agrees)
+            | inl same ↦
+                let here' : IsTrue (t == r) = subst (λ o. IsTrue (agrees_with I.period o r)) (ap (λ k. fixed_of (effect I (Fix n t)) k) same ∙ refixed_here I n (Some t) (subst (λ k. IsTrue (has_event I k)) same event)) agrees in
+                elim (admits I n t) as (λ b. admits I n t ≡ b → IsTrue (admits I e r) ⊎ Contains (if b then [] else n ∷ []) e) [
+                  | true ↦ λ as_before. inl (subst (λ k. IsTrue (admits I k r)) (sym same) (subst (λ k. IsTrue (admits I n k)) (eqb_is t r here') as_before))
+                  | false ↦ λ _. inr (subst (Contains (n ∷ [])) (sym same) (here n []))
+                ] refl
+          ];
+      activities = λ side a is. inr (itself I (Fix n t) side a is refl);
+    }
+asks_again I J (Unfix n) network ok =
+    record {
+      period = refl;
+      fixed = λ e r event event' agrees.
+          elim (cases_eq e n) [
+            | inr apart ↦ inl (fixed_stays I.period (event_of I e) (event_of (effect I (Unfix n)) e) (refixed_elsewhere I n e None apart) r agrees)
+            | inl same ↦ inr (subst (Contains (n ∷ [])) (sym same) (here n []))
+          ];
+      activities = λ side a is. inr (itself I (Unfix n) side a is refl);
+    }
+asks_again I J (AddActivity b) network ok =
+    let new : is_some (activity_of I b.id) ≡ false = first_fails _ _ _ _ J ok in
+    record {
+      period = refl;
+      fixed = λ e r event event' agrees. inl agrees;
+      activities = λ side a is.
+          let found = activity_found I a network is in
+          let apart : b.id ≢ a.id = λ same. false≢true (sym new ∙ ap (λ n. is_some (activity_of I n)) same ∙ ap is_some found) in
+          inr (itself I (AddActivity b) side a
+          (found_in id_of a.id (put_in id_of b I.activities) a (with_number-put_in id_of a.id b I.activities ∙ rw (ne_eqb b.id a.id apart) found)) refl);
+    }
+asks_again I J (DropActivity n) network ok =
+    record {
+      period = refl;
+      fixed = λ e r event event' agrees. inl agrees;
+      activities = λ side a is.
+          elim (cases_Bool (a.id == n)) [
+            | inl same ↦ inl (at_start I n side a network is same)
+            | inr apart ↦ inr (itself I (DropActivity n) side a
+                (found_in id_of a.id (take_out id_of n I.activities) a (with_number-take_out id_of a.id n I.activities ∙ rw apart (activity_found I a network is))) apart)
+          ];
+    }
+asks_again I J (SetSpan n span) network ok =
+    let set : Activity → Activity = λ a. record a { span = span } in
+    record {
+      period = refl;
+      fixed = λ e r event event' agrees. inl agrees;
+      activities = λ side a is.
+          elim (cases_Bool (a.id == n)) [
+            | inr apart ↦ inr (itself I (SetSpan n span) side a (others_stay I n set (λ b. refl) a network is apart) apart)
+            | inl same ↦
+                let found : activity_of I n ≡ Some a = ap (activity_of I) (sym (eqb_is a.id n same)) ∙ activity_found I a network is in
+                elim (is_looser I n span) as (λ b. is_looser I n span ≡ b → Contains (if b then ends_of (activity_of I n) else []) (own side a) ⊎ HasHeir I (SetSpan n span) side a) [
+                  | true ↦ λ _. inl (at_start I n side a network is same)
+                  | false ↦ λ tight.
+                      let less : admits_more I.period a.span span ≡ false = sym (ap (λ o. option_map_or (λ b. admits_more I.period b.span span) o false) found) ∙ tight in
+                      inr (record {
+                        heir = record a { span = span };
+                        there = one_changes I n set (λ b. refl) a network is same;
+                        own_end = own_same side a (record a { span = span }) refl refl;
+                        other_end = other_same side a (record a { span = span }) refl refl;
+                        no_more = λ r s rl sl. joins_less side I.period a (record a { span = span }) (no_more_met I.period a.span span (omega (arith, rl)) less) r s;
+                        unedited = inr (rw tight refl);
+                      })
+                ] refl
+          ];
+    }
+asks_again I J (SetWeight n weight) network ok =
+    let set : Activity → Activity = λ a. record a { weight = weight } in
+    record {
+      period = refl;
+      fixed = λ e r event event' agrees. inl agrees;
+      activities = λ side a is.
+          elim (cases_Bool (a.id == n)) [
+            | inr apart ↦ inr (itself I (SetWeight n weight) side a (others_stay I n set (λ b. refl) a network is apart) refl)
+            | inl same ↦
+                inr (record {
+                  heir = record a { weight = weight };
+                  there = one_changes I n set (λ b. refl) a network is same;
+                  own_end = own_same side a (record a { weight = weight }) refl refl;
+                  other_end = other_same side a (record a { weight = weight }) refl refl;
+                  no_more = λ r s rl sl. joins_less side I.period a (record a { weight = weight }) (λ p q m. m) r s;
+                  unedited = inl refl;
+                })
+          ];
+    }
+asks_again I J (SetEnds n from to) network ok =
+    let set : Activity → Activity = λ a. record a { from = from; to = to } in
+    record {
+      period = refl;
+      fixed = λ e r event event' agrees. inl agrees;
+      activities = λ side a is.
+          elim (cases_Bool (a.id == n)) [
+            | inl same ↦ inl (at_start I n side a network is same)
+            | inr apart ↦ inr (itself I (SetEnds n from to) side a (others_stay I n set (λ b. refl) a network is apart) apart)
+          ];
+    }

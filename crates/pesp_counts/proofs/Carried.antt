@@ -1,0 +1,163 @@
+-- What is so of links, counts and rows as the links follow an edit.
+use Rattle.std.proofs.Common.{◌≡◌, ◌≢◌, ℕ, ◌+◌, ◌*◌, ◌<◌, true, false, [], Option, Some, None, is_some, is_none, Ok, IfSome, length, refl, sym, ap, subst, ◌∙◌, inl, inr, arith}
+use Rattle.std.specs.List.{Contains}
+use Rattle.std.proofs.lemmas.Bool.{eq-eqb, false≢true}
+use Rattle.pesp_instance.specs.declared.edit.Edit.{Edit}
+use Rattle.pesp_instance.specs.declared.edit.Edit.TheVariants.{AddEvent, DropEvent, Fix, Unfix, AddActivity, DropActivity, SetSpan, SetWeight, SetEnds}
+use Rattle.pesp_instance.specs.Edited.{edited}
+use Rattle.pesp_instance.specs.Network.{IsNetwork, Network, activity_of, has_event}
+use Rattle.pesp_domains.proofs.Edits.{effect_is, has_out}
+use Rattle.pesp_instance.proofs.Rising.{number-with_number}
+use Rattle.pesp_base.specs.declared.activity.Activity.{Activity}
+use Rattle.pesp_domains.specs.declared.side.Side.{Side}
+use Rattle.pesp_domains.specs.declared.side.Side.TheVariants.{Tail, Head}
+use Rattle.pesp_domains.specs.Sweeps.{Of}
+use Rattle.pesp_counts.specs.Counts.{IsExactAt, IsLiveAt, end_at, ends_of, has_at}
+use Rattle.pesp_counts.specs.Keeping.{AreAtRest, AreAtRestBut, AreFor, adds}
+use Rattle.pesp_counts.specs.Links.{IsChangedAt, IsEndOf, IsEndOfPlace, Links, StandFor, end_number}
+use Rattle.pesp_counts.specs.Places.{place_of}
+use Rattle.pesp_counts.specs.Supports.{AreLevel, IsRoomier, Supports}
+use Rattle.pesp_counts.proofs.Asks.{asks_again, first_fails, found_in}
+use Rattle.pesp_counts.proofs.Bridge.{some_of, the_same}
+use Rattle.pesp_counts.proofs.StandLaws.{stands_fix, stands_unfix, stands_weight}
+use Rattle.pesp_counts.proofs.Supporters.{supporters_same}
+
+pub if_some : {X : Type 0} (P : X → Type 0) (o : Option X) (x : X) → o ≡ Some x → IfSome o P → P x
+if_some P None x is h = absurd (false≢true (ap is_some is))
+if_some P (Some y) x is h = let e : y ≡ x = cc in subst P e h
+
+is_there : {X : Type 0} (o : Option X) → is_none o ≡ false → is_some o ≡ true
+is_there None e = absurd (false≢true (sym e))
+is_there (Some x) e = refl
+
+pub same_period : (I J : Network) (edit : Edit) → IsNetwork I → edited I edit ≡ Ok J → J.period ≡ I.period
+same_period I J edit network made = ap (λ (K : Network). K.period) (effect_is I J edit made) ∙ (asks_again I J edit network made).period
+
+-- an activity that is dropped or changed has a place
+pub place_dropped : (I J : Network) (links : Links) (n : ℕ) → StandFor I links → edited I (DropActivity n) ≡ Ok J → (q : ℕ) × (place_of links.activities n ≡ Some q)
+place_dropped I J links n stand made = some_of (place_of links.activities n) (stand.of_activities n ∙ is_there (activity_of I n) (first_fails _ _ _ _ J made))
+
+pub place_changed : (I J : Network) (links : Links) (n : ℕ) (span : _) → StandFor I links → edited I (SetSpan n span) ≡ Ok J → (q : ℕ) × (place_of links.activities n ≡ Some q)
+place_changed I J links n span stand made = some_of (place_of links.activities n) (stand.of_activities n ∙ is_there (activity_of I n) (first_fails _ _ _ _ J made))
+
+-- links that stand for the instance after an edit, and list no new end, have rows and counts
+pub for_relinked : (I J : Network) (links links' : Links) (s : Supports) → AreFor I links s → J.period ≡ I.period → StandFor J links' → ((p k : ℕ) → Contains (ends_of links'.lists p) k → (q : ℕ) × Contains (ends_of links.lists q) k) → ((e p : ℕ) → place_of links'.events e ≡ Some p → place_of links.events e ≡ Some p) → AreFor J links' s
+for_relinked I J links links' s h period stand listed places =
+    record {
+      period = h.period ∙ sym period;
+      stand = stand;
+      fit =
+          record {
+            rows = λ p k is. let l = stand.only p k is in h.housed _ p (places _ p l.is_end.at);
+            counted = λ p k is. let l = stand.only p k is in h.counted _ p (places _ p l.is_end.at);
+            counts = λ p k is. let q = listed p k is in h.fit.counts q.0 k q.1;
+          };
+      housed = λ e p at. h.housed e p (places e p at);
+      counted = λ e p at. h.counted e p (places e p at);
+      even = h.even;
+    }
+
+-- a dropped event has no place
+pub places_dropped : (I J : Network) (links links' : Links) (n : ℕ) → edited I (DropEvent n) ≡ Ok J → StandFor J links' → ((e : ℕ) → e ≢ n → place_of links'.events e ≡ place_of links.events e) → (e p : ℕ) → place_of links'.events e ≡ Some p → (e ≢ n) × (place_of links.events e ≡ Some p)
+places_dropped I J links links' n made stand others e p at =
+    let gone : has_event J n ≡ false = ap (λ (K : Network). has_event K n) (effect_is I J (DropEvent n) made) ∙ has_out I.events n n ∙ rw (eq-eqb n n refl) refl in
+    let apart : e ≢ n = λ same. false≢true (sym gone ∙ sym (stand.of_events n) ∙ ap is_some (ap (place_of links'.events) (sym same) ∙ at)) in
+    (apart, sym (others e apart) ∙ at)
+
+-- an edit that leaves the links
+pub stands_still : (I J : Network) (links : Links) (edit : Edit) → edited I edit ≡ Ok J → adds edit ≡ false → ((e : ℕ) → edit ≡ DropEvent e → ⊥) → ((n : ℕ) → edit ≡ DropActivity n → ⊥) → ((n : ℕ) (span : _) → edit ≡ SetSpan n span → ⊥) → ((n from to : ℕ) → edit ≡ SetEnds n from to → ⊥) → StandFor I links → StandFor J links
+stands_still I J links (AddEvent e) made adding a b c d stand = absurd (false≢true (sym adding))
+stands_still I J links (AddActivity x) made adding a b c d stand = absurd (false≢true (sym adding))
+stands_still I J links (DropEvent e) made adding a b c d stand = absurd (a e refl)
+stands_still I J links (Fix e t) made adding a b c d stand = stands_fix I J links e t made stand
+stands_still I J links (Unfix e) made adding a b c d stand = stands_unfix I J links e made stand
+stands_still I J links (DropActivity n) made adding a b c d stand = absurd (b n refl)
+stands_still I J links (SetSpan n span) made adding a b c d stand = absurd (c n span refl)
+stands_still I J links (SetWeight n weight) made adding a b c d stand = stands_weight I J links n weight made stand
+stands_still I J links (SetEnds n from to) made adding a b c d stand = absurd (d n from to refl)
+
+-- ---- the tail of an activity
+
+-- it is listed, under twice its place
+pub tail_listed : (I : Network) (links : Links) (n q : ℕ) → StandFor I links → place_of links.activities n ≡ Some q → (p : ℕ) × Contains (ends_of links.lists p) (2 * q)
+tail_listed I links n q stand at =
+    let a = some_of (activity_of I n) (sym (stand.of_activities n) ∙ ap is_some at) in
+    let there = found_in (λ (b : Activity). b.id) n I.activities a.0 a.1 in
+    let id : a.0.id ≡ n = number-with_number (λ (b : Activity). b.id) n I.activities a.0 a.1 in
+    let w = stand.all Tail a.0 there in
+    let same : w.1 ≡ q = the_same (place_of links.activities n) w.1 q (ap (place_of links.activities) (sym id) ∙ w.2.numbered) at in
+    (w.0, subst (λ k. Contains (ends_of links.lists w.0) (2 * k)) same w.2.listed)
+
+pub tail_low : (I : Network) (links : Links) (n q : ℕ) → StandFor I links → place_of links.activities n ≡ Some q → 2 * q < length links.ends
+tail_low I links n q stand at = let w = tail_listed I links n q stand at in stand.shared.within w.0 (2 * q) w.1
+
+-- and its mate is the head
+pub tail_mate : (I : Network) (links : Links) (p q : ℕ) → StandFor I links → Contains (ends_of links.lists p) (2 * q) → (end_at links.ends (2 * q)).mate ≡ 2 * q + 1
+tail_mate I links p q stand is =
+    let l = stand.only p (2 * q) is in
+    by l.side l.activity l.place l.number l.is_end
+  where
+    by : (side : Side) (a : Activity) (place : ℕ) → 2 * q ≡ end_number side place → IsEndOf I.period links side a p place → (end_at links.ends (2 * q)).mate ≡ 2 * q + 1
+    by Head a place number end = absurd (omega (arith, number))
+    by Tail a place number end = ap (λ k. (end_at links.ends k).mate) number ∙ end.mate ∙ ap (λ k. k + 1) (sym number)
+
+-- ---- counts and rows, as others come beside them
+
+pub roomier_none : (s : Supports) → IsRoomier s s
+roomier_none s =
+    record {
+      period = refl;
+      counts = λ i. refl;
+      more_counts = omega arith;
+      counted = λ p r. refl;
+      more_counted = omega arith;
+      rows = λ p r. refl;
+      more_rows = omega arith;
+      trail = refl;
+    }
+
+module _ (links links' : Links) (s s' : Supports) (more : IsRoomier s s') where
+  exact_at : (k : ℕ) → end_at links'.ends k ≡ end_at links.ends k → IsExactAt s.period links.ends s.counts (has_at s.counted) k → IsExactAt s'.period links'.ends s'.counts (has_at s'.counted) k
+  exact_at k end exact =
+      rw (more.period, end)
+      (λ r rl.
+      more.counts (k * s.period + r) ∙ exact r rl
+      ∙ sym (supporters_same s.period (has_at s.counted (end_at links.ends k).looks_at) (has_at s'.counted (end_at links.ends k).looks_at) _ _ (λ x l. more.counted (end_at links.ends k).looks_at x) (λ x l. refl)))
+
+  live_at : (p k : ℕ) → IsLiveAt s.period s.counts (has_at s.rows) p k → IsLiveAt s'.period s'.counts (has_at s'.rows) p k
+  live_at p k live = rw more.period (λ r rl here. subst (λ n. 0 < n) (sym (more.counts (k * s.period + r))) (live r rl (sym (more.rows p r) ∙ here)))
+
+  level_more : AreLevel s → AreLevel s'
+  level_more level p r = more.counted p r ∙ level p r ∙ sym (more.rows p r)
+
+  below_more : ((p r : ℕ) → Of (has_at s.rows) p r → r < s.period) → (p r : ℕ) → Of (has_at s'.rows) p r → r < s'.period
+  below_more below p r i = let l = below p r (sym (more.rows p r) ∙ i) in omega (arith, l, more.period)
+
+  -- what is at rest stays so where ends are as before
+  pub rest_same : AreAtRest links s → ((p k : ℕ) → Contains (ends_of links'.lists p) k → Contains (ends_of links.lists p) k) → ((p k : ℕ) → Contains (ends_of links'.lists p) k → end_at links'.ends k ≡ end_at links.ends k) → AreAtRest links' s'
+  rest_same h lists ends =
+      record {
+        exact = λ p k is. exact_at k (ends p k is) (h.exact p k (lists p k is));
+        level = level_more h.level;
+        live = λ p k is. live_at p k (h.live p k (lists p k is));
+        below = below_more h.below;
+        out = rw more.trail
+            (record {
+              out = λ p r i. more.rows p r ∙ h.out.out p r i;
+              within = λ i d l. let w = h.out.within i d l in omega (arith, w, more.more_rows);
+              below = λ i d l. let w = h.out.below i d l in omega (arith, w, more.period);
+              once = h.out.once;
+            });
+      }
+
+  -- and but for the ends of one activity
+  pub rest_but : (q : ℕ) → AreAtRest links s → IsChangedAt links links' q → (end_at links'.ends (2 * q)).mate ≡ 2 * q + 1 → s.trail ≡ [] → AreAtRestBut links' s' (2 * q)
+  rest_but q h changed mate trail =
+      let other : (k : ℕ) → k ≢ 2 * q → k ≢ (end_at links'.ends (2 * q)).mate → IsEndOfPlace q k → ⊥ = λ k a b is. elim is [ inl same ↦ a same | inr same ↦ b (same ∙ sym mate) ] in
+      record {
+        exact = λ p k is a b. exact_at k (changed.ends k (other k a b)) (h.exact p k (changed.listed p k is (other k a b)));
+        live = λ p k is a b. live_at p k (h.live p k (changed.listed p k is (other k a b)));
+        level = level_more h.level;
+        below = below_more h.below;
+        trail = more.trail ∙ trail;
+      }

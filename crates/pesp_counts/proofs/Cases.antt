@@ -1,0 +1,81 @@
+-- Which edits may bring pairs back, what ends pass, and counts of partners, by computation.
+use Rattle.std.proofs.Common.{◌≡◌, ◌||◌, ◌==◌, ℤ, pos, negsuc, refl, true, false, [], ◌∷◌}
+use Rattle.pesp_base.specs.Bounds.{Bounds}
+use Rattle.pesp_base.proofs.Samples.{arc}
+use Rattle.pesp_instance.specs.declared.edit.Edit.TheVariants as do_
+use Rattle.pesp_instance.specs.Edited.{after}
+use Rattle.pesp_instance.specs.Network.{Network, new_event}
+use Rattle.pesp_counts.specs.declared.end.End.{End}
+use Rattle.pesp_counts.specs.Counts.{passes, supporters}
+use Rattle.pesp_counts.specs.Reached.{admits_more, starts}
+
+abbrev span : ℤ → ℤ → Bounds
+span lower upper = record { lower = lower; upper = upper }
+
+abbrev two : Network
+two = record { period = 10; events = new_event 1 ∷ new_event 2 ∷ []; activities = arc 1 1 2 3 5 2 ∷ arc 2 2 1 4 6 1 ∷ [] }
+
+abbrev one_fixed : Network
+one_fixed = after two (do_.Fix 1 0 ∷ [])
+
+-- ---- spans
+
+wider : admits_more 10 (span (pos 3) (pos 5)) (span (pos 3) (pos 6)) ≡ true
+wider = refl
+
+narrower : admits_more 10 (span (pos 3) (pos 5)) (span (pos 4) (pos 5)) ≡ false
+narrower = refl
+
+-- a shift by a whole period admits nothing new
+shifted : admits_more 10 (span (pos 3) (pos 5)) (span (pos 13) (pos 15)) ≡ false
+shifted = refl
+
+-- as long and elsewhere
+moved_span : admits_more 10 (span (pos 3) (pos 5)) (span (negsuc 1) (pos 0)) ≡ true
+moved_span = refl
+
+-- ---- where chains begin
+
+other_time : starts one_fixed (do_.Fix 1 1) ≡ 1 ∷ []
+other_time = refl
+
+same_time : starts one_fixed (do_.Fix 1 0) ≡ []
+same_time = refl
+
+first_time : starts two (do_.Fix 1 0) ≡ []
+first_time = refl
+
+-- also to the same ends
+same_ends : starts one_fixed (do_.SetEnds 2 2 1) ≡ 2 ∷ 1 ∷ []
+same_ends = refl
+
+wider_span : starts one_fixed (do_.SetSpan 1 (span (pos 3) (pos 6))) ≡ 1 ∷ 2 ∷ []
+wider_span = refl
+
+narrower_span : starts one_fixed (do_.SetSpan 1 (span (pos 3) (pos 4))) ≡ []
+narrower_span = refl
+
+-- ---- ends and counts
+
+-- the tail of a span from 3 to 5 at period 10, and its head
+abbrev tail : End
+tail = record { looks_at = 0; mate = 1; first = 3; width = 3 }
+
+abbrev head : End
+head = record { looks_at = 0; mate = 0; first = 5; width = 3 }
+
+tail_at_seven : passes 10 tail 7 2 ≡ true
+tail_at_seven = refl
+
+head_at_two : passes 10 head 2 7 ≡ true
+head_at_two = refl
+
+head_at_three : passes 10 head 3 7 ≡ false
+head_at_three = refl
+
+-- of 4 and 5 at the head both go with 0 at the tail, and 5 alone with 2
+two_partners : supporters 10 (λ s. s == 4 || s == 5) (passes 10 tail 0) ≡ 2
+two_partners = refl
+
+partners_of_two : supporters 10 (λ s. s == 4 || s == 5) (passes 10 tail 2) ≡ 1
+partners_of_two = refl

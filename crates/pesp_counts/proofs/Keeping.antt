@@ -1,0 +1,334 @@
+-- What the keeper keeps, as pairs are pushed and popped.
+use Rattle.std.proofs.Common.{◌≡◌, ◌≢◌, ℕ, ◌+◌, ◌<◌, ◌≤◌, ◌==◌, ◌&&◌, ◌||◌, not, Bool, true, false, List, [], ◌∷◌, ◌++◌, Option, Some, None, length, get_or, take, drop, AllPairs, refl, sym, ap, subst, ◌∙◌, inl, inr, ◌⊎◌, arith, IsTrue}
+use Rattle.std.specs.List.{Contains}
+use Rattle.std.specs.Option.{option_map_or}
+use Rattle.std.proofs.lemmas.Bool.{cases_Bool, cases_eq, cases_lt, eq-eqb, ne_eqb, false≢true}
+use Rattle.std.proofs.lemmas.List.{drop-append-le, get_or-drop, get_or-take, get_or_append_left, get_or_push, length-append, length-drop, length-take-le, length_push, take-append-drop, take-append-le, take_all}
+use Rattle.std.proofs.lemmas.List.Elements.{All-contains, All-drop, All-take}
+use Rattle.std.proofs.lemmas.List.Folds.{list_any-append}
+use Rattle.std.proofs.Math.Seq.{drop-append_seam}
+use Rattle.pesp_instance.specs.Network.{Network, has_event}
+use Rattle.pesp_domains.specs.declared.pair.Pair.{Pair}
+use Rattle.pesp_domains.specs.Domains.{In, InDomains, IsDomain}
+use Rattle.pesp_domains.specs.Kept.{ArePushed}
+use Rattle.pesp_domains.specs.Sweeps.{AreDomains, Pairs}
+use Rattle.pesp_domains.proofs.Pushes.{limited, push_settles, pushed_more}
+use Rattle.pesp_counts.specs.declared.trail.Placed.{Placed}
+use Rattle.pesp_counts.specs.Counts.{AreLinked, has_at}
+use Rattle.pesp_counts.specs.Keeping.{AreFor, AreMarks, AreSettled, IsKeeping, IsNarrowed, rows_of, with_pairs}
+use Rattle.pesp_counts.specs.Links.{Links}
+use Rattle.pesp_counts.specs.Places.{ArePlaces, Places, number_at, numbered, place_of}
+use Rattle.pesp_counts.specs.Supports.{AreExact, AreLevel, AreOut, HaveSameShape, IsTaken, Supports, is_in}
+use Rattle.pesp_counts.proofs.Bridge.{counts_settle, domains_live, numbered_at, numbered_same, stand_linked, the_same}
+use Rattle.pesp_counts.proofs.Marks.{fit_same, keeps_like}
+use Rattle.pesp_counts.proofs.Taken.{stands_in}
+
+pub domains_same : (I : Network) (pushes : List Pair) (S S' : Pairs) → ((e r : ℕ) → S' e r ≡ S e r) → AreDomains I pushes S → AreDomains I pushes S'
+domains_same I pushes S S' same domains =
+    record { exact = λ e r. ((λ h. (domains.exact e r).0 (sym (same e r) ∙ h)), (λ h. same e r ∙ (domains.exact e r).1 h)) }
+
+pub for_same : (I : Network) (links : Links) (before after : Supports) → HaveSameShape before after → AreFor I links before → AreFor I links after
+for_same I links before after shape h =
+    record {
+      period = shape.period ∙ h.period;
+      stand = h.stand;
+      fit = fit_same links before after shape h.fit;
+      housed = λ e p at. let l = h.housed e p at in omega (arith, l, shape.rows);
+      counted = λ e p at. let l = h.counted e p at in omega (arith, l, shape.counted);
+      even = shape.counted ∙ h.even ∙ sym shape.rows;
+    }
+
+-- the ends are linked, by the period of the counts
+pub for_linked : (I : Network) (links : Links) (s : Supports) → AreFor I links s → AreLinked s.period links.ends links.lists
+for_linked I links s h = rw h.period (stand_linked I links h.stand)
+
+none_and : (b : Bool) → false ≡ (false && b)
+none_and b = refl
+
+-- of one place alone a residue is left where of one event alone it is
+pub limited_numbered : (places : Places) (S : Pairs) (event p x : ℕ) → ArePlaces places → place_of places event ≡ Some p → (e r : ℕ) → numbered places (limited S p x) e r ≡ limited (numbered places S) event x e r
+limited_numbered places S event p x paired at e r =
+    by (place_of places e) refl
+  where
+    by : (o : Option ℕ) → place_of places e ≡ o → option_map_or (λ q. limited S p x q r) o false ≡ (option_map_or (λ q. S q r) o false && (not (e == event) || r == x))
+    by None is = refl
+    by (Some q) is =
+        elim (cases_eq e event) [
+          | inl same ↦
+              let here : q ≡ p = the_same (place_of places event) q p (ap (place_of places) (sym same) ∙ is) at in
+              rw (eq-eqb e event same, eq-eqb q p here) refl
+          | inr apart ↦
+              let there : q ≢ p = λ here. apart (the_same (number_at places p) e event (ap (number_at places) (sym here) ∙ (paired.paired e q).0 is) ((paired.paired event p).0 at)) in
+              rw (ne_eqb e event apart, ne_eqb q p there) refl
+        ]
+
+-- ---- what was taken out since
+
+or_swap : (a b c : Bool) → (a || (b || c)) ≡ ((a || c) || b)
+or_swap true b c = refl
+or_swap false true true = refl
+or_swap false true false = refl
+or_swap false false true = refl
+or_swap false false false = refl
+
+in_both : (xs ys : List Placed) (p r : ℕ) → is_in (xs ++ ys) p r ≡ (is_in xs p r || is_in ys p r)
+in_both xs ys p r = list_any-append (λ (x : Placed). x.place == p && x.residue == r) xs ys
+
+-- with what was taken out since before, they are as they were
+pub with_taken : (s n : Supports) (m : ℕ) → IsTaken s n → m ≤ length s.trail → (p r : ℕ) → with_pairs n (drop m n.trail) p r ≡ with_pairs s (drop m s.trail) p r
+with_taken s n m taken low p r =
+    ap (λ xs. has_at n.rows p r || is_in (drop m xs) p r) taken.trail
+    ∙ ap (λ xs. has_at n.rows p r || is_in xs p r) (drop-append-le m s.trail taken.more low)
+    ∙ ap (λ b. has_at n.rows p r || b) (in_both (drop m s.trail) taken.more p r)
+    ∙ or_swap (has_at n.rows p r) (is_in (drop m s.trail) p r) (is_in taken.more p r)
+    ∙ ap (λ b. b || is_in (drop m s.trail) p r) (sym (taken.parted p r))
+
+with_last : (s n : Supports) → IsTaken s n → (p r : ℕ) → with_pairs n (drop (length s.trail) n.trail) p r ≡ has_at s.rows p r
+with_last s n taken p r =
+    ap (λ xs. has_at n.rows p r || is_in xs p r) (ap (drop (length s.trail)) taken.trail ∙ drop-append_seam s.trail taken.more)
+    ∙ sym (taken.parted p r)
+
+pub marks_push : (I : Network) (pushes : List Pair) (x : Pair) (links : Links) (s n : Supports) (marks : List ℕ) → AreMarks I pushes links s marks → AreDomains I pushes (rows_of links s) → IsTaken s n → AreMarks I (pushes ++ x ∷ []) links n (marks ++ length s.trail ∷ [])
+marks_push I pushes x links s n marks h domains taken =
+    let top : ℕ = length s.trail in
+    let old : (i d : ℕ) → i < length marks → get_or (marks ++ top ∷ []) i d ≡ get_or marks i d = λ i d l. get_or_append_left marks (top ∷ []) d i l in
+    let last : (i d : ℕ) → i ≡ length marks → get_or (marks ++ top ∷ []) i d ≡ top = λ i d e. get_or_push marks top d i (sym e) in
+    let long = length_push marks top in
+    let le : top ≤ length n.trail = (let e = ap length taken.trail in let f = grown s.trail taken.more in omega (arith, e, f)) in
+    record {
+      long = let a = h.long in let b = length_push pushes x in omega (arith, a, b, long);
+      within = λ i d l.
+          elim (cases_lt i (length marks)) [
+            | inl m ↦ let w = h.within i d m in let e = old i d m in omega (arith, w, e, le)
+            | inr g ↦ let at : i ≡ length marks = omega (arith, g, l, long) in let e = last i d at in omega (arith, e, le)
+          ];
+      rising = λ i j d ij jl.
+          elim (cases_lt j (length marks)) [
+            | inl m ↦
+                let w = h.rising i j d ij m in
+                let e = old i d (omega (arith, ij, m)) in
+                let f = old j d m in
+                omega (arith, w, e, f)
+            | inr g ↦
+                let at : j ≡ length marks = omega (arith, g, jl, long) in
+                let f = last j d at in
+                elim (cases_lt i (length marks)) [
+                  | inl m ↦ let w = h.within i d m in let e = old i d m in omega (arith, w, e, f)
+                  | inr g' ↦ let at' : i ≡ length marks = omega (arith, g', ij, at) in let e = last i d at' in omega (arith, e, f)
+                ]
+          ];
+      domains = λ i d l.
+          elim (cases_lt i (length marks)) [
+            | inl m ↦
+                let w = h.within i d m in
+                let a : take i (pushes ++ x ∷ []) ≡ take i pushes = take-append-le i pushes (x ∷ []) (let k = h.long in omega (arith, m, k)) in
+                rw (a, old i d m)
+                (domains_same I (take i pushes) _ _ (numbered_same links.events (with_pairs s (drop (get_or marks i d) s.trail)) (with_pairs n (drop (get_or marks i d) n.trail)) (with_taken s n (get_or marks i d) taken w)) (h.domains i d m))
+            | inr g ↦
+                let at : i ≡ length marks = omega (arith, g, l, long) in
+                let long' = h.long in
+                let a : take i (pushes ++ x ∷ []) ≡ pushes = take-append-le i pushes (x ∷ []) (omega (arith, at, long')) ∙ take_all i pushes (omega (arith, at, long')) in
+                rw (a, last i d at)
+                (domains_same I pushes _ _ (numbered_same links.events (has_at s.rows) (with_pairs n (drop top n.trail)) (with_last s n taken)) domains)
+          ];
+    }
+  where
+    grown : (xs ys : List Placed) → length xs ≤ length (xs ++ ys)
+    grown xs ys = omega (arith, length-append xs ys)
+
+-- one pair more is pushed
+pub keeping_push : (I : Network) (pushes : List Pair) (x : Pair) (links : Links) (s n : Supports) (marks : List ℕ) (p a b : ℕ) → IsKeeping I pushes marks links s a b → IsTrue (has_event I x.event) → ((r : ℕ) → In pushes x.event r → ⊥) → place_of links.events x.event ≡ Some p → IsNarrowed links p x.residue s n → IsKeeping I (pushes ++ x ∷ []) (marks ++ length s.trail ∷ []) links n a b
+keeping_push I pushes x links s n marks p a b h event free at narrow =
+    let fits = h.settled.fits in
+    let period : n.period ≡ I.period = narrow.shape.period ∙ fits.period in
+    let M : Pairs = limited (has_at s.rows) p x.residue in
+    let settles = counts_settle I links fits.stand M n period narrow.rest (keeps_like links n.period s.period M M (has_at n.rows) (sym narrow.shape.period) (λ q r. refl) narrow.keeps) in
+    record {
+      settled =
+          record {
+            network = h.settled.network;
+            fits = for_same I links s n narrow.shape fits;
+            rest = narrow.rest;
+            domains = push_settles I pushes x (rows_of links s) (numbered links.events M) (rows_of links n) (limited_numbered links.events (has_at s.rows) x.event p x.residue fits.stand.events at) settles h.settled.domains;
+          };
+      pushed = pushed_more I pushes x event free h.pushed;
+      marked = marks_push I pushes x links s n marks h.marked h.settled.domains narrow.taken;
+      room_pushed = h.room_pushed;
+      room_marks = h.room_marks;
+    }
+
+-- ---- what was taken out is put back
+
+or_true : (b : Bool) → (b || true) ≡ true
+or_true true = refl
+or_true false = refl
+
+or_assoc : (a b c : Bool) → ((a || b) || c) ≡ (a || (b || c))
+or_assoc true b c = refl
+or_assoc false b c = refl
+
+or_turn : (a b c : Bool) → ((a || b) || c) ≡ (a || (c || b))
+or_turn true b c = refl
+or_turn false true true = refl
+or_turn false true false = refl
+or_turn false false true = refl
+or_turn false false false = refl
+
+in_parts : (m : ℕ) (xs : List Placed) (p r : ℕ) → is_in xs p r ≡ (is_in (take m xs) p r || is_in (drop m xs) p r)
+in_parts m xs p r = ap (λ ys. is_in ys p r) (sym (take-append-drop m xs)) ∙ in_both (take m xs) (drop m xs) p r
+
+-- the later part of a trail
+pub out_late : (s : Supports) (m : ℕ) → AreOut s s.trail → AreOut s (drop m s.trail)
+out_late s m h =
+    record {
+      out = λ p r i. h.out p r (in_parts m s.trail p r ∙ ap (λ b. is_in (take m s.trail) p r || b) i ∙ or_true (is_in (take m s.trail) p r));
+      within = All-drop (λ x. x.place < length s.rows) m s.trail h.within;
+      below = All-drop (λ x. x.residue < s.period) m s.trail h.below;
+      once = λ i j d lt within.
+          let long = length-drop m s.trail in
+          rw (get_or-drop m s.trail i d, get_or-drop m s.trail j d) (h.once (m + i) (m + j) d (omega (arith, lt)) (omega (arith, within, long)));
+    }
+
+-- no pair stands both before a mark and after it
+apart_at : (m : ℕ) (xs : List Placed) (x : Placed) → AllPairs (λ y z. y ≢ z) xs → Contains (take m xs) x → Contains (drop m xs) x → ⊥
+apart_at m xs x once i j =
+    elim (cases_lt (length xs) m) [
+      | inl over ↦
+          let late = length-drop m xs in
+          absurd (omega (arith, late, over, j.1))
+      | inr low ↦
+          let long = length-take-le m xs low in
+          let late = length-drop m xs in
+          once i.0 (m + j.0) x (omega (arith, i.1, long)) (omega (arith, j.1, late))
+          (sym (get_or-take m xs i.0 x (omega (arith, i.1, long))) ∙ i.2 ∙ sym j.2 ∙ get_or-drop m xs j.0 x)
+    ]
+
+or_cases : (a b : Bool) → IsTrue (a || b) → IsTrue a ⊎ IsTrue b
+or_cases true b h = inl refl
+or_cases false b h = inr h
+
+-- the earlier part of a trail, once the later one was put back
+pub out_early : (s n : Supports) (m : ℕ) → AreOut s s.trail → HaveSameShape s n → ((p r : ℕ) → has_at n.rows p r ≡ (has_at s.rows p r || is_in (drop m s.trail) p r)) → AreOut n (take m s.trail)
+out_early s n m h shape back =
+    record {
+      out = λ p r i.
+          elim (cases_Bool (has_at n.rows p r)) [
+            | inr none ↦ none
+            | inl there ↦
+                elim (or_cases (has_at s.rows p r) (is_in (drop m s.trail) p r) (sym (back p r) ∙ there)) [
+                  | inl was ↦
+                      let late : IsTrue (is_in s.trail p r) = in_parts m s.trail p r ∙ ap (λ b. b || is_in (drop m s.trail) p r) i in
+                      absurd (false≢true (sym (h.out p r late) ∙ was))
+                  | inr late ↦ absurd (apart_at m s.trail (record { place = p; residue = r }) h.once (stands_in (take m s.trail) p r i) (stands_in (drop m s.trail) p r late))
+                ]
+          ];
+      within = All-take (λ x. x.place < length n.rows) m s.trail (λ i d l. let w = h.within i d l in omega (arith, w, shape.rows));
+      below = All-take (λ x. x.residue < n.period) m s.trail (λ i d l. let w = h.below i d l in omega (arith, w, shape.period));
+      once = λ i j d lt within.
+          elim (cases_lt (length s.trail) m) [
+            | inl over ↦ rw (take_all m s.trail (omega (arith, over))) (h.once i j d lt (rw (take_all m s.trail (omega (arith, over))) at within))
+            | inr low ↦
+                let long = length-take-le m s.trail low in
+                rw (get_or-take m s.trail i d (omega (arith, lt, within, long)), get_or-take m s.trail j d (omega (arith, within, long))) (h.once i j d lt (omega (arith, within, long, low)))
+          ];
+    }
+
+with_back : (s n : Supports) (m i : ℕ) → ((p r : ℕ) → has_at n.rows p r ≡ (has_at s.rows p r || is_in (drop m s.trail) p r)) → n.trail ≡ take m s.trail → m ≤ length s.trail → i ≤ m → (p r : ℕ) → with_pairs n (drop i n.trail) p r ≡ with_pairs s (drop i s.trail) p r
+with_back s n m i back trail low le p r =
+    let long = length-take-le m s.trail low in
+    let parts : drop i s.trail ≡ drop i (take m s.trail) ++ drop m s.trail = ap (drop i) (sym (take-append-drop m s.trail)) ∙ drop-append-le i (take m s.trail) (drop m s.trail) (omega (arith, le, long)) in
+    ap (λ xs. has_at n.rows p r || is_in (drop i xs) p r) trail
+    ∙ ap (λ b. b || is_in (drop i (take m s.trail)) p r) (back p r)
+    ∙ or_turn (has_at s.rows p r) (is_in (drop m s.trail) p r) (is_in (drop i (take m s.trail)) p r)
+    ∙ ap (λ b. has_at s.rows p r || b) (sym (in_both (drop i (take m s.trail)) (drop m s.trail) p r))
+    ∙ ap (λ xs. has_at s.rows p r || is_in xs p r) (sym parts)
+
+-- the last mark is within the trail
+pub last_mark : (I : Network) (pushes : List Pair) (links : Links) (s : Supports) (marks marks' : List ℕ) (m : ℕ) → AreMarks I pushes links s marks → marks ≡ marks' ++ m ∷ [] → m ≤ length s.trail
+last_mark I pushes links s marks marks' m h is =
+    let last : length marks' < length marks = (let f = ap length is in let g = length_push marks' m in omega (arith, f, g)) in
+    let top : get_or marks (length marks') 0 ≡ m = ap (λ xs. get_or xs (length marks') 0) is ∙ get_or_push marks' m 0 (length marks') refl in
+    let w = h.within (length marks') 0 last in
+    omega (arith, w, top)
+
+-- the pair that was pushed last is popped
+pub keeping_pop : (I : Network) (pushes after : List Pair) (x : Pair) (links : Links) (s n : Supports) (marks marks' : List ℕ) (m a b : ℕ) → IsKeeping I pushes marks links s a b → pushes ≡ after ++ x ∷ [] → marks ≡ marks' ++ m ∷ [] → ((p r : ℕ) → has_at n.rows p r ≡ (has_at s.rows p r || is_in (drop m s.trail) p r)) → AreExact links n (has_at n.counted) → AreLevel n → n.trail ≡ take m s.trail → HaveSameShape s n → IsKeeping I after marks' links n a b
+keeping_pop I pushes after x links s n marks marks' m a b h pushes_is marks_is back exact level trail shape =
+    let fits = h.settled.fits in
+    let out = h.settled.rest.out in
+    let n_marks = length_push marks' m in
+    let n_after = length_push after x in
+    let long : length marks' ≡ length after = (let e = ap length pushes_is in let f = ap length marks_is in let g = h.marked.long in omega (arith, e, f, g, n_marks, n_after)) in
+    let last : length marks' < length marks = (let f = ap length marks_is in omega (arith, f, n_marks)) in
+    let top : get_or marks (length marks') 0 ≡ m = ap (λ xs. get_or xs (length marks') 0) marks_is ∙ get_or_push marks' m 0 (length marks') refl in
+    let low : m ≤ length s.trail = (let w = h.marked.within (length marks') 0 last in omega (arith, w, top)) in
+    let before : take (length marks') pushes ≡ after = ap (take (length marks')) pushes_is ∙ take-append-le (length marks') after (x ∷ []) (omega (arith, long)) ∙ take_all (length marks') after (omega (arith, long)) in
+    let was : AreDomains I after (numbered links.events (with_pairs s (drop m s.trail))) = rw (← before, ← top) (h.marked.domains (length marks') 0 last) in
+    let domains : AreDomains I after (rows_of links n) = domains_same I after _ _ (numbered_same links.events (with_pairs s (drop m s.trail)) (has_at n.rows) back) was in
+    let old : (i d : ℕ) → i < length marks' → get_or marks' i d ≡ get_or marks i d = λ i d l. sym (get_or_append_left marks' (m ∷ []) d i l) ∙ ap (λ xs. get_or xs i d) (sym marks_is) in
+    let top_at : (d : ℕ) → get_or marks (length marks') d ≡ m = λ d. ap (λ xs. get_or xs (length marks') d) marks_is ∙ get_or_push marks' m d (length marks') refl in
+    let under : (i d : ℕ) → i < length marks' → get_or marks i d ≤ m = λ i d l. let r = h.marked.rising i (length marks') d (omega (arith, l)) last in let e = top_at d in omega (arith, r, e) in
+    let n_trail : length n.trail ≡ m = ap length trail ∙ length-take-le m s.trail low in
+    record {
+      settled =
+          record {
+            network = h.settled.network;
+            fits = for_same I links s n shape fits;
+            rest =
+                record {
+                  exact = exact;
+                  level = level;
+                  live = domains_live I links fits.stand after n (shape.period ∙ fits.period) exact level domains;
+                  below = λ p r i.
+                      elim (or_cases (has_at s.rows p r) (is_in (drop m s.trail) p r) (sym (back p r) ∙ i)) [
+                        | inl there ↦ let l = h.settled.rest.below p r there in omega (arith, l, shape.period)
+                        | inr late ↦ let l = All-contains (λ (y : Placed). y.residue < s.period) (drop m s.trail) (record { place = p; residue = r }) (All-drop (λ y. y.residue < s.period) m s.trail out.below) (stands_in (drop m s.trail) p r late) in omega (arith, l, shape.period)
+                      ];
+                  out = subst (AreOut n) (sym trail) (out_early s n m out shape back);
+                };
+            domains = domains;
+          };
+      pushed = fewer_pushed;
+      marked =
+          record {
+            long = long;
+            within = λ i d l. let e = old i d l in let u = under i d l in omega (arith, e, u, n_trail);
+            rising = λ i j d ij jl.
+                let e = old i d (omega (arith, ij, jl)) in
+                let f = old j d jl in
+                let r = h.marked.rising i j d ij (omega (arith, jl, last)) in
+                omega (arith, e, f, r);
+            domains = λ i d l.
+                let short : take i after ≡ take i pushes = sym (take-append-le i after (x ∷ []) (omega (arith, l, long))) ∙ ap (take i) (sym pushes_is) in
+                rw (short, old i d l)
+                (domains_same I (take i pushes) _ _ (numbered_same links.events (with_pairs s (drop (get_or marks i d) s.trail)) (with_pairs n (drop (get_or marks i d) n.trail)) (with_back s n m (get_or marks i d) back trail low (under i d l))) (h.marked.domains i d (omega (arith, l, last))));
+          };
+      room_pushed = h.room_pushed;
+      room_marks = h.room_marks;
+    }
+  where
+    fewer_pushed : ArePushed I after
+    fewer_pushed =
+        let n_after = length_push after x in
+        let e = ap length pushes_is in
+        let same : (i : ℕ) (d : Pair) → i < length after → get_or pushes i d ≡ get_or after i d = λ i d l. ap (λ xs. get_or xs i d) pushes_is ∙ get_or_append_left after (x ∷ []) d i l in
+        record {
+          inside = λ i d l. subst (λ (y : Pair). IsTrue (has_event I y.event)) (same i d l) (h.pushed.inside i d (omega (arith, l, e, n_after)));
+          apart = λ i j d ij jl q. h.pushed.apart i j d ij (omega (arith, jl, e, n_after)) (ap (λ (y : Pair). y.event) (same i d (omega (arith, ij, jl))) ∙ q ∙ ap (λ (y : Pair). y.event) (sym (same j d jl)));
+        }
+
+-- ---- what is read
+
+-- the rows hold no pair of a number that is no event
+pub none_at : (I : Network) (pushes : List Pair) (links : Links) (s : Supports) (e r : ℕ) → AreSettled I pushes links s → place_of links.events e ≡ None → InDomains I pushes e r → ⊥
+none_at I pushes links s e r h none i = false≢true (sym (ap (λ o. option_map_or (λ p. has_at s.rows p r) o false) none) ∙ (h.domains.exact e r).1 i)
+
+-- the row at the place of an event is its domain
+pub row_domain : (I : Network) (pushes : List Pair) (links : Links) (s : Supports) (e p : ℕ) (row : List Bool) → AreSettled I pushes links s → place_of links.events e ≡ Some p → row ≡ get_or s.rows p [] → length row ≡ s.period → IsDomain I pushes e row
+row_domain I pushes links s e p row h at is long =
+    record {
+      long = long ∙ h.fits.period;
+      exact = λ r.
+          let same : rows_of links s e r ≡ get_or row r false = numbered_at links.events (has_at s.rows) e p r at ∙ ap (λ bits. get_or bits r false) (sym is) in
+          ((λ i. (h.domains.exact e r).0 (same ∙ i)), (λ i. sym same ∙ (h.domains.exact e r).1 i));
+    }

@@ -1,0 +1,177 @@
+-- Domains from full rows.
+use Rattle.std.proofs.Common.{◌≡◌, ◌≢◌, ℕ, ◌+◌, ◌-◌, ◌%◌, ◌<◌, ◌==◌, ◌&&◌, ◌||◌, not, nat_lt, Bool, true, false, List, [], ◌∷◌, Option, Some, None, is_some, length, refl, sym, ap, subst, ◌∙◌, inl, inr, arith, IsTrue, if◌then◌else◌}
+use Rattle.std.specs.List.{Contains}
+use Rattle.std.specs.Option.{option_and_then, option_map_or}
+use Rattle.std.proofs.lemmas.Bool.{and_from, and_parts, cases_eq, cases_lt, eq-eqb, le-ltb, lt-ltb, ne_eqb, false≢true}
+use Rattle.std.proofs.lemmas.List.Elements.{All-contains}
+use Rattle.pesp_base.specs.Numbered.{with_number}
+use Rattle.pesp_instance.specs.declared.event.Event.{Event}
+use Rattle.pesp_instance.specs.Network.{IsNetwork, Network, agrees_with, event_of, has_event}
+use Rattle.pesp_instance.proofs.Rising.{All-found, Rises, Rises-from_increasing, with_number-above}
+use Rattle.pesp_domains.specs.Sweeps.{AreOpen, Pairs}
+use Rattle.pesp_domains.proofs.Opened.{opened}
+use Rattle.pesp_domains.proofs.Pushes.{limited, open_settles}
+use Rattle.pesp_counts.specs.Counts.{ArePending, KeepsClosed, end_at, has_at, passes}
+use Rattle.pesp_counts.specs.Keeping.{AreAtRest, AreFor, AreLive, AreSettled, rows_of}
+use Rattle.pesp_counts.specs.Links.{Links, StandFor}
+use Rattle.pesp_counts.specs.Places.{numbered, place_of}
+use Rattle.pesp_counts.specs.Supports.{AreExact, AreOut, HaveSameShape, IsTaken, Keeps, Supports}
+use Rattle.pesp_counts.proofs.Bridge.{counts_settle, numbered_at, numbered_same, place_is}
+use Rattle.pesp_counts.proofs.Keeping.{for_linked, for_same, limited_numbered}
+use Rattle.pesp_counts.proofs.Marks.{keeps_like, out_more, pending_rest}
+use Rattle.pesp_counts.proofs.Supporters.{supporters_from}
+use Rattle.pesp_counts.proofs.Taken.{kept_shape, shape_then, taken_fewer, taken_then}
+use Rattle.pesp_counts.proofs.Windows.{mod_above}
+
+-- ---- full rows
+
+abbrev is_full : List (List Bool) → ℕ → Pairs
+is_full rows period p r = nat_lt p (length rows) && nat_lt r period
+
+below_of : (a n : ℕ) → IsTrue (nat_lt a n) → a < n
+below_of a n h =
+    elim (cases_lt a n) [
+      | inl low ↦ low
+      | inr high ↦ absurd (false≢true (sym (le-ltb a n high) ∙ h))
+    ]
+
+pub out_none : (s : Supports) → s.trail ≡ [] → AreOut s s.trail
+out_none s none =
+    rw none
+    (record {
+      out = λ p r i. absurd (false≢true i);
+      within = λ i d l. absurd (omega (arith, l));
+      below = λ i d l. absurd (omega (arith, l));
+      once = λ i j d lt l. absurd (omega (arith, l));
+    })
+
+-- with every residue some passes
+some_passes : (period : ℕ) (first width r : ℕ) → 0 < period → 0 < width → nat_lt (((r + first) % period + (period - (r + first) % period)) % period) width ≡ true
+some_passes period first width r some wide =
+    let low : (r + first) % period < period = omega arith in
+    let whole : (r + first) % period + (period - (r + first) % period) ≡ period = omega (arith, low) in
+    let none : ((r + first) % period + (period - (r + first) % period)) % period ≡ 0 = ap (λ n. n % period) whole ∙ mod_above period period (omega arith) (omega (arith, some)) ∙ omega arith in
+    lt-ltb _ width (omega (arith, none, wide))
+
+full_live : (I : Network) (links : Links) (s : Supports) → AreFor I links s → AreExact links s (has_at s.counted) → ((p r : ℕ) → has_at s.counted p r ≡ is_full s.counted s.period p r) → AreLive links s
+full_live I links s fits exact full p k is r rl here =
+    let end = (for_linked I links s fits).each p k is in
+    let e = end_at links.ends k in
+    let low = fits.fit.counted e.looks_at e.mate end.mate_there in
+    let x : ℕ = (r + e.first) % s.period in
+    let xl : x < s.period = omega (arith, rl) in
+    let there : IsTrue (has_at s.counted e.looks_at x) = full e.looks_at x ∙ and_from _ _ (lt-ltb e.looks_at (length s.counted) low) (lt-ltb x s.period xl) in
+    let some = supporters_from s.period (has_at s.counted e.looks_at) (passes s.period e r) x xl there (some_passes s.period e.first e.width r (omega (arith, rl)) end.some) in
+    subst (λ n. 0 < n) (sym (exact p k is r rl)) some
+
+-- full rows are at rest
+pub full_rest : (I : Network) (links : Links) (s : Supports) → AreFor I links s → AreExact links s (has_at s.counted) → ((p r : ℕ) → has_at s.counted p r ≡ is_full s.counted s.period p r) → ((p r : ℕ) → has_at s.rows p r ≡ is_full s.rows s.period p r) → s.trail ≡ [] → AreAtRest links s
+full_rest I links s fits exact counted rows trail =
+    record {
+      exact = exact;
+      level = λ p r. counted p r ∙ ap (λ n. nat_lt p n && nat_lt r s.period) fits.even ∙ sym (rows p r);
+      live = full_live I links s fits exact counted;
+      below = λ p r i. below_of r s.period (and_parts _ _ (sym (rows p r) ∙ i)).1;
+      out = out_none s trail;
+    }
+
+-- what is settled from an open set are the domains
+pub remade : (I : Network) (links : Links) (s m n : Supports) → IsNetwork I → AreFor I links s → AreAtRest links s → AreOpen I [] (rows_of links m) → IsTaken s m → Keeps s m
+    → ArePending m.period links.ends links.lists n.counts (has_at n.counted) (has_at n.rows) n.trail (length n.trail) → KeepsClosed m.period links.ends links.lists (has_at m.rows) (has_at n.rows) → IsTaken m n → HaveSameShape m n → AreSettled I [] links n
+remade I links s m n network fits rest all taken keeps pending closed more shape =
+    let both = taken_then s m n taken more in
+    let whole = shape_then s m n (kept_shape s m keeps) shape in
+    let after = for_same I links s n whole fits in
+    let at_rest = pending_rest links m n shape.period (λ q r i. let l = rest.below q r (taken_fewer s n both q r i) in omega (arith, l, whole.period)) (out_more s n rest.out rest.below whole both) pending in
+    record {
+      network = network;
+      fits = after;
+      rest = at_rest;
+      domains = open_settles I [] (rows_of links m) (rows_of links n) all
+          (counts_settle I links fits.stand (has_at m.rows) n after.period at_rest (keeps_like links n.period m.period (has_at m.rows) (has_at m.rows) (has_at n.rows) (sym shape.period) (λ p r. refl) closed));
+    }
+
+-- ---- fixed events
+
+abbrev id_of : Event → ℕ
+id_of x = x.id
+
+event_there : (I : Network) (x : Event) → IsNetwork I → Contains I.events x → event_of I x.id ≡ Some x
+event_there I x network is =
+    All-contains (λ y. event_of I y.id ≡ Some y) I.events x (All-found id_of I.events (Rises-from_increasing id_of I.events network.events_rise)) is
+
+-- of an event's residues those that agree with its fixed time are left
+abbrev Agrees : Network → Event → Pairs → Pairs → Type 0
+Agrees I x S S' = (e r : ℕ) → S' e r ≡ (S e r && (not (e == x.id) || agrees_with I.period x.fixed r))
+
+eqb_turn : (a b : ℕ) → (a == b) ≡ (b == a)
+eqb_turn a b =
+    elim (cases_eq a b) [
+      | inl same ↦ eq-eqb a b same ∙ sym (eq-eqb b a (sym same))
+      | inr apart ↦ ne_eqb a b apart ∙ sym (ne_eqb b a (λ same. apart (sym same)))
+    ]
+
+and_all : (b c : Bool) → b ≡ (b && (c || true))
+and_all true true = refl
+and_all true false = refl
+and_all false c = refl
+
+-- where it has none, they stay
+pub agrees_free : (I : Network) (x : Event) (S : Pairs) → x.fixed ≡ None → Agrees I x S S
+agrees_free I x S free e r = rw free (and_all (S e r) (not (e == x.id)))
+
+pub agrees_fixed : (I : Network) (links : Links) (x : Event) (t p : ℕ) (S S' : Pairs) → StandFor I links → x.fixed ≡ Some t → place_of links.events x.id ≡ Some p → ((q r : ℕ) → S' q r ≡ limited S p t q r) → Agrees I x (numbered links.events S) (numbered links.events S')
+agrees_fixed I links x t p S S' stand fixed at is e r =
+    numbered_same links.events (limited S p t) S' is e r
+    ∙ limited_numbered links.events S x.id p t stand.events at e r
+    ∙ ap (λ b. numbered links.events S e r && (not (e == x.id) || b)) (eqb_turn r t)
+    ∙ ap (λ o. numbered links.events S e r && (not (e == x.id) || agrees_with I.period o r)) (sym fixed)
+
+module _ (I : Network) (network : IsNetwork I) (x : Event) (rest : List Event) (S S' : Pairs) (is : Contains I.events x) (rises : Rises id_of (x ∷ rest)) (agrees : Agrees I x S S') where
+  elsewhere : (e r : ℕ) → e ≢ x.id → S' e r ≡ S e r
+  elsewhere e r apart = agrees e r ∙ rw (ne_eqb e x.id apart) (sym (by (S e r)))
+    where
+      by : (b : Bool) → b ≡ (b && (true || agrees_with I.period x.fixed r))
+      by true = refl
+      by false = refl
+
+  -- the events to come still have all their residues
+  pub to_come_more : ((e r : ℕ) → IsTrue (is_some (with_number id_of e (x ∷ rest))) → S e r ≡ nat_lt r I.period) → (e r : ℕ) → IsTrue (is_some (with_number id_of e rest)) → S' e r ≡ nat_lt r I.period
+  to_come_more before e r later =
+      let apart : e ≢ x.id = λ same. false≢true (sym (ap is_some (with_number-above id_of e x.id rest (omega (arith, same)) rises.0)) ∙ later) in
+      elsewhere e r apart ∙ before e r (rw (ne_eqb x.id e (λ same. apart (sym same))) later)
+
+  -- and one more event is done
+  pub done_more : ((e r : ℕ) → IsTrue (is_some (with_number id_of e (x ∷ rest))) → S e r ≡ nat_lt r I.period) → ((e r : ℕ) → with_number id_of e (x ∷ rest) ≡ None → S e r ≡ opened I e r) → (e r : ℕ) → with_number id_of e rest ≡ None → S' e r ≡ opened I e r
+  done_more full before e r none =
+      elim (cases_eq e x.id) [
+        | inr apart ↦ elsewhere e r apart ∙ before e r (rw (ne_eqb x.id e (λ same. apart (sym same))) none)
+        | inl same ↦
+            let found = event_there I x network is in
+            let all : S x.id r ≡ nat_lt r I.period = full x.id r (rw (eq-eqb x.id x.id refl) refl) in
+            let one : S' x.id r ≡ (nat_lt r I.period && agrees_with I.period x.fixed r) = agrees x.id r ∙ rw (eq-eqb x.id x.id refl, all) refl in
+            let want : opened I x.id r ≡ (nat_lt r I.period && agrees_with I.period x.fixed r) = ap (λ o. if is_some o then (nat_lt r I.period && agrees_with I.period (option_and_then (λ (y : Event). y.fixed) o) r) else false) found in
+            ap (λ n. S' n r) same ∙ one ∙ sym want ∙ ap (λ n. opened I n r) (sym same)
+      ]
+
+-- at first all events have all residues
+pub to_come_first : (I : Network) (links : Links) (s : Supports) → AreFor I links s → ((p r : ℕ) → has_at s.rows p r ≡ is_full s.rows s.period p r) → (e r : ℕ) → IsTrue (has_event I e) → rows_of links s e r ≡ nat_lt r I.period
+to_come_first I links s fits full e r event =
+    let p = place_is I links fits.stand e event in
+    numbered_at links.events (has_at s.rows) e p.0 r p.1 ∙ full p.0 r ∙ rw (lt-ltb p.0 (length s.rows) (fits.housed e p.0 p.1), fits.period) refl
+
+pub done_first : (I : Network) (links : Links) (s : Supports) → AreFor I links s → (e r : ℕ) → with_number id_of e I.events ≡ None → rows_of links s e r ≡ opened I e r
+done_first I links s fits e r none =
+    let no_event : has_event I e ≡ false = ap is_some none in
+    rw no_event (by (place_of links.events e) (fits.stand.of_events e ∙ no_event))
+  where
+    by : (o : Option ℕ) → is_some o ≡ false → option_map_or (λ p. has_at s.rows p r) o false ≡ false
+    by None is = refl
+    by (Some p) is = absurd (false≢true (sym is))
+
+-- rows that were filled are at rest
+pub full_as : (I : Network) (links : Links) (before s : Supports) → AreFor I links before → HaveSameShape before s → AreExact links s (has_at s.counted) → ((p r : ℕ) → has_at s.counted p r ≡ is_full before.counted before.period p r) → ((p r : ℕ) → has_at s.rows p r ≡ is_full before.rows before.period p r) → s.trail ≡ [] → AreAtRest links s
+full_as I links before s fits shape exact counted rows trail =
+    full_rest I links s (for_same I links before s shape fits) exact
+    (λ p r. rw (shape.counted, shape.period) (counted p r))
+    (λ p r. rw (shape.rows, shape.period) (rows p r)) trail

@@ -1,0 +1,39 @@
+-- An activity more has its place.
+use Rattle.std.proofs.Common.{◌∷◌, ◌++◌, [], ◌∙◌, sym, append_assoc}
+use Rattle.pesp_counts.proofs.Filled.{activity_absent, activity_made}
+use Rattle.pesp_counts.proofs.keeper.filled.house_activities.Goals as goal
+
+pub house_activity-requires-clause-stands : goal.house_activity-requires-clause-stands
+house_activity-requires-clause-stands c =
+    let I = c.args.instance.now in
+    let x = c.in-Some.activity.now in
+    let done = rw c.in-Some.ensures.steps at c.loop-activity.invariant.done in (
+      record { period = I.period; events = I.events; activities = done.0 },
+      record { period = I.period; events = I.events; activities = done.0 ++ x ∷ [] },
+      sym c.period.ensures.value,
+      activity_made I done.0 x c.next.new.self c.activities-activity-items.ensures.network done.1,
+      done.2.stand,
+    )
+
+pub house_activity-requires-clause-absent : goal.house_activity-requires-clause-absent
+house_activity-requires-clause-absent c =
+    let I = c.args.instance.now in
+    let done = rw c.in-Some.ensures.steps at c.loop-activity.invariant.done in
+    activity_absent I done.0 c.in-Some.activity.now c.next.new.self c.activities-activity-items.ensures.network done.1 c.loop-activity.links done.2.stand
+
+pub loop-activity-preserved : goal.loop-activity-preserved
+loop-activity-preserved c =
+    let I = c.args.instance.now in
+    let x = c.in-Some.activity.now in
+    let rest = c.next.new.self in
+    let done = rw c.in-Some.ensures.steps at c.loop-activity.invariant.done in
+    record {
+      can_next = tt;
+      is_finite = tt;
+      done = (
+        done.0 ++ x ∷ [],
+        append_assoc done.0 (x ∷ []) rest ∙ done.1,
+        c.in_ok-house_activity.ensures.ok (record { period = I.period; events = I.events; activities = done.0 }) (record { period = I.period; events = I.events; activities = done.0 ++ x ∷ [] }) (sym c.period.ensures.value)
+            (activity_made I done.0 x rest c.activities-activity-items.ensures.network done.1) done.2,
+      );
+    }

@@ -1,0 +1,23 @@
+-- What the pairs before did and what the next one does, one after the other.
+use Rattle.std.proofs.Common.{◌+◌, subst}
+use Rattle.pesp_counts.specs.Counts.{ArePending, KeepsClosed, has_at}
+use Rattle.pesp_counts.proofs.Taken.{fit_then, keeps_then, shape_then, taken_then}
+use Rattle.pesp_counts.proofs.supports.Supports.settle.Goals as goal
+
+pub settle_one-requires-clause-fit : goal.settle_one-requires-clause-fit
+settle_one-requires-clause-fit c = fit_then c.args.links.now c.args.self.now c.loop-next.self c.loop-next.invariant.shape c.requires.fit
+
+pub loop-next-preserved : goal.loop-next-preserved
+loop-next-preserved c =
+    let start = c.args.self.now in
+    let links = c.args.links.now in
+    let now = c.loop-next.self in
+    let after = c.settle_one.new.self in
+    let inv = c.loop-next.invariant in
+    record {
+      pending = subst (λ n. ArePending n links.ends links.lists after.counts (has_at after.counted) (has_at after.rows) after.trail (c.loop-next.next + 1)) inv.shape.period c.settle_one.ensures.pending;
+      keeps = keeps_then start.period links.ends links.lists (has_at start.rows) (has_at now.rows) (has_at after.rows) inv.keeps
+          (subst (λ n. KeepsClosed n links.ends links.lists (has_at now.rows) (has_at after.rows)) inv.shape.period c.settle_one.ensures.keeps);
+      taken = taken_then start now after inv.taken c.settle_one.ensures.taken;
+      shape = shape_then start now after inv.shape c.settle_one.ensures.shape;
+    }

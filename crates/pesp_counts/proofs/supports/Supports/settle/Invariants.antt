@@ -1,0 +1,16 @@
+-- The pairs of the trail before the next one are counted out.
+use Rattle.std.proofs.Common.{◌-◌}
+use Rattle.pesp_counts.specs.Counts.{ArePending, KeepsClosed, has_at}
+use Rattle.pesp_counts.specs.Supports.{HaveSameShape, IsTaken}
+use Rattle.pesp_counts.proofs.supports.Supports.settle.Given as goal
+
+abbrev pub invariant-loop-next : goal.invariant-loop-next
+invariant-loop-next l = record {
+  pending : ArePending l.fn.self.period l.links.ends l.links.lists l.self.counts (has_at l.self.counted) (has_at l.self.rows) l.self.trail l.next;
+  keeps : KeepsClosed l.fn.self.period l.links.ends l.links.lists (has_at l.fn.self.rows) (has_at l.self.rows);
+  taken : IsTaken l.fn.self l.self;
+  shape : HaveSameShape l.fn.self l.self;
+}
+
+abbrev pub decreases-loop-next : goal.decreases-loop-next
+decreases-loop-next l = l.self.room - l.next

@@ -1,0 +1,121 @@
+-- What a keeper by counts keeps.
+use Rattle.std.specs.Prelude.{◌≡◌, ◌≢◌, ℕ, ◌<◌, ◌≤◌, Bool, true, false, ◌||◌, List, [], Some, Ok, length, slice_index_or, take, drop}
+use Rattle.std.specs.List.{Contains}
+use Rattle.pesp_instance.specs.declared.edit.Edit.{Edit}
+use Rattle.pesp_instance.specs.declared.edit.Edit.TheVariants.{AddEvent, DropEvent, Fix, Unfix, AddActivity, DropActivity, SetSpan, SetWeight, SetEnds}
+use Rattle.pesp_instance.specs.Edited.{edited}
+use Rattle.pesp_instance.specs.Network.{IsNetwork, Network}
+use Rattle.pesp_domains.specs.declared.pair.Pair.{Pair}
+use Rattle.pesp_domains.specs.Kept.{ArePushed}
+use Rattle.pesp_domains.proofs.Pushes.{limited}
+use Rattle.pesp_domains.specs.Sweeps.{AreDomains, Of, Pairs}
+use Rattle.pesp_counts.specs.declared.trail.Placed.{Placed}
+use Rattle.pesp_counts.specs.Counts.{IsExactAt, IsLiveAt, KeepsClosed, end_at, ends_of, has_at}
+use Rattle.pesp_counts.specs.Links.{Links, StandFor}
+use Rattle.pesp_counts.specs.Places.{numbered, place_of}
+use Rattle.pesp_counts.specs.Reached.{starts}
+use Rattle.pesp_counts.specs.Supports.{AreExact, AreLevel, AreOut, Fit, HaveSameShape, IsTaken, Supports, is_in}
+
+-- the ends stand for the instance, and there are rows and counts for them
+pub record AreFor (I : Network) (links : Links) (s : Supports) : Type 0 where
+  pub period : s.period ≡ I.period
+  pub stand : StandFor I links
+  pub fit : Fit links s
+  pub housed : (e p : ℕ) → place_of links.events e ≡ Some p → p < length s.rows
+  pub counted : (e p : ℕ) → place_of links.events e ≡ Some p → p < length s.counted
+  pub even : length s.counted ≡ length s.rows
+
+-- each pair of the rows has a count above 0 at each end at its place
+abbrev pub AreLive : Links → Supports → Type 0
+AreLive links s = (p k : ℕ) → Contains (ends_of links.lists p) k → IsLiveAt s.period s.counts (has_at s.rows) p k
+
+-- nothing waits to be counted out, and what was taken out stands in the trail
+pub record AreAtRest (links : Links) (s : Supports) : Type 0 where
+  pub exact : AreExact links s (has_at s.counted)
+  pub level : AreLevel s
+  pub live : AreLive links s
+  pub below : (p r : ℕ) → Of (has_at s.rows) p r → r < s.period
+  pub out : AreOut s s.trail
+
+-- the rows, by number
+abbrev pub rows_of : Links → Supports → Pairs
+rows_of links s = numbered links.events (has_at s.rows)
+
+-- the counts are those of the rows, and the rows are the domains
+pub record AreSettled (I : Network) (pushes : List Pair) (links : Links) (s : Supports) : Type 0 where
+  pub network : IsNetwork I
+  pub fits : AreFor I links s
+  pub rest : AreAtRest links s
+  pub domains : AreDomains I pushes (rows_of links s)
+
+-- all pairs but one of a place go, and of the others those that are left without a partner
+pub record IsNarrowed (links : Links) (p r : ℕ) (before after : Supports) : Type 0 where
+  pub rest : AreAtRest links after
+  pub taken : IsTaken before after
+  pub shape : HaveSameShape before after
+  pub keeps : KeepsClosed before.period links.ends links.lists (limited (has_at before.rows) p r) (has_at after.rows)
+
+-- at each listed end but one and its mate nothing waits to be counted out, and nothing was taken out yet
+pub record AreAtRestBut (links : Links) (s : Supports) (end : ℕ) : Type 0 where
+  pub exact : (p k : ℕ) → Contains (ends_of links.lists p) k → k ≢ end → k ≢ (end_at links.ends end).mate → IsExactAt s.period links.ends s.counts (has_at s.counted) k
+  pub live : (p k : ℕ) → Contains (ends_of links.lists p) k → k ≢ end → k ≢ (end_at links.ends end).mate → IsLiveAt s.period s.counts (has_at s.rows) p k
+  pub level : AreLevel s
+  pub below : (p r : ℕ) → Of (has_at s.rows) p r → r < s.period
+  pub trail : s.trail ≡ []
+
+-- whether the edit adds an event or an activity
+abbrev pub adds : Edit → Bool
+adds (AddEvent e) = true
+adds (AddActivity a) = true
+adds (DropEvent e) = false
+adds (Fix e t) = false
+adds (Unfix e) = false
+adds (DropActivity n) = false
+adds (SetSpan n span) = false
+adds (SetWeight n weight) = false
+adds (SetEnds n from to) = false
+
+-- the rows were the domains of an instance of which the edit made this one, and nothing is known any more of what was taken out
+pub record WereSettled (J : Network) (edit : Edit) (links : Links) (s : Supports) : Type 0 where
+  pub before : Network
+  pub made : edited before edit ≡ Ok J
+  pub settled : AreSettled before [] links s
+  pub trail : s.trail ≡ []
+
+-- and the edit brings no pair back
+pub record WereTight (J : Network) (edit : Edit) (links : Links) (s : Supports) : Type 0 where
+  pub were : WereSettled J edit links s
+  pub tight : starts were.before edit ≡ []
+
+-- events and listed ends are as before
+pub record SeeSame (before after : Links) : Type 0 where
+  pub events : (e : ℕ) → place_of after.events e ≡ place_of before.events e
+  pub ends : (p k : ℕ) → Contains (ends_of after.lists p) k → end_at after.ends k ≡ end_at before.ends k
+  pub lists : (p k : ℕ) → Contains (ends_of after.lists p) k → Contains (ends_of before.lists p) k
+
+-- an event has a place that none had, and nothing else changes
+pub record IsHousedAt (before after : Links) (event p : ℕ) : Type 0 where
+  pub place : place_of after.events event ≡ Some p
+  pub fresh : (e : ℕ) → place_of before.events e ≡ Some p → ⊥
+  pub others : (e : ℕ) → e ≢ event → place_of after.events e ≡ place_of before.events e
+  pub ends : after.ends ≡ before.ends
+  pub lists : (q : ℕ) → ends_of after.lists q ≡ ends_of before.lists q
+
+-- the pairs of the rows, and those of a list
+abbrev pub with_pairs : Supports → List Placed → Pairs
+with_pairs s pairs p r = has_at s.rows p r || is_in pairs p r
+
+-- where the trail stood before each push: what was taken out since then makes the rows those before the push
+pub record AreMarks (I : Network) (pushes : List Pair) (links : Links) (s : Supports) (marks : List ℕ) : Type 0 where
+  pub long : length marks ≡ length pushes
+  pub within : (i d : ℕ) → i < length marks → slice_index_or marks i d ≤ length s.trail
+  pub rising : (i j d : ℕ) → i ≤ j → j < length marks → slice_index_or marks i d ≤ slice_index_or marks j d
+  pub domains : (i d : ℕ) → i < length marks → AreDomains I (take i pushes) (numbered links.events (with_pairs s (drop (slice_index_or marks i d) s.trail)))
+
+-- the rows are the domains, each push can be undone, and there is room for a push and a mark for each event
+pub record IsKeeping (I : Network) (pushes : List Pair) (marks : List ℕ) (links : Links) (s : Supports) (for_pushed for_marks : ℕ) : Type 0 where
+  pub settled : AreSettled I pushes links s
+  pub pushed : ArePushed I pushes
+  pub marked : AreMarks I pushes links s marks
+  pub room_pushed : length I.events ≤ for_pushed
+  pub room_marks : length I.events ≤ for_marks

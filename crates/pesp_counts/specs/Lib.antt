@@ -1,0 +1,11 @@
+pub mod Counts
+pub mod Keeping
+pub mod Lists
+pub mod Links
+pub mod Loosened
+pub mod Places
+pub mod Ranges
+pub mod Reached
+pub mod Shared
+pub mod Support
+pub mod Supports

@@ -1,0 +1,58 @@
+//! Places, rows and counts for all events and activities of an instance.
+
+ghost use Rattle.std.specs.Prelude.{◌≡◌, [], OnOk};
+ghost use Rattle.pesp_instance.specs.Network.{Network};
+ghost use Rattle.pesp_counts.specs.Keeping.{AreFor};
+ghost use Rattle.pesp_counts.specs.Links.{no_links};
+ghost use Rattle.pesp_counts.specs.Supports.{Supports};
+
+use super::grown::{house_activity, house_event};
+use crate::links::Links;
+use crate::supports::Supports;
+use pesp_instance::Instance;
+use std::alloc::{AllocError, Global};
+
+/// Gives each event a place and empty rows.
+fn house_events(
+    alloc: Global,
+    instance: &Instance,
+    links: &mut Links,
+    supports: &mut Supports,
+) -> Result<(), AllocError>
+    requires { AreFor (record instance.now { events = []; activities = [] }) links.old supports.old }
+    ensures { OnOk result (AreFor (record instance.now { activities = [] }) links.new supports.new) }
+{
+    for event in instance.events() {
+        house_event(alloc, links, supports, event.id)?;
+    }
+    Ok(())
+}
+
+/// Gives each activity a place, and its ends counts.
+fn house_activities(
+    instance: &Instance,
+    links: &mut Links,
+    supports: &mut Supports,
+) -> Result<(), AllocError>
+    requires { AreFor (record instance.now { activities = [] }) links.old supports.old }
+    ensures { OnOk result (AreFor instance.now links.new supports.new) }
+{
+    for activity in instance.activities() {
+        house_activity(instance.period(), links, supports, activity)?;
+    }
+    Ok(())
+}
+
+/// Gives each event and each activity a place, and room in rows and counts.
+pub fn house(
+    alloc: Global,
+    instance: &Instance,
+    links: &mut Links,
+    supports: &mut Supports,
+) -> Result<(), AllocError>
+    requires { AreFor (record instance.now { events = []; activities = [] }) links.old supports.old }
+    ensures { OnOk result (AreFor instance.now links.new supports.new) }
+{
+    house_events(alloc, instance, links, supports)?;
+    house_activities(instance, links, supports)
+}

@@ -1,0 +1,48 @@
+//! Events of which one residue alone is left.
+
+ghost use Rattle.std.specs.Prelude.{◌≡◌, ◌<◌, ◌&&◌, ℕ, [], Some, IsSome, length, nat_lt};
+ghost use Rattle.pesp_instance.specs.Network.{IsNetwork};
+ghost use Rattle.pesp_domains.specs.Sweeps.{AreOpen};
+ghost use Rattle.pesp_counts.specs.Counts.{AreLinked, has_at};
+ghost use Rattle.pesp_counts.specs.Keeping.{AreAtRest, AreFor, IsNarrowed, rows_of};
+ghost use Rattle.pesp_counts.specs.Places.{place_of};
+ghost use Rattle.pesp_counts.specs.Supports.{Fit, IsTaken, Keeps};
+
+use crate::links::Links;
+use crate::supports::Supports;
+use pesp_base::EventId;
+use pesp_instance::Instance;
+
+/// Takes all residues of an event but one out, and of the other pairs those that are left without a partner.
+pub fn limit_event(links: &Links, supports: &mut Supports, event: EventId, residue: u16)
+    requires linked { AreLinked (supports.old).period (links.now).ends (links.now).lists }
+    requires fit { Fit links.now supports.old }
+    requires rest { AreAtRest links.now supports.old }
+    requires place { IsSome (place_of (links.now).events event) }
+    requires housed { (p : ℕ) → place_of (links.now).events event ≡ Some p → p < length (supports.old).rows }
+    ensures { (p : ℕ) → place_of (links.now).events event ≡ Some p → IsNarrowed links.now p residue supports.old supports.new }
+{
+    if let Some(place) = links.event(event) {
+        let mark = supports.mark();
+        supports.limit(place, residue);
+        supports.settle(links, mark);
+    }
+}
+
+/// Takes of each event with a fixed time all residues but this one out.
+pub fn limit_fixed(instance: &Instance, links: &Links, supports: &mut Supports)
+    requires fits { AreFor instance.now links.now supports.old }
+    requires full { (p r : ℕ) → has_at (supports.old).rows p r ≡ (nat_lt p (length (supports.old).rows) && nat_lt r (supports.old).period) }
+    ensures network { IsNetwork instance.now }
+    ensures all { AreOpen instance.now [] (rows_of links.now supports.new) }
+    ensures taken { IsTaken supports.old supports.new }
+    ensures keeps { Keeps supports.old supports.new }
+{
+    for event in instance.events() {
+        if let Some(time) = event.fixed_time() {
+            if let Some(place) = links.event(event.id) {
+                supports.limit(place, time);
+            }
+        }
+    }
+}

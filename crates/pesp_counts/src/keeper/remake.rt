@@ -1,0 +1,19 @@
+//! Domains from full rows.
+
+ghost use Rattle.std.specs.Prelude.{[]};
+ghost use Rattle.pesp_counts.specs.Keeping.{AreFor, AreSettled};
+
+use super::limits::limit_fixed;
+use crate::links::Links;
+use crate::supports::Supports;
+use pesp_instance::Instance;
+
+/// Makes the rows the domains, whatever they were.
+pub fn remake(instance: &Instance, links: &Links, supports: &mut Supports)
+    requires { AreFor instance.now links.now supports.old }
+    ensures { AreSettled instance.now [] links.now supports.new }
+{
+    supports.refill(links);
+    limit_fixed(instance, links, supports);
+    supports.settle(links, 0);
+}

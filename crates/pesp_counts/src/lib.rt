@@ -1,0 +1,19 @@
+//! Domains kept by support counts.
+#![tactic(auto)]
+
+mod counting;
+mod counts;
+mod end;
+mod growing;
+mod keeper;
+mod links;
+mod lists;
+mod places;
+mod raising;
+mod supports;
+mod taking;
+mod trail;
+
+use end::End;
+pub use keeper::CountKeeper;
+use trail::Placed;
