@@ -1,44 +1,22 @@
 //! A workbench on the worked examples: its optimum is found, kept and forgotten.
 
-use crate::made::{activity, event, id, span};
-use pesp_base::{Period, Refusal};
+use crate::made::{event, id, span, two_activities};
+use pesp_base::Refusal;
 use pesp_bench::{Attempt, Bench};
+use pesp_counts::CountKeeper;
 use pesp_domains::{Keeper, PlainKeeper};
-use pesp_instance::{Edit, Instance};
+use pesp_instance::Edit;
 use pesp_search::Answer;
 use pesp_tension::{Timetable, Violation};
 use std::process::Abort;
 
-fn bench(rt: &(impl Abort + AllocGlobal)) -> Bench<PlainKeeper> {
-    let period = Period::new(10).expect(rt, "a period");
-    let kept = PlainKeeper::from_instance(rt.alloc(), Instance::new(rt.alloc(), period));
-    Bench::new(rt.alloc(), kept.ok().expect(rt, "memory"))
-}
-
-fn edit(rt: &impl Abort, bench: &mut Bench<PlainKeeper>, edit: Edit) {
+fn edit<K: Keeper>(rt: &impl Abort, bench: &mut Bench<K>, edit: Edit) {
     assert_eq!(rt; bench.apply(&edit), Ok(()));
 }
 
-fn add_activity(
-    rt: &impl Abort,
-    bench: &mut Bench<PlainKeeper>,
-    number: u32,
-    ends: (u32, u32),
-    bounds: (i32, i32),
-    weight: u32,
-) {
-    let activity = activity(rt, number, ends, bounds, weight);
-    edit(rt, bench, Edit::AddActivity(activity));
-}
-
-/// Two events and an activity each way between them.
-fn two_activities(rt: &(impl Abort + AllocGlobal)) -> Bench<PlainKeeper> {
-    let mut bench = bench(rt);
-    edit(rt, &mut bench, Edit::AddEvent(event(rt, 1)));
-    edit(rt, &mut bench, Edit::AddEvent(event(rt, 2)));
-    add_activity(rt, &mut bench, 1, (1, 2), (3, 5), 2);
-    add_activity(rt, &mut bench, 2, (2, 1), (4, 6), 1);
-    bench
+/// A workbench of the two activities.
+fn bench<K: Keeper>(rt: &(impl Abort + AllocGlobal)) -> Bench<K> {
+    Bench::new(rt.alloc(), two_activities(rt))
 }
 
 fn assert_times(rt: &impl Abort, times: &Timetable, wanted: &[(u32, u16)], message: &str) {
@@ -48,9 +26,9 @@ fn assert_times(rt: &impl Abort, times: &Timetable, wanted: &[(u32, u16)], messa
     assert_eq!(rt; times.walk().count(), wanted.len(), "{message}");
 }
 
-fn assert_known(
+fn assert_known<K: Keeper>(
     rt: &impl Abort,
-    bench: &Bench<PlainKeeper>,
+    bench: &Bench<K>,
     cost: u64,
     wanted: &[(u32, u16)],
     message: &str,
@@ -65,9 +43,9 @@ fn assert_known(
     }
 }
 
-fn assert_domain(
+fn assert_domain<K: Keeper>(
     rt: &(impl Abort + AllocGlobal),
-    bench: &Bench<PlainKeeper>,
+    bench: &Bench<K>,
     number: u32,
     wanted: &[u16],
     message: &str,
@@ -82,32 +60,36 @@ fn assert_domain(
     assert_eq!(rt; row.len(), wanted.len(), "{message}");
 }
 
-#[test]
-fn optimum_is_found_and_kept(rt: HostRuntime) {
-    let mut bench = two_activities(&rt);
+fn optimum_is_found_and_kept_by<K: Keeper, R: Abort + AllocGlobal>(rt: &R) {
+    let mut bench: Bench<K> = bench(rt);
     assert!(rt; bench.known().is_none(), "before the search");
     assert_eq!(rt; bench.last_nodes(), 0);
     assert!(rt; bench.optimum(rt.alloc()).is_ok(), "memory");
     let optimum: &[(u32, u16)] = &[(1, 0), (2, 4)];
-    assert_known(&rt, &bench, 4, optimum, "the optimum");
+    assert_known(rt, &bench, 4, optimum, "the optimum");
     assert!(rt; bench.last_nodes() > 0, "nodes of the search");
     assert_eq!(rt; bench.find_optimum(rt.alloc()), Ok(()));
     assert_eq!(rt; bench.last_nodes(), 0, "a known one serves");
-    edit(&rt, &mut bench, Edit::SetSpan(id(&rt, 1), span(&rt, 3, 3)));
+    edit(rt, &mut bench, Edit::SetSpan(id(rt, 1), span(rt, 3, 3)));
     assert!(rt; bench.known().is_none(), "an edit forgets it");
     assert_eq!(rt; bench.find_optimum(rt.alloc()), Ok(()));
     assert!(rt; matches!(bench.known(), Some(Answer::Infeasible)), "3 to 3");
 }
 
 #[test]
-fn optimum_leaves_all_but_what_is_known(rt: HostRuntime) {
-    let mut bench = two_activities(&rt);
-    assert_eq!(rt; bench.set_time(event(&rt, 1), 7), Ok(()));
+fn optimum_is_found_and_kept(rt: HostRuntime) {
+    optimum_is_found_and_kept_by::<PlainKeeper, _>(&rt);
+    optimum_is_found_and_kept_by::<CountKeeper, _>(&rt);
+}
+
+fn optimum_leaves_all_but_what_is_known_by<K: Keeper, R: Abort + AllocGlobal>(rt: &R) {
+    let mut bench: Bench<K> = bench(rt);
+    assert_eq!(rt; bench.set_time(event(rt, 1), 7), Ok(()));
     let served: &[(bool, &str)] = &[(false, "found"), (true, "known before")];
     for (is_known, message) in served {
         assert!(rt; bench.optimum(rt.alloc()).is_ok(), "{message}: memory");
-        assert_known(&rt, &bench, 4, &[(1, 0), (2, 4)], message);
-        assert_times(&rt, bench.timetable(), &[(1, 7)], message);
+        assert_known(rt, &bench, 4, &[(1, 0), (2, 4)], message);
+        assert_times(rt, bench.timetable(), &[(1, 7)], message);
         assert_eq!(rt; bench.last_nodes() == 0, *is_known, "{message}");
         assert_eq!(rt; bench.instance().event_count(), 2, "{message}");
         assert_eq!(rt; bench.instance().activity_count(), 2, "{message}");
@@ -115,77 +97,103 @@ fn optimum_leaves_all_but_what_is_known(rt: HostRuntime) {
 }
 
 #[test]
-fn limited_tries(rt: HostRuntime) {
-    let mut bench = two_activities(&rt);
+fn optimum_leaves_all_but_what_is_known(rt: HostRuntime) {
+    optimum_leaves_all_but_what_is_known_by::<PlainKeeper, _>(&rt);
+    optimum_leaves_all_but_what_is_known_by::<CountKeeper, _>(&rt);
+}
+
+fn limited_tries_by<K: Keeper, R: Abort + AllocGlobal>(rt: &R) {
+    let mut bench: Bench<K> = bench(rt);
     let tried = bench.try_optimum(rt.alloc(), 0);
     assert!(rt; matches!(tried, Ok(Attempt::Stopped(None))), "limit 0");
     let tried = bench.try_optimum(rt.alloc(), 1_000_000);
     assert!(rt; matches!(tried, Ok(Attempt::Done)), "limit 1,000,000");
-    assert_known(&rt, &bench, 4, &[(1, 0), (2, 4)], "the optimum");
+    assert_known(rt, &bench, 4, &[(1, 0), (2, 4)], "the optimum");
     let tried = bench.try_optimum(rt.alloc(), 0);
     assert!(rt; matches!(tried, Ok(Attempt::Done)), "limit 0 again");
     assert_eq!(rt; bench.last_nodes(), 0);
 }
 
 #[test]
-fn working_timetable(rt: HostRuntime) {
-    let mut bench = two_activities(&rt);
-    let one = event(&rt, 1);
-    let two = event(&rt, 2);
+fn limited_tries(rt: HostRuntime) {
+    limited_tries_by::<PlainKeeper, _>(&rt);
+    limited_tries_by::<CountKeeper, _>(&rt);
+}
+
+fn working_timetable_by<K: Keeper, R: Abort + AllocGlobal>(rt: &R) {
+    let mut bench: Bench<K> = bench(rt);
+    let one = event(rt, 1);
+    let two = event(rt, 2);
     assert_eq!(rt; bench.set_time(one, 0), Ok(()));
     assert_eq!(rt; bench.set_time(two, 12), Err(Refusal::TimeOutOfRange(12)));
     assert_eq!(rt;
-        bench.set_time(event(&rt, 3), 12),
-        Err(Refusal::NoEvent(event(&rt, 3)))
+        bench.set_time(event(rt, 3), 12),
+        Err(Refusal::NoEvent(event(rt, 3)))
     );
     assert_eq!(rt; bench.cost(), Err(Refusal::MissingTime(two)));
     assert_eq!(rt; bench.set_time(two, 3), Ok(()));
     assert_eq!(rt; bench.cost(), Ok(3));
-    let tensions = bench.tensions(rt.alloc()).ok().expect(&rt, "memory");
+    let tensions = bench.tensions(rt.alloc()).ok().expect(rt, "memory");
     assert_eq!(rt; tensions.len(), 2);
-    let violations = bench.violations(rt.alloc()).ok().expect(&rt, "memory");
+    let violations = bench.violations(rt.alloc()).ok().expect(rt, "memory");
     assert_eq!(rt;
         violations.as_slice(),
-        [Violation::Activity(id(&rt, 2))].as_slice()
+        [Violation::Activity(id(rt, 2))].as_slice()
     );
     assert_eq!(rt; bench.clear_time(two), Ok(()));
     assert_eq!(rt; bench.clear_time(two), Err(Refusal::MissingTime(two)));
     assert_eq!(rt;
-        bench.clear_time(event(&rt, 3)),
-        Err(Refusal::NoEvent(event(&rt, 3)))
+        bench.clear_time(event(rt, 3)),
+        Err(Refusal::NoEvent(event(rt, 3)))
     );
     assert_eq!(rt; bench.adopt(rt.alloc()), Ok(()));
-    assert_times(&rt, bench.timetable(), &[(1, 0), (2, 4)], "adopted");
+    assert_times(rt, bench.timetable(), &[(1, 0), (2, 4)], "adopted");
     assert_eq!(rt; bench.cost(), Ok(4));
-    edit(&rt, &mut bench, Edit::SetSpan(id(&rt, 1), span(&rt, 3, 3)));
+    edit(rt, &mut bench, Edit::SetSpan(id(rt, 1), span(rt, 3, 3)));
     assert_eq!(rt; bench.adopt(rt.alloc()), Err(Refusal::Infeasible));
     assert_eq!(rt; bench.cost(), Ok(4));
 }
 
 #[test]
-fn dropped_event_has_no_time(rt: HostRuntime) {
-    let mut bench = two_activities(&rt);
-    let three = event(&rt, 3);
-    edit(&rt, &mut bench, Edit::AddEvent(three));
+fn working_timetable(rt: HostRuntime) {
+    working_timetable_by::<PlainKeeper, _>(&rt);
+    working_timetable_by::<CountKeeper, _>(&rt);
+}
+
+fn dropped_event_has_no_time_by<K: Keeper, R: Abort + AllocGlobal>(rt: &R) {
+    let mut bench: Bench<K> = bench(rt);
+    let three = event(rt, 3);
+    edit(rt, &mut bench, Edit::AddEvent(three));
     assert_eq!(rt; bench.set_time(three, 5), Ok(()));
-    edit(&rt, &mut bench, Edit::DropEvent(three));
-    edit(&rt, &mut bench, Edit::AddEvent(three));
+    edit(rt, &mut bench, Edit::DropEvent(three));
+    edit(rt, &mut bench, Edit::AddEvent(three));
     assert_eq!(rt; bench.timetable().get(three), None);
-    let refused = Err(Refusal::EventInUse(event(&rt, 2), id(&rt, 1)));
-    assert_eq!(rt; bench.apply(&Edit::DropEvent(event(&rt, 2))), refused);
+    let refused = Err(Refusal::EventInUse(event(rt, 2), id(rt, 1)));
+    assert_eq!(rt; bench.apply(&Edit::DropEvent(event(rt, 2))), refused);
     assert_eq!(rt; bench.instance().event_count(), 3);
 }
 
 #[test]
-fn fixed_event_narrows_domains(rt: HostRuntime) {
-    let mut bench = two_activities(&rt);
-    edit(&rt, &mut bench, Edit::Fix(event(&rt, 1), 0));
-    assert_domain(&rt, &bench, 1, &[0], "event 1 at 0");
-    assert_domain(&rt, &bench, 2, &[4, 5], "event 2 with it");
-    assert!(rt; bench.domain(event(&rt, 3)).is_err(), "no event");
-    assert!(rt; bench.keeper().holds(event(&rt, 2), 4), "by the keeper");
-    edit(&rt, &mut bench, Edit::Unfix(event(&rt, 1)));
+fn dropped_event_has_no_time(rt: HostRuntime) {
+    dropped_event_has_no_time_by::<PlainKeeper, _>(&rt);
+    dropped_event_has_no_time_by::<CountKeeper, _>(&rt);
+}
+
+fn fixed_event_narrows_domains_by<K: Keeper, R: Abort + AllocGlobal>(rt: &R) {
+    let mut bench: Bench<K> = bench(rt);
+    edit(rt, &mut bench, Edit::Fix(event(rt, 1), 0));
+    assert_domain(rt, &bench, 1, &[0], "event 1 at 0");
+    assert_domain(rt, &bench, 2, &[4, 5], "event 2 with it");
+    assert!(rt; bench.domain(event(rt, 3)).is_err(), "no event");
+    assert!(rt; bench.keeper().holds(event(rt, 2), 4), "by the keeper");
+    edit(rt, &mut bench, Edit::Unfix(event(rt, 1)));
     let all: &[u16] = &[0, 1, 2, 3, 4, 5, 6, 7, 8, 9];
-    assert_domain(&rt, &bench, 1, all, "unfixed");
-    assert_domain(&rt, &bench, 2, all, "unfixed");
+    assert_domain(rt, &bench, 1, all, "unfixed");
+    assert_domain(rt, &bench, 2, all, "unfixed");
+}
+
+#[test]
+fn fixed_event_narrows_domains(rt: HostRuntime) {
+    fixed_event_narrows_domains_by::<PlainKeeper, _>(&rt);
+    fixed_event_narrows_domains_by::<CountKeeper, _>(&rt);
 }

@@ -1,8 +1,9 @@
-//! The worked examples, by runs over memory.
+//! The worked examples, by runs over memory with each keeper.
 
 use crate::{Noted, RunFault, run};
 use pesp_base::Period;
-use pesp_domains::PlainKeeper;
+use pesp_counts::CountKeeper;
+use pesp_domains::{Keeper, PlainKeeper};
 use std::alloc::Global;
 use std::test::Fail;
 
@@ -29,17 +30,17 @@ fn alone(period: u16, activities: &'static str) -> Given {
     }
 }
 
-/// What a run over memory ends with, behind its output.
-fn ran(
+/// What a run over memory with a keeper ends with, and its output.
+fn answered<K: Keeper>(
     alloc: Global,
     given: Given,
     input: &[u8],
-    output: &mut Vec<u8>,
-) -> Result<Option<RunFault>, Fail> {
+) -> Result<(Option<RunFault>, Vec<u8>), Fail> {
     let period = Period::new(given.period).ok_or("no period")?;
+    let mut output = Vec::new(alloc);
     let mut reader = Noted::new(input);
-    let mut writer = Noted::new(output);
-    let ended = run::<PlainKeeper, _, _>(
+    let mut writer = Noted::new(&mut output);
+    let ended = run::<K, _, _>(
         alloc,
         period,
         given.activities.as_bytes(),
@@ -48,7 +49,7 @@ fn ran(
         &mut reader,
         &mut writer,
     );
-    Ok(ended.err())
+    Ok((ended.err(), output))
 }
 
 #[test]
@@ -154,10 +155,12 @@ fn domains_and_optima(rt: HostRuntime) -> Result<(), Fail> {
         ),
     ];
     for (name, given, input, wanted) in table {
-        let mut output = Vec::new(rt.alloc());
-        let ended = ran(rt.alloc(), given, input.as_bytes(), &mut output)?;
-        assert_eq!(rt; ended, None, "{name}");
-        assert_eq!(rt; output.as_slice(), wanted.as_bytes(), "{name}");
+        let plain = answered::<PlainKeeper>(rt.alloc(), given, input.as_bytes())?;
+        let counts = answered::<CountKeeper>(rt.alloc(), given, input.as_bytes())?;
+        for (keeper, (ended, output)) in [("PlainKeeper", plain), ("CountKeeper", counts)] {
+            assert_eq!(rt; ended, None, "{keeper}: {name}");
+            assert_eq!(rt; output.as_slice(), wanted.as_bytes(), "{keeper}: {name}");
+        }
     }
     Ok(())
 }
@@ -222,10 +225,12 @@ fn texts_and_times(rt: HostRuntime) -> Result<(), Fail> {
         ),
     ];
     for (name, given, input, wanted) in table {
-        let mut output = Vec::new(rt.alloc());
-        let ended = ran(rt.alloc(), given, input.as_bytes(), &mut output)?;
-        assert_eq!(rt; ended, None, "{name}");
-        assert_eq!(rt; output.as_slice(), wanted.as_bytes(), "{name}");
+        let plain = answered::<PlainKeeper>(rt.alloc(), given, input.as_bytes())?;
+        let counts = answered::<CountKeeper>(rt.alloc(), given, input.as_bytes())?;
+        for (keeper, (ended, output)) in [("PlainKeeper", plain), ("CountKeeper", counts)] {
+            assert_eq!(rt; ended, None, "{keeper}: {name}");
+            assert_eq!(rt; output.as_slice(), wanted.as_bytes(), "{keeper}: {name}");
+        }
     }
     Ok(())
 }
@@ -243,10 +248,12 @@ fn longest_line(rt: HostRuntime) -> Result<(), Fail> {
     for (length, wanted, text) in table {
         let mut input = Vec::from_elem(rt.alloc(), b' ', 5 + length)?;
         input[..5].copy_from_slice(b"cost\n");
-        let mut output = Vec::new(rt.alloc());
-        let ended = ran(rt.alloc(), alone(10, TWO), input.as_slice(), &mut output)?;
-        assert_eq!(rt; ended, wanted, "{length}");
-        assert_eq!(rt; output.as_slice(), text.as_bytes(), "{length}");
+        let plain = answered::<PlainKeeper>(rt.alloc(), alone(10, TWO), input.as_slice())?;
+        let counts = answered::<CountKeeper>(rt.alloc(), alone(10, TWO), input.as_slice())?;
+        for (keeper, (ended, output)) in [("PlainKeeper", plain), ("CountKeeper", counts)] {
+            assert_eq!(rt; ended, wanted, "{keeper}: {length}");
+            assert_eq!(rt; output.as_slice(), text.as_bytes(), "{keeper}: {length}");
+        }
     }
     Ok(())
 }
