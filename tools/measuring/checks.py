@@ -1,0 +1,80 @@
+"""What a check takes, and reading alone."""
+
+import sys
+
+from measuring.counting import count, peak, run
+from measuring.network import PERIOD, Numbers, activity_rows, events_of, fixed_rows, text_of
+
+SHOWN_FUNCTIONS = 25
+COUNTED = ["check", "reading"]
+
+
+def write_files(folder, rows):
+    """The words of a check and of a run that reads alone, and the number of events."""
+    numbers = Numbers(rows)
+    events = events_of(rows)
+    times = [numbers.below(PERIOD) for _ in range(events)]
+    texts = {
+        "activities": text_of(activity_rows(numbers, rows, times)),
+        "fixed": text_of(fixed_rows(numbers, times)),
+        "times": text_of(enumerate(times)),
+    }
+    texts["reading"] = texts["times"] + "0\n"
+    paths = {name: folder / f"{name}.{rows}" for name in texts}
+    for name, path in paths.items():
+        path.write_text(texts[name])
+    given = ["--period", str(PERIOD), "--check", "--fixed", paths["fixed"], paths["activities"]]
+    return {"check": [*given, "--times", paths["times"]], "reading": [*given, "--times", paths["reading"]]}, events
+
+
+def measure(program, folder, rows):
+    """What one number of activities takes."""
+    words, events = write_files(folder, rows)
+    check, reading = ([program, *words[name]] for name in COUNTED)
+    if run(check).stdout.startswith("refused"):
+        sys.exit(f"tools/measure: the check of {rows} rows is refused")
+    wanted = f"pespbench: times file, record {events + 1}: wrong number of fields\n"
+    if run(reading, 1).stderr != wanted:
+        sys.exit(f"tools/measure: the run that reads {rows} rows alone did not end behind the last of the times")
+    profile = folder / f"callgrind.{rows}"
+    return {
+        "rows": rows,
+        "events": events,
+        "check": count(check, profile),
+        "reading": count(reading, folder / "callgrind.reading", 1),
+        "memory": peak(check, folder / "memory"),
+        "profile": profile,
+    }
+
+
+def print_table(start, table):
+    print(f"an empty check takes {start} instructions, which are not counted below")
+    print(f"{'':>15} {'a whole check':>39}   {'reading alone':>39}")
+    columns = f"{'instructions':>15} {'per activity':>14} {'growth':>8}"
+    print(f"{'rows':>7} {'events':>7} {columns}   {columns} {'peak kB':>9}")
+    each = [{name: (row[name] - start) / row["rows"] for name in COUNTED} for row in table]
+    for place, row in enumerate(table):
+        cells = []
+        for name in COUNTED:
+            growth = f"{each[place][name] / each[place - 1][name]:.2f}" if place else ""
+            cells.append(f"{row[name] - start:>15} {each[place][name]:>14.1f} {growth:>8}")
+        print(f"{row['rows']:>7} {row['events']:>7} {'   '.join(cells)} {row['memory']:>9}")
+    for name, title in zip(COUNTED, ["a check", "reading alone"]) if len(table) > 1 else []:
+        overall = each[-1][name] / each[0][name]
+        ends = f"from {table[0]['rows']} to {table[-1]['rows']} rows"
+        print(f"instructions per activity of {title} grow {overall:.2f} times {ends}")
+
+
+def print_profile(rows, profile):
+    print(f"\nat {rows} rows:")
+    lines = run(["callgrind_annotate", profile]).stdout.splitlines()
+    begun = next(place for place, line in enumerate(lines) if "file:function" in line)
+    print("\n".join(line[:160] for line in lines[begun : begun + SHOWN_FUNCTIONS + 2]))
+
+
+def measure_checks(words, folder):
+    start = count([words.program, "--check"], folder / "callgrind.empty")
+    table = [measure(words.program, folder, rows) for rows in words.rows]
+    print_table(start, table)
+    for row in table if words.profile else []:
+        print_profile(row["rows"], row["profile"])

@@ -1,0 +1,25 @@
+"""Instructions and memory of one run of the program."""
+
+import re
+import subprocess
+import sys
+
+
+def run(command, status=0, given=None):
+    with open(given or "/dev/null", "rb") as file:
+        done = subprocess.run(command, capture_output=True, text=True, check=False, stdin=file)
+    if done.returncode != status:
+        sys.exit(f"tools/measure: {command[0]} ended with status {done.returncode}\n{done.stderr}")
+    return done
+
+
+def count(words, profile, status=0, given=None):
+    """The instructions of one run, whose profile goes to a file."""
+    counted = run(["valgrind", "--tool=callgrind", f"--callgrind-out-file={profile}", *words], status, given)
+    return int(re.search(r"Collected : (\d+)", counted.stderr).group(1))
+
+
+def peak(words, path):
+    """The kB of memory of one run, at their most."""
+    run(["/usr/bin/time", "-f", "%M", "-o", path, *words])
+    return int(path.read_text())

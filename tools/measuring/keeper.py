@@ -1,0 +1,103 @@
+"""What it takes to build the domains, to keep them through edits, and to search for an optimum."""
+
+import sys
+
+from measuring.counting import count, peak, run
+from measuring.network import PERIOD, Numbers, activity_rows, events_of, text_of
+
+EDITS = 20
+EVENTS_OF_A_FREE_ONE = 10
+ACTIVITIES_OF_A_SEARCHED_EVENT = 2
+NODES = 2_000
+
+
+class Network:
+    """A network of which all activities are met at its times, in files, and the words that open it."""
+
+    def __init__(self, program, folder, rows, events, fixed):
+        numbers = Numbers(rows)
+        self.times = [numbers.below(PERIOD) for _ in range(events)]
+        self.rows = list(activity_rows(numbers, rows, self.times, are_met=True))
+        self.fixed = [event for event in range(events) if fixed(event)]
+        self.lines = folder / "lines"
+        self.profile = folder / "callgrind.network"
+        self.memory = folder / "memory"
+        activities, times, faulty = (folder / f"{name}.{rows}" for name in ["network", "fixed", "faulty"])
+        text = text_of((event, self.times[event]) for event in self.fixed)
+        activities.write_text(text_of(self.rows))
+        times.write_text(text)
+        faulty.write_text(text + "0\n")
+        start = [program, "--period", str(PERIOD), activities, "--fixed"]
+        self.words, self.reading_words = [*start, times], [*start, faulty]
+
+    def answers(self, lines):
+        self.lines.write_text("".join(f"{line}\n" for line in lines))
+        return run(self.words, given=self.lines).stdout
+
+    def takes(self, lines):
+        self.lines.write_text("".join(f"{line}\n" for line in lines))
+        return count(self.words, self.profile, 0, self.lines)
+
+    def reading(self):
+        """Ends at a faulty row of the fixed times, when the activities are read."""
+        return count(self.reading_words, self.profile, 1)
+
+    def pairs(self, lines):
+        """How many residues all domains have after the lines."""
+        replies = self.answers([*lines, "domains"]).splitlines()[len(lines) :]
+        return sum(len(reply.split()) - 1 for reply in replies)
+
+
+def some_of(items):
+    """Items from all over a list."""
+    return items[:: max(1, len(items) // EDITS)][:EDITS]
+
+
+def measure_edits(program, folder, rows):
+    """What edits of one network take, above building it. But for each tenth event all have fixed times."""
+    network = Network(program, folder, rows, events_of(rows), lambda event: event % EVENTS_OF_A_FREE_ONE)
+    built = network.takes([])
+    # A span that is moved by a period admits what it admitted, so nothing moves, and all that it joins is counted anew.
+    spans = [f"span {name} {lower + PERIOD} {upper + PERIOD}" for name, _, _, lower, upper, _ in some_of(network.rows)]
+    weights = [f"weight {name} {weight}" for name, *_, weight in some_of(network.rows)]
+    free = some_of([event for event in range(len(network.times)) if event not in set(network.fixed)])
+    fix, unfix = [f"fix {event} {network.times[event]}" for event in free], [f"unfix {event}" for event in free]
+    for lines in [spans, weights, fix + unfix]:
+        if network.answers(lines) != "ok\n" * len(lines):
+            sys.exit(f"tools/measure: an edit of the network of {rows} rows is refused")
+    fixed, pairs = network.takes(fix), network.pairs([]) - network.pairs(fix)
+    return {
+        "rows": rows,
+        "events": len(network.times),
+        "building": (built - network.reading()) / rows,
+        "span": (network.takes(spans) - built) / len(spans),
+        "weight": (network.takes(weights) - built) / len(weights),
+        "pairs": pairs / len(free),
+        "fix": (fixed - built) / len(free),
+        "unfix": (network.takes(fix + unfix) - fixed) / len(free),
+        "memory": peak(network.words, network.memory),
+    }
+
+
+def measure_search(program, folder, events):
+    """What a node of a search takes, pushes and pops among it."""
+    network = Network(program, folder, events * ACTIVITIES_OF_A_SEARCHED_EVENT, events, lambda event: False)
+    if not network.answers([f"try {NODES}"]).startswith("stopped"):
+        return None
+    return (network.takes([f"try {NODES}"]) - network.takes([])) / NODES
+
+
+def print_edits(table):
+    print("\ninstructions of a building for each activity, and of each edit")
+    print(f"{'rows':>7} {'events':>7} {'building':>9} {'span':>9} {'weight':>9} {'fix':>9} {'unfix':>11} {'residues moved':>15} {'peak kB':>9}")
+    for row in table:
+        figures = f"{row['building']:>9.0f} {row['span']:>9.0f} {row['weight']:>9.0f} {row['fix']:>9.0f} {row['unfix']:>11.0f}"
+        print(f"{row['rows']:>7} {row['events']:>7} {figures} {row['pairs']:>15.1f} {row['memory']:>9}")
+
+
+def print_searches(program, folder, sizes):
+    print("\ninstructions of a node of a search")
+    print(f"{'events':>7} {'a node':>9}")
+    for events in sizes:
+        figure = measure_search(program, folder, events)
+        print(f"{events:>7} " + (f"ends before {NODES} nodes" if figure is None else f"{figure:>9.0f}"))

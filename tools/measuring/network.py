@@ -1,0 +1,53 @@
+"""Networks that are the same in each run, as files and as commands."""
+
+from tests.limits import MOST_EVENTS
+
+PERIOD = 60
+ACTIVITIES_OF_AN_EVENT = 5
+EVENTS_OF_A_FIXED_ONE = 10
+
+
+class Numbers:
+    """Numbers that are the same in each run: a linear congruential generator."""
+
+    def __init__(self, seed):
+        self.state = seed
+
+    def below(self, limit):
+        self.state = (self.state * 6_364_136_223_846_793_005 + 1_442_695_040_888_963_407) % 2**64
+        return (self.state >> 33) % limit
+
+    def shuffled(self, count):
+        places = list(range(count))
+        for last in range(count - 1, 0, -1):
+            other = self.below(last + 1)
+            places[last], places[other] = places[other], places[last]
+        return places
+
+
+def events_of(rows):
+    """How many events so many activities name."""
+    return max(2, min(MOST_EVENTS, rows // ACTIVITIES_OF_AN_EVENT))
+
+
+def activity_rows(numbers, rows, times, are_met=False):
+    """Activities in no order of their numbers, which name each event; about a tenth of them are violated, or none."""
+    events = len(times)
+    order = numbers.shuffled(events)
+    for place in range(rows):
+        # The step has no factor in common with the modulus, a prime, so no number comes twice.
+        name = (place * 7_919 + 17) % 1_000_003
+        first, last = order[place % events], numbers.below(events)
+        off = 0 if numbers.below(10) or are_met else 1
+        lower = (times[last] - times[first]) % PERIOD - numbers.below(8) + off * 20
+        yield name, first, last, lower, lower + 8 + numbers.below(20), numbers.below(1_000)
+
+
+def fixed_rows(numbers, times):
+    """A fixed time for each tenth event; about a tenth of them are not kept."""
+    for event in range(0, len(times), EVENTS_OF_A_FIXED_ONE):
+        yield event, (times[event] + (0 if numbers.below(10) else 1)) % PERIOD
+
+
+def text_of(rows):
+    return "".join("; ".join(map(str, row)) + "\n" for row in rows)
