@@ -7,7 +7,7 @@ ghost use Rattle.pesp_shell.specs.Opening.{files};
 ghost use Rattle.pesp_shell.specs.Runs.{IsRun, marks};
 ghost use Rattle.pespbench.specs.Checks.{IsUnchecked, IsWritten};
 
-use pesp_domains::PlainKeeper;
+use pesp_counts::CountKeeper;
 use pesp_lines::put_all;
 use pesp_shell::{ByteSink, ByteSource, Failed, RunFault, Settings, check, run};
 use std::alloc::Global;
@@ -59,7 +59,7 @@ pub fn answer<R: ByteSource, W: ByteSink>(
     if settings.check {
         write_check(alloc, settings, activities, fixed, times, sink)
     } else {
-        run::<PlainKeeper, _, _>(
+        run::<CountKeeper, _, _>(
             alloc,
             settings.period,
             activities,
