@@ -1,6 +1,6 @@
 //! Devices that give their bytes in pieces, that fail, and that have no end.
 
-use crate::{Failed, Front, LONGEST_LINE, LineReader, Noted};
+use pesp_lines::{Failed, Front, LONGEST_LINE, LineReader, Noted};
 use std::alloc::AllocError;
 use std::io::{self, Read};
 use std::test::Fail;

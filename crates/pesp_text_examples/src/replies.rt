@@ -1,10 +1,10 @@
-//! The worked examples, by the lines of commands.
+//! Replies to lines: the worked examples, by the lines of commands.
 
-use super::reply_to_line;
 use pesp_base::Period;
 use pesp_bench::Bench;
 use pesp_domains::{Keeper, PlainKeeper};
 use pesp_instance::Instance;
+use pesp_replies::reply_to_line;
 use std::process::Abort;
 
 /// Two events and an activity each way between them.
