@@ -35,69 +35,77 @@ fn two_activities(rt: &(impl Abort + AllocGlobal)) -> Bench<PlainKeeper> {
     bench
 }
 
+/// Times that are set, taken away and adopted.
+const WORKING_TIMETABLE: &[(&str, &str)] = &[
+    ("time 1 0", "ok\n"),
+    ("time 2 12", "refused 4 time 12 is out of range\n"),
+    ("cost", "refused 11 event 2 has no time\n"),
+    ("time 2 3", "ok\n"),
+    ("cost", "cost 3\n"),
+    ("tensions", "tensions 2\n1 3 0\n2 7 3\n"),
+    ("untime 2", "ok\n"),
+    ("untime 2", "refused 11 event 2 has no time\n"),
+    ("adopt", "ok\n"),
+    ("cost", "cost 4\n"),
+    ("span 1 3 3", "ok\n"),
+    ("adopt", "refused 12 infeasible\n"),
+    ("optimum", "infeasible\n"),
+    ("cost", "cost 4\n"),
+];
+
 #[test]
 fn working_timetable(rt: HostRuntime) {
-    let lines = [
-        ("time 1 0", "ok\n"),
-        ("time 2 12", "refused 4 time 12 is out of range\n"),
-        ("cost", "refused 11 event 2 has no time\n"),
-        ("time 2 3", "ok\n"),
-        ("cost", "cost 3\n"),
-        ("tensions", "tensions 2\n1 3 0\n2 7 3\n"),
-        ("untime 2", "ok\n"),
-        ("untime 2", "refused 11 event 2 has no time\n"),
-        ("adopt", "ok\n"),
-        ("cost", "cost 4\n"),
-        ("span 1 3 3", "ok\n"),
-        ("adopt", "refused 12 infeasible\n"),
-        ("optimum", "infeasible\n"),
-        ("cost", "cost 4\n"),
-    ];
-    let mut bench = two_activities(&rt);
-    assert_replies(&rt, &mut bench, &lines);
+    assert_replies(&rt, &mut two_activities(&rt), WORKING_TIMETABLE);
 }
+
+/// An activity and a fixed event that are violated.
+const VIOLATIONS: &[(&str, &str)] = &[
+    ("fix 1 5", "ok\n"),
+    ("time 1 0", "ok\n"),
+    ("time 2 3", "ok\n"),
+    ("violations", "violations 2\nactivity 2\nevent 1\n"),
+];
 
 #[test]
 fn violations_with_a_fixed_event(rt: HostRuntime) {
-    let lines = [
-        ("fix 1 5", "ok\n"),
-        ("time 1 0", "ok\n"),
-        ("time 2 3", "ok\n"),
-        ("violations", "violations 2\nactivity 2\nevent 1\n"),
-    ];
-    let mut bench = two_activities(&rt);
-    assert_replies(&rt, &mut bench, &lines);
+    assert_replies(&rt, &mut two_activities(&rt), VIOLATIONS);
 }
+
+/// The optimum of the two activities.
+const OPTIMUM: &str = "optimum 4 2\n1 0\n2 4\n";
+
+/// Searches within limits.
+const LIMITED_TRIES: &[(&str, &str)] = &[
+    ("try 0", "stopped none\n"),
+    ("try 1000000", OPTIMUM),
+    ("try 0", OPTIMUM),
+    ("fix 1 0", "ok\n"),
+    ("domains", "domains 2\n1: 0\n2: 4 5\n"),
+    ("domain 2", "2: 4 5\n"),
+    ("domain 3", "refused 2 no event 3\n"),
+    ("try 3", OPTIMUM),
+];
 
 #[test]
 fn limited_tries(rt: HostRuntime) {
-    let optimum = "optimum 4 2\n1 0\n2 4\n";
-    let lines = [
-        ("try 0", "stopped none\n"),
-        ("try 1000000", optimum),
-        ("try 0", optimum),
-        ("fix 1 0", "ok\n"),
-        ("domains", "domains 2\n1: 0\n2: 4 5\n"),
-        ("domain 2", "2: 4 5\n"),
-        ("domain 3", "refused 2 no event 3\n"),
-        ("try 3", optimum),
-    ];
-    let mut bench = two_activities(&rt);
-    assert_replies(&rt, &mut bench, &lines);
+    assert_replies(&rt, &mut two_activities(&rt), LIMITED_TRIES);
 }
+
+/// The script of the two activities.
+const SCRIPT: &str =
+    "# period 10 lines 4\nadd event 1\nadd event 2\nadd activity 1 1 2 3 5 2\nadd activity 2 2 1 4 6 1\n";
+
+/// Refused edits, a faulty line, and the script.
+const REFUSALS_AND_DUMP: &[(&str, &str)] = &[
+    ("# a comment", ""),
+    ("drop event 1", "refused 3 event 1 is used by activity 1\n"),
+    ("add event 1", "refused 1 event 1 exists\n"),
+    ("unfix 1", "refused 9 event 1 is not fixed\n"),
+    ("fix x 1", "fault word 2 is not a number\n"),
+    ("dump", SCRIPT),
+];
 
 #[test]
 fn refusals_and_dump(rt: HostRuntime) {
-    let script =
-        "# period 10 lines 4\nadd event 1\nadd event 2\nadd activity 1 1 2 3 5 2\nadd activity 2 2 1 4 6 1\n";
-    let lines = [
-        ("# a comment", ""),
-        ("drop event 1", "refused 3 event 1 is used by activity 1\n"),
-        ("add event 1", "refused 1 event 1 exists\n"),
-        ("unfix 1", "refused 9 event 1 is not fixed\n"),
-        ("fix x 1", "fault word 2 is not a number\n"),
-        ("dump", script),
-    ];
-    let mut bench = two_activities(&rt);
-    assert_replies(&rt, &mut bench, &lines);
+    assert_replies(&rt, &mut two_activities(&rt), REFUSALS_AND_DUMP);
 }
