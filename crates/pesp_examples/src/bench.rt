@@ -56,13 +56,36 @@ fn find<K: Keeper>(rt: &(impl Abort + AllocGlobal), bench: &mut Bench<K>) -> Res
     bench.find_optimum(rt.alloc())
 }
 
-/// A search with a limit on its nodes.
-fn tried<K: Keeper>(
+/// Whether a search with a limit on its nodes ends.
+fn is_done<K: Keeper>(rt: &(impl Abort + AllocGlobal), bench: &mut Bench<K>, limit: u64) -> bool {
+    matches!(bench.try_optimum(rt.alloc(), limit), Ok(Attempt::Done))
+}
+
+/// Whether a search with a limit on its nodes stops before it has found a timetable.
+fn is_stopped<K: Keeper>(
     rt: &(impl Abort + AllocGlobal),
     bench: &mut Bench<K>,
     limit: u64,
-) -> Result<Attempt, Refusal> {
-    bench.try_optimum(rt.alloc(), limit)
+) -> bool {
+    matches!(
+        bench.try_optimum(rt.alloc(), limit),
+        Ok(Attempt::Stopped(None))
+    )
+}
+
+fn assert_unknown<K: Keeper>(rt: &impl Abort, bench: &Bench<K>, message: &str) {
+    assert!(rt; bench.known().is_none(), "{message}");
+}
+
+fn assert_infeasible<K: Keeper>(rt: &impl Abort, bench: &Bench<K>, message: &str) {
+    assert!(rt;
+        matches!(bench.known(), Some(Answer::Infeasible)),
+        "{message}"
+    );
+}
+
+fn assert_no_nodes<K: Keeper>(rt: &impl Abort, bench: &Bench<K>, message: &str) {
+    assert_eq!(rt; bench.last_nodes(), 0, "{message}");
 }
 
 fn assert_domain<K: Keeper>(
@@ -84,18 +107,17 @@ fn assert_domain<K: Keeper>(
 
 fn optimum_is_found_and_kept_by<K: Keeper, R: Abort + AllocGlobal>(rt: &R) {
     let mut bench: Bench<K> = bench(rt);
-    assert!(rt; bench.known().is_none(), "before the search");
-    assert_eq!(rt; bench.last_nodes(), 0);
+    assert_unknown(rt, &bench, "before the search");
+    assert_no_nodes(rt, &bench, "before the search");
     assert!(rt; is_answered(rt, &mut bench), "memory");
-    let optimum: &[(u32, u16)] = &[(1, 0), (2, 4)];
-    assert_known(rt, &bench, 4, optimum, "the optimum");
+    assert_known(rt, &bench, 4, &[(1, 0), (2, 4)], "the optimum");
     assert!(rt; bench.last_nodes() > 0, "nodes of the search");
     assert_eq!(rt; find(rt, &mut bench), Ok(()));
-    assert_eq!(rt; bench.last_nodes(), 0, "a known one serves");
+    assert_no_nodes(rt, &bench, "a known one serves");
     edit(rt, &mut bench, Edit::SetSpan(id(rt, 1), span(rt, 3, 3)));
-    assert!(rt; bench.known().is_none(), "an edit forgets it");
+    assert_unknown(rt, &bench, "an edit forgets it");
     assert_eq!(rt; find(rt, &mut bench), Ok(()));
-    assert!(rt; matches!(bench.known(), Some(Answer::Infeasible)), "3 to 3");
+    assert_infeasible(rt, &bench, "3 to 3");
 }
 
 #[test]
@@ -131,14 +153,11 @@ fn optimum_leaves_all_but_what_is_known(rt: HostRuntime) {
 
 fn limited_tries_by<K: Keeper, R: Abort + AllocGlobal>(rt: &R) {
     let mut bench: Bench<K> = bench(rt);
-    let stopped = tried(rt, &mut bench, 0);
-    assert!(rt; matches!(stopped, Ok(Attempt::Stopped(None))), "limit 0");
-    let done = tried(rt, &mut bench, 1_000_000);
-    assert!(rt; matches!(done, Ok(Attempt::Done)), "limit 1,000,000");
+    assert!(rt; is_stopped(rt, &mut bench, 0), "limit 0");
+    assert!(rt; is_done(rt, &mut bench, 1_000_000), "limit 1,000,000");
     assert_known(rt, &bench, 4, &[(1, 0), (2, 4)], "the optimum");
-    let done = tried(rt, &mut bench, 0);
-    assert!(rt; matches!(done, Ok(Attempt::Done)), "limit 0 again");
-    assert_eq!(rt; bench.last_nodes(), 0);
+    assert!(rt; is_done(rt, &mut bench, 0), "limit 0 again");
+    assert_no_nodes(rt, &bench, "limit 0 again");
 }
 
 #[test]
@@ -183,28 +202,38 @@ fn assert_second_violated<K: Keeper>(rt: &(impl Abort + AllocGlobal), bench: &Be
     );
 }
 
+fn assert_set<K: Keeper>(
+    rt: &impl Abort,
+    bench: &mut Bench<K>,
+    number: u32,
+    time: u16,
+    answer: Result<(), Refusal>,
+) {
+    assert_eq!(rt; set_time(rt, bench, number, time), answer);
+}
+
+fn assert_cleared<K: Keeper>(
+    rt: &impl Abort,
+    bench: &mut Bench<K>,
+    number: u32,
+    answer: Result<(), Refusal>,
+) {
+    assert_eq!(rt; clear_time(rt, bench, number), answer);
+}
+
 fn working_timetable_by<K: Keeper, R: Abort + AllocGlobal>(rt: &R) {
     let mut bench: Bench<K> = bench(rt);
-    assert_eq!(rt; set_time(rt, &mut bench, 1, 0), Ok(()));
-    assert_eq!(rt;
-        set_time(rt, &mut bench, 2, 12),
-        Err(Refusal::TimeOutOfRange(12))
-    );
-    assert_eq!(rt;
-        set_time(rt, &mut bench, 3, 12),
-        Err(Refusal::NoEvent(event(rt, 3)))
-    );
-    assert_cost(rt, &bench, Err(Refusal::MissingTime(event(rt, 2))));
-    assert_eq!(rt; set_time(rt, &mut bench, 2, 3), Ok(()));
+    let (two, three) = (event(rt, 2), event(rt, 3));
+    assert_set(rt, &mut bench, 1, 0, Ok(()));
+    assert_set(rt, &mut bench, 2, 12, Err(Refusal::TimeOutOfRange(12)));
+    assert_set(rt, &mut bench, 3, 12, Err(Refusal::NoEvent(three)));
+    assert_cost(rt, &bench, Err(Refusal::MissingTime(two)));
+    assert_set(rt, &mut bench, 2, 3, Ok(()));
     assert_cost(rt, &bench, Ok(3));
     assert_second_violated(rt, &bench);
-    assert_eq!(rt; clear_time(rt, &mut bench, 2), Ok(()));
-    let missing = Err(Refusal::MissingTime(event(rt, 2)));
-    assert_eq!(rt; clear_time(rt, &mut bench, 2), missing);
-    assert_eq!(rt;
-        clear_time(rt, &mut bench, 3),
-        Err(Refusal::NoEvent(event(rt, 3)))
-    );
+    assert_cleared(rt, &mut bench, 2, Ok(()));
+    assert_cleared(rt, &mut bench, 2, Err(Refusal::MissingTime(two)));
+    assert_cleared(rt, &mut bench, 3, Err(Refusal::NoEvent(three)));
     adopted_optimum_stays(rt, &mut bench);
 }
 
