@@ -67,26 +67,3 @@ impl Span {
         self.upper
     }
 }
-
-#[cfg(test)]
-mod tests {
-    use crate::{GREATEST_BOUND, GREATEST_PERIOD, LEAST_PERIOD, Period, Span, SpanFault};
-
-    #[test]
-    fn limits_of_periods_and_spans(rt: HostRuntime) {
-        let table = [
-            (LEAST_PERIOD - 1, false),
-            (LEAST_PERIOD, true),
-            (GREATEST_PERIOD, true),
-            (GREATEST_PERIOD + 1, false),
-        ];
-        for (value, is_period) in table {
-            assert!(rt; Period::new(value).is_some() == is_period, "period {value}");
-        }
-        assert_eq!(rt; Span::new(5, 3), Err(SpanFault::Crossed));
-        assert_eq!(rt;
-            Span::new(GREATEST_BOUND + 1, 0),
-            Err(SpanFault::OutOfRange)
-        );
-    }
-}

@@ -103,6 +103,3 @@ pub fn parse(line: &[u8]) -> Result<Option<Command>, ParseFault>
     let command = command(words)?;
     Ok(Some(command))
 }
-
-#[cfg(test)]
-mod tests;

@@ -86,6 +86,3 @@ pub fn replay(alloc: Global, period: Period, script: &[u8]) -> Result<Instance, 
     }
     Ok(instance)
 }
-
-#[cfg(test)]
-mod tests;

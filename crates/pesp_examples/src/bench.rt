@@ -43,6 +43,51 @@ fn assert_known<K: Keeper>(
     }
 }
 
+/// Whether the optimum is answered, found or known before.
+///
+/// Like the next functions it has no contract, so that what a call makes of the workbench is not worked
+/// out again behind it while the tests are proved.
+fn is_answered<K: Keeper>(rt: &(impl Abort + AllocGlobal), bench: &mut Bench<K>) -> bool {
+    bench.optimum(rt.alloc()).is_ok()
+}
+
+/// A search without a limit.
+fn find<K: Keeper>(rt: &(impl Abort + AllocGlobal), bench: &mut Bench<K>) -> Result<(), Refusal> {
+    bench.find_optimum(rt.alloc())
+}
+
+/// Whether a search with a limit on its nodes ends.
+fn is_done<K: Keeper>(rt: &(impl Abort + AllocGlobal), bench: &mut Bench<K>, limit: u64) -> bool {
+    matches!(bench.try_optimum(rt.alloc(), limit), Ok(Attempt::Done))
+}
+
+/// Whether a search with a limit on its nodes stops before it has found a timetable.
+fn is_stopped<K: Keeper>(
+    rt: &(impl Abort + AllocGlobal),
+    bench: &mut Bench<K>,
+    limit: u64,
+) -> bool {
+    matches!(
+        bench.try_optimum(rt.alloc(), limit),
+        Ok(Attempt::Stopped(None))
+    )
+}
+
+fn assert_unknown<K: Keeper>(rt: &impl Abort, bench: &Bench<K>, message: &str) {
+    assert!(rt; bench.known().is_none(), "{message}");
+}
+
+fn assert_infeasible<K: Keeper>(rt: &impl Abort, bench: &Bench<K>, message: &str) {
+    assert!(rt;
+        matches!(bench.known(), Some(Answer::Infeasible)),
+        "{message}"
+    );
+}
+
+fn assert_no_nodes<K: Keeper>(rt: &impl Abort, bench: &Bench<K>, message: &str) {
+    assert_eq!(rt; bench.last_nodes(), 0, "{message}");
+}
+
 fn assert_domain<K: Keeper>(
     rt: &(impl Abort + AllocGlobal),
     bench: &Bench<K>,
@@ -62,18 +107,17 @@ fn assert_domain<K: Keeper>(
 
 fn optimum_is_found_and_kept_by<K: Keeper, R: Abort + AllocGlobal>(rt: &R) {
     let mut bench: Bench<K> = bench(rt);
-    assert!(rt; bench.known().is_none(), "before the search");
-    assert_eq!(rt; bench.last_nodes(), 0);
-    assert!(rt; bench.optimum(rt.alloc()).is_ok(), "memory");
-    let optimum: &[(u32, u16)] = &[(1, 0), (2, 4)];
-    assert_known(rt, &bench, 4, optimum, "the optimum");
+    assert_unknown(rt, &bench, "before the search");
+    assert_no_nodes(rt, &bench, "before the search");
+    assert!(rt; is_answered(rt, &mut bench), "memory");
+    assert_known(rt, &bench, 4, &[(1, 0), (2, 4)], "the optimum");
     assert!(rt; bench.last_nodes() > 0, "nodes of the search");
-    assert_eq!(rt; bench.find_optimum(rt.alloc()), Ok(()));
-    assert_eq!(rt; bench.last_nodes(), 0, "a known one serves");
+    assert_eq!(rt; find(rt, &mut bench), Ok(()));
+    assert_no_nodes(rt, &bench, "a known one serves");
     edit(rt, &mut bench, Edit::SetSpan(id(rt, 1), span(rt, 3, 3)));
-    assert!(rt; bench.known().is_none(), "an edit forgets it");
-    assert_eq!(rt; bench.find_optimum(rt.alloc()), Ok(()));
-    assert!(rt; matches!(bench.known(), Some(Answer::Infeasible)), "3 to 3");
+    assert_unknown(rt, &bench, "an edit forgets it");
+    assert_eq!(rt; find(rt, &mut bench), Ok(()));
+    assert_infeasible(rt, &bench, "3 to 3");
 }
 
 #[test]
@@ -82,17 +126,22 @@ fn optimum_is_found_and_kept(rt: HostRuntime) {
     optimum_is_found_and_kept_by::<CountKeeper, _>(&rt);
 }
 
+/// The optimum is known, and the time and the instance are as they were.
+fn assert_optimum_beside_seven<K: Keeper>(rt: &impl Abort, bench: &Bench<K>, message: &str) {
+    assert_known(rt, bench, 4, &[(1, 0), (2, 4)], message);
+    assert_times(rt, bench.timetable(), &[(1, 7)], message);
+    assert_eq!(rt; bench.instance().event_count(), 2, "{message}");
+    assert_eq!(rt; bench.instance().activity_count(), 2, "{message}");
+}
+
 fn optimum_leaves_all_but_what_is_known_by<K: Keeper, R: Abort + AllocGlobal>(rt: &R) {
     let mut bench: Bench<K> = bench(rt);
     assert_eq!(rt; bench.set_time(event(rt, 1), 7), Ok(()));
     let served: &[(bool, &str)] = &[(false, "found"), (true, "known before")];
     for (is_known, message) in served {
-        assert!(rt; bench.optimum(rt.alloc()).is_ok(), "{message}: memory");
-        assert_known(rt, &bench, 4, &[(1, 0), (2, 4)], message);
-        assert_times(rt, bench.timetable(), &[(1, 7)], message);
+        assert!(rt; is_answered(rt, &mut bench), "{message}: memory");
         assert_eq!(rt; bench.last_nodes() == 0, *is_known, "{message}");
-        assert_eq!(rt; bench.instance().event_count(), 2, "{message}");
-        assert_eq!(rt; bench.instance().activity_count(), 2, "{message}");
+        assert_optimum_beside_seven(rt, &bench, message);
     }
 }
 
@@ -104,14 +153,11 @@ fn optimum_leaves_all_but_what_is_known(rt: HostRuntime) {
 
 fn limited_tries_by<K: Keeper, R: Abort + AllocGlobal>(rt: &R) {
     let mut bench: Bench<K> = bench(rt);
-    let tried = bench.try_optimum(rt.alloc(), 0);
-    assert!(rt; matches!(tried, Ok(Attempt::Stopped(None))), "limit 0");
-    let tried = bench.try_optimum(rt.alloc(), 1_000_000);
-    assert!(rt; matches!(tried, Ok(Attempt::Done)), "limit 1,000,000");
+    assert!(rt; is_stopped(rt, &mut bench, 0), "limit 0");
+    assert!(rt; is_done(rt, &mut bench, 1_000_000), "limit 1,000,000");
     assert_known(rt, &bench, 4, &[(1, 0), (2, 4)], "the optimum");
-    let tried = bench.try_optimum(rt.alloc(), 0);
-    assert!(rt; matches!(tried, Ok(Attempt::Done)), "limit 0 again");
-    assert_eq!(rt; bench.last_nodes(), 0);
+    assert!(rt; is_done(rt, &mut bench, 0), "limit 0 again");
+    assert_no_nodes(rt, &bench, "limit 0 again");
 }
 
 #[test]
@@ -120,19 +166,33 @@ fn limited_tries(rt: HostRuntime) {
     limited_tries_by::<CountKeeper, _>(&rt);
 }
 
-fn working_timetable_by<K: Keeper, R: Abort + AllocGlobal>(rt: &R) {
-    let mut bench: Bench<K> = bench(rt);
-    let one = event(rt, 1);
-    let two = event(rt, 2);
-    assert_eq!(rt; bench.set_time(one, 0), Ok(()));
-    assert_eq!(rt; bench.set_time(two, 12), Err(Refusal::TimeOutOfRange(12)));
-    assert_eq!(rt;
-        bench.set_time(event(rt, 3), 12),
-        Err(Refusal::NoEvent(event(rt, 3)))
-    );
-    assert_eq!(rt; bench.cost(), Err(Refusal::MissingTime(two)));
-    assert_eq!(rt; bench.set_time(two, 3), Ok(()));
-    assert_eq!(rt; bench.cost(), Ok(3));
+fn set_time<K: Keeper>(
+    rt: &impl Abort,
+    bench: &mut Bench<K>,
+    number: u32,
+    time: u16,
+) -> Result<(), Refusal> {
+    bench.set_time(event(rt, number), time)
+}
+
+fn clear_time<K: Keeper>(
+    rt: &impl Abort,
+    bench: &mut Bench<K>,
+    number: u32,
+) -> Result<(), Refusal> {
+    bench.clear_time(event(rt, number))
+}
+
+fn adopt<K: Keeper>(rt: &(impl Abort + AllocGlobal), bench: &mut Bench<K>) -> Result<(), Refusal> {
+    bench.adopt(rt.alloc())
+}
+
+fn assert_cost<K: Keeper>(rt: &impl Abort, bench: &Bench<K>, cost: Result<u64, Refusal>) {
+    assert_eq!(rt; bench.cost(), cost);
+}
+
+/// Both activities have a tension, and the second is violated.
+fn assert_second_violated<K: Keeper>(rt: &(impl Abort + AllocGlobal), bench: &Bench<K>) {
     let tensions = bench.tensions(rt.alloc()).ok().expect(rt, "memory");
     assert_eq!(rt; tensions.len(), 2);
     let violations = bench.violations(rt.alloc()).ok().expect(rt, "memory");
@@ -140,18 +200,51 @@ fn working_timetable_by<K: Keeper, R: Abort + AllocGlobal>(rt: &R) {
         violations.as_slice(),
         [Violation::Activity(id(rt, 2))].as_slice()
     );
-    assert_eq!(rt; bench.clear_time(two), Ok(()));
-    assert_eq!(rt; bench.clear_time(two), Err(Refusal::MissingTime(two)));
-    assert_eq!(rt;
-        bench.clear_time(event(rt, 3)),
-        Err(Refusal::NoEvent(event(rt, 3)))
-    );
-    assert_eq!(rt; bench.adopt(rt.alloc()), Ok(()));
+}
+
+fn assert_set<K: Keeper>(
+    rt: &impl Abort,
+    bench: &mut Bench<K>,
+    number: u32,
+    time: u16,
+    answer: Result<(), Refusal>,
+) {
+    assert_eq!(rt; set_time(rt, bench, number, time), answer);
+}
+
+fn assert_cleared<K: Keeper>(
+    rt: &impl Abort,
+    bench: &mut Bench<K>,
+    number: u32,
+    answer: Result<(), Refusal>,
+) {
+    assert_eq!(rt; clear_time(rt, bench, number), answer);
+}
+
+fn working_timetable_by<K: Keeper, R: Abort + AllocGlobal>(rt: &R) {
+    let mut bench: Bench<K> = bench(rt);
+    let (two, three) = (event(rt, 2), event(rt, 3));
+    assert_set(rt, &mut bench, 1, 0, Ok(()));
+    assert_set(rt, &mut bench, 2, 12, Err(Refusal::TimeOutOfRange(12)));
+    assert_set(rt, &mut bench, 3, 12, Err(Refusal::NoEvent(three)));
+    assert_cost(rt, &bench, Err(Refusal::MissingTime(two)));
+    assert_set(rt, &mut bench, 2, 3, Ok(()));
+    assert_cost(rt, &bench, Ok(3));
+    assert_second_violated(rt, &bench);
+    assert_cleared(rt, &mut bench, 2, Ok(()));
+    assert_cleared(rt, &mut bench, 2, Err(Refusal::MissingTime(two)));
+    assert_cleared(rt, &mut bench, 3, Err(Refusal::NoEvent(three)));
+    adopted_optimum_stays(rt, &mut bench);
+}
+
+/// The optimum is adopted, and stays where nothing meets everything.
+fn adopted_optimum_stays<K: Keeper>(rt: &(impl Abort + AllocGlobal), bench: &mut Bench<K>) {
+    assert_eq!(rt; adopt(rt, bench), Ok(()));
     assert_times(rt, bench.timetable(), &[(1, 0), (2, 4)], "adopted");
-    assert_eq!(rt; bench.cost(), Ok(4));
-    edit(rt, &mut bench, Edit::SetSpan(id(rt, 1), span(rt, 3, 3)));
-    assert_eq!(rt; bench.adopt(rt.alloc()), Err(Refusal::Infeasible));
-    assert_eq!(rt; bench.cost(), Ok(4));
+    assert_cost(rt, bench, Ok(4));
+    edit(rt, bench, Edit::SetSpan(id(rt, 1), span(rt, 3, 3)));
+    assert_eq!(rt; adopt(rt, bench), Err(Refusal::Infeasible));
+    assert_cost(rt, bench, Ok(4));
 }
 
 #[test]

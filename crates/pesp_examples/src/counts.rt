@@ -1,38 +1,38 @@
 //! What the keeper by counts answers besides, and that it agrees with the plain one.
 
+ghost use Rattle.std.specs.Prelude.{◌≡◌, []};
+
 use crate::made::{event, four_events, id, push, two_activities};
 use pesp_base::EventId;
 use pesp_counts::CountKeeper;
 use pesp_domains::{Keeper, PlainKeeper, Side};
 use std::process::Abort;
 
+fn assert_support(
+    rt: &impl Abort,
+    keeper: &CountKeeper,
+    side: Side,
+    residue: u16,
+    wanted: Option<u16>,
+    message: &str,
+) {
+    let count = keeper.support(id(rt, 1), side, residue);
+    assert_eq!(rt; count, wanted, "{message}: residue {residue}");
+}
+
 #[test]
 fn counts_are_read_by_support(rt: HostRuntime) {
     let mut keeper: CountKeeper = two_activities(&rt);
-    let first = id(&rt, 1);
     push(&rt, &mut keeper, event(&rt, 1), 0);
-    let table = [
-        (Side::Tail, 0, Some(2)),
-        (Side::Head, 4, Some(1)),
-        (Side::Tail, 1, None),
-    ];
-    for (side, residue, wanted) in table {
-        assert_eq!(rt;
-            keeper.support(first, side, residue),
-            wanted,
-            "residue {residue}"
-        );
-    }
+    assert_support(&rt, &keeper, Side::Tail, 0, Some(2), "event 1 at 0");
+    assert_support(&rt, &keeper, Side::Head, 4, Some(1), "event 1 at 0");
+    assert_support(&rt, &keeper, Side::Tail, 1, None, "event 1 at 0");
     keeper.pop_fix();
-    assert_eq!(rt;
-        keeper.support(first, Side::Tail, 0),
-        Some(3),
-        "nothing is pushed"
-    );
+    assert_support(&rt, &keeper, Side::Tail, 0, Some(3), "nothing is pushed");
 }
 
 /// The rows of the four events, which are the same by either keeper.
-fn assert_same(rt: &impl Abort, plain: &PlainKeeper, counted: &CountKeeper, message: &str) {
+fn assert_same<P: Keeper, C: Keeper>(rt: &impl Abort, plain: &P, counted: &C, message: &str) {
     for number in 1..5 {
         let event = event(rt, number);
         let wanted = plain.row(event).expect(rt, "a row");
@@ -48,42 +48,49 @@ fn assert_same(rt: &impl Abort, plain: &PlainKeeper, counted: &CountKeeper, mess
     }
 }
 
+/// Pushes two pairs and pops them again. Both keepers have the same rows after each push and each pop.
+fn try_order<P: Keeper, C: Keeper>(
+    rt: &impl Abort,
+    plain: &mut P,
+    counted: &mut C,
+    one: (EventId, u16),
+    two: (EventId, u16),
+)
+    requires plain { P.pushes plain.old ≡ [] }
+    requires counted { C.pushes counted.old ≡ [] }
+    ensures plain { P.pushes plain.new ≡ [] }
+    ensures counted { C.pushes counted.new ≡ [] }
+{
+    assert!(rt; one.0 != two.0, "two events");
+    push(rt, plain, one.0, one.1);
+    push(rt, counted, one.0, one.1);
+    assert_same(rt, plain, counted, "one is pushed");
+    push(rt, plain, two.0, two.1);
+    push(rt, counted, two.0, two.1);
+    assert_same(rt, plain, counted, "two are pushed");
+    plain.pop_fix();
+    counted.pop_fix();
+    assert_same(rt, plain, counted, "one is popped");
+    plain.pop_fix();
+    counted.pop_fix();
+    assert_same(rt, plain, counted, "two are popped");
+}
+
 /// Pushes two pairs, in either order one after the other, and pops them again.
-fn try_both_orders(
-    rt: &(impl Abort + AllocGlobal),
+fn try_both_orders<P: Keeper, C: Keeper, R: Abort + AllocGlobal>(
+    rt: &R,
     one: EventId,
     at_one: u16,
     two: EventId,
     at_two: u16,
 ) {
-    assert!(rt; one != two, "two events");
-    let mut plain: PlainKeeper = four_events(rt);
-    let mut counted: CountKeeper = four_events(rt);
+    let mut plain: P = four_events(rt);
+    let mut counted: C = four_events(rt);
     assert_same(rt, &plain, &counted, "nothing is pushed");
-    push(rt, &mut plain, one, at_one);
-    push(rt, &mut counted, one, at_one);
-    assert_same(rt, &plain, &counted, "one is pushed");
-    push(rt, &mut plain, two, at_two);
-    push(rt, &mut counted, two, at_two);
-    assert_same(rt, &plain, &counted, "two is pushed after it");
-    plain.pop_fix();
-    counted.pop_fix();
-    assert_same(rt, &plain, &counted, "two is popped");
-    plain.pop_fix();
-    counted.pop_fix();
-    assert_same(rt, &plain, &counted, "one is popped");
-    push(rt, &mut plain, two, at_two);
-    push(rt, &mut counted, two, at_two);
-    assert_same(rt, &plain, &counted, "two is pushed");
-    push(rt, &mut plain, one, at_one);
-    push(rt, &mut counted, one, at_one);
-    assert_same(rt, &plain, &counted, "one is pushed after it");
-    plain.pop_fix();
-    counted.pop_fix();
-    assert_same(rt, &plain, &counted, "one is popped first");
-    plain.pop_fix();
-    counted.pop_fix();
-    assert_same(rt, &plain, &counted, "two is popped last");
+    let (first, second) = ((one, at_one), (two, at_two));
+    try_order(rt, &mut plain, &mut counted, first, second);
+    let (first, second) = ((two, at_two), (one, at_one));
+    try_order(rt, &mut plain, &mut counted, first, second);
 }
 
 #[test]
@@ -94,7 +101,9 @@ fn every_list_of_two_pushes(rt: HostRuntime) {
                 for at_two in 0..3 {
                     let first = event(&rt, one);
                     let second = event(&rt, two);
-                    try_both_orders(&rt, first, at_one, second, at_two);
+                    try_both_orders::<PlainKeeper, CountKeeper, _>(
+                        &rt, first, at_one, second, at_two,
+                    );
                 }
             }
         }

@@ -1,9 +1,11 @@
-//! The worked examples of domains, searches and workbenches.
+//! The worked examples of edits, timetables, domains, searches and workbenches.
 //!
-//! They stand above the four crates whose calls they try, so that none of these is proved a second time
+//! They stand above the crates whose calls they try, so that none of these is proved a second time
 //! with tests in it.
 #![tactic(auto)]
 
+#[cfg(test)]
+mod base;
 #[cfg(test)]
 mod bench;
 #[cfg(test)]
@@ -11,6 +13,10 @@ mod counts;
 #[cfg(test)]
 mod domains;
 #[cfg(test)]
+mod edits;
+#[cfg(test)]
 mod made;
 #[cfg(test)]
 mod search;
+#[cfg(test)]
+mod timetables;

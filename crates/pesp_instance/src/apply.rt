@@ -220,6 +220,3 @@ impl Instance {
         Ok(())
     }
 }
-
-#[cfg(test)]
-mod tests;

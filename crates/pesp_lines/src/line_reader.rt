@@ -140,6 +140,3 @@ fn front_of(held: &[u8]) -> Option<Front>
         _ => Some(Front::TooLong),
     }
 }
-
-#[cfg(test)]
-mod tests;

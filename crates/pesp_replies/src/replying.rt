@@ -82,6 +82,3 @@ pub fn reply_to_line<K: Keeper>(
         Err(fault) => fault_reply(alloc, fault),
     }
 }
-
-#[cfg(test)]
-mod tests;

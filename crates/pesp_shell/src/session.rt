@@ -73,6 +73,3 @@ pub fn run<K: Keeper, R: ByteSource, W: ByteSink>(
     };
     answer_all(alloc, &mut bench, &mut lines, reader, writer)
 }
-
-#[cfg(test)]
-mod tests;

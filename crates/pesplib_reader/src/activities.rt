@@ -122,6 +122,3 @@ pub fn read_activities(alloc: Global, period: Period, bytes: &[u8]) -> Result<In
     }
     Ok(instance)
 }
-
-#[cfg(test)]
-mod tests;

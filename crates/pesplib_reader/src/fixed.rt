@@ -96,6 +96,3 @@ pub fn read_fixed(alloc: Global, instance: &mut Instance, bytes: &[u8]) -> Resul
     fix_all(instance, &times);
     Ok(())
 }
-
-#[cfg(test)]
-mod tests;

@@ -69,6 +69,3 @@ pub fn read_times(alloc: Global, period: Period, bytes: &[u8]) -> Result<Timetab
     }
     Ok(timetable)
 }
-
-#[cfg(test)]
-mod tests;

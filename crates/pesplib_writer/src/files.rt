@@ -103,6 +103,3 @@ pub fn write_times(alloc: Global, timetable: &Timetable) -> Result<Vec<u8>, Memo
         Err(_) => Err(Memory),
     }
 }
-
-#[cfg(test)]
-mod tests;

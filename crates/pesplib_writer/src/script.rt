@@ -114,6 +114,3 @@ pub fn dump(alloc: Global, instance: &Instance) -> Result<Vec<u8>, Memory>
         Err(_) => Err(Memory),
     }
 }
-
-#[cfg(test)]
-mod tests;

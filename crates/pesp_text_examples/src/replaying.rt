@@ -1,7 +1,8 @@
-//! The worked examples, and the limits.
+//! Scripts, what a dump of them gives, their faults, and the limits.
 
-use crate::{ParseFault, ReplayFault, ReplayKind, replay};
-use pesp_base::{EventId, Period, Refusal};
+use crate::made::{assert_two_activities, event, period};
+use pesp_base::Refusal;
+use pesp_commands::{ParseFault, ReplayFault, ReplayKind, replay};
 use pesp_instance::Instance;
 use pesplib_writer::dump;
 use std::alloc::{AllocError, Global};
@@ -10,7 +11,13 @@ use std::test::Fail;
 
 /// What a script makes at period 10.
 fn replay_at_ten(rt: &(impl Abort + AllocGlobal), script: &[u8]) -> Result<Instance, ReplayFault> {
-    replay(rt.alloc(), Period::new(10).expect(rt, "a period"), script)
+    replay(rt.alloc(), period(rt, 10), script)
+}
+
+/// What a script at period 10 makes, dumped.
+fn dumped(rt: &(impl Abort + AllocGlobal), script: &str) -> Result<Vec<u8>, Fail> {
+    let instance = replay_at_ten(rt, script.as_bytes())?;
+    Ok(dump(rt.alloc(), &instance)?)
 }
 
 #[test]
@@ -31,27 +38,7 @@ fn scripts_make_instances(rt: HostRuntime) -> Result<(), Fail> {
     ] {
         let instance = replay_at_ten(&rt, script.as_bytes())?;
         assert_eq!(rt; instance.period().get(), 10, "{message}");
-        let events: Vec<u32> = instance.events().map(|e| e.id.get()).collect(rt.alloc())?;
-        assert_eq!(rt; events.as_slice(), [1, 2].as_slice(), "{message}");
-        let rows: Vec<(u32, u32, u32, i32, i32, u32)> = instance
-            .activities()
-            .map(|a| {
-                let span = a.span;
-                (
-                    a.id.get(),
-                    a.from.get(),
-                    a.to.get(),
-                    span.lower(),
-                    span.upper(),
-                    a.weight.get(),
-                )
-            })
-            .collect(rt.alloc())?;
-        assert_eq!(rt;
-            rows.as_slice(),
-            [(1, 1, 2, 3, 5, 2), (2, 2, 1, 4, 6, 1)].as_slice(),
-            "{message}"
-        );
+        assert_two_activities(&rt, &instance, message);
     }
     Ok(())
 }
@@ -64,8 +51,7 @@ fn dumps_are_replayed(rt: HostRuntime) -> Result<(), Fail> {
         "# period 10 lines 4\nadd event 1\nadd event 2\nadd activity 1 1 2 3 5 2\nadd activity 2 2 1 4 6 1\n",
         "# period 10 lines 5\nadd event 1\nadd event 2\nfix 1 5\nadd activity 1 1 2 3 5 2\nadd activity 2 2 1 -4 6 1\n",
     ] {
-        let instance = replay_at_ten(&rt, script.as_bytes())?;
-        let text = dump(rt.alloc(), &instance)?;
+        let text = dumped(&rt, script)?;
         assert_eq!(rt; text.as_slice(), script.as_bytes(), "{script}");
     }
     Ok(())
@@ -75,16 +61,16 @@ fn dumps_are_replayed(rt: HostRuntime) -> Result<(), Fail> {
 fn fixed_times_are_replayed(rt: HostRuntime) -> Result<(), Fail> {
     let script = "add event 1\nadd event 2\nfix 1 4\nfix 2 9\nunfix 1\n";
     let instance = replay_at_ten(&rt, script.as_bytes())?;
-    for (event, time) in [(1, None), (2, Some(9))] {
-        let event = EventId::new(event).ok_or("no event")?;
-        assert_eq!(rt; instance.fixed(event), time, "{event:?}");
+    for (number, time) in [(1, None), (2, Some(9))] {
+        let fixed = instance.fixed(event(&rt, number));
+        assert_eq!(rt; fixed, time, "event {number}");
     }
     Ok(())
 }
 
 #[test]
-fn first_faulty_line_is_named(rt: HostRuntime) -> Result<(), Fail> {
-    let one = EventId::new(1).ok_or("no event")?;
+fn first_faulty_line_is_named(rt: HostRuntime) {
+    let one = event(&rt, 1);
     for (script, line, kind) in [
         ("add event 1\ncost\n", 2, ReplayKind::NotAnEdit),
         (
@@ -116,7 +102,6 @@ fn first_faulty_line_is_named(rt: HostRuntime) -> Result<(), Fail> {
         let fault = replay_at_ten(&rt, script.as_bytes()).err();
         assert_eq!(rt; fault, Some(ReplayFault { line, kind }), "{script}");
     }
-    Ok(())
 }
 
 /// A byte so many times.

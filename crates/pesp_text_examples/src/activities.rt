@@ -1,12 +1,20 @@
-//! The worked examples, and the limits.
+//! Files of activities: the worked examples, the faults, and the limits.
 
-use crate::{FaultKind, ReadFault, read_activities};
+use crate::made::{assert_two_activities, period};
+use crate::reading::read;
 use pesp_base::Period;
+use pesplib_reader::{FaultKind, ReadFault};
+use std::alloc::Global;
 use std::test::Fail;
+
+/// Why a file of activities is refused.
+fn fault_of(alloc: Global, period: Period, text: &[u8]) -> Option<ReadFault> {
+    read(alloc, period, text).err()
+}
 
 #[test]
 fn two_activities_are_read(rt: HostRuntime) -> Result<(), Fail> {
-    let period = Period::new(10).ok_or("no period")?;
+    let period = period(&rt, 10);
     for (text, message) in [
         (
             b"1; 1; 2; 3; 5; 2\n2; 2; 1; 4; 6; 1\n".as_slice(),
@@ -25,35 +33,15 @@ fn two_activities_are_read(rt: HostRuntime) -> Result<(), Fail> {
             "quotes, blank lines, signs and zeros, in no order",
         ),
     ] {
-        let instance = read_activities(rt.alloc(), period, text)?;
-        let events: Vec<u32> = instance.events().map(|e| e.id.get()).collect(rt.alloc())?;
-        assert_eq!(rt; events.as_slice(), [1, 2].as_slice(), "{message}");
-        let rows: Vec<(u32, u32, u32, i32, i32, u32)> = instance
-            .activities()
-            .map(|a| {
-                let span = a.span;
-                (
-                    a.id.get(),
-                    a.from.get(),
-                    a.to.get(),
-                    span.lower(),
-                    span.upper(),
-                    a.weight.get(),
-                )
-            })
-            .collect(rt.alloc())?;
-        assert_eq!(rt;
-            rows.as_slice(),
-            [(1, 1, 2, 3, 5, 2), (2, 2, 1, 4, 6, 1)].as_slice(),
-            "{message}"
-        );
+        let instance = read(rt.alloc(), period, text)?;
+        assert_two_activities(&rt, &instance, message);
     }
     Ok(())
 }
 
 #[test]
-fn first_faulty_activity_is_named(rt: HostRuntime) -> Result<(), Fail> {
-    let period = Period::new(10).ok_or("no period")?;
+fn first_faulty_activity_is_named(rt: HostRuntime) {
+    let period = period(&rt, 10);
     for (text, place, kind) in [
         (
             b"1; 1; 2; 3; 5; 2.5".as_slice(),
@@ -95,41 +83,46 @@ fn first_faulty_activity_is_named(rt: HostRuntime) -> Result<(), Fail> {
             FaultKind::DuplicateActivity,
         ),
     ] {
-        let fault = read_activities(rt.alloc(), period, text).err();
+        let fault = fault_of(rt.alloc(), period, text);
         assert_eq!(rt; fault, Some(ReadFault { place, kind }), "{kind}");
     }
-    Ok(())
+}
+
+/// So many loops, each at an event of its own.
+fn loops(alloc: Global, count: u32) -> Result<String, Fail> {
+    let mut text = String::new(alloc);
+    for number in 0..count {
+        writeln!(text, "{number}; {number}; {number}; 0; 9; 1")?;
+    }
+    Ok(text)
+}
+
+/// So many activities between two events.
+fn between_two_events(alloc: Global, count: u32) -> Result<String, Fail> {
+    let mut text = String::new(alloc);
+    for number in 0..count {
+        writeln!(text, "{number}; 1; 2; 3; 5; 2")?;
+    }
+    Ok(text)
 }
 
 #[test]
 fn limits_on_events_and_activities(rt: HostRuntime) -> Result<(), Fail> {
-    let period = Period::new(60).ok_or("no period")?;
-    let mut loops = String::new(rt.alloc());
-    for number in 0..20_001u32 {
-        writeln!(loops, "{number}; {number}; {number}; 0; 9; 1")?;
-    }
-    let fault = read_activities(rt.alloc(), period, loops.as_bytes()).err();
-    let kind = FaultKind::TooManyEvents;
+    let period = period(&rt, 60);
+    let text = loops(rt.alloc(), 20_001)?;
+    let fault = fault_of(rt.alloc(), period, text.as_bytes());
+    let (place, kind) = (20_001, FaultKind::TooManyEvents);
     assert_eq!(rt;
         fault,
-        Some(ReadFault {
-            place: 20_001,
-            kind
-        }),
+        Some(ReadFault { place, kind }),
         "loops at 20,001 events"
     );
-    let mut activities = String::new(rt.alloc());
-    for number in 0..100_001u32 {
-        writeln!(activities, "{number}; 1; 2; 3; 5; 2")?;
-    }
-    let fault = read_activities(rt.alloc(), period, activities.as_bytes()).err();
-    let kind = FaultKind::TooManyActivities;
+    let text = between_two_events(rt.alloc(), 100_001)?;
+    let fault = fault_of(rt.alloc(), period, text.as_bytes());
+    let (place, kind) = (100_001, FaultKind::TooManyActivities);
     assert_eq!(rt;
         fault,
-        Some(ReadFault {
-            place: 100_001,
-            kind
-        }),
+        Some(ReadFault { place, kind }),
         "100,001 activities between two events"
     );
     Ok(())

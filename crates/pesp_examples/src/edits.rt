@@ -1,27 +1,12 @@
-//! The worked examples, and the limits.
+//! Edits of instances, their refusals, look-ups and walks, and the limits.
 
-use crate::{Edit, Instance};
-use pesp_base::{
-    Activity, ActivityId, EventId, Period, Refusal, Span, Weight, max_activities, max_events,
-};
+use crate::made::{self, event, id};
+use pesp_base::{Activity, Period, Refusal, max_activities, max_events};
+use pesp_instance::{Edit, Instance};
 use std::process::Abort;
 
-fn event(rt: &impl Abort, number: u32) -> EventId {
-    EventId::new(number).expect(rt, "the number of an event")
-}
-
-fn id(rt: &impl Abort, number: u32) -> ActivityId {
-    ActivityId::new(number).expect(rt, "the number of an activity")
-}
-
 fn activity(rt: &impl Abort, number: u32, from: u32, to: u32) -> Activity {
-    Activity {
-        id: id(rt, number),
-        from: event(rt, from),
-        to: event(rt, to),
-        span: Span::new(3, 5).expect(rt, "a span"),
-        weight: Weight::new(2).expect(rt, "a weight"),
-    }
+    made::activity(rt, number, (from, to), (3, 5), 2)
 }
 
 fn empty(rt: &(impl Abort + AllocGlobal), period: u16) -> Instance {
@@ -115,19 +100,25 @@ fn ends_changed(rt: HostRuntime) {
     );
 }
 
+/// Period 10, two events and two activities.
+fn assert_two_of_each(rt: &impl Abort, instance: &Instance) {
+    assert_eq!(rt; instance.period().get(), 10);
+    assert_eq!(rt; (instance.event_count(), instance.activity_count()), (2, 2));
+}
+
+fn assert_activity(rt: &impl Abort, instance: &Instance, activity: Activity) {
+    assert_eq!(rt; instance.activity(activity.id).copied(), Some(activity));
+}
+
 #[test]
 fn look_ups(rt: HostRuntime) {
     let mut instance = two_activities(&rt);
     let (one, two) = (event(&rt, 1), event(&rt, 2));
     accepted(&rt, &mut instance, Edit::Fix(two, 7), "event 2 is fixed");
-    assert_eq!(rt; instance.period().get(), 10);
-    assert_eq!(rt; (instance.event_count(), instance.activity_count()), (2, 2));
+    assert_two_of_each(&rt, &instance);
     assert!(rt; instance.has_event(one), "event 1");
     assert_eq!(rt; instance.fixed(two), Some(7));
-    assert_eq!(rt;
-        instance.activity(id(&rt, 1)).copied(),
-        Some(activity(&rt, 1, 1, 2))
-    );
+    assert_activity(&rt, &instance, activity(&rt, 1, 1, 2));
 }
 
 fn assert_events(rt: &(impl Abort + AllocGlobal), instance: &Instance, numbers: &[u32]) {

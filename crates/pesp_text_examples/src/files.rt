@@ -1,32 +1,31 @@
-//! The worked examples.
+//! Files written: the worked examples.
 
-use crate::{write_activities, write_fixed, write_times};
-use pesp_base::{EventId, Period};
-use pesp_instance::{Edit, Instance};
-use pesplib_reader::{read_activities, read_fixed, read_times};
-use std::alloc::Global;
+use crate::made::lone_event;
+use crate::reading::{read_both, timetable};
+use pesplib_writer::{write_activities, write_fixed, write_times};
+use std::process::Abort;
 use std::test::Fail;
 
 const ACTIVITIES: &str = "1; 1; 2; 3; 5; 2\n2; 2; 1; 4; 6; 1\n";
 
-/// The activities and the fixed times of these files at period 10, written again.
+/// The activities of a file, written again.
 ///
-/// Like the next function it has no contract, so that no text is worked out while the tests are proved.
-fn written(alloc: Global, activities: &str, fixed: &str) -> Result<(Vec<u8>, Vec<u8>), Fail> {
-    let period = Period::new(10).ok_or("no period")?;
-    let mut instance = read_activities(alloc, period, activities.as_bytes())?;
-    read_fixed(alloc, &mut instance, fixed.as_bytes())?;
-    Ok((
-        write_activities(alloc, &instance)?,
-        write_fixed(alloc, &instance)?,
-    ))
+/// Like the next functions it has no contract, so that no text is worked out while the tests are proved.
+fn activities_written(rt: &(impl Abort + AllocGlobal), activities: &str) -> Result<Vec<u8>, Fail> {
+    let instance = read_both(rt, activities, "")?;
+    Ok(write_activities(rt.alloc(), &instance)?)
 }
 
-/// The times of this file at period 10, written again.
-fn times_written(alloc: Global, times: &str) -> Result<Vec<u8>, Fail> {
-    let period = Period::new(10).ok_or("no period")?;
-    let timetable = read_times(alloc, period, times.as_bytes())?;
-    Ok(write_times(alloc, &timetable)?)
+/// The fixed times of a file, written again.
+fn fixed_written(rt: &(impl Abort + AllocGlobal), fixed: &str) -> Result<Vec<u8>, Fail> {
+    let instance = read_both(rt, ACTIVITIES, fixed)?;
+    Ok(write_fixed(rt.alloc(), &instance)?)
+}
+
+/// The times of a file, written again.
+fn times_written(rt: &(impl Abort + AllocGlobal), times: &str) -> Result<Vec<u8>, Fail> {
+    let timetable = timetable(rt, times.as_bytes())?;
+    Ok(write_times(rt.alloc(), &timetable)?)
 }
 
 #[test]
@@ -45,7 +44,7 @@ fn activities_are_written(rt: HostRuntime) -> Result<(), Fail> {
         ),
         ("", "", "no activities"),
     ] {
-        let (text, _) = written(rt.alloc(), given, "")?;
+        let text = activities_written(&rt, given)?;
         assert_eq!(rt; text.as_slice(), expected.as_bytes(), "{message}");
     }
     Ok(())
@@ -53,8 +52,7 @@ fn activities_are_written(rt: HostRuntime) -> Result<(), Fail> {
 
 #[test]
 fn event_without_activities_has_no_row(rt: HostRuntime) -> Result<(), Fail> {
-    let mut instance = Instance::new(rt.alloc(), Period::new(10).ok_or("no period")?);
-    instance.apply(&Edit::AddEvent(EventId::new(7).ok_or("no event")?))?;
+    let instance = lone_event(&rt, 7);
     let text = write_activities(rt.alloc(), &instance)?;
     assert_eq!(rt; text.as_slice(), b"".as_slice());
     Ok(())
@@ -71,7 +69,7 @@ fn fixed_times_are_written(rt: HostRuntime) -> Result<(), Fail> {
         ),
         ("", "", "none is fixed"),
     ] {
-        let (_, text) = written(rt.alloc(), ACTIVITIES, given)?;
+        let text = fixed_written(&rt, given)?;
         assert_eq!(rt; text.as_slice(), expected.as_bytes(), "{message}");
     }
     Ok(())
@@ -83,7 +81,7 @@ fn times_are_written(rt: HostRuntime) -> Result<(), Fail> {
         ("", "", "no times"),
         ("2; 4\n1; 0\n", "1; 0\n2; 4\n", "two times"),
     ] {
-        let text = times_written(rt.alloc(), given)?;
+        let text = times_written(&rt, given)?;
         assert_eq!(rt; text.as_slice(), expected.as_bytes(), "{message}");
     }
     Ok(())

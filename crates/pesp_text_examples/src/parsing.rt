@@ -1,75 +1,72 @@
 //! One line of each command, the faults in their order, and lines that say nothing.
 
-use crate::{Command, ParseFault, parse};
-use pesp_base::{Activity, ActivityId, EventId, Span, Weight};
+use crate::made::{activity, event, id, span, weight};
+use pesp_commands::{Command, ParseFault, parse};
 use pesp_instance::Edit;
-use std::test::Fail;
+use std::process::Abort;
 
-fn event(number: u32) -> Result<EventId, Fail> {
-    Ok(EventId::new(number).ok_or("no event")?)
+fn assert_command(rt: &impl Abort, line: &[u8], command: Command) {
+    assert_eq!(rt; parse(line), Ok(Some(command)), "{command:?}");
 }
 
-fn activity(number: u32) -> Result<ActivityId, Fail> {
-    Ok(ActivityId::new(number).ok_or("no activity")?)
+fn assert_fault(rt: &impl Abort, line: &[u8], fault: ParseFault, message: &str) {
+    assert_eq!(rt; parse(line), Err(fault), "{message}");
 }
 
-fn span(lower: i32, upper: i32) -> Result<Span, Fail> {
-    Ok(Span::new(lower, upper).ok().ok_or("no span")?)
-}
-
-fn weight(value: u32) -> Result<Weight, Fail> {
-    Ok(Weight::new(value).ok_or("no weight")?)
+fn assert_nothing(rt: &impl Abort, line: &[u8], message: &str) {
+    assert_eq!(rt; parse(line), Ok(None), "{message}");
 }
 
 #[test]
-fn every_edit_is_read(rt: HostRuntime) -> Result<(), Fail> {
+fn every_edit_is_read(rt: HostRuntime) {
     for (line, edit) in [
-        (b"add event 7".as_slice(), Edit::AddEvent(event(7)?)),
-        (b"drop event 7".as_slice(), Edit::DropEvent(event(7)?)),
-        (b"fix 7 65535".as_slice(), Edit::Fix(event(7)?, 65_535)),
-        (b"unfix 7".as_slice(), Edit::Unfix(event(7)?)),
+        (b"add event 7".as_slice(), Edit::AddEvent(event(&rt, 7))),
+        (b"drop event 7".as_slice(), Edit::DropEvent(event(&rt, 7))),
+        (b"fix 7 65535".as_slice(), Edit::Fix(event(&rt, 7), 65_535)),
+        (b"unfix 7".as_slice(), Edit::Unfix(event(&rt, 7))),
         (
             b"add activity 999999999 1 2 -1000000 1000000 1000000000".as_slice(),
-            Edit::AddActivity(Activity {
-                id: activity(999_999_999)?,
-                from: event(1)?,
-                to: event(2)?,
-                span: span(-1_000_000, 1_000_000)?,
-                weight: weight(1_000_000_000)?,
-            }),
+            Edit::AddActivity(activity(
+                &rt,
+                999_999_999,
+                (1, 2),
+                (-1_000_000, 1_000_000),
+                1_000_000_000,
+            )),
         ),
         (
             b"drop activity 3".as_slice(),
-            Edit::DropActivity(activity(3)?),
+            Edit::DropActivity(id(&rt, 3)),
         ),
         (
             b"span 3 -5 5".as_slice(),
-            Edit::SetSpan(activity(3)?, span(-5, 5)?),
+            Edit::SetSpan(id(&rt, 3), span(&rt, -5, 5)),
         ),
         (
             b"weight 3 4".as_slice(),
-            Edit::SetWeight(activity(3)?, weight(4)?),
+            Edit::SetWeight(id(&rt, 3), weight(&rt, 4)),
         ),
         (
             b"ends 3 1 2".as_slice(),
-            Edit::SetEnds(activity(3)?, event(1)?, event(2)?),
+            Edit::SetEnds(id(&rt, 3), event(&rt, 1), event(&rt, 2)),
         ),
-        (b"\t fix   +1\t-0 \r".as_slice(), Edit::Fix(event(1)?, 0)),
-        (b"fix 007 1".as_slice(), Edit::Fix(event(7)?, 1)),
+        (
+            b"\t fix   +1\t-0 \r".as_slice(),
+            Edit::Fix(event(&rt, 1), 0),
+        ),
+        (b"fix 007 1".as_slice(), Edit::Fix(event(&rt, 7), 1)),
     ] {
-        let said = parse(line);
-        assert_eq!(rt; said, Ok(Some(Command::Edit(edit))), "{edit:?}");
+        assert_command(&rt, line, Command::Edit(edit));
     }
-    Ok(())
 }
 
 #[test]
-fn every_other_command_is_read(rt: HostRuntime) -> Result<(), Fail> {
+fn every_other_command_is_read(rt: HostRuntime) {
     for (line, command) in [
-        (b"time 7 3".as_slice(), Command::Time(event(7)?, 3)),
-        (b"untime 7".as_slice(), Command::Untime(event(7)?)),
+        (b"time 7 3".as_slice(), Command::Time(event(&rt, 7), 3)),
+        (b"untime 7".as_slice(), Command::Untime(event(&rt, 7))),
         (b"adopt".as_slice(), Command::Adopt),
-        (b"domain 7".as_slice(), Command::Domain(event(7)?)),
+        (b"domain 7".as_slice(), Command::Domain(event(&rt, 7))),
         (b"domains".as_slice(), Command::Domains),
         (b"tensions".as_slice(), Command::Tensions),
         (b"violations".as_slice(), Command::Violations),
@@ -81,10 +78,8 @@ fn every_other_command_is_read(rt: HostRuntime) -> Result<(), Fail> {
         ),
         (b"dump".as_slice(), Command::Dump),
     ] {
-        let said = parse(line);
-        assert_eq!(rt; said, Ok(Some(command)), "{command:?}");
+        assert_command(&rt, line, command);
     }
-    Ok(())
 }
 
 #[test]
@@ -168,7 +163,7 @@ fn first_fault_is_named(rt: HostRuntime) {
             "a bad number behind crossed bounds",
         ),
     ] {
-        assert_eq!(rt; parse(line), Err(fault), "{message}");
+        assert_fault(&rt, line, fault, message);
     }
 }
 
@@ -180,6 +175,6 @@ fn blank_lines_and_comments_say_nothing(rt: HostRuntime) {
         (b"# text".as_slice(), "a comment"),
         (b"  #text".as_slice(), "a comment behind spaces"),
     ] {
-        assert_eq!(rt; parse(line), Ok(None), "{message}");
+        assert_nothing(&rt, line, message);
     }
 }

@@ -1,7 +1,7 @@
 //! Devices that give their bytes in pieces, that fail, and that have no end.
 
-use crate::{Failed, Front, LONGEST_LINE, LineReader, Noted};
-use std::alloc::AllocError;
+use pesp_lines::{Failed, Front, LONGEST_LINE, LineReader, Noted};
+use std::alloc::{AllocError, Global};
 use std::io::{self, Read};
 use std::test::Fail;
 
@@ -25,6 +25,13 @@ impl Read for Pieces<'_> {
     }
 }
 
+/// Puts bytes behind a text, and a mark behind them.
+fn put_marked(text: &mut Vec<u8>, bytes: &[u8], mark: u8) -> Result<(), AllocError> {
+    text.extend_from_slice(bytes)?;
+    text.push(mark)?;
+    Ok(())
+}
+
 /// The first nine lines of a device, with a stroke behind each, and how they end: `.` behind the last
 /// bytes, `!` behind the bytes before a failure, `>` before a line that is too long.
 fn told(rt: &impl AllocGlobal, device: impl Read + Drop) -> Result<Vec<u8>, AllocError> {
@@ -34,22 +41,19 @@ fn told(rt: &impl AllocGlobal, device: impl Read + Drop) -> Result<Vec<u8>, Allo
     for _ in 0..9 {
         match reader.look(&mut source) {
             Ok(Front::Line(length)) => {
-                text.extend_from_slice(&reader.held()[..length])?;
-                text.push(b'/')?;
+                put_marked(&mut text, &reader.held()[..length], b'/')?;
                 reader.skip(length + 1);
             }
             Ok(Front::Last) => {
-                text.extend_from_slice(reader.held())?;
-                text.push(b'.')?;
+                put_marked(&mut text, reader.held(), b'.')?;
                 return Ok(text);
             }
             Ok(Front::TooLong) => {
-                text.push(b'>')?;
+                put_marked(&mut text, b"", b'>')?;
                 return Ok(text);
             }
             Err(Failed) => {
-                text.extend_from_slice(reader.held())?;
-                text.push(b'!')?;
+                put_marked(&mut text, reader.held(), b'!')?;
                 return Ok(text);
             }
         }
@@ -79,26 +83,31 @@ fn lines_come_in_pieces(rt: HostRuntime) -> Result<(), Fail> {
     Ok(())
 }
 
+/// A line of so many bytes, with its line feed.
+fn long_line(alloc: Global, length: usize) -> Result<Vec<u8>, AllocError> {
+    let mut text = vec![in alloc; b'#'; length]?;
+    text.push(b'\n')?;
+    Ok(text)
+}
+
+/// The first mark that is told of a device.
+fn first_mark(rt: &impl AllocGlobal, device: impl Read + Drop) -> Result<Option<u8>, AllocError> {
+    let lines = told(rt, device)?;
+    Ok(lines.iter().find(|b| **b != b'#').copied())
+}
+
 #[test]
 fn long_lines(rt: HostRuntime) -> Result<(), Fail> {
     for size in [1, 7, 5_000] {
         for (length, wanted) in [(LONGEST_LINE, b'/'), (LONGEST_LINE + 1, b'>')] {
-            let mut text = Vec::from_elem(rt.alloc(), b'#', length)?;
-            text.push(b'\n')?;
-            let bytes = text.as_slice();
-            let lines = told(
-                &rt,
-                Pieces {
-                    bytes,
-                    size,
-                    fails: false,
-                },
-            )?;
-            assert_eq!(rt;
-                lines.iter().find(|b| **b != b'#'),
-                Some(&wanted),
-                "{length} in pieces of {size}"
-            );
+            let text = long_line(rt.alloc(), length)?;
+            let pieces = Pieces {
+                bytes: text.as_slice(),
+                size,
+                fails: false,
+            };
+            let mark = first_mark(&rt, pieces)?;
+            assert_eq!(rt; mark, Some(wanted), "{length} in pieces of {size}");
         }
     }
     Ok(())

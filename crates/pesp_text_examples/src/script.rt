@@ -1,29 +1,29 @@
-//! The worked examples.
+//! Instances written as scripts: the worked examples.
 
-use crate::dump;
-use pesp_base::{EventId, Period};
-use pesp_instance::{Edit, Instance};
-use pesplib_reader::{read_activities, read_fixed};
-use std::alloc::Global;
+use crate::made::{apply, event, lone_event};
+use crate::reading::read_both;
+use pesp_instance::Edit;
+use pesplib_writer::dump;
+use std::process::Abort;
 use std::test::Fail;
 
 /// The script of the instance of these files at period 10.
 ///
 /// Like the next function it has no contract, so that no text is worked out while the tests are proved.
-fn dumped(alloc: Global, activities: &str, fixed: &str) -> Result<Vec<u8>, Fail> {
-    let period = Period::new(10).ok_or("no period")?;
-    let mut instance = read_activities(alloc, period, activities.as_bytes())?;
-    read_fixed(alloc, &mut instance, fixed.as_bytes())?;
-    Ok(dump(alloc, &instance)?)
+fn dumped(rt: &(impl Abort + AllocGlobal), activities: &str, fixed: &str) -> Result<Vec<u8>, Fail> {
+    let instance = read_both(rt, activities, fixed)?;
+    Ok(dump(rt.alloc(), &instance)?)
 }
 
-/// An instance of one event, which is fixed, and nothing else.
-fn lone_event(alloc: Global, event: u32, time: u16) -> Result<Instance, Fail> {
-    let event = EventId::new(event).ok_or("no event")?;
-    let mut instance = Instance::new(alloc, Period::new(10).ok_or("no period")?);
-    instance.apply(&Edit::AddEvent(event))?;
-    instance.apply(&Edit::Fix(event, time))?;
-    Ok(instance)
+/// The script of an instance of one event, which is fixed, and nothing else.
+fn lone_event_dumped(
+    rt: &(impl Abort + AllocGlobal),
+    number: u32,
+    time: u16,
+) -> Result<Vec<u8>, Fail> {
+    let mut instance = lone_event(rt, number);
+    apply(rt, &mut instance, Edit::Fix(event(rt, number), time));
+    Ok(dump(rt.alloc(), &instance)?)
 }
 
 #[test]
@@ -41,7 +41,7 @@ fn instances_are_dumped(rt: HostRuntime) -> Result<(), Fail> {
         ),
         ("", "", "# period 10 lines 0\n"),
     ] {
-        let text = dumped(rt.alloc(), activities, fixed)?;
+        let text = dumped(&rt, activities, fixed)?;
         assert_eq!(rt; text.as_slice(), script.as_bytes(), "{activities}{fixed}");
     }
     Ok(())
@@ -49,8 +49,7 @@ fn instances_are_dumped(rt: HostRuntime) -> Result<(), Fail> {
 
 #[test]
 fn lone_event_is_dumped(rt: HostRuntime) -> Result<(), Fail> {
-    let instance = lone_event(rt.alloc(), 7, 3)?;
-    let text = dump(rt.alloc(), &instance)?;
+    let text = lone_event_dumped(&rt, 7, 3)?;
     assert_eq!(rt;
         text.as_slice(),
         b"# period 10 lines 2\nadd event 7\nfix 7 3\n".as_slice()

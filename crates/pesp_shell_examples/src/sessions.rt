@@ -1,10 +1,11 @@
 //! The worked examples, by runs over memory with each keeper.
 
-use crate::{Noted, RunFault, run};
 use pesp_base::Period;
 use pesp_counts::CountKeeper;
 use pesp_domains::{Keeper, PlainKeeper};
-use std::alloc::Global;
+use pesp_shell::{Noted, RunFault, run};
+use std::alloc::{AllocError, Global};
+use std::process::Abort;
 use std::test::Fail;
 
 const TWO: &str = "1; 1; 2; 3; 5; 2\n2; 2; 1; 4; 6; 1\n";
@@ -30,18 +31,20 @@ fn alone(period: u16, activities: &'static str) -> Given {
     }
 }
 
-/// What a run over memory with a keeper ends with, and its output.
-fn answered<K: Keeper>(
-    alloc: Global,
+/// What a run over memory ends with, and its output.
+///
+/// It has no contract, so that no text is worked out while the tests are proved.
+fn answered<K: Keeper, R: Abort + AllocGlobal>(
+    rt: &R,
     given: Given,
     input: &[u8],
-) -> Result<(Option<RunFault>, Vec<u8>), Fail> {
-    let period = Period::new(given.period).ok_or("no period")?;
-    let mut output = Vec::new(alloc);
+) -> (Option<RunFault>, Vec<u8>) {
+    let period = Period::new(given.period).expect(rt, "a period");
+    let mut output = Vec::new(rt.alloc());
     let mut reader = Noted::new(input);
     let mut writer = Noted::new(&mut output);
     let ended = run::<K, _, _>(
-        alloc,
+        rt.alloc(),
         period,
         given.activities.as_bytes(),
         Some(given.fixed.as_bytes()),
@@ -49,11 +52,40 @@ fn answered<K: Keeper>(
         &mut reader,
         &mut writer,
     );
-    Ok((ended.err(), output))
+    (ended.err(), output)
+}
+
+fn assert_run_by<K: Keeper, R: Abort + AllocGlobal>(
+    rt: &R,
+    keeper: &str,
+    given: Given,
+    input: &[u8],
+    wanted: (Option<RunFault>, &str),
+    message: &str,
+) {
+    let (ended, output) = answered::<K, R>(rt, given, input);
+    assert_eq!(rt; ended, wanted.0, "{keeper}: {message}");
+    assert_eq!(rt;
+        output.as_slice(),
+        wanted.1.as_bytes(),
+        "{keeper}: {message}"
+    );
+}
+
+/// A run ends so with each keeper, and with this output.
+fn assert_run<R: Abort + AllocGlobal>(
+    rt: &R,
+    given: Given,
+    input: &[u8],
+    wanted: (Option<RunFault>, &str),
+    message: &str,
+) {
+    assert_run_by::<PlainKeeper, R>(rt, "PlainKeeper", given, input, wanted, message);
+    assert_run_by::<CountKeeper, R>(rt, "CountKeeper", given, input, wanted, message);
 }
 
 #[test]
-fn domains_and_optima(rt: HostRuntime) -> Result<(), Fail> {
+fn domains_and_optima(rt: HostRuntime) {
     let two = alone(10, TWO);
     let three = alone(3, THREE);
     let table = [
@@ -155,18 +187,12 @@ fn domains_and_optima(rt: HostRuntime) -> Result<(), Fail> {
         ),
     ];
     for (name, given, input, wanted) in table {
-        let plain = answered::<PlainKeeper>(rt.alloc(), given, input.as_bytes())?;
-        let counts = answered::<CountKeeper>(rt.alloc(), given, input.as_bytes())?;
-        for (keeper, (ended, output)) in [("PlainKeeper", plain), ("CountKeeper", counts)] {
-            assert_eq!(rt; ended, None, "{keeper}: {name}");
-            assert_eq!(rt; output.as_slice(), wanted.as_bytes(), "{keeper}: {name}");
-        }
+        assert_run(&rt, given, input.as_bytes(), (None, wanted), name);
     }
-    Ok(())
 }
 
 #[test]
-fn texts_and_times(rt: HostRuntime) -> Result<(), Fail> {
+fn texts_and_times(rt: HostRuntime) {
     let two = alone(10, TWO);
     let table = [
         (
@@ -225,35 +251,38 @@ fn texts_and_times(rt: HostRuntime) -> Result<(), Fail> {
         ),
     ];
     for (name, given, input, wanted) in table {
-        let plain = answered::<PlainKeeper>(rt.alloc(), given, input.as_bytes())?;
-        let counts = answered::<CountKeeper>(rt.alloc(), given, input.as_bytes())?;
-        for (keeper, (ended, output)) in [("PlainKeeper", plain), ("CountKeeper", counts)] {
-            assert_eq!(rt; ended, None, "{keeper}: {name}");
-            assert_eq!(rt; output.as_slice(), wanted.as_bytes(), "{keeper}: {name}");
-        }
+        assert_run(&rt, given, input.as_bytes(), (None, wanted), name);
     }
-    Ok(())
+}
+
+/// A question for the cost, and behind it a line of so many blanks.
+fn cost_and_blanks(alloc: Global, length: usize) -> Result<Vec<u8>, AllocError> {
+    let blanks = vec![in alloc; b' '; length]?;
+    let mut input = Vec::new(alloc);
+    input.extend_from_slice(b"cost\n")?;
+    input.extend_from_slice(blanks.as_slice())?;
+    Ok(input)
 }
 
 #[test]
 fn longest_line(rt: HostRuntime) -> Result<(), Fail> {
-    let table = [
+    let refusal = "refused 11 event 1 has no time\n";
+    for (length, wanted, message) in [
         (
             4_097,
             Some(RunFault::LineTooLong { line: 2 }),
-            "refused 11 event 1 has no time\n",
+            "4,097 blanks",
         ),
-        (4_096, None, "refused 11 event 1 has no time\n"),
-    ];
-    for (length, wanted, text) in table {
-        let mut input = Vec::from_elem(rt.alloc(), b' ', 5 + length)?;
-        input[..5].copy_from_slice(b"cost\n");
-        let plain = answered::<PlainKeeper>(rt.alloc(), alone(10, TWO), input.as_slice())?;
-        let counts = answered::<CountKeeper>(rt.alloc(), alone(10, TWO), input.as_slice())?;
-        for (keeper, (ended, output)) in [("PlainKeeper", plain), ("CountKeeper", counts)] {
-            assert_eq!(rt; ended, wanted, "{keeper}: {length}");
-            assert_eq!(rt; output.as_slice(), text.as_bytes(), "{keeper}: {length}");
-        }
+        (4_096, None, "4,096 blanks"),
+    ] {
+        let input = cost_and_blanks(rt.alloc(), length)?;
+        assert_run(
+            &rt,
+            alone(10, TWO),
+            input.as_slice(),
+            (wanted, refusal),
+            message,
+        );
     }
     Ok(())
 }

@@ -1,0 +1,32 @@
+//! The worked examples of files, scripts, lines, commands and replies.
+//!
+//! They stand above the crates whose calls they try, so that none of these is proved a second time
+//! with tests in it.
+#![tactic(auto)]
+
+#[cfg(test)]
+mod activities;
+#[cfg(test)]
+mod faults;
+#[cfg(test)]
+mod files;
+#[cfg(test)]
+mod fixed;
+#[cfg(test)]
+mod line_reader;
+#[cfg(test)]
+mod line_writer;
+#[cfg(test)]
+mod made;
+#[cfg(test)]
+mod parsing;
+#[cfg(test)]
+mod reading;
+#[cfg(test)]
+mod replaying;
+#[cfg(test)]
+mod replies;
+#[cfg(test)]
+mod script;
+#[cfg(test)]
+mod times;

@@ -1,0 +1,85 @@
+//! Numbers, spans and activities for the examples, and what more than one of them asserts.
+
+use pesp_base::{Activity, ActivityId, EventId, Period, Span, Weight};
+use pesp_instance::{Edit, Instance};
+use std::process::Abort;
+
+pub fn period(rt: &impl Abort, length: u16) -> Period {
+    Period::new(length).expect(rt, "a period")
+}
+
+pub fn event(rt: &impl Abort, number: u32) -> EventId {
+    EventId::new(number).expect(rt, "the number of an event")
+}
+
+pub fn id(rt: &impl Abort, number: u32) -> ActivityId {
+    ActivityId::new(number).expect(rt, "the number of an activity")
+}
+
+pub fn span(rt: &impl Abort, lower: i32, upper: i32) -> Span {
+    Span::new(lower, upper).expect(rt, "a span")
+}
+
+pub fn weight(rt: &impl Abort, value: u32) -> Weight {
+    Weight::new(value).expect(rt, "a weight")
+}
+
+/// An activity of this number, from the first of these events to the second.
+pub fn activity(
+    rt: &impl Abort,
+    number: u32,
+    ends: (u32, u32),
+    bounds: (i32, i32),
+    weighs: u32,
+) -> Activity {
+    Activity {
+        id: id(rt, number),
+        from: event(rt, ends.0),
+        to: event(rt, ends.1),
+        span: span(rt, bounds.0, bounds.1),
+        weight: weight(rt, weighs),
+    }
+}
+
+pub fn apply(rt: &impl Abort, instance: &mut Instance, edit: Edit) {
+    assert_eq!(rt; instance.apply(&edit), Ok(()), "{edit:?}");
+}
+
+/// An instance at period 10 of one event and nothing else.
+pub fn lone_event(rt: &(impl Abort + AllocGlobal), number: u32) -> Instance {
+    let mut instance = Instance::new(rt.alloc(), period(rt, 10));
+    apply(rt, &mut instance, Edit::AddEvent(event(rt, number)));
+    instance
+}
+
+fn assert_events(
+    rt: &(impl Abort + AllocGlobal),
+    instance: &Instance,
+    numbers: &[u32],
+    message: &str,
+) {
+    let walk = instance.events().map(|e| e.id.get());
+    let found = walk.collect::<Vec<u32>>(rt.alloc()).expect(rt, "memory");
+    assert_eq!(rt; found.as_slice(), numbers, "{message}");
+}
+
+fn assert_activities(
+    rt: &(impl Abort + AllocGlobal),
+    instance: &Instance,
+    activities: &[Activity],
+    message: &str,
+) {
+    let walk = instance.activities().copied();
+    let found = walk
+        .collect::<Vec<Activity>>(rt.alloc())
+        .expect(rt, "memory");
+    assert_eq!(rt; found.as_slice(), activities, "{message}");
+}
+
+/// The instance has events 1 and 2, an activity each way between them, and nothing else.
+pub fn assert_two_activities(rt: &(impl Abort + AllocGlobal), instance: &Instance, message: &str) {
+    assert_events(rt, instance, &[1, 2], message);
+    let there = activity(rt, 1, (1, 2), (3, 5), 2);
+    let back = activity(rt, 2, (2, 1), (4, 6), 1);
+    assert_activities(rt, instance, &[there, back], message);
+}
