@@ -9,7 +9,7 @@ use Rattle.pesp_domains.specs.declared.pair.Pair.{Pair}
 use Rattle.pesp_domains.specs.Sweeps.{AreDomains}
 use Rattle.pesp_domains.proofs.Pushes.{pushed_none}
 use Rattle.pesp_counts.specs.Counts.{has_at}
-use Rattle.pesp_counts.specs.Keeping.{AreSettled, IsKeeping, adds}
+use Rattle.pesp_counts.specs.Keeping.{AreSettled, HaveRoom, IsKeeping, adds}
 use Rattle.pesp_counts.specs.Links.{Links}
 use Rattle.pesp_counts.specs.Places.{numbered}
 use Rattle.pesp_counts.specs.Supports.{HaveSameShape, Supports}
@@ -53,8 +53,8 @@ not_adds (SetWeight n weight) a b = refl
 not_adds (SetEnds n from to) a b = refl
 
 -- where nothing is pushed
-pub keeping_none : (I : Network) (pushes : List Pair) (marks : List ℕ) (links : Links) (s : Supports) (a b : ℕ) → pushes ≡ [] → marks ≡ [] → AreSettled I [] links s → length I.events ≤ a → length I.events ≤ b → IsKeeping I pushes marks links s a b
-keeping_none I pushes marks links s a b no_pushes no_marks settled room room' =
+pub keeping_none : (I : Network) (pushes : List Pair) (marks : List ℕ) (links : Links) (s : Supports) (a b for_back for_restored : ℕ) → pushes ≡ [] → marks ≡ [] → AreSettled I [] links s → length I.events ≤ a → length I.events ≤ b → HaveRoom s for_back for_restored → IsKeeping I pushes marks links s a b for_back for_restored
+keeping_none I pushes marks links s a b for_back for_restored no_pushes no_marks settled room room' room_back =
     rw (no_pushes, no_marks)
     (record {
       settled = settled;
@@ -68,4 +68,5 @@ keeping_none I pushes marks links s a b no_pushes no_marks settled room room' =
           };
       room_pushed = room;
       room_marks = room';
+      room_back = room_back;
     })

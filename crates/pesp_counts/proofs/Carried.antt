@@ -1,5 +1,5 @@
 -- What is so of links, counts and rows as the links follow an edit.
-use Rattle.std.proofs.Common.{◌≡◌, ◌≢◌, ℕ, ◌+◌, ◌*◌, ◌<◌, true, false, [], Option, Some, None, is_some, is_none, Ok, IfSome, length, refl, sym, ap, subst, ◌∙◌, inl, inr, arith}
+use Rattle.std.proofs.Common.{◌≡◌, ◌≢◌, ℕ, ◌+◌, ◌*◌, ◌<◌, true, false, List, [], Option, Some, None, is_some, is_none, Ok, IfSome, length, refl, sym, ap, subst, ◌∙◌, inl, inr, arith}
 use Rattle.std.specs.List.{Contains}
 use Rattle.std.proofs.lemmas.Bool.{eq-eqb, false≢true}
 use Rattle.pesp_instance.specs.declared.edit.Edit.{Edit}
@@ -17,6 +17,8 @@ use Rattle.pesp_counts.specs.Keeping.{AreAtRest, AreAtRestBut, AreFor, adds}
 use Rattle.pesp_counts.specs.Links.{IsChangedAt, IsEndOf, IsEndOfPlace, Links, StandFor, end_number}
 use Rattle.pesp_counts.specs.Places.{place_of}
 use Rattle.pesp_counts.specs.Supports.{AreLevel, IsRoomier, Supports}
+use Rattle.pesp_domains.proofs.Families.{and_left}
+use Rattle.pesp_counts.specs.declared.trail.Placed.{Placed}
 use Rattle.pesp_counts.proofs.Asks.{asks_again, first_fails, found_in}
 use Rattle.pesp_counts.proofs.Bridge.{some_of, the_same}
 use Rattle.pesp_counts.proofs.StandLaws.{stands_fix, stands_unfix, stands_weight}
@@ -151,12 +153,12 @@ module _ (links links' : Links) (s s' : Supports) (more : IsRoomier s s') where
       }
 
   -- and but for the ends of one activity
-  pub rest_but : (q : ℕ) → AreAtRest links s → IsChangedAt links links' q → (end_at links'.ends (2 * q)).mate ≡ 2 * q + 1 → s.trail ≡ [] → AreAtRestBut links' s' (2 * q)
-  rest_but q h changed mate trail =
+  pub rest_but : (q : ℕ) (back : List Placed) → AreAtRest links s → IsChangedAt links links' q → (end_at links'.ends (2 * q)).mate ≡ 2 * q + 1 → s.trail ≡ [] → AreAtRestBut links' s' (2 * q) back
+  rest_but q back h changed mate trail =
       let other : (k : ℕ) → k ≢ 2 * q → k ≢ (end_at links'.ends (2 * q)).mate → IsEndOfPlace q k → ⊥ = λ k a b is. elim is [ inl same ↦ a same | inr same ↦ b (same ∙ sym mate) ] in
       record {
         exact = λ p k is a b. exact_at k (changed.ends k (other k a b)) (h.exact p k (changed.listed p k is (other k a b)));
-        live = λ p k is a b. live_at p k (h.live p k (changed.listed p k is (other k a b)));
+        live = λ p k is a b r rl i. live_at p k (h.live p k (changed.listed p k is (other k a b))) r rl (and_left _ _ i);
         level = level_more h.level;
         below = below_more h.below;
         trail = more.trail ∙ trail;

@@ -15,7 +15,7 @@ use Rattle.pesp_domains.specs.Sweeps.{AreDomains, Pairs}
 use Rattle.pesp_domains.proofs.Pushes.{limited, push_settles, pushed_more}
 use Rattle.pesp_counts.specs.declared.trail.Placed.{Placed}
 use Rattle.pesp_counts.specs.Counts.{AreLinked, has_at}
-use Rattle.pesp_counts.specs.Keeping.{AreFor, AreMarks, AreSettled, IsKeeping, IsNarrowed, rows_of, with_pairs}
+use Rattle.pesp_counts.specs.Keeping.{AreFor, AreMarks, AreSettled, HaveRoom, IsKeeping, IsNarrowed, rows_of, with_pairs}
 use Rattle.pesp_counts.specs.Links.{Links}
 use Rattle.pesp_counts.specs.Places.{ArePlaces, Places, number_at, numbered, place_of}
 use Rattle.pesp_counts.specs.Supports.{AreExact, AreLevel, AreOut, HaveSameShape, IsTaken, Supports, is_in}
@@ -41,6 +41,9 @@ for_same I links before after shape h =
 -- the ends are linked, by the period of the counts
 pub for_linked : (I : Network) (links : Links) (s : Supports) → AreFor I links s → AreLinked s.period links.ends links.lists
 for_linked I links s h = rw h.period (stand_linked I links h.stand)
+
+pub room_same : (s n : Supports) (for_back for_restored : ℕ) → HaveSameShape s n → HaveRoom s for_back for_restored → HaveRoom n for_back for_restored
+room_same s n for_back for_restored shape room = record { back = rw (shape.rows, shape.period) room.back; restored = rw (shape.rows, shape.period) room.restored }
 
 none_and : (b : Bool) → false ≡ (false && b)
 none_and b = refl
@@ -137,8 +140,8 @@ marks_push I pushes x links s n marks h domains taken =
     grown xs ys = omega (arith, length-append xs ys)
 
 -- one pair more is pushed
-pub keeping_push : (I : Network) (pushes : List Pair) (x : Pair) (links : Links) (s n : Supports) (marks : List ℕ) (p a b : ℕ) → IsKeeping I pushes marks links s a b → IsTrue (has_event I x.event) → ((r : ℕ) → In pushes x.event r → ⊥) → place_of links.events x.event ≡ Some p → IsNarrowed links p x.residue s n → IsKeeping I (pushes ++ x ∷ []) (marks ++ length s.trail ∷ []) links n a b
-keeping_push I pushes x links s n marks p a b h event free at narrow =
+pub keeping_push : (I : Network) (pushes : List Pair) (x : Pair) (links : Links) (s n : Supports) (marks : List ℕ) (p a b for_back for_restored : ℕ) → IsKeeping I pushes marks links s a b for_back for_restored → IsTrue (has_event I x.event) → ((r : ℕ) → In pushes x.event r → ⊥) → place_of links.events x.event ≡ Some p → IsNarrowed links p x.residue s n → IsKeeping I (pushes ++ x ∷ []) (marks ++ length s.trail ∷ []) links n a b for_back for_restored
+keeping_push I pushes x links s n marks p a b for_back for_restored h event free at narrow =
     let fits = h.settled.fits in
     let period : n.period ≡ I.period = narrow.shape.period ∙ fits.period in
     let M : Pairs = limited (has_at s.rows) p x.residue in
@@ -155,6 +158,7 @@ keeping_push I pushes x links s n marks p a b h event free at narrow =
       marked = marks_push I pushes x links s n marks h.marked h.settled.domains narrow.taken;
       room_pushed = h.room_pushed;
       room_marks = h.room_marks;
+      room_back = room_same s n for_back for_restored narrow.shape h.room_back;
     }
 
 -- ---- what was taken out is put back
@@ -252,8 +256,8 @@ last_mark I pushes links s marks marks' m h is =
     omega (arith, w, top)
 
 -- the pair that was pushed last is popped
-pub keeping_pop : (I : Network) (pushes after : List Pair) (x : Pair) (links : Links) (s n : Supports) (marks marks' : List ℕ) (m a b : ℕ) → IsKeeping I pushes marks links s a b → pushes ≡ after ++ x ∷ [] → marks ≡ marks' ++ m ∷ [] → ((p r : ℕ) → has_at n.rows p r ≡ (has_at s.rows p r || is_in (drop m s.trail) p r)) → AreExact links n (has_at n.counted) → AreLevel n → n.trail ≡ take m s.trail → HaveSameShape s n → IsKeeping I after marks' links n a b
-keeping_pop I pushes after x links s n marks marks' m a b h pushes_is marks_is back exact level trail shape =
+pub keeping_pop : (I : Network) (pushes after : List Pair) (x : Pair) (links : Links) (s n : Supports) (marks marks' : List ℕ) (m a b for_back for_restored : ℕ) → IsKeeping I pushes marks links s a b for_back for_restored → pushes ≡ after ++ x ∷ [] → marks ≡ marks' ++ m ∷ [] → ((p r : ℕ) → has_at n.rows p r ≡ (has_at s.rows p r || is_in (drop m s.trail) p r)) → AreExact links n (has_at n.counted) → AreLevel n → n.trail ≡ take m s.trail → HaveSameShape s n → IsKeeping I after marks' links n a b for_back for_restored
+keeping_pop I pushes after x links s n marks marks' m a b for_back for_restored h pushes_is marks_is back exact level trail shape =
     let fits = h.settled.fits in
     let out = h.settled.rest.out in
     let n_marks = length_push marks' m in
@@ -305,6 +309,7 @@ keeping_pop I pushes after x links s n marks marks' m a b h pushes_is marks_is b
           };
       room_pushed = h.room_pushed;
       room_marks = h.room_marks;
+      room_back = room_same s n for_back for_restored shape h.room_back;
     }
   where
     fewer_pushed : ArePushed I after

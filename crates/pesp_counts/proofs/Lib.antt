@@ -1,8 +1,12 @@
 mod Cases
+pub mod AlongEnds
 pub mod Applied
 pub mod Asks
 pub mod Bridge
+pub mod Brought
 pub mod Carried
+pub mod Coming
+pub mod EditStarts
 pub mod EndLaws
 pub mod Filled
 pub mod Followed
@@ -10,12 +14,18 @@ pub mod Grown
 pub mod Housed
 pub mod Keeping
 pub mod ListLaws
+pub mod Loosened
 pub mod Marks
 pub mod Narrowed
+pub mod PutBack
 pub mod Raised
 pub mod Ranges
+pub mod ReachLaws
+pub mod Relinked
 pub mod Remade
+pub mod Reopened
 pub mod Rows
+pub mod Sparing
 pub mod Spread
 pub mod StandAround
 pub mod StandEdits
@@ -29,6 +39,7 @@ pub mod Supported
 pub mod Supporters
 pub mod Taken
 pub mod Tightened
+pub mod Told
 pub mod Union
 pub mod Waiting
 pub mod Windowed

@@ -1,17 +1,18 @@
 -- Both ends of an activity, counted anew, and the pairs that are left without a partner there.
-use Rattle.std.proofs.Common.{◌≡◌, ◌≢◌, ℕ, ◌<◌, ◌==◌, ◌&&◌, not, Bool, true, false, List, [], length, refl, sym, ap, subst, ◌∙◌, inl, inr, arith, IsTrue}
+use Rattle.std.proofs.Common.{◌≡◌, ◌≢◌, ℕ, ◌<◌, ◌==◌, ◌&&◌, not, Bool, true, false, List, [], refl, sym, ap, subst, ◌∙◌, inl, inr, arith, IsTrue}
 use Rattle.std.specs.List.{Contains}
 use Rattle.std.proofs.lemmas.Bool.{and_from, and_parts, cases_eq, eq-eqb, ne_eqb, false≢true}
 use Rattle.pesp_domains.specs.Sweeps.{Of, Pairs}
 use Rattle.pesp_counts.specs.declared.end.End.{End}
-use Rattle.pesp_counts.specs.Counts.{AreLinked, ArePending, IsClosed, IsLiveAt, KeepsClosed, count_at, end_at, ends_of, has_at, passes, supporters}
-use Rattle.pesp_counts.specs.Keeping.{AreAtRest, AreAtRestBut, AreLive}
+use Rattle.pesp_counts.specs.declared.trail.Placed.{Placed}
+use Rattle.pesp_counts.specs.Counts.{AreLinked, IsClosed, IsLiveAt, KeepsClosed, count_at, end_at, ends_of, has_at, passes, supporters}
+use Rattle.pesp_counts.specs.Keeping.{AreAtRestBut, ArePendingBut}
 use Rattle.pesp_counts.specs.Links.{Links}
-use Rattle.pesp_counts.specs.Supports.{AreExact, AreLevel, HaveSameShape, IsTaken, Keeps, Supports}
-use Rattle.pesp_counts.proofs.Marks.{out_more, pending_from, pending_rest}
+use Rattle.pesp_counts.specs.Supports.{AreExact, AreLevel, HaveSameShape, IsTaken, Keeps, Supports, is_in, without_those}
+use Rattle.pesp_counts.proofs.PutBack.{pending_but}
 use Rattle.pesp_counts.proofs.Remade.{out_none}
 use Rattle.pesp_counts.proofs.Supporters.{supporters_from}
-use Rattle.pesp_counts.proofs.Taken.{kept_shape, shape_then, taken_fewer, taken_then}
+use Rattle.pesp_counts.proofs.Taken.{taken_fewer}
 
 -- the residue is at the place and has no partner at the end
 abbrev pub is_lone : ℕ → List ℕ → ℕ → ℕ → Pairs
@@ -22,11 +23,11 @@ abbrev pub IsCounted : Links → ℕ → List ℕ → List (List Bool) → ℕ �
 IsCounted links period counts rows k = (r : ℕ) → r < period → count_at period counts k r ≡ supporters period (has_at rows (end_at links.ends k).looks_at) (passes period (end_at links.ends k) r)
 
 -- two ends are counted anew
-pub recounted : (links : Links) (s a b : Supports) (t : ℕ) → AreAtRestBut links s t → a.counted ≡ s.counted → b.counted ≡ a.counted → a.period ≡ s.period → b.period ≡ a.period
+pub recounted : (links : Links) (s a b : Supports) (t : ℕ) (back : List Placed) → AreAtRestBut links s t back → a.counted ≡ s.counted → b.counted ≡ a.counted → a.period ≡ s.period → b.period ≡ a.period
     → IsCounted links s.period a.counts s.counted t → ((k r : ℕ) → k ≢ t → r < s.period → count_at s.period a.counts k r ≡ count_at s.period s.counts k r)
     → IsCounted links a.period b.counts a.counted (end_at links.ends t).mate → ((k r : ℕ) → k ≢ (end_at links.ends t).mate → r < a.period → count_at a.period b.counts k r ≡ count_at a.period a.counts k r)
     → AreExact links b (has_at b.counted)
-recounted links s a b t h ac bc ap' bp first elsewhere second elsewhere' p k is =
+recounted links s a b t back h ac bc ap' bp first elsewhere second elsewhere' p k is =
     let T : ℕ = s.period in
     let second' : IsCounted links T b.counts s.counted (end_at links.ends t).mate = subst (λ n. IsCounted links n b.counts s.counted (end_at links.ends t).mate) ap' (subst (λ rows. IsCounted links a.period b.counts rows (end_at links.ends t).mate) ac second) in
     let elsewhere'' : (k r : ℕ) → k ≢ (end_at links.ends t).mate → r < T → count_at T b.counts k r ≡ count_at T a.counts k r = subst (λ n. (k r : ℕ) → k ≢ (end_at links.ends t).mate → r < n → count_at n b.counts k r ≡ count_at n a.counts k r) ap' elsewhere' in
@@ -77,18 +78,19 @@ not_lone period counts place end p r b same h =
     ]
 
 -- the ends of an activity are narrowed, from counts that are exact
-module _ (links : Links) (s a b : Supports) (t p : ℕ) (linked : AreLinked s.period links.ends links.lists) (listed : Contains (ends_of links.lists p) t) (exact : AreExact links s (has_at s.counted)) (level : AreLevel s) (below : (q r : ℕ) → Of (has_at s.rows) q r → r < s.period)
-    (live : (q k : ℕ) → Contains (ends_of links.lists q) k → k ≢ t → k ≢ (end_at links.ends t).mate → IsLiveAt s.period s.counts (has_at s.rows) q k)
+module _ (links : Links) (s a b : Supports) (t p : ℕ) (back : List Placed) (linked : AreLinked s.period links.ends links.lists) (listed : Contains (ends_of links.lists p) t) (exact : AreExact links s (has_at s.counted)) (level : AreLevel s) (below : (q r : ℕ) → Of (has_at s.rows) q r → r < s.period)
+    (live : (q k : ℕ) → Contains (ends_of links.lists q) k → k ≢ t → k ≢ (end_at links.ends t).mate → IsLiveAt s.period s.counts (without_those (has_at s.rows) back) q k)
     (rows : (q r : ℕ) → has_at a.rows q r ≡ (has_at s.rows q r && not (is_lone s.period s.counts (end_at links.ends (end_at links.ends t).mate).looks_at t q r)))
     (rows' : (q r : ℕ) → has_at b.rows q r ≡ (has_at a.rows q r && not (is_lone s.period s.counts (end_at links.ends t).looks_at (end_at links.ends t).mate q r)))
     (taken : IsTaken s b) (keeps : Keeps s b) where
   tail_at : (end_at links.ends (end_at links.ends t).mate).looks_at ≡ p
   tail_at = (linked.each p t listed).mate_looks
 
-  sifted_live : AreLive links b
+  sifted_live : (q k : ℕ) → Contains (ends_of links.lists q) k → IsLiveAt b.period b.counts (without_those (has_at b.rows) back) q k
   sifted_live q k is =
       rw (keeps.period, keeps.counts)
-      (λ r rl here.
+      (λ r rl i.
+      let here = (and_parts _ _ i).0 in
       elim (cases_eq k (end_at links.ends t).mate) [
         | inl same ↦
             let w = linked.each q k is in
@@ -102,12 +104,15 @@ module _ (links : Links) (s a b : Supports) (t p : ℕ) (linked : AreLinked s.pe
                   let w = linked.each q k is in
                   let at : q ≡ (end_at links.ends (end_at links.ends t).mate).looks_at = sym w.mate_looks ∙ ap (λ j. (end_at links.ends (end_at links.ends j).mate).looks_at) same in
                   subst (λ j. 0 < count_at s.period s.counts j r) (sym same) (not_lone s.period s.counts (end_at links.ends (end_at links.ends t).mate).looks_at t q r (has_at s.rows q r) at (sym (rows q r) ∙ before))
-              | inr other ↦ live q k is other apart r rl (and_parts _ _ (sym (rows q r) ∙ before)).0
+              | inr other ↦
+                  let was : IsTrue (has_at s.rows q r) = (and_parts _ _ (sym (rows q r) ∙ before)).0 in
+                  let old : IsTrue (not (is_in back q r)) = (and_parts _ _ i).1 in
+                  live q k is other apart r rl (and_from _ _ was old)
             ]
       ])
 
-  pub sifted_pending : ArePending b.period links.ends links.lists b.counts (has_at b.counted) (has_at b.rows) b.trail (length s.trail)
-  sifted_pending = pending_from links s b exact level sifted_live taken keeps
+  pub sifted_pending : s.trail ≡ [] → ArePendingBut links b back
+  sifted_pending trail = pending_but links s b back exact level sifted_live taken keeps below (out_none s trail)
 
   pub sifted_keeps : KeepsClosed s.period links.ends links.lists (has_at s.rows) (has_at b.rows)
   sifted_keeps =
@@ -120,18 +125,11 @@ module _ (links : Links) (s a b : Supports) (t p : ℕ) (linked : AreLinked s.pe
             sift_keeps links s linked exact level below b _ (end_at links.ends t).mate S head closed within a.rows first rows';
       }
 
-  -- and settled
-  pub narrowed_rest : (n : Supports) → s.trail ≡ [] → ArePending b.period links.ends links.lists n.counts (has_at n.counted) (has_at n.rows) n.trail (length n.trail) → IsTaken b n → HaveSameShape b n → AreAtRest links n
-  narrowed_rest n trail pending more shape =
-      let both = taken_then s b n taken more in
-      let whole = shape_then s b n (kept_shape s b keeps) shape in
-      pending_rest links b n shape.period (λ q r i. let l = below q r (taken_fewer s n both q r i) in omega (arith, l, whole.period)) (out_more s n (out_none s trail) below whole both) pending
-
 -- the counts at an end, as they are made anew
 abbrev pub IsMade : ℕ → List ℕ → List (List Bool) → ℕ → End → Type 0
 IsMade period counts rows k e = (r : ℕ) → r < period → count_at period counts k r ≡ supporters period (has_at rows e.looks_at) (passes period e r)
 
-module _ (links : Links) (s a b : Supports) (t : ℕ) (e m : End) (e_is : e ≡ end_at links.ends t) (m_is : m ≡ end_at links.ends e.mate) (h : AreAtRestBut links s t)
+module _ (links : Links) (s a b : Supports) (t : ℕ) (back : List Placed) (e m : End) (e_is : e ≡ end_at links.ends t) (m_is : m ≡ end_at links.ends e.mate) (h : AreAtRestBut links s t back)
     (rows : a.rows ≡ s.rows) (rows' : b.rows ≡ a.rows) (counted : a.counted ≡ s.counted) (counted' : b.counted ≡ a.counted) (trail : a.trail ≡ s.trail) (trail' : b.trail ≡ a.trail) (shape : HaveSameShape s a) (shape' : HaveSameShape a b)
     (first : IsMade s.period a.counts s.counted t e) (elsewhere : (k r : ℕ) → k ≢ t → r < s.period → count_at s.period a.counts k r ≡ count_at s.period s.counts k r)
     (second : IsMade a.period b.counts a.counted e.mate m) (elsewhere' : (k r : ℕ) → k ≢ e.mate → r < a.period → count_at a.period b.counts k r ≡ count_at a.period a.counts k r) where
@@ -143,7 +141,7 @@ module _ (links : Links) (s a b : Supports) (t : ℕ) (e m : End) (e_is : e ≡ 
 
   pub anew_exact : AreExact links b (has_at b.counted)
   anew_exact =
-      recounted links s a b t h counted counted' shape.period shape'.period
+      recounted links s a b t back h counted counted' shape.period shape'.period
       (subst (λ (x : End). IsMade s.period a.counts s.counted t x) e_is first) elsewhere
       (subst (λ k. IsMade a.period b.counts a.counted k (end_at links.ends k)) mate_is (subst (λ (x : End). IsMade a.period b.counts a.counted e.mate x) m_is second)) turned
 
@@ -153,13 +151,13 @@ module _ (links : Links) (s a b : Supports) (t : ℕ) (e m : End) (e_is : e ≡ 
   pub anew_below : (p r : ℕ) → Of (has_at b.rows) p r → r < b.period
   anew_below p r i = let l = h.below p r (sym (ap (λ xs. has_at xs p r) (rows' ∙ rows)) ∙ i) in omega (arith, l, shape.period, shape'.period)
 
-  pub anew_live : (p k : ℕ) → Contains (ends_of links.lists p) k → k ≢ t → k ≢ (end_at links.ends t).mate → IsLiveAt b.period b.counts (has_at b.rows) p k
+  pub anew_live : (p k : ℕ) → Contains (ends_of links.lists p) k → k ≢ t → k ≢ (end_at links.ends t).mate → IsLiveAt b.period b.counts (without_those (has_at b.rows) back) p k
   anew_live p k is apart other =
-      let was : IsLiveAt s.period s.counts (has_at s.rows) p k = h.live p k is apart other in
+      let was : IsLiveAt s.period s.counts (without_those (has_at s.rows) back) p k = h.live p k is apart other in
       rw shape'.period
       (λ r rl i.
       let low : r < s.period = omega (arith, rl, shape.period) in
-      let some = was r low (sym (ap (λ xs. has_at xs p r) (rows' ∙ rows)) ∙ i) in
+      let some = was r low (sym (ap (λ xs. without_those (has_at xs) back p r) (rows' ∙ rows)) ∙ i) in
       let same : count_at a.period a.counts k r ≡ count_at s.period s.counts k r = ap (λ n. count_at n a.counts k r) shape.period ∙ elsewhere k r apart low in
       subst (λ n. 0 < n) (sym (turned k r other rl ∙ same)) some)
 

@@ -29,12 +29,12 @@ use Rattle.pesp_counts.proofs.Keeping.{for_same, limited_numbered}
 use Rattle.pesp_counts.proofs.Marks.{keeps_like}
 use Rattle.pesp_counts.proofs.Taken.{keeps_none}
 
-admits_same : (I J : Network) (e r : ℕ) → J.events ≡ I.events → J.period ≡ I.period → admits J e r ≡ admits I e r
+pub admits_same : (I J : Network) (e r : ℕ) → J.events ≡ I.events → J.period ≡ I.period → admits J e r ≡ admits I e r
 admits_same I J e r events period =
     ap (λ n. agrees_with n (fixed_of J e) r) period
     ∙ ap (λ (xs : List Event). agrees_with I.period (option_and_then (λ (x : Event). x.fixed) (with_number (λ x. x.id) e xs)) r) events
 
-events_same : (I J : Network) (e : ℕ) → J.events ≡ I.events → has_event J e ≡ has_event I e
+pub events_same : (I J : Network) (e : ℕ) → J.events ≡ I.events → has_event J e ≡ has_event I e
 events_same I J e events = ap (λ (xs : List Event). is_some (with_number (λ x. x.id) e xs)) events
 
 -- an edit of activities: nothing of an event changes

@@ -1,5 +1,5 @@
 -- What a keeper by counts keeps.
-use Rattle.std.specs.Prelude.{◌≡◌, ◌≢◌, ℕ, ◌<◌, ◌≤◌, Bool, true, false, ◌||◌, List, [], Some, Ok, length, slice_index_or, take, drop}
+use Rattle.std.specs.Prelude.{◌≡◌, ◌≢◌, ℕ, ◌*◌, ◌<◌, ◌≤◌, Bool, true, false, ◌||◌, IsTrue, List, [], Some, Ok, length, slice_index_or, take, drop}
 use Rattle.std.specs.List.{Contains}
 use Rattle.pesp_instance.specs.declared.edit.Edit.{Edit}
 use Rattle.pesp_instance.specs.declared.edit.Edit.TheVariants.{AddEvent, DropEvent, Fix, Unfix, AddActivity, DropActivity, SetSpan, SetWeight, SetEnds}
@@ -14,7 +14,7 @@ use Rattle.pesp_counts.specs.Counts.{IsExactAt, IsLiveAt, KeepsClosed, end_at, e
 use Rattle.pesp_counts.specs.Links.{Links, StandFor}
 use Rattle.pesp_counts.specs.Places.{numbered, place_of}
 use Rattle.pesp_counts.specs.Reached.{starts}
-use Rattle.pesp_counts.specs.Supports.{AreExact, AreLevel, AreOut, Fit, HaveSameShape, IsTaken, Supports, is_in}
+use Rattle.pesp_counts.specs.Supports.{AreExact, AreLevel, AreOut, Fit, HaveSameShape, IsTaken, Supports, is_in, without_those}
 
 -- the ends stand for the instance, and there are rows and counts for them
 pub record AreFor (I : Network) (links : Links) (s : Supports) : Type 0 where
@@ -41,6 +41,11 @@ pub record AreAtRest (links : Links) (s : Supports) : Type 0 where
 abbrev pub rows_of : Links → Supports → Pairs
 rows_of links s = numbered links.events (has_at s.rows)
 
+-- there is room for each pair that the rows may hold, in either list of those that were put back
+pub record HaveRoom (s : Supports) (for_back for_restored : ℕ) : Type 0 where
+  pub back : length s.rows * s.period ≤ for_back
+  pub restored : length s.rows * s.period ≤ for_restored
+
 -- the counts are those of the rows, and the rows are the domains
 pub record AreSettled (I : Network) (pushes : List Pair) (links : Links) (s : Supports) : Type 0 where
   pub network : IsNetwork I
@@ -55,13 +60,22 @@ pub record IsNarrowed (links : Links) (p r : ℕ) (before after : Supports) : Ty
   pub shape : HaveSameShape before after
   pub keeps : KeepsClosed before.period links.ends links.lists (limited (has_at before.rows) p r) (has_at after.rows)
 
--- at each listed end but one and its mate nothing waits to be counted out, and nothing was taken out yet
-pub record AreAtRestBut (links : Links) (s : Supports) (end : ℕ) : Type 0 where
+-- at each listed end but one and its mate nothing waits to be counted out, and nothing was taken out yet; but pairs of a list may have counts of 0
+pub record AreAtRestBut (links : Links) (s : Supports) (end : ℕ) (back : List Placed) : Type 0 where
   pub exact : (p k : ℕ) → Contains (ends_of links.lists p) k → k ≢ end → k ≢ (end_at links.ends end).mate → IsExactAt s.period links.ends s.counts (has_at s.counted) k
-  pub live : (p k : ℕ) → Contains (ends_of links.lists p) k → k ≢ end → k ≢ (end_at links.ends end).mate → IsLiveAt s.period s.counts (has_at s.rows) p k
+  pub live : (p k : ℕ) → Contains (ends_of links.lists p) k → k ≢ end → k ≢ (end_at links.ends end).mate → IsLiveAt s.period s.counts (without_those (has_at s.rows) back) p k
   pub level : AreLevel s
   pub below : (p r : ℕ) → Of (has_at s.rows) p r → r < s.period
   pub trail : s.trail ≡ []
+
+-- pairs of the rows but those of a list have counts above 0, and what was taken out of the rows waits in the trail
+pub record ArePendingBut (links : Links) (s : Supports) (back : List Placed) : Type 0 where
+  pub exact : AreExact links s (has_at s.counted)
+  pub live : (p k : ℕ) → Contains (ends_of links.lists p) k → IsLiveAt s.period s.counts (without_those (has_at s.rows) back) p k
+  pub within : (p r : ℕ) → Of (has_at s.rows) p r → Of (has_at s.counted) p r
+  pub waiting : (p r : ℕ) → Of (has_at s.counted) p r → has_at s.rows p r ≡ false → IsTrue (is_in s.trail p r)
+  pub below : (p r : ℕ) → Of (has_at s.rows) p r → r < s.period
+  pub out : AreOut s s.trail
 
 -- whether the edit adds an event or an activity
 abbrev pub adds : Edit → Bool
@@ -112,10 +126,11 @@ pub record AreMarks (I : Network) (pushes : List Pair) (links : Links) (s : Supp
   pub rising : (i j d : ℕ) → i ≤ j → j < length marks → slice_index_or marks i d ≤ slice_index_or marks j d
   pub domains : (i d : ℕ) → i < length marks → AreDomains I (take i pushes) (numbered links.events (with_pairs s (drop (slice_index_or marks i d) s.trail)))
 
--- the rows are the domains, each push can be undone, and there is room for a push and a mark for each event
-pub record IsKeeping (I : Network) (pushes : List Pair) (marks : List ℕ) (links : Links) (s : Supports) (for_pushed for_marks : ℕ) : Type 0 where
+-- the rows are the domains, each push can be undone, and there is room for a push and a mark for each event, and for what an edit puts back
+pub record IsKeeping (I : Network) (pushes : List Pair) (marks : List ℕ) (links : Links) (s : Supports) (for_pushed for_marks for_back for_restored : ℕ) : Type 0 where
   pub settled : AreSettled I pushes links s
   pub pushed : ArePushed I pushes
   pub marked : AreMarks I pushes links s marks
   pub room_pushed : length I.events ≤ for_pushed
   pub room_marks : length I.events ≤ for_marks
+  pub room_back : HaveRoom s for_back for_restored

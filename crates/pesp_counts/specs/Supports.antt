@@ -1,5 +1,5 @@
 -- Counts, rows and the trail, and what the passes over them do.
-use Rattle.std.specs.Prelude.{◌≡◌, ◌≢◌, ℕ, zero, suc, ◌+◌, ◌*◌, ◌%◌, cond, ◌<◌, ◌≤◌, Bool, false, ◌==◌, ◌&&◌, ◌||◌, IsTrue, List, ◌++◌, length, slice_index_or, AllPairs, All, sum_by}
+use Rattle.std.specs.Prelude.{◌≡◌, ◌≢◌, ℕ, zero, suc, ◌+◌, ◌*◌, ◌%◌, cond, ◌<◌, ◌≤◌, Bool, false, ◌==◌, ◌&&◌, ◌||◌, not, IsTrue, List, ◌++◌, length, slice_index_or, AllPairs, All, sum_by}
 use Rattle.std.specs.List.{list_any}
 use Rattle.std.specs.List.{Contains}
 use Rattle.pesp_domains.specs.Sweeps.{Pairs}
@@ -39,6 +39,14 @@ pub record Fit (links : Links) (s : Supports) : Type 0 where
 -- the pair is in the list
 abbrev pub is_in : List Placed → Pairs
 is_in trail p r = list_any (λ x. x.place == p && x.residue == r) trail
+
+-- the set without the pairs of a list
+abbrev pub without_those : Pairs → List Placed → Pairs
+without_those S pairs p r = S p r && not (is_in pairs p r)
+
+-- whether the pair has a count of 0 at an end at its place
+abbrev pub lacks_partner : Links → Supports → Pairs
+lacks_partner links s p r = list_any (λ k. count_at s.period s.counts k r == 0) (ends_of links.lists p)
 
 -- pairs go from the rows to the end of the trail, each once
 pub record IsTaken (before after : Supports) : Type 0 where

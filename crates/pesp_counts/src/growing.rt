@@ -1,13 +1,15 @@
 //! Rows, counts and room come as places do.
 
-ghost use Rattle.std.specs.Prelude.{◌≡◌, ◌<◌, ◌≤◌, ◌*◌, ◌+◌, ◌==◌, ◌&&◌, ◌||◌, nat_lt, ℕ, [], false, length, max, All, OnOk, OnErr, IfOk};
+ghost use Rattle.std.specs.Prelude.{◌≡◌, ◌<◌, ◌≤◌, ◌*◌, ◌+◌, ◌==◌, ◌&&◌, ◌||◌, nat_lt, ℕ, [], false, length, max, All, OnOk, OnErr, IfOk, vec_capacity};
 ghost use Rattle.pesp_domains.specs.Domains.{holds};
 ghost use Rattle.pesp_counts.specs.Counts.{has_at};
+ghost use Rattle.pesp_counts.specs.Keeping.{HaveRoom};
 ghost use Rattle.pesp_counts.specs.Supports.{ArePadded, HaveSameShape, IsRoomier};
 
+use crate::back::Back;
 use crate::supports::Supports;
 use pesp_base::Period;
-use pesp_domains::Row;
+use pesp_domains::{Pair, Row};
 use std::alloc::{AllocError, Global};
 
 /// A row without a residue.
@@ -70,17 +72,28 @@ fn add_rows(
 }
 
 impl Supports {
-    /// Makes sure of rows for so many places, and of room for each pair of them. Rows that come are empty, so nothing is seen of
-    /// them; nor is of those that came before memory was wanting.
-    pub fn make_rows(&mut self, alloc: Global, places: usize) -> Result<(), AllocError>
+    /// Makes sure of rows for so many places, and of room for each pair of them, in the trail and in the lists of what is put back.
+    /// Rows that come are empty, so nothing is seen of them; nor is of those that came before memory was wanting.
+    pub fn make_rows(
+        &mut self,
+        alloc: Global,
+        places: usize,
+        back: &mut Back,
+        restored: &mut Vec<Pair>,
+    ) -> Result<(), AllocError>
         ensures ok { OnOk result ((places ≤ length (self.new).rows) × (places ≤ length (self.new).counted)) }
         ensures grown { IsRoomier self.old self.new }
         ensures even { length (self.new).counted ≡ length (self.new).rows }
+        ensures room { HaveRoom self.old back.old.room (vec_capacity restored.old) → HaveRoom self.new back.new.room (vec_capacity restored.new) }
+        ensures back { back.new.pairs ≡ back.old.pairs }
+        ensures restored { restored.new.items ≡ restored.old.items }
     {
         let Some(room) = places.checked_mul(self.period.get() as usize) else {
             return Err(AllocError);
         };
         self.trail.reserve(room)?;
+        back.reserve(room)?;
+        restored.reserve(room)?;
         add_rows(
             alloc,
             self.period,
@@ -95,6 +108,7 @@ impl Supports {
         ensures ok { OnOk result (ends * (self.old).period ≤ length (self.new).counts) }
         ensures grown { IsRoomier self.old self.new }
         ensures even { length (self.new).counted ≡ length (self.new).rows }
+        ensures rows { length (self.new).rows ≡ length (self.old).rows }
     {
         let Some(long) = ends.checked_mul(self.period.get() as usize) else {
             return Err(AllocError);

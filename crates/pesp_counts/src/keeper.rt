@@ -1,21 +1,31 @@
 //! The keeper that counts partners.
 
+ghost use Rattle.std.specs.Prelude.{◌≡◌, ◌<◌, ℕ, IsTrue, [], ◌∷◌, ◌++◌, length, Ok, IfOk, IfErr, OnOk, OnErr};
+ghost use Rattle.pesp_instance.specs.Edited.{IsRefusal, edited};
+ghost use Rattle.pesp_instance.specs.Network.{has_event};
+ghost use Rattle.pesp_domains.specs.declared.pair.Pair.{Pair};
+ghost use Rattle.pesp_domains.specs.Domains.{In};
+ghost use Rattle.pesp_counts.specs.Restores.{Restores, StaysWithin};
 ghost use Rattle.pesp_counts.specs.Support.{IsSupportAnswer};
 
 mod edits;
 mod filled;
 mod grown;
 mod limits;
+mod loosening;
+mod numbering;
 mod remake;
 mod restores;
 mod spans;
 
+use crate::back::Back;
 use crate::links::Links;
 use crate::supports::Supports;
 use edits::follow;
 use filled::house;
 use grown::{add_activity, add_event, take_back};
 use limits::limit_event;
+use numbering::number_pairs;
 use pesp_base::{ActivityId, EventId, Refusal};
 use pesp_domains::{Keeper, NoRoom, Pair, Row, Side};
 use pesp_instance::{Edit, Instance};
@@ -37,19 +47,23 @@ pub struct CountKeeper {
     marks: Vec<usize>,
     links: Links,
     supports: Supports,
+    // What the last edit put back, by place; forgotten at the next edit.
+    back: Back,
+    // The same by number, of the last edit that was accepted.
+    restored: Vec<Pair>,
     alloc: Global,
 }
 
 impl Model for CountKeeper {
     ghost use Rattle.std.specs.Prelude.{vec_capacity};
-    ghost use Rattle.pesp_domains.specs.Kept.{Kept};
+    ghost use Rattle.pesp_counts.specs.Restores.{Seen};
     ghost use Rattle.pesp_counts.specs.Keeping.{IsKeeping};
 
-    ghost Value = { Kept };
+    ghost Value = { Seen };
 
-    ghost view = { λ k. record { network = k.instance; pushes = k.pushed.items } };
+    ghost view = { λ k. record { network = k.instance; pushes = k.pushed.items; restored = k.restored.items } };
 
-    ghost invariant = { λ k. IsKeeping k.instance k.pushed.items k.marks.items k.links k.supports (vec_capacity k.pushed) (vec_capacity k.marks) };
+    ghost invariant = { λ k. IsKeeping k.instance k.pushed.items k.marks.items k.links k.supports (vec_capacity k.pushed) (vec_capacity k.marks) k.back.room (vec_capacity k.restored) };
 }
 
 impl CountKeeper {
@@ -69,6 +83,14 @@ impl CountKeeper {
         };
         Some(self.supports.count(end, residue))
     }
+
+    /// The pairs that the last accepted edit put back, each once: those that it reaches. It took some of them out again, where
+    /// they have no partner.
+    pub fn restored(&self) -> &[Pair]
+        ensures { result.now ≡ (self.now).restored }
+    {
+        &self.restored
+    }
 }
 
 impl Keeper for CountKeeper {
@@ -76,7 +98,12 @@ impl Keeper for CountKeeper {
 
     ghost pushes = { λ keeper. keeper.pushes };
 
-    fn from_instance(alloc: Global, instance: Instance) -> Result<CountKeeper, NoRoom> {
+    fn from_instance(alloc: Global, instance: Instance) -> Result<CountKeeper, NoRoom>
+        ensures network { IfOk result (λ keeper. keeper.network ≡ instance) }
+        ensures pushes { IfOk result (λ keeper. keeper.pushes ≡ []) }
+        ensures restored { IfOk result (λ keeper. keeper.restored ≡ []) }
+        ensures back { IfErr result (λ no_room. no_room.instance ≡ instance) }
+    {
         let Ok(pushed) = Vec::with_capacity(alloc, instance.event_count()) else {
             return Err(NoRoom { instance });
         };
@@ -85,7 +112,18 @@ impl Keeper for CountKeeper {
         };
         let mut links = Links::new(alloc);
         let mut supports = Supports::new(alloc, instance.period());
-        if house(alloc, &instance, &mut links, &mut supports).is_err() {
+        let mut back = Back::new(alloc);
+        let mut restored = Vec::new(alloc);
+        if house(
+            alloc,
+            &instance,
+            &mut links,
+            &mut supports,
+            &mut back,
+            &mut restored,
+        )
+        .is_err()
+        {
             return Err(NoRoom { instance });
         }
         remake(&instance, &links, &mut supports);
@@ -95,6 +133,8 @@ impl Keeper for CountKeeper {
             marks,
             links,
             supports,
+            back,
+            restored,
             alloc,
         })
     }
@@ -117,10 +157,20 @@ impl Keeper for CountKeeper {
         }
     }
 
-    fn apply(&mut self, edit: &Edit) -> Result<(), Refusal> {
+    fn apply(&mut self, edit: &Edit) -> Result<(), Refusal>
+        requires { (self.old).pushes ≡ [] }
+        ensures ok { OnOk result (edited (self.old).network edit.now ≡ Ok (self.new).network) }
+        ensures restored { OnOk result (Restores (self.old).network edit.now (self.new).restored) }
+        ensures within { OnOk result (StaysWithin (self.old).network edit.now (self.new).restored) }
+        ensures err { IfErr result (IsRefusal (self.old).network edit.now) }
+        ensures unchanged { OnErr result ((self.new).network ≡ (self.old).network) }
+        ensures still { OnErr result ((self.new).restored ≡ (self.old).restored) }
+        ensures pushes { (self.new).pushes ≡ [] }
+    {
         let restores = restores(&self.instance, edit);
         self.instance.apply(edit)?;
         self.supports.forget();
+        self.back.clear();
         let followed = match *edit {
             Edit::AddEvent(event) => add_event(
                 self.alloc,
@@ -129,6 +179,8 @@ impl Keeper for CountKeeper {
                 &mut self.marks,
                 &mut self.links,
                 &mut self.supports,
+                &mut self.back,
+                &mut self.restored,
                 event,
             ),
             Edit::AddActivity(activity) => add_activity(
@@ -142,6 +194,7 @@ impl Keeper for CountKeeper {
                     &self.instance,
                     &mut self.links,
                     &mut self.supports,
+                    &mut self.back,
                     edit,
                     restores,
                 );
@@ -152,17 +205,30 @@ impl Keeper for CountKeeper {
             take_back(&mut self.instance, edit);
             return Err(Refusal::Memory);
         }
+        number_pairs(&self.links, self.back.pairs(), &mut self.restored);
         Ok(())
     }
 
-    fn push_fix(&mut self, event: EventId, residue: u16) {
+    fn push_fix(&mut self, event: EventId, residue: u16)
+        requires event { IsTrue (has_event (self.old).network event) }
+        requires free { (r : ℕ) → In (self.old).pushes event r → ⊥ }
+        requires residue { residue < (self.old).network.period }
+        ensures network { (self.new).network ≡ (self.old).network }
+        ensures pushes { (self.new).pushes ≡ (self.old).pushes ++ record { event = event; residue = residue } ∷ [] }
+        ensures restored { (self.new).restored ≡ (self.old).restored }
+    {
         let mark = self.supports.mark();
         self.pushed.push_reserved(Pair { event, residue });
         self.marks.push_reserved(mark);
         limit_event(&self.links, &mut self.supports, event, residue);
     }
 
-    fn pop_fix(&mut self) {
+    fn pop_fix(&mut self)
+        requires { 0 < length (self.old).pushes }
+        ensures network { (self.new).network ≡ (self.old).network }
+        ensures pushes { (last : Pair) × ((self.old).pushes ≡ (self.new).pushes ++ last ∷ []) }
+        ensures restored { (self.new).restored ≡ (self.old).restored }
+    {
         self.pushed.pop();
         if let Some(mark) = self.marks.pop() {
             self.supports.put_back(&self.links, mark);

@@ -1,6 +1,8 @@
 //! Domains kept by support counts.
 #![tactic(auto)]
 
+mod back;
+mod bringing;
 mod counting;
 mod counts;
 mod end;
@@ -10,6 +12,7 @@ mod links;
 mod lists;
 mod places;
 mod raising;
+mod restoring;
 mod supports;
 mod taking;
 mod trail;

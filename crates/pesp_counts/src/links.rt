@@ -164,6 +164,7 @@ impl Links {
     pub fn set_span(&mut self, period: Period, id: ActivityId, span: Span)
         ensures stand { (I J : Network) → I.period ≡ period → edited I (edits.SetSpan id span) ≡ Ok J → StandFor I self.old → StandFor J self.new }
         ensures changed { IfSome (place_of (self.old).activities id) (λ q. IsChangedAt self.old self.new q) }
+        ensures activities { (self.new).activities ≡ (self.old).activities }
         ensures lists { (self.new).lists ≡ (self.old).lists }
         ensures ends { length (self.new).ends ≡ length (self.old).ends }
     {
@@ -179,8 +180,10 @@ impl Links {
         requires from { IsSome (place_of (self.old).events from) }
         requires to { IsSome (place_of (self.old).events to) }
         ensures stand { (I J : Network) → edited I (edits.SetEnds id from to) ≡ Ok J → StandFor I self.old → StandFor J self.new }
+        ensures changed { IfSome (place_of (self.old).activities id) (λ q. IsChangedAt self.old self.new q) }
         ensures listed { (p k : ℕ) → Contains (ends_of (self.new).lists p) k → (q : ℕ) × Contains (ends_of (self.old).lists q) k }
         ensures events { (self.new).events ≡ (self.old).events }
+        ensures activities { (self.new).activities ≡ (self.old).activities }
         ensures lists { length (self.new).lists ≡ length (self.old).lists }
         ensures ends { length (self.new).ends ≡ length (self.old).ends }
     {

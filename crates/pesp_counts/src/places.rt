@@ -46,6 +46,13 @@ impl Places {
         }
     }
 
+    /// The number that has a place, if there is one.
+    pub fn number(&self, place: usize) -> Option<u32>
+        ensures { result ≡ number_at self.now place }
+    {
+        self.numbers.get(place).copied()
+    }
+
     /// Gives a new number a place that no other has. Without the memory for it, nothing changes.
     pub fn insert(&mut self, number: u32) -> Result<usize, AllocError>
         requires absent { place_of self.old number ≡ None }

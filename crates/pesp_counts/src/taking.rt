@@ -7,7 +7,8 @@ ghost use Rattle.pesp_domains.specs.Removals.{without};
 ghost use Rattle.pesp_domains.proofs.Pushes.{limited};
 ghost use Rattle.pesp_counts.specs.Counts.{AreLinked, ArePending, IsLiveAt, KeepsClosed, count_at, end_at, ends_of, has_at, passes};
 ghost use Rattle.pesp_counts.specs.Ranges.{Fall, Thins, is_from_to};
-ghost use Rattle.pesp_counts.specs.Supports.{AreExact, Fit, HaveSameShape, IsTaken, Keeps};
+ghost use Rattle.pesp_counts.specs.Keeping.{AreAtRest, ArePendingBut};
+ghost use Rattle.pesp_counts.specs.Supports.{AreExact, Fit, HaveSameShape, IsTaken, Keeps, is_in, lacks_partner};
 
 use crate::links::Links;
 use crate::supports::Supports;
@@ -149,6 +150,48 @@ impl Supports {
                 self.take_out(place, residue);
             }
         }
+    }
+
+    /// Takes the pairs of a list out that are left without a partner, and of the other pairs those that are then.
+    pub fn settle_back(&mut self, links: &Links, back: &[Placed])
+        requires linked { AreLinked (self.old).period (links.now).ends (links.now).lists }
+        requires fit { Fit links.now self.old }
+        requires pending { ArePendingBut links.now self.old back.now }
+        ensures rest { AreAtRest links.now self.new }
+        ensures keeps { KeepsClosed (self.old).period (links.now).ends (links.now).lists (has_at (self.old).rows) (has_at (self.new).rows) }
+        ensures shape { HaveSameShape self.old self.new }
+    {
+        self.sift_back(links, back);
+        self.settle(links, 0);
+    }
+
+    /// Takes the pairs of a list out that have a count of 0 at an end at their place.
+    fn sift_back(&mut self, links: &Links, back: &[Placed])
+        requires fit { Fit links.now self.old }
+        requires below { (p r : ℕ) → Of (has_at (self.old).rows) p r → r < (self.old).period }
+        ensures rows { (p r : ℕ) → has_at (self.new).rows p r ≡ (has_at (self.old).rows p r && not (is_in back.now p r && lacks_partner links.now self.old p r)) }
+        ensures taken { IsTaken self.old self.new }
+        ensures keeps { Keeps self.old self.new }
+    {
+        for pair in back {
+            if self.holds(pair.place, pair.residue) && self.lacks_partner(links, *pair) {
+                self.take_out(pair.place, pair.residue);
+            }
+        }
+    }
+
+    /// Whether a pair has a count of 0 at an end at its place.
+    fn lacks_partner(&self, links: &Links, pair: Placed) -> bool
+        requires fit { Fit links.now self.now }
+        requires residue { pair.residue < (self.now).period }
+        ensures { result ≡ lacks_partner links.now self.now pair.place pair.residue }
+    {
+        for end in links.at(pair.place) {
+            if self.count(end, pair.residue) == 0 {
+                return true;
+            }
+        }
+        false
     }
 
     /// Takes a pair out of the rows. It then stands at the end of the trail.

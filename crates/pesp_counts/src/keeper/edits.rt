@@ -1,32 +1,40 @@
 //! What the links and the rows make of an edit that the instance has made, where it adds nothing.
 
-ghost use Rattle.std.specs.Prelude.{◌≡◌, [], false};
+ghost use Rattle.std.specs.Prelude.{◌≡◌, ◌≤◌, ◌*◌, [], false, length};
 ghost use Rattle.pesp_instance.specs.declared.edit.Edit.TheVariants as edits;
-ghost use Rattle.pesp_counts.specs.Keeping.{AreFor, AreSettled, WereSettled, WereTight, adds};
-ghost use Rattle.pesp_counts.specs.Reached.{starts};
+ghost use Rattle.pesp_instance.specs.Network.{Network};
+ghost use Rattle.pesp_counts.specs.Keeping.{AreSettled, WereTight, adds};
+ghost use Rattle.pesp_counts.specs.Loosening.{IsLoosened, WereFollowed};
+ghost use Rattle.pesp_counts.specs.Supports.{HaveSameShape};
 
 use super::limits::limit_event;
-use super::remake::remake;
+use super::loosening::loosen;
 use super::spans::narrow_ends;
+use crate::back::Back;
 use crate::links::Links;
 use crate::supports::Supports;
 use pesp_base::{ActivityId, Span};
 use pesp_instance::{Edit, Instance};
 
-/// Follows an edit, of which is known whether it may bring pairs back.
+/// Follows an edit, of which is known whether it may bring pairs back, and lists those that it reaches.
 pub fn follow(
     instance: &Instance,
     links: &mut Links,
     supports: &mut Supports,
+    back: &mut Back,
     edit: &Edit,
     restores: bool,
 )
     requires adds { adds edit.now ≡ false }
-    requires before { (were : WereSettled instance.now edit.now links.old supports.old) × (restores ≡ false → starts were.before edit.now ≡ []) }
-    ensures { AreSettled instance.now [] links.new supports.new }
+    requires before { (I : Network) × WereFollowed I instance.now edit.now restores links.old supports.old }
+    requires empty { back.old.pairs ≡ [] }
+    requires room { length supports.old.rows * supports.old.period ≤ back.old.room }
+    ensures followed { (I : Network) → WereFollowed I instance.now edit.now restores links.old supports.old → IsLoosened I instance.now edit.now links.new supports.new back.new.pairs }
+    ensures shape { HaveSameShape supports.old supports.new }
+    ensures room { back.new.room ≡ back.old.room }
 {
     if restores {
-        loosen(instance, links, supports, edit);
+        loosen(instance, links, supports, back, edit);
     } else {
         tighten(instance, links, supports, edit);
     }
@@ -36,7 +44,8 @@ pub fn follow(
 fn tighten(instance: &Instance, links: &mut Links, supports: &mut Supports, edit: &Edit)
     requires adds { adds edit.now ≡ false }
     requires before { WereTight instance.now edit.now links.old supports.old }
-    ensures { AreSettled instance.now [] links.new supports.new }
+    ensures settled { AreSettled instance.now [] links.new supports.new }
+    ensures shape { HaveSameShape supports.old supports.new }
 {
     let _period = instance.period();
     match *edit {
@@ -56,37 +65,12 @@ fn set_span(
     span: Span,
 )
     requires { WereTight instance.now (edits.SetSpan id span) links.old supports.old }
-    ensures { AreSettled instance.now [] links.new supports.new }
+    ensures settled { AreSettled instance.now [] links.new supports.new }
+    ensures shape { HaveSameShape supports.old supports.new }
 {
     let period = instance.period();
     if let Some(tail) = links.tail(id) {
         links.set_span(period, id, span);
-        narrow_ends(links, supports, tail);
-    }
-}
-
-/// Follows an edit that may bring pairs back.
-fn loosen(instance: &Instance, links: &mut Links, supports: &mut Supports, edit: &Edit)
-    requires adds { adds edit.now ≡ false }
-    requires before { WereSettled instance.now edit.now links.old supports.old }
-    ensures { AreSettled instance.now [] links.new supports.new }
-{
-    relink(instance, links, supports, edit);
-    remake(instance, links, supports);
-}
-
-/// Lists the ends as the edit leaves them.
-fn relink(instance: &Instance, links: &mut Links, supports: &Supports, edit: &Edit)
-    requires adds { adds edit.now ≡ false }
-    requires before { WereSettled instance.now edit.now links.old supports.now }
-    ensures { AreFor instance.now links.new supports.now }
-{
-    let _supports = supports;
-    match *edit {
-        Edit::DropEvent(event) => links.drop_event(event),
-        Edit::DropActivity(id) => links.drop_activity(id),
-        Edit::SetSpan(id, span) => links.set_span(instance.period(), id, span),
-        Edit::SetEnds(id, from, to) => links.set_ends(id, from, to),
-        _ => {}
+        narrow_ends(links, supports, tail, &[]);
     }
 }

@@ -1,14 +1,16 @@
 //! Places, rows and counts for all events and activities of an instance.
 
-ghost use Rattle.std.specs.Prelude.{◌≡◌, [], OnOk};
+ghost use Rattle.std.specs.Prelude.{◌≡◌, [], OnOk, length, vec_capacity};
 ghost use Rattle.pesp_instance.specs.Network.{Network};
-ghost use Rattle.pesp_counts.specs.Keeping.{AreFor};
+ghost use Rattle.pesp_counts.specs.Keeping.{AreFor, HaveRoom};
 ghost use Rattle.pesp_counts.specs.Links.{no_links};
 ghost use Rattle.pesp_counts.specs.Supports.{Supports};
 
 use super::grown::{house_activity, house_event};
+use crate::back::Back;
 use crate::links::Links;
 use crate::supports::Supports;
+use pesp_domains::Pair;
 use pesp_instance::Instance;
 use std::alloc::{AllocError, Global};
 
@@ -18,12 +20,16 @@ fn house_events(
     instance: &Instance,
     links: &mut Links,
     supports: &mut Supports,
+    back: &mut Back,
+    restored: &mut Vec<Pair>,
 ) -> Result<(), AllocError>
     requires { AreFor (record instance.now { events = []; activities = [] }) links.old supports.old }
-    ensures { OnOk result (AreFor (record instance.now { activities = [] }) links.new supports.new) }
+    ensures ok { OnOk result (AreFor (record instance.now { activities = [] }) links.new supports.new) }
+    ensures room { HaveRoom supports.old back.old.room (vec_capacity restored.old) → HaveRoom supports.new back.new.room (vec_capacity restored.new) }
+    ensures restored { restored.new.items ≡ restored.old.items }
 {
     for event in instance.events() {
-        house_event(alloc, links, supports, event.id)?;
+        house_event(alloc, links, supports, back, restored, event.id)?;
     }
     Ok(())
 }
@@ -35,7 +41,9 @@ fn house_activities(
     supports: &mut Supports,
 ) -> Result<(), AllocError>
     requires { AreFor (record instance.now { activities = [] }) links.old supports.old }
-    ensures { OnOk result (AreFor instance.now links.new supports.new) }
+    ensures ok { OnOk result (AreFor instance.now links.new supports.new) }
+    ensures period { supports.new.period ≡ supports.old.period }
+    ensures rows { length supports.new.rows ≡ length supports.old.rows }
 {
     for activity in instance.activities() {
         house_activity(instance.period(), links, supports, activity)?;
@@ -49,10 +57,14 @@ pub fn house(
     instance: &Instance,
     links: &mut Links,
     supports: &mut Supports,
+    back: &mut Back,
+    restored: &mut Vec<Pair>,
 ) -> Result<(), AllocError>
     requires { AreFor (record instance.now { events = []; activities = [] }) links.old supports.old }
-    ensures { OnOk result (AreFor instance.now links.new supports.new) }
+    ensures ok { OnOk result (AreFor instance.now links.new supports.new) }
+    ensures room { HaveRoom supports.old back.old.room (vec_capacity restored.old) → HaveRoom supports.new back.new.room (vec_capacity restored.new) }
+    ensures restored { restored.new.items ≡ restored.old.items }
 {
-    house_events(alloc, instance, links, supports)?;
+    house_events(alloc, instance, links, supports, back, restored)?;
     house_activities(instance, links, supports)
 }

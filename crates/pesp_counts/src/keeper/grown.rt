@@ -4,12 +4,13 @@ ghost use Rattle.std.specs.Prelude.{◌≡◌, ◌≤◌, ℕ, None, Some, Ok, I
 ghost use Rattle.pesp_instance.specs.declared.edit.Edit.TheVariants as edits;
 ghost use Rattle.pesp_instance.specs.Edited.{edited, effect};
 ghost use Rattle.pesp_instance.specs.Network.{IsNetwork, Network};
-ghost use Rattle.pesp_counts.specs.Keeping.{AreFor, AreSettled, IsHousedAt, SeeSame, WereSettled, adds};
+ghost use Rattle.pesp_counts.specs.Keeping.{AreFor, AreSettled, HaveRoom, IsHousedAt, SeeSame, WereSettled, adds};
 ghost use Rattle.pesp_counts.specs.Links.{IsChangedAt, StandFor};
 ghost use Rattle.pesp_counts.specs.Places.{place_of};
 ghost use Rattle.pesp_counts.specs.Supports.{IsRoomier};
 
 use super::spans::narrow_ends;
+use crate::back::Back;
 use crate::links::Links;
 use crate::supports::Supports;
 use pesp_base::{Activity, EventId, Period};
@@ -22,6 +23,8 @@ pub fn house_event(
     alloc: Global,
     links: &mut Links,
     supports: &mut Supports,
+    back: &mut Back,
+    restored: &mut Vec<Pair>,
     event: EventId,
 ) -> Result<usize, AllocError>
     requires absent { place_of (links.old).events event ≡ None }
@@ -29,9 +32,12 @@ pub fn house_event(
     ensures ok { OnOk result ((I : Network) → AreFor I links.old supports.old → AreFor (effect I (edits.AddEvent event)) links.new supports.new) }
     ensures place { IfOk result (λ p. IsHousedAt links.old links.new event p) }
     ensures back { OnErr result ((I J : Network) → IsNetwork I → edited I (edits.AddEvent event) ≡ Ok J → AreFor I links.old supports.old → AreFor I links.new supports.new × SeeSame links.old links.new) }
+    ensures room { HaveRoom supports.old back.old.room (vec_capacity restored.old) → HaveRoom supports.new back.new.room (vec_capacity restored.new) }
+    ensures listed { back.new.pairs ≡ back.old.pairs }
+    ensures restored { restored.new.items ≡ restored.old.items }
 {
     let place = links.add_event(event)?;
-    if let Err(fault) = supports.make_rows(alloc, links.places()) {
+    if let Err(fault) = supports.make_rows(alloc, links.places(), back, restored) {
         links.drop_event(event);
         return Err(fault);
     }
@@ -64,21 +70,26 @@ pub fn add_event(
     marks: &mut Vec<usize>,
     links: &mut Links,
     supports: &mut Supports,
+    back: &mut Back,
+    restored: &mut Vec<Pair>,
     event: EventId,
 ) -> Result<(), AllocError>
     requires pushed { pushed.old.items ≡ [] }
     requires marks { marks.old.items ≡ [] }
     requires before { WereSettled instance.now (edits.AddEvent event) links.old supports.old }
     ensures ok { OnOk result (AreSettled instance.now [] links.new supports.new) }
-    ensures room { OnOk result ((length instance.now.events ≤ vec_capacity pushed.new) × (length instance.now.events ≤ vec_capacity marks.new)) }
+    ensures many { OnOk result ((length instance.now.events ≤ vec_capacity pushed.new) × (length instance.now.events ≤ vec_capacity marks.new)) }
     ensures pushed { pushed.new.items ≡ [] }
     ensures marks { marks.new.items ≡ [] }
     ensures more_pushed { vec_capacity pushed.old ≤ vec_capacity pushed.new }
     ensures more_marks { vec_capacity marks.old ≤ vec_capacity marks.new }
     ensures err { OnErr result ((I : Network) → edited I (edits.AddEvent event) ≡ Ok instance.now → AreSettled I [] links.old supports.old → AreSettled I [] links.new supports.new) }
+    ensures room { HaveRoom supports.old back.old.room (vec_capacity restored.old) → HaveRoom supports.new back.new.room (vec_capacity restored.new) }
+    ensures listed { back.new.pairs ≡ back.old.pairs }
+    ensures restored { restored.new.items ≡ restored.old.items }
 {
     make_room(pushed, marks, instance.event_count())?;
-    open_event(alloc, instance, links, supports, event)
+    open_event(alloc, instance, links, supports, back, restored, event)
 }
 
 /// Gives an added event a place, and rows of all residues.
@@ -87,14 +98,19 @@ fn open_event(
     instance: &Instance,
     links: &mut Links,
     supports: &mut Supports,
+    back: &mut Back,
+    restored: &mut Vec<Pair>,
     event: EventId,
 ) -> Result<(), AllocError>
     requires before { WereSettled instance.now (edits.AddEvent event) links.old supports.old }
     ensures ok { OnOk result (AreSettled instance.now [] links.new supports.new) }
     ensures err { OnErr result ((I : Network) → edited I (edits.AddEvent event) ≡ Ok instance.now → AreSettled I [] links.old supports.old → AreSettled I [] links.new supports.new) }
+    ensures room { HaveRoom supports.old back.old.room (vec_capacity restored.old) → HaveRoom supports.new back.new.room (vec_capacity restored.new) }
+    ensures listed { back.new.pairs ≡ back.old.pairs }
+    ensures restored { restored.new.items ≡ restored.old.items }
 {
     let _period = instance.period();
-    let place = house_event(alloc, links, supports, event)?;
+    let place = house_event(alloc, links, supports, back, restored, event)?;
     supports.open(place);
     Ok(())
 }
@@ -115,6 +131,7 @@ pub fn house_activity(
     ensures ok { OnOk result ((I J : Network) → I.period ≡ period → edited I (edits.AddActivity activity.now) ≡ Ok J → AreFor I links.old supports.old → AreFor J links.new supports.new) }
     ensures changed { OnOk result ((q : ℕ) × (place_of (links.new).activities (activity.now).id ≡ Some q) × IsChangedAt links.old links.new q) }
     ensures back { OnErr result ((I J : Network) → I.period ≡ period → IsNetwork I → edited I (edits.AddActivity activity.now) ≡ Ok J → AreFor I links.old supports.old → AreFor I links.new supports.new × SeeSame links.old links.new) }
+    ensures rows { length supports.new.rows ≡ length supports.old.rows }
 {
     links.add_activity(period, activity)?;
     if let Err(fault) = supports.make_counts(links.end_count()) {
@@ -134,10 +151,12 @@ pub fn add_activity(
     requires before { WereSettled instance.now (edits.AddActivity activity.now) links.old supports.old }
     ensures ok { OnOk result (AreSettled instance.now [] links.new supports.new) }
     ensures err { OnErr result ((I : Network) → edited I (edits.AddActivity activity.now) ≡ Ok instance.now → AreSettled I [] links.old supports.old → AreSettled I [] links.new supports.new) }
+    ensures period { supports.new.period ≡ supports.old.period }
+    ensures rows { length supports.new.rows ≡ length supports.old.rows }
 {
     house_activity(instance.period(), links, supports, activity)?;
     if let Some(tail) = links.tail(activity.id) {
-        narrow_ends(links, supports, tail);
+        narrow_ends(links, supports, tail, &[]);
     }
     Ok(())
 }

@@ -2,6 +2,7 @@
 
 ghost use Rattle.std.specs.Prelude.{[]};
 ghost use Rattle.pesp_counts.specs.Keeping.{AreFor, AreSettled};
+ghost use Rattle.pesp_counts.specs.Supports.{HaveSameShape};
 
 use super::limits::limit_fixed;
 use crate::links::Links;
@@ -11,7 +12,8 @@ use pesp_instance::Instance;
 /// Makes the rows the domains, whatever they were.
 pub fn remake(instance: &Instance, links: &Links, supports: &mut Supports)
     requires { AreFor instance.now links.now supports.old }
-    ensures { AreSettled instance.now [] links.now supports.new }
+    ensures settled { AreSettled instance.now [] links.now supports.new }
+    ensures shape { HaveSameShape supports.old supports.new }
 {
     supports.refill(links);
     limit_fixed(instance, links, supports);

@@ -6,15 +6,17 @@ ghost use Rattle.pesp_counts.specs.Counts.{AreLinked, KeepsClosed, ends_of, has_
 ghost use Rattle.pesp_counts.specs.Keeping.{AreAtRest, AreAtRestBut};
 ghost use Rattle.pesp_counts.specs.Supports.{Fit, HaveSameShape, IsTaken};
 
+use crate::Placed;
 use crate::links::Links;
 use crate::supports::Supports;
 
-/// Counts at both ends of an activity anew, and takes out the pairs that are left without a partner.
-pub fn narrow_ends(links: &Links, supports: &mut Supports, tail: usize)
+/// Counts at both ends of an activity anew, and takes out the pairs that are left without a partner, there or among those of a list
+/// that were put back.
+pub fn narrow_ends(links: &Links, supports: &mut Supports, tail: usize, back: &[Placed])
     requires linked { AreLinked (supports.old).period (links.now).ends (links.now).lists }
     requires fit { Fit links.now supports.old }
     requires listed { (p : ℕ) × Contains (ends_of (links.now).lists p) tail }
-    requires rest { AreAtRestBut links.now supports.old tail }
+    requires rest { AreAtRestBut links.now supports.old tail back.now }
     ensures rest { AreAtRest links.now supports.new }
     ensures shape { HaveSameShape supports.old supports.new }
     ensures keeps { KeepsClosed (supports.old).period (links.now).ends (links.now).lists (has_at (supports.old).rows) (has_at (supports.new).rows) }
@@ -26,5 +28,5 @@ pub fn narrow_ends(links: &Links, supports: &mut Supports, tail: usize)
     supports.recount(head, mate);
     supports.sift(mate.looks_at, tail);
     supports.sift(end.looks_at, head);
-    supports.settle(links, 0);
+    supports.settle_back(links, back);
 }

@@ -2,7 +2,7 @@
 use Rattle.std.proofs.Common.{◌≡◌, ◌<◌, ◌≤◌, ◌+◌, ◌*◌, ◌∙◌, ap, sym, subst, Some, length, option_copied, option_map}
 use Rattle.pesp_instance.specs.Network.{activity_of}
 use Rattle.pesp_domains.specs.Domains.{InDomains, own}
-use Rattle.pesp_domains.specs.Kept.{Kept}
+use Rattle.pesp_counts.specs.Restores.{Seen}
 use Rattle.pesp_counts.specs.declared.end.End.{End}
 use Rattle.pesp_counts.specs.Counts.{count_at, end_at}
 use Rattle.pesp_counts.specs.Links.{end_number}
@@ -86,8 +86,8 @@ returns c =
     in
     let here : InDomains I i.pushed.items (own c.args.side a) c.args.residue =
     subst (λ e. InDomains I i.pushed.items e c.args.residue) c.own.ensures
-    (subst (λ (k : Kept). InDomains k.network k.pushes c.own.result c.args.residue) (sym c.self.view_is) (c.holds.ensures.0 c.if-not-holds.false))
+    (subst (λ (k : Seen). InDomains k.network k.pushes c.own.result c.args.residue) (sym c.self.view_is) (c.holds.ensures.0 c.if-not-holds.false))
     in
-    subst (λ (k : Kept). IsSupport k.network k.pushes n c.args.side c.args.residue c.count.result) c.self.view_is
+    subst (λ (k : Seen). IsSupport k.network k.pushes n c.args.side c.args.residue c.count.result) c.self.view_is
     (subst (λ x. IsSupport I i.pushed.items n c.args.side c.args.residue x) (sym (c.count.ensures ∙ ap (λ k. count_at i.supports.period i.supports.counts k c.args.residue) number))
     (is_support I i.pushed.items links i.supports n q.0 end.0 c.args.residue c.args.side a c.self.invariant.settled named end.1 here))

@@ -1,6 +1,22 @@
 -- Every event and activity has its place, with nothing pushed.
+use Rattle.std.proofs.Common.{◌≡◌, ℕ, ◌*◌, ◌∙◌, arith, ap, length, vec_capacity}
 use Rattle.pesp_instance.proofs.Effects.{on_ok}
+use Rattle.pesp_counts.specs.Keeping.{HaveRoom}
+use Rattle.pesp_counts.specs.Supports.{Supports}
+use Rattle.pesp_counts.proofs.Applied.{keeping_none}
+use Rattle.pesp_counts.proofs.Keeping.{room_same}
 use Rattle.pesp_counts.proofs.keeper.CountKeeperKeeper.from_instance.Goals as goal
 
 pub remake-requires : goal.remake-requires
-remake-requires c = on_ok c.house.result c.if-is_err.ensures.value c.house.ensures
+remake-requires c = on_ok c.house.result c.if-is_err.ensures.value c.house.ensures.ok
+
+pub invariant_of-result : goal.invariant_of-result
+invariant_of-result c =
+    let none : length c.new-supports.result.rows * c.new-supports.result.period ≡ 0 = ap (λ (s : Supports). length s.rows * s.period) c.new-supports.ensures ∙ nothing c.period.result in
+    let start : HaveRoom c.new-supports.result c.new-back.result.room (vec_capacity c.new-restored.result) = record { back = omega (arith, none); restored = omega (arith, none) } in
+    let room = room_same c.house.new.supports c.remake.new.supports c.house.new.back.room (vec_capacity c.house.new.restored) c.remake.ensures.shape (c.house.ensures.room start) in
+    keeping_none c.args.instance c.in-Ok.pushed.items c.in-Ok-with_capacity.marks.items c.house.new.links c.remake.new.supports (vec_capacity c.in-Ok.pushed) (vec_capacity c.in-Ok-with_capacity.marks) c.house.new.back.room (vec_capacity c.house.new.restored)
+    c.in-Ok.ensures.items c.in-Ok-with_capacity.ensures.items c.remake.ensures.settled (omega (arith, c.in-Ok.ensures.capacity, c.event_count.ensures.value)) (omega (arith, c.in-Ok-with_capacity.ensures.capacity, c.event_count-2.ensures.value)) room
+  where
+    nothing : (n : ℕ) → 0 * n ≡ 0
+    nothing n = omega arith

@@ -2,7 +2,7 @@
 use Rattle.std.proofs.Common.{◌≡◌, subst, sym, ◌∙◌}
 use Rattle.std.proofs.lemmas.Bool.{false≢true}
 use Rattle.pesp_domains.specs.Domains.{InDomains}
-use Rattle.pesp_domains.specs.Kept.{Kept}
+use Rattle.pesp_counts.specs.Restores.{Seen}
 use Rattle.pesp_counts.specs.Counts.{has_at}
 use Rattle.pesp_counts.specs.Keeping.{rows_of}
 use Rattle.pesp_counts.proofs.Bridge.{numbered_at}
@@ -14,13 +14,13 @@ returns-in-Some c =
     let i = c.self.inside in
     let same : rows_of i.links i.supports c.args.event c.args.residue ≡ c.holds.result = numbered_at i.links.events (has_at i.supports.rows) c.args.event c.in-Some.place c.args.residue (sym c.event.ensures ∙ c.in-Some.is) ∙ sym c.holds.ensures in
     let exact = c.self.invariant.settled.domains.exact c.args.event c.args.residue in (
-      λ h. subst (λ (k : Kept). InDomains k.network k.pushes c.args.event c.args.residue) c.self.view_is (exact.0 (same ∙ h)),
-      λ h. sym same ∙ exact.1 (subst (λ (k : Kept). InDomains k.network k.pushes c.args.event c.args.residue) (sym c.self.view_is) h),
+      λ h. subst (λ (k : Seen). InDomains k.network k.pushes c.args.event c.args.residue) c.self.view_is (exact.0 (same ∙ h)),
+      λ h. sym same ∙ exact.1 (subst (λ (k : Seen). InDomains k.network k.pushes c.args.event c.args.residue) (sym c.self.view_is) h),
     )
 
 pub returns-in-None : goal.returns-in-None
 returns-in-None c =
     let i = c.self.inside in (
       λ h. absurd (false≢true h),
-      λ h. absurd (none_at i.instance i.pushed.items i.links i.supports c.args.event c.args.residue c.self.invariant.settled (sym c.event.ensures ∙ c.in-None.is) (subst (λ (k : Kept). InDomains k.network k.pushes c.args.event c.args.residue) (sym c.self.view_is) h)),
+      λ h. absurd (none_at i.instance i.pushed.items i.links i.supports c.args.event c.args.residue c.self.invariant.settled (sym c.event.ensures ∙ c.in-None.is) (subst (λ (k : Seen). InDomains k.network k.pushes c.args.event c.args.residue) (sym c.self.view_is) h)),
     )

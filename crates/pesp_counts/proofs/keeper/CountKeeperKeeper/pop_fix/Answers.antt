@@ -3,7 +3,7 @@ use Rattle.std.proofs.Common.{◌≡◌, ◌<◌, ◌-◌, ◌∷◌, [], ◌++�
 use Rattle.std.specs.Option.{option_to_list}
 use Rattle.std.specs.Vec.{vec_capacity, vec_len}
 use Rattle.pesp_domains.specs.declared.pair.Pair.{Pair}
-use Rattle.pesp_domains.specs.Kept.{Kept}
+use Rattle.pesp_counts.specs.Restores.{Seen}
 use Rattle.pesp_counts.proofs.Keeping.{for_linked, keeping_pop, last_mark, out_late}
 use Rattle.pesp_counts.proofs.keeper.CountKeeperKeeper.pop_fix.Goals as goal
 
@@ -21,9 +21,9 @@ invariant_of-self c =
     let i = c.self.inside in
     let d : Pair = record { event = 0; residue = 0 } in
     let x : Pair = get_or i.pushed.items (vec_len i.pushed - 1) d in
-    let pushes : 0 < length i.pushed.items = subst (λ (k : Kept). 0 < length k.pushes) (sym c.self.view_is) c.requires in
+    let pushes : 0 < length i.pushed.items = subst (λ (k : Seen). 0 < length k.pushes) (sym c.self.view_is) c.requires in
     let some : 0 < vec_len i.pushed = omega (arith, pushes) in
     let pushes_is : i.pushed.items ≡ c.pop.new.self.items ++ x ∷ [] = c.pop.ensures.items ∙ ap (λ o. c.pop.new.self.items ++ option_to_list o) (c.pop.ensures.value d some) in
     rw (c.pop.ensures.capacity, c.pop-2.ensures.capacity)
-    (keeping_pop i.instance i.pushed.items c.pop.new.self.items x i.links i.supports c.put_back.new.self i.marks.items c.pop-2.new.self.items c.in-Some.mark (vec_capacity i.pushed) (vec_capacity i.marks) c.self.invariant pushes_is c.in-Some.ensures.items
+    (keeping_pop i.instance i.pushed.items c.pop.new.self.items x i.links i.supports c.put_back.new.self i.marks.items c.pop-2.new.self.items c.in-Some.mark (vec_capacity i.pushed) (vec_capacity i.marks) i.back.room (vec_capacity i.restored) c.self.invariant pushes_is c.in-Some.ensures.items
     c.put_back.ensures.rows c.put_back.ensures.exact c.put_back.ensures.level c.put_back.ensures.trail c.put_back.ensures.shape)

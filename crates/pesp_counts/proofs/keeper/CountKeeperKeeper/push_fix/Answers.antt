@@ -4,7 +4,7 @@ use Rattle.std.specs.Vec.{vec_capacity}
 use Rattle.pesp_instance.specs.Network.{has_event}
 use Rattle.pesp_domains.specs.declared.pair.Pair.{Pair}
 use Rattle.pesp_domains.specs.Domains.{In}
-use Rattle.pesp_domains.specs.Kept.{Kept}
+use Rattle.pesp_counts.specs.Restores.{Seen}
 use Rattle.pesp_domains.proofs.Pushes.{room_to_push}
 use Rattle.pesp_counts.proofs.Bridge.{place_is}
 use Rattle.pesp_counts.proofs.Keeping.{for_linked, keeping_push}
@@ -13,15 +13,15 @@ use Rattle.pesp_counts.proofs.keeper.CountKeeperKeeper.push_fix.Goals as goal
 pub push_reserved-requires : goal.push_reserved-requires
 push_reserved-requires c =
     let x : Pair = record { event = c.args.event; residue = c.args.residue } in
-    let event : IsTrue (has_event c.self.inside.instance c.args.event) = subst (λ (k : Kept). IsTrue (has_event k.network c.args.event)) (sym c.self.view_is) c.requires.event in
-    let room = room_to_push c.self.inside.instance c.self.inside.pushed.items x _ event (λ r i. c.requires.free r (subst (λ (k : Kept). In k.pushes c.args.event r) c.self.view_is i)) c.self.invariant.pushed c.self.invariant.room_pushed in
+    let event : IsTrue (has_event c.self.inside.instance c.args.event) = subst (λ (k : Seen). IsTrue (has_event k.network c.args.event)) (sym c.self.view_is) c.requires.event in
+    let room = room_to_push c.self.inside.instance c.self.inside.pushed.items x _ event (λ r i. c.requires.free r (subst (λ (k : Seen). In k.pushes c.args.event r) c.self.view_is i)) c.self.invariant.pushed c.self.invariant.room_pushed in
     omega (arith, room)
 
 pub push_reserved-requires-2 : goal.push_reserved-requires-2
 push_reserved-requires-2 c =
     let x : Pair = record { event = c.args.event; residue = c.args.residue } in
-    let event : IsTrue (has_event c.self.inside.instance c.args.event) = subst (λ (k : Kept). IsTrue (has_event k.network c.args.event)) (sym c.self.view_is) c.requires.event in
-    let room = room_to_push c.self.inside.instance c.self.inside.pushed.items x _ event (λ r i. c.requires.free r (subst (λ (k : Kept). In k.pushes c.args.event r) c.self.view_is i)) c.self.invariant.pushed c.self.invariant.room_marks in
+    let event : IsTrue (has_event c.self.inside.instance c.args.event) = subst (λ (k : Seen). IsTrue (has_event k.network c.args.event)) (sym c.self.view_is) c.requires.event in
+    let room = room_to_push c.self.inside.instance c.self.inside.pushed.items x _ event (λ r i. c.requires.free r (subst (λ (k : Seen). In k.pushes c.args.event r) c.self.view_is i)) c.self.invariant.pushed c.self.invariant.room_marks in
     let long = c.self.invariant.marked.long in
     omega (arith, room, long)
 
@@ -32,8 +32,8 @@ pub invariant_of-self : goal.invariant_of-self
 invariant_of-self c =
     let I = c.self.inside.instance in
     let x : Pair = record { event = c.args.event; residue = c.args.residue } in
-    let event : IsTrue (has_event I c.args.event) = subst (λ (k : Kept). IsTrue (has_event k.network c.args.event)) (sym c.self.view_is) c.requires.event in
+    let event : IsTrue (has_event I c.args.event) = subst (λ (k : Seen). IsTrue (has_event k.network c.args.event)) (sym c.self.view_is) c.requires.event in
     let p = place_is I c.self.inside.links c.self.invariant.settled.fits.stand c.args.event event in
     rw (c.push_reserved.ensures.items, c.push_reserved-2.ensures.items, c.mark-mark.ensures, c.push_reserved.ensures.capacity, c.push_reserved-2.ensures.capacity)
-    (keeping_push I c.self.inside.pushed.items x c.self.inside.links c.self.inside.supports c.limit_event.new.supports c.self.inside.marks.items p.0 (vec_capacity c.self.inside.pushed) (vec_capacity c.self.inside.marks) c.self.invariant event
-    (λ r i. c.requires.free r (subst (λ (k : Kept). In k.pushes c.args.event r) c.self.view_is i)) p.1 (c.limit_event.ensures p.0 p.1))
+    (keeping_push I c.self.inside.pushed.items x c.self.inside.links c.self.inside.supports c.limit_event.new.supports c.self.inside.marks.items p.0 (vec_capacity c.self.inside.pushed) (vec_capacity c.self.inside.marks) c.self.inside.back.room (vec_capacity c.self.inside.restored) c.self.invariant event
+    (λ r i. c.requires.free r (subst (λ (k : Seen). In k.pushes c.args.event r) c.self.view_is i)) p.1 (c.limit_event.ensures p.0 p.1))

@@ -1,5 +1,5 @@
 -- Both ends pass less.
-use Rattle.std.proofs.Common.{ℕ, ◌*◌, ◌∙◌, ap, sym, subst, option_map, refl}
+use Rattle.std.proofs.Common.{ℕ, ◌*◌, ◌∙◌, ap, sym, subst, option_map, refl, []}
 use Rattle.std.specs.List.{Contains}
 use Rattle.pesp_instance.specs.declared.edit.Edit.TheVariants.{SetSpan}
 use Rattle.pesp_instance.specs.Network.{Network}
@@ -89,10 +89,10 @@ narrow_ends-requires-clause-rest c =
     let lists : (p k : ℕ) → Contains (ends_of links.lists p) k → Contains (ends_of after.lists p) k = λ p k is. subst (λ lists. Contains (ends_of lists p) k) (sym c.set_span.ensures.lists) is in
     let listed = tail_listed I links id q.0 w.settled.fits.stand q.1 in
     let fits = for_relinked I J links after s w.settled.fits period stand (λ p k is. (p, subst (λ lists. Contains (ends_of lists p) k) c.set_span.ensures.lists is)) (λ e p at. sym (changed.events e) ∙ at) in
-    subst (AreAtRestBut after s) (sym q.2) (rest_but links after s s (roomier_none s) q.0 w.settled.rest changed (tail_mate J after listed.0 q.0 stand (lists listed.0 (2 * q.0) listed.1)) w.trail)
+    subst (λ t. AreAtRestBut after s t []) (sym q.2) (rest_but links after s s (roomier_none s) q.0 [] w.settled.rest changed (tail_mate J after listed.0 q.0 stand (lists listed.0 (2 * q.0) listed.1)) w.trail)
 
-pub returns-in-Some : goal.returns-in-Some
-returns-in-Some c =
+pub returns-in-Some-clause-settled : goal.returns-in-Some-clause-settled
+returns-in-Some-clause-settled c =
     let w = c.requires.were in
     let I = w.before in
     let J = c.args.instance.now in
@@ -112,8 +112,8 @@ returns-in-Some c =
     (for_same J after s n c.narrow_ends.ensures.shape fits) c.narrow_ends.ensures.rest (numbers_same links.events after.events (has_at s.rows) changed.events)
     (keeps_like after n.period s.period (has_at s.rows) (has_at s.rows) (has_at n.rows) (sym c.narrow_ends.ensures.shape.period) (λ p r. refl) c.narrow_ends.ensures.keeps)
 
-pub returns-in_default : goal.returns-in_default
-returns-in_default c =
+pub returns-in_default-clause-settled : goal.returns-in_default-clause-settled
+returns-in_default-clause-settled c =
     let w = c.requires.were in
     let q = place_changed w.before c.args.instance.now c.args.links.now c.args.id c.args.span w.settled.fits.stand w.made in
     absurd (c.in_default.not-Some (2 * q.0) (c.tail.ensures ∙ ap (option_map (λ k. 2 * k)) q.1))

@@ -21,8 +21,8 @@ limit_event-requires-clause-linked c =
     let w = c.requires.before.were in
     for_linked w.before c.args.links.now c.args.supports.now w.settled.fits
 
-pub returns-in-DropEvent : goal.returns-in-DropEvent
-returns-in-DropEvent c =
+pub returns-in-DropEvent-clause-settled : goal.returns-in-DropEvent-clause-settled
+returns-in-DropEvent-clause-settled c =
     let w = c.requires.before.were in
     let I = w.before in
     let J = c.args.instance.now in
@@ -38,8 +38,8 @@ returns-in-DropEvent c =
     let rest = rest_same links after s s (roomier_none s) w.settled.rest listed (λ p k is. ap (λ ends. end_at ends k) c.drop_event.ensures.ends) in
     settled_dropped I J links after s c.in-DropEvent.event w.settled c.period-period.ensures.network made fits rest c.drop_event.ensures.others
 
-pub returns-in-Fix : goal.returns-in-Fix
-returns-in-Fix c =
+pub returns-in-Fix-clause-settled : goal.returns-in-Fix-clause-settled
+returns-in-Fix-clause-settled c =
     let w = c.requires.before.were in
     let I = w.before in
     let J = c.args.instance.now in
@@ -52,8 +52,18 @@ returns-in-Fix c =
     settled_fixed I J links c.args.supports.now c.limit_event.new.supports e t p.0 w.settled c.period-period.ensures.network made tight
     (stands_fix I J links e t made w.settled.fits.stand) p.1 (c.limit_event.ensures p.0 p.1)
 
-pub returns-in_default : goal.returns-in_default
-returns-in_default c =
+pub returns-in-Fix-clause-shape : goal.returns-in-Fix-clause-shape
+returns-in-Fix-clause-shape c =
+    let w = c.requires.before.were in
+    let I = w.before in
+    let e = c.in-Fix.event in
+    let t = c.in-Fix.time in
+    let made : edited I (Fix e t) ≡ Ok c.args.instance.now = ap (edited I) (sym c.in-Fix.is) ∙ w.made in
+    let p = some_of (place_of c.args.links.now.events e) (w.settled.fits.stand.of_events e ∙ fixed_event I c.args.instance.now e t made) in
+    (c.limit_event.ensures p.0 p.1).shape
+
+pub returns-in_default-clause-settled : goal.returns-in_default-clause-settled
+returns-in_default-clause-settled c =
     let w = c.requires.before.were in
     let I = w.before in
     let J = c.args.instance.now in

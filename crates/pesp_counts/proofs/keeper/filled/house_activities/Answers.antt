@@ -36,4 +36,6 @@ loop-activity-preserved c =
         c.in_ok-house_activity.ensures.ok (record { period = I.period; events = I.events; activities = done.0 }) (record { period = I.period; events = I.events; activities = done.0 ++ x ∷ [] }) (sym c.period.ensures.value)
             (activity_made I done.0 x rest c.activities-activity-items.ensures.network done.1) done.2,
       );
+      period = c.house_activity.ensures.grown.period ∙ c.loop-activity.invariant.period;
+      rows = c.house_activity.ensures.rows ∙ c.loop-activity.invariant.rows;
     }

@@ -23,4 +23,6 @@ loop-event-preserved c =
         append_assoc done.0 (x ∷ []) rest ∙ done.1,
         for_event I.period c.house_event.new.links c.house_event.new.supports done.0 x (c.in_ok-house_event.ensures.ok (record { period = I.period; events = done.0; activities = [] }) done.2),
       );
+      room = λ h. c.house_event.ensures.room (c.loop-event.invariant.room h);
+      restored = c.house_event.ensures.restored ∙ c.loop-event.invariant.restored;
     }

@@ -111,7 +111,7 @@ narrow_ends-requires-clause-rest c =
     let q = ok.changed in
     let listed = tail_listed J after a.id q.0 fits.stand q.1 in
     let twice : c.in-Some.tail ≡ 2 * q.0 = the_same (option_map (λ k. 2 * k) (place_of after.activities a.id)) c.in-Some.tail (2 * q.0) (sym c.tail.ensures ∙ c.in-Some.is) (ap (option_map (λ k. 2 * k)) q.1) in
-    subst (AreAtRestBut after m) (sym twice) (rest_but links after s m c.house_activity.ensures.grown q.0 w.settled.rest q.2 (tail_mate J after listed.0 q.0 fits.stand listed.1) w.trail)
+    subst (λ t. AreAtRestBut after m t []) (sym twice) (rest_but links after s m c.house_activity.ensures.grown q.0 [] w.settled.rest q.2 (tail_mate J after listed.0 q.0 fits.stand listed.1) w.trail)
 
 pub returns-in-Some-clause-ok : goal.returns-in-Some-clause-ok
 returns-in-Some-clause-ok c =

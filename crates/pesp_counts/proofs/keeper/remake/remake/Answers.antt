@@ -4,7 +4,7 @@ use Rattle.pesp_counts.specs.Counts.{ArePending, has_at}
 use Rattle.pesp_counts.proofs.Keeping.{for_linked, for_same}
 use Rattle.pesp_counts.proofs.Marks.{fit_same, rest_pending}
 use Rattle.pesp_counts.proofs.Remade.{full_as, remade}
-use Rattle.pesp_counts.proofs.Taken.{kept_shape}
+use Rattle.pesp_counts.proofs.Taken.{kept_shape, shape_then}
 use Rattle.pesp_counts.proofs.keeper.remake.remake.Goals as goal
 
 pub refill-requires-clause-linked : goal.refill-requires-clause-linked
@@ -31,10 +31,17 @@ settle-requires-clause-pending c =
     subst (λ n. ArePending m.period c.args.links.now.ends c.args.links.now.lists m.counts (has_at m.counted) (has_at m.rows) m.trail n) (ap length c.refill.ensures.trail)
     (rest_pending c.args.links.now s m rest c.limit_fixed.ensures.taken c.limit_fixed.ensures.keeps)
 
-pub returns : goal.returns
-returns c =
+pub returns-clause-settled : goal.returns-clause-settled
+returns-clause-settled c =
     let s = c.refill.new.self in
     let fits = for_same c.args.instance.now c.args.links.now c.args.supports.now s c.refill.ensures.shape c.requires in
     let rest = full_as c.args.instance.now c.args.links.now c.args.supports.now s c.requires c.refill.ensures.shape c.refill.ensures.exact c.refill.ensures.counted c.refill.ensures.rows c.refill.ensures.trail in
     remade c.args.instance.now c.args.links.now s c.limit_fixed.new.supports c.settle.new.self c.limit_fixed.ensures.network fits rest c.limit_fixed.ensures.all c.limit_fixed.ensures.taken c.limit_fixed.ensures.keeps
     c.settle.ensures.pending c.settle.ensures.keeps c.settle.ensures.taken c.settle.ensures.shape
+
+pub returns-clause-shape : goal.returns-clause-shape
+returns-clause-shape c =
+    let s = c.args.supports.now in
+    let a = c.refill.new.self in
+    let b = c.limit_fixed.new.supports in
+    shape_then s a c.settle.new.self c.refill.ensures.shape (shape_then a b c.settle.new.self (kept_shape a b c.limit_fixed.ensures.keeps) c.settle.ensures.shape)

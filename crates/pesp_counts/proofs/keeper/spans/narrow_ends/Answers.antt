@@ -1,8 +1,8 @@
 -- Ends that were counted anew.
-use Rattle.std.proofs.Common.{◌∙◌, ap, subst, length}
-use Rattle.pesp_counts.specs.Counts.{AreLinked, ArePending, KeepsClosed, has_at}
+use Rattle.std.proofs.Common.{◌∙◌, ap, subst}
+use Rattle.pesp_counts.specs.Counts.{AreLinked, KeepsClosed, has_at}
 use Rattle.pesp_counts.proofs.Marks.{fit_same, keeps_like}
-use Rattle.pesp_counts.proofs.Narrowed.{anew_below, anew_exact, anew_level, anew_live, anew_trail, first_sift, narrowed_rest, second_sift, sifted_keeps, sifted_pending}
+use Rattle.pesp_counts.proofs.Narrowed.{anew_below, anew_exact, anew_level, anew_live, anew_trail, first_sift, second_sift, sifted_keeps, sifted_pending}
 use Rattle.pesp_counts.proofs.Taken.{keeps_then, kept_shape, kept_then, shape_then, taken_then}
 use Rattle.pesp_counts.proofs.keeper.spans.narrow_ends.Goals as goal
 
@@ -81,15 +81,15 @@ sift-requires-2-clause-end c =
     let fit = fit_same c.args.links.now c.args.supports.now c.sift.new.self shape' c.requires.fit in
     rw c.end-end.ensures (fit.counts _ _ E.mate_there)
 
-pub settle-requires-clause-fit : goal.settle-requires-clause-fit
-settle-requires-clause-fit c =
+pub settle_back-requires-clause-fit : goal.settle_back-requires-clause-fit
+settle_back-requires-clause-fit c =
     let shape = shape_then c.args.supports.now c.recount.new.self c.recount-2.new.self c.recount.ensures.shape c.recount-2.ensures.shape in
     let shape' = shape_then c.args.supports.now c.recount-2.new.self c.sift.new.self shape (kept_shape c.recount-2.new.self c.sift.new.self c.sift.ensures.keeps) in
     let shape'' = shape_then c.args.supports.now c.sift.new.self c.sift-2.new.self shape' (kept_shape c.sift.new.self c.sift-2.new.self c.sift-2.ensures.keeps) in
     fit_same c.args.links.now c.args.supports.now c.sift-2.new.self shape'' c.requires.fit
 
-pub settle-requires-clause-pending : goal.settle-requires-clause-pending
-settle-requires-clause-pending c =
+pub settle_back-requires-clause-pending : goal.settle_back-requires-clause-pending
+settle_back-requires-clause-pending c =
     let links = c.args.links.now in
     let s = c.args.supports.now in
     let a = c.recount.new.self in
@@ -102,42 +102,16 @@ settle-requires-clause-pending c =
     let r = c.recount.ensures in
     let q = c.recount-2.ensures in
     let linked : AreLinked b.period links.ends links.lists = rw (q.shape.period, r.shape.period) c.requires.linked in
-    let exact = anew_exact links s a b t e f c.end-end.ensures c.end-mate.ensures c.requires.rest r.rows q.rows r.counted q.counted r.trail q.trail r.shape q.shape r.exact r.elsewhere q.exact q.elsewhere in
-    let level = anew_level links s a b t e f c.end-end.ensures c.end-mate.ensures c.requires.rest r.rows q.rows r.counted q.counted r.trail q.trail r.shape q.shape r.exact r.elsewhere q.exact q.elsewhere in
-    let below = anew_below links s a b t e f c.end-end.ensures c.end-mate.ensures c.requires.rest r.rows q.rows r.counted q.counted r.trail q.trail r.shape q.shape r.exact r.elsewhere q.exact q.elsewhere in
-    let live = anew_live links s a b t e f c.end-end.ensures c.end-mate.ensures c.requires.rest r.rows q.rows r.counted q.counted r.trail q.trail r.shape q.shape r.exact r.elsewhere q.exact q.elsewhere in
-    let trail = anew_trail links s a b t e f c.end-end.ensures c.end-mate.ensures c.requires.rest r.rows q.rows r.counted q.counted r.trail q.trail r.shape q.shape r.exact r.elsewhere q.exact q.elsewhere in
+    let exact = anew_exact links s a b t c.args.back.now e f c.end-end.ensures c.end-mate.ensures c.requires.rest r.rows q.rows r.counted q.counted r.trail q.trail r.shape q.shape r.exact r.elsewhere q.exact q.elsewhere in
+    let level = anew_level links s a b t c.args.back.now e f c.end-end.ensures c.end-mate.ensures c.requires.rest r.rows q.rows r.counted q.counted r.trail q.trail r.shape q.shape r.exact r.elsewhere q.exact q.elsewhere in
+    let below = anew_below links s a b t c.args.back.now e f c.end-end.ensures c.end-mate.ensures c.requires.rest r.rows q.rows r.counted q.counted r.trail q.trail r.shape q.shape r.exact r.elsewhere q.exact q.elsewhere in
+    let live = anew_live links s a b t c.args.back.now e f c.end-end.ensures c.end-mate.ensures c.requires.rest r.rows q.rows r.counted q.counted r.trail q.trail r.shape q.shape r.exact r.elsewhere q.exact q.elsewhere in
+    let trail = anew_trail links s a b t c.args.back.now e f c.end-end.ensures c.end-mate.ensures c.requires.rest r.rows q.rows r.counted q.counted r.trail q.trail r.shape q.shape r.exact r.elsewhere q.exact q.elsewhere in
     let rows = first_sift links b d m t e f c.end-end.ensures c.end-mate.ensures c.sift.ensures.rows in
     let rows' = second_sift links b d m t e f c.end-end.ensures c.end-mate.ensures c.sift.ensures.keeps c.sift-2.ensures.rows in
     let taken = taken_then b d m c.sift.ensures.taken c.sift-2.ensures.taken in
     let keeps = kept_then b d m c.sift.ensures.keeps c.sift-2.ensures.keeps in
-    subst (λ n. ArePending m.period links.ends links.lists m.counts (has_at m.counted) (has_at m.rows) m.trail n) (ap length trail)
-    (sifted_pending links b d m t c.requires.listed.0 linked c.requires.listed.1 exact level below live rows rows' taken keeps)
-
-pub returns-clause-rest : goal.returns-clause-rest
-returns-clause-rest c =
-    let links = c.args.links.now in
-    let s = c.args.supports.now in
-    let a = c.recount.new.self in
-    let b = c.recount-2.new.self in
-    let d = c.sift.new.self in
-    let m = c.sift-2.new.self in
-    let t = c.args.tail in
-    let e = c.end-end.result in
-    let f = c.end-mate.result in
-    let r = c.recount.ensures in
-    let q = c.recount-2.ensures in
-    let linked : AreLinked b.period links.ends links.lists = rw (q.shape.period, r.shape.period) c.requires.linked in
-    let exact = anew_exact links s a b t e f c.end-end.ensures c.end-mate.ensures c.requires.rest r.rows q.rows r.counted q.counted r.trail q.trail r.shape q.shape r.exact r.elsewhere q.exact q.elsewhere in
-    let level = anew_level links s a b t e f c.end-end.ensures c.end-mate.ensures c.requires.rest r.rows q.rows r.counted q.counted r.trail q.trail r.shape q.shape r.exact r.elsewhere q.exact q.elsewhere in
-    let below = anew_below links s a b t e f c.end-end.ensures c.end-mate.ensures c.requires.rest r.rows q.rows r.counted q.counted r.trail q.trail r.shape q.shape r.exact r.elsewhere q.exact q.elsewhere in
-    let live = anew_live links s a b t e f c.end-end.ensures c.end-mate.ensures c.requires.rest r.rows q.rows r.counted q.counted r.trail q.trail r.shape q.shape r.exact r.elsewhere q.exact q.elsewhere in
-    let trail = anew_trail links s a b t e f c.end-end.ensures c.end-mate.ensures c.requires.rest r.rows q.rows r.counted q.counted r.trail q.trail r.shape q.shape r.exact r.elsewhere q.exact q.elsewhere in
-    let rows = first_sift links b d m t e f c.end-end.ensures c.end-mate.ensures c.sift.ensures.rows in
-    let rows' = second_sift links b d m t e f c.end-end.ensures c.end-mate.ensures c.sift.ensures.keeps c.sift-2.ensures.rows in
-    let taken = taken_then b d m c.sift.ensures.taken c.sift-2.ensures.taken in
-    let keeps = kept_then b d m c.sift.ensures.keeps c.sift-2.ensures.keeps in
-    narrowed_rest links b d m t c.requires.listed.0 linked c.requires.listed.1 exact level below live rows rows' taken keeps c.settle.new.self trail c.settle.ensures.pending c.settle.ensures.taken c.settle.ensures.shape
+    sifted_pending links b d m t c.requires.listed.0 c.args.back.now linked c.requires.listed.1 exact level below live rows rows' taken keeps trail
 
 pub returns-clause-keeps : goal.returns-clause-keeps
 returns-clause-keeps c =
@@ -153,17 +127,17 @@ returns-clause-keeps c =
     let r = c.recount.ensures in
     let q = c.recount-2.ensures in
     let linked : AreLinked b.period links.ends links.lists = rw (q.shape.period, r.shape.period) c.requires.linked in
-    let exact = anew_exact links s a b t e f c.end-end.ensures c.end-mate.ensures c.requires.rest r.rows q.rows r.counted q.counted r.trail q.trail r.shape q.shape r.exact r.elsewhere q.exact q.elsewhere in
-    let level = anew_level links s a b t e f c.end-end.ensures c.end-mate.ensures c.requires.rest r.rows q.rows r.counted q.counted r.trail q.trail r.shape q.shape r.exact r.elsewhere q.exact q.elsewhere in
-    let below = anew_below links s a b t e f c.end-end.ensures c.end-mate.ensures c.requires.rest r.rows q.rows r.counted q.counted r.trail q.trail r.shape q.shape r.exact r.elsewhere q.exact q.elsewhere in
-    let live = anew_live links s a b t e f c.end-end.ensures c.end-mate.ensures c.requires.rest r.rows q.rows r.counted q.counted r.trail q.trail r.shape q.shape r.exact r.elsewhere q.exact q.elsewhere in
-    let trail = anew_trail links s a b t e f c.end-end.ensures c.end-mate.ensures c.requires.rest r.rows q.rows r.counted q.counted r.trail q.trail r.shape q.shape r.exact r.elsewhere q.exact q.elsewhere in
+    let exact = anew_exact links s a b t c.args.back.now e f c.end-end.ensures c.end-mate.ensures c.requires.rest r.rows q.rows r.counted q.counted r.trail q.trail r.shape q.shape r.exact r.elsewhere q.exact q.elsewhere in
+    let level = anew_level links s a b t c.args.back.now e f c.end-end.ensures c.end-mate.ensures c.requires.rest r.rows q.rows r.counted q.counted r.trail q.trail r.shape q.shape r.exact r.elsewhere q.exact q.elsewhere in
+    let below = anew_below links s a b t c.args.back.now e f c.end-end.ensures c.end-mate.ensures c.requires.rest r.rows q.rows r.counted q.counted r.trail q.trail r.shape q.shape r.exact r.elsewhere q.exact q.elsewhere in
+    let live = anew_live links s a b t c.args.back.now e f c.end-end.ensures c.end-mate.ensures c.requires.rest r.rows q.rows r.counted q.counted r.trail q.trail r.shape q.shape r.exact r.elsewhere q.exact q.elsewhere in
+    let trail = anew_trail links s a b t c.args.back.now e f c.end-end.ensures c.end-mate.ensures c.requires.rest r.rows q.rows r.counted q.counted r.trail q.trail r.shape q.shape r.exact r.elsewhere q.exact q.elsewhere in
     let rows = first_sift links b d m t e f c.end-end.ensures c.end-mate.ensures c.sift.ensures.rows in
     let rows' = second_sift links b d m t e f c.end-end.ensures c.end-mate.ensures c.sift.ensures.keeps c.sift-2.ensures.rows in
     let taken = taken_then b d m c.sift.ensures.taken c.sift-2.ensures.taken in
     let keeps = kept_then b d m c.sift.ensures.keeps c.sift-2.ensures.keeps in
-    let n = c.settle.new.self in
-    let before : KeepsClosed b.period links.ends links.lists (has_at b.rows) (has_at m.rows) = sifted_keeps links b d m t c.requires.listed.0 linked c.requires.listed.1 exact level below live rows rows' taken keeps in
-    let after : KeepsClosed b.period links.ends links.lists (has_at m.rows) (has_at n.rows) = subst (λ k. KeepsClosed k links.ends links.lists (has_at m.rows) (has_at n.rows)) keeps.period c.settle.ensures.keeps in
+    let n = c.settle_back.new.self in
+    let before : KeepsClosed b.period links.ends links.lists (has_at b.rows) (has_at m.rows) = sifted_keeps links b d m t c.requires.listed.0 c.args.back.now linked c.requires.listed.1 exact level below live rows rows' taken keeps in
+    let after : KeepsClosed b.period links.ends links.lists (has_at m.rows) (has_at n.rows) = subst (λ k. KeepsClosed k links.ends links.lists (has_at m.rows) (has_at n.rows)) keeps.period c.settle_back.ensures.keeps in
     keeps_like links s.period b.period (has_at s.rows) (has_at b.rows) (has_at n.rows) (q.shape.period ∙ r.shape.period) (λ p x. ap (λ xs. has_at xs p x) (q.rows ∙ r.rows))
     (keeps_then b.period links.ends links.lists (has_at b.rows) (has_at m.rows) (has_at n.rows) before after)

@@ -1,11 +1,11 @@
 -- The ends go from where their mates look, and come to the events.
-use Rattle.std.proofs.Common.{◌≡◌, ◌+◌, ◌*◌, ℕ, List, Some, sym, ap, subst, ◌∙◌, inl, inr}
+use Rattle.std.proofs.Common.{◌≡◌, ◌+◌, ◌*◌, ℕ, IfSome, List, Option, Some, None, refl, sym, ap, subst, ◌∙◌, inl, inr}
 use Rattle.std.specs.List.{Contains}
 use Rattle.pesp_counts.specs.declared.end.End.{End}
 use Rattle.pesp_counts.specs.Counts.{end_at, ends_of}
-use Rattle.pesp_counts.specs.Links.{AreHoused, KeepOthers, Links, StandFor}
+use Rattle.pesp_counts.specs.Links.{AreHoused, IsChangedAt, KeepOthers, Links, StandFor}
 use Rattle.pesp_counts.specs.Places.{place_of}
-use Rattle.pesp_counts.proofs.StandAround.{head_listed, items_written, tail_listed}
+use Rattle.pesp_counts.proofs.StandAround.{head_listed, items_written, tail_listed, written}
 use Rattle.pesp_counts.proofs.StandEdits.{shared_ends}
 use Rattle.pesp_counts.proofs.StandMoved.{ends_moved, housed_moved}
 use Rattle.pesp_counts.proofs.links.Links.set_ends.Goals as goal
@@ -80,3 +80,30 @@ returns-in-Some-clause-listed c p k is =
     ]
     in
     subst (λ (L : Links). (x : ℕ) × Contains (ends_of L.lists x) k) c.self.view_is was
+
+for_some : (P : ℕ → Type 0) (o : Option ℕ) (x : ℕ) → o ≡ Some x → P x → IfSome o P
+for_some P None x is p = tt
+for_some P (Some y) x is p = let e : x ≡ y = cc in subst P e p
+
+pub returns-in-Some-clause-changed : goal.returns-in-Some-clause-changed
+returns-in-Some-clause-changed c =
+    let inside = c.self.inside in
+    let q : ℕ = c.in-Some.place in
+    let ws : List End = c.turn_ends.new.ends in
+    let before : Links = record { events = inside.events; activities = inside.activities; ends = inside.ends.items; lists = inside.at.lists } in
+    let after : Links = record before { ends = ws; lists = c.list_ends.new.at.lists } in
+    let at : place_of inside.activities c.args.id ≡ Some q = ap (place_of inside.activities) (sym c.get.ensures.value) ∙ sym c.place.ensures ∙ c.in-Some.is in
+    let keep : KeepOthers inside.ends.items ws q = subst (λ xs. KeepOthers xs ws q) c.deref_mut.ensures.value c.turn_ends.ensures.others in
+    let write = items_written ws inside.ends.items inside.ends.len inside.ends.ok.0 keep.many in
+    let changed : IsChangedAt before after q = record {
+      events = λ e. refl;
+      listed = λ p k is apart.
+          elim (c.list_ends.ensures.listed.was p k is) [
+            | inr old ↦ c.unlist_ends.ensures.unlisted.was p k old
+            | inl new ↦ absurd (apart (elim new [ inl tail ↦ inl tail.1 | inr head ↦ inr head.1 ]))
+          ];
+      ends = keep.others;
+    } in
+    subst (λ (L : Links). IfSome (place_of L.activities c.args.id) (λ x. IsChangedAt L (record before { ends = written inside.ends.items inside.ends.len ws; lists = c.list_ends.new.at.lists }) x)) c.self.view_is
+    (for_some (λ x. IsChangedAt before (record before { ends = written inside.ends.items inside.ends.len ws; lists = c.list_ends.new.at.lists }) x) (place_of inside.activities c.args.id) q at
+    (subst (λ xs. IsChangedAt before (record before { ends = xs; lists = c.list_ends.new.at.lists }) q) (sym write) changed))

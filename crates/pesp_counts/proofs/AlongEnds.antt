@@ -1,0 +1,113 @@
+-- What one end after another brings.
+use Rattle.std.proofs.Common.{◌≡◌, ℕ, ◌+◌, ◌<◌, ◌==◌, ◌&&◌, ◌||◌, not, nat_le, nat_lt, Bool, true, false, Some, None, List, [], ◌∷◌, length, take, get_or, refl, sym, ap, ◌∙◌, inl, inr, arith, IsTrue}
+use Rattle.std.proofs.lemmas.Bool.{cases_Bool, cases_lt, false≢true}
+use Rattle.std.proofs.lemmas.List.{take_more}
+use Rattle.std.proofs.lemmas.List.Folds.{list_any-append}
+use Rattle.std.specs.List.{list_any}
+use Rattle.std.specs.Option.{option_map_or}
+use Rattle.pesp_instance.specs.Network.{Network, admits}
+use Rattle.pesp_domains.specs.Sweeps.{Pairs}
+use Rattle.pesp_domains.proofs.Families.{and_left, and_right}
+use Rattle.pesp_counts.specs.declared.end.End.{End}
+use Rattle.pesp_counts.specs.declared.end.Window.{Window}
+use Rattle.pesp_counts.specs.Counts.{has_at, passes}
+use Rattle.pesp_counts.specs.Links.{Links}
+use Rattle.pesp_counts.specs.Places.{number_at}
+use Rattle.pesp_counts.specs.Put.{Back}
+use Rattle.pesp_counts.specs.Restored.{IsBrought, in_window, of_admitted, of_end, of_starts}
+use Rattle.pesp_counts.specs.Restoring.{admits_at}
+use Rattle.pesp_counts.specs.Supports.{HaveSameShape, Supports, held}
+use Rattle.pesp_counts.proofs.Taken.{eqb_is, shape_then}
+
+-- counts changed before pairs came
+pub brought_from : (may : Pairs) (first mid after : Supports) (back now : Back) → mid.rows ≡ first.rows → mid.counted ≡ first.counted → mid.trail ≡ first.trail → HaveSameShape first mid → IsBrought may mid after back now → IsBrought may first after back now
+brought_from may first mid after back now rows counted trail shape h =
+    let held_is : held mid.rows ≡ held first.rows = ap held rows in
+    record {
+      more = h.more;
+      listed = h.listed;
+      rows = λ p r. h.rows p r ∙ ap (λ xs. has_at xs p r || may p r) rows;
+      just = λ p r. h.just p r ∙ ap (λ xs. may p r && not (has_at xs p r)) rows;
+      once = h.once;
+      counted = h.counted ∙ counted;
+      trail = h.trail ∙ trail;
+      shape = shape_then first mid after shape h.shape;
+      room = h.room;
+      held = omega (arith, h.held, held_is);
+    }
+
+-- ---- one end
+
+lt_from : (m n : ℕ) → IsTrue (nat_lt m n) → m < n
+lt_from m n h =
+    elim (cases_lt m n) [
+      | inl below ↦ below
+      | inr above ↦ let out : nat_lt m n ≡ false = grind (arith, above) in absurd (false≢true (sym out ∙ h))
+    ]
+
+-- what is admitted is below the period
+pub admits_below : (I : Network) (links : Links) (p r : ℕ) → IsTrue (admits_at I links p r) → r < I.period
+admits_below I links p r =
+    elim (number_at links.events p) as (λ o. IsTrue (option_map_or (λ e. nat_lt r I.period && admits I e r) o false) → r < I.period) [
+      | None ↦ λ h. absurd (false≢true h)
+      | Some e ↦ λ h. lt_from r I.period (and_left (nat_lt r I.period) (admits I e r) h)
+    ]
+
+-- the window of an end has what it passes
+pub window_end : (period : ℕ) (I : Network) (links : Links) (residue : ℕ) (end : End) (w : Window) → period ≡ I.period → ((s : ℕ) → s < period → passes period end residue s ≡ in_window w s) → (p r : ℕ) → of_admitted I links end.looks_at w p r ≡ of_end period I links residue end p r
+window_end period I links residue end w same is p r =
+    elim (cases_Bool (admits_at I links end.looks_at r)) [
+      | inl there ↦
+          let below = admits_below I links end.looks_at r there in
+          rw (is r (omega (arith, below, same))) refl
+      | inr out ↦ rw out (by (p == end.looks_at) (in_window w r) (passes period end residue r))
+    ]
+  where
+    by : (a b c : Bool) → (a && (b && false)) ≡ (a && (c && false))
+    by false b c = refl
+    by true true true = refl
+    by true true false = refl
+    by true false true = refl
+    by true false false = refl
+
+-- a full window brings nothing
+pub window_full : (period : ℕ) (I : Network) (links : Links) (residue : ℕ) (end : End) (w : Window) (rows : List (List Bool)) → period ≡ I.period → ((s : ℕ) → s < period → passes period end residue s ≡ in_window w s) → ((r : ℕ) → IsTrue (in_window w r) → IsTrue (has_at rows end.looks_at r)) → (p r : ℕ) → IsTrue (of_end period I links residue end p r) → IsTrue (has_at rows p r)
+window_full period I links residue end w rows same is full p r h =
+    let place = eqb_is p end.looks_at (and_left (p == end.looks_at) (passes period end residue r && admits_at I links end.looks_at r) h) in
+    let rest = and_right (p == end.looks_at) (passes period end residue r && admits_at I links end.looks_at r) h in
+    let pass = and_left (passes period end residue r) (admits_at I links end.looks_at r) rest in
+    let below = admits_below I links end.looks_at r (and_right (passes period end residue r) (admits_at I links end.looks_at r) rest) in
+    rw place (full r (sym (is r (omega (arith, below, same))) ∙ pass))
+
+-- ---- one start
+
+-- one place more is open
+pub starts_one : (I : Network) (links : Links) (starts : List ℕ) (i : ℕ) (w : Window) → i < length starts → ((r : ℕ) → r < I.period → in_window w r ≡ true) → (p r : ℕ) → (of_starts I links (take i starts) p r || of_admitted I links (get_or starts i 0) w p r) ≡ of_starts I links (take (i + 1) starts) p r
+starts_one I links starts i w within whole p r =
+    let test : ℕ → Bool = λ q. p == q && admits_at I links q r in
+    let at : ℕ = get_or starts i 0 in
+    let last : of_admitted I links at w p r ≡ (test at || false) =
+    elim (cases_Bool (admits_at I links at r)) [
+      | inl there ↦ rw (there, whole r (admits_below I links at r there)) (with_it (p == at))
+      | inr out ↦ rw out (by (p == at) (in_window w r))
+    ]
+    in
+    ap (λ b. of_starts I links (take i starts) p r || b) last
+    ∙ sym (list_any-append test (take i starts) (at ∷ []))
+    ∙ ap (list_any test) (sym (take_more starts i 0 within))
+  where
+    with_it : (a : Bool) → (a && (true && true)) ≡ ((a && true) || false)
+    with_it true = refl
+    with_it false = refl
+
+    by : (a b : Bool) → (a && (b && false)) ≡ ((a && false) || false)
+    by true true = refl
+    by true false = refl
+    by false b = refl
+
+-- a window from 0 up to the period has each residue
+pub whole_window : (w : Window) (n : ℕ) → w.start ≡ 0 → w.end ≡ n → (r : ℕ) → r < n → in_window w r ≡ true
+whole_window w n start end r below =
+    let low : nat_le w.start r ≡ true = grind (arith, start) in
+    let high : nat_lt r w.end ≡ true = grind (arith, end, below) in
+    rw (low, high) refl

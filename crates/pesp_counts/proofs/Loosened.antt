@@ -1,0 +1,162 @@
+-- What is settled after an edit that brings pairs back.
+use Rattle.std.proofs.Common.{◌≡◌, ℕ, ◌==◌, true, List, [], ◌∷◌, Option, Some, None, is_some, Ok, refl, sym, ap, subst, ◌∙◌, inl, inr, IsTrue}
+use Rattle.std.specs.Option.{option_and_then}
+use Rattle.std.proofs.lemmas.Bool.{cases_Bool, cases_eq, eq-eqb, ne_eqb, false≢true}
+use Rattle.pesp_instance.specs.declared.edit.Edit.{Edit}
+use Rattle.pesp_instance.specs.declared.edit.Edit.TheVariants.{Fix, Unfix}
+use Rattle.pesp_instance.specs.declared.event.Event.{Event}
+use Rattle.pesp_instance.specs.Edited.{edited}
+use Rattle.pesp_instance.specs.Network.{IsNetwork, Network, admits, agrees_with, fixed_of, has_event}
+use Rattle.pesp_domains.specs.Domains.{InDomains, IsAdmitted}
+use Rattle.pesp_domains.specs.Sweeps.{Of, Pairs, Settles}
+use Rattle.pesp_domains.proofs.Edits.{effect_is, keeps_fix, keeps_unfix}
+use Rattle.pesp_domains.proofs.Families.{and_left}
+use Rattle.pesp_domains.proofs.Laws.{InDomains-admitted}
+use Rattle.pesp_domains.proofs.Pushes.{limited, limited_agrees, limited_keeps}
+use Rattle.pesp_counts.specs.declared.trail.Placed.{Placed}
+use Rattle.pesp_counts.specs.Counts.{KeepsClosed, has_at}
+use Rattle.pesp_counts.specs.Keeping.{AreAtRest, AreFor, AreSettled, rows_of}
+use Rattle.pesp_counts.specs.Links.{Links}
+use Rattle.pesp_counts.specs.Loosened.{IsReach}
+use Rattle.pesp_counts.specs.Loosening.{AreReached, AreSpared, AreStarts, IsLoosened, IsPutBack, WereLoose}
+use Rattle.pesp_counts.specs.Places.{numbered, place_of}
+use Rattle.pesp_counts.specs.Supports.{Supports}
+use Rattle.pesp_counts.proofs.Asks.{asks_again, refixed_elsewhere, refixed_here}
+use Rattle.pesp_counts.proofs.Bridge.{counts_settle}
+use Rattle.pesp_counts.proofs.Carried.{same_period}
+use Rattle.pesp_counts.proofs.Followed.{still_admitted}
+use Rattle.pesp_counts.proofs.Keeping.{for_same, limited_numbered}
+use Rattle.pesp_counts.proofs.ReachLaws.{outside_of, restored_reach, restored_reached}
+use Rattle.pesp_counts.proofs.EditStarts.{one_start, spared_none, starts_fix}
+use Rattle.pesp_counts.proofs.Tightened.{admits_same, events_same}
+use Rattle.pesp_counts.proofs.Union.{reach_covers}
+
+module _ (I J : Network) (edit : Edit) (links links' : Links) (s s' n : Supports) (h : AreSettled I [] links s) (network : IsNetwork J) (made : edited I edit ≡ Ok J) (same : (e : ℕ) → has_event J e ≡ has_event I e) (reach : IsReach I edit (rows_of links s) (rows_of links' s')) (fits : AreFor J links' n) (rest : AreAtRest links' n) (M : Pairs) (closed : KeepsClosed n.period links'.ends links'.lists M (has_at n.rows)) where
+  -- what was put back is admitted, and so is what was there, where its event still admits it
+  admitted_now : (e r : ℕ) → Of (rows_of links' s') e r → (Of (rows_of links s) e r → IsTrue (admits J e r)) → IsAdmitted J [] e r
+  admitted_now e r there still =
+      elim (cases_Bool (rows_of links s e r)) [
+        | inl was ↦
+            let a = InDomains-admitted I [] e r ((h.domains.exact e r).0 was) in
+            still_admitted I J (rows_of links s) e r h.domains (same_period I J edit h.network made) was (same e ∙ a.of_event) (still was)
+        | inr new ↦ subst (λ (K : Network). IsAdmitted K [] e r) (sym (effect_is I J edit made)) (outside_of I edit e r (reach.only e r there new)).admitted
+      ]
+
+  -- from the rows with the reached pairs, as far as they are still admitted, settling ends at the domains
+  pub loosened : ((e r : ℕ) → Of (numbered links'.events M) e r → Of (rows_of links' s') e r) → ((e r : ℕ) → Of (numbered links'.events M) e r → Of (rows_of links s) e r → IsTrue (admits J e r)) → ((e r : ℕ) → IsAdmitted J [] e r → Of (rows_of links' s') e r → Of (numbered links'.events M) e r) → AreSettled J [] links' n
+  loosened fewer still covers =
+      let settles : Settles J (numbered links'.events M) (rows_of links' n) = counts_settle J links' fits.stand M n fits.period rest closed in
+      record {
+        network = network;
+        fits = fits;
+        rest = rest;
+        domains = settles.settles []
+            (record { each = λ e r i. admitted_now e r (fewer e r i) (still e r i) })
+            (record {
+              each = λ e r i.
+                  let a = InDomains-admitted J [] e r i in
+                  covers e r a (reach_covers I edit (rows_of links s) (rows_of links' s') h.network (asks_again I J edit h.network made) h.domains reach e r (sym (same e) ∙ a.of_event) (subst (λ (K : Network). InDomains K [] e r) (effect_is I J edit made) i));
+            });
+      }
+
+-- an edit of activities: nothing of an event changes
+pub loosened_even : (I J : Network) (edit : Edit) (links links' : Links) (s s' n : Supports) → AreSettled I [] links s → IsNetwork J → edited I edit ≡ Ok J → J.events ≡ I.events → IsReach I edit (rows_of links s) (rows_of links' s') → AreFor J links' n → AreAtRest links' n → KeepsClosed n.period links'.ends links'.lists (has_at s'.rows) (has_at n.rows) → AreSettled J [] links' n
+loosened_even I J edit links links' s s' n h network made events reach fits rest closed =
+    loosened I J edit links links' s s' n h network made (λ e. events_same I J e events) reach fits rest (has_at s'.rows) closed
+    (λ e r i. i)
+    (λ e r i was. admits_same I J e r events (same_period I J edit h.network made) ∙ (InDomains-admitted I [] e r ((h.domains.exact e r).0 was)).fixed)
+    (λ e r a i. i)
+
+elsewhere : (I J : Network) (edit : Edit) (e r : ℕ) → IsNetwork I → edited I edit ≡ Ok J → fixed_of J e ≡ fixed_of I e → admits J e r ≡ admits I e r
+elsewhere I J edit e r network made same =
+    ap (λ k. agrees_with k (fixed_of J e) r) (same_period I J edit network made) ∙ ap (λ o. agrees_with I.period o r) same
+
+-- an event is fixed no more
+pub loosened_free : (I J : Network) (e : ℕ) (links : Links) (s s' n : Supports) → AreSettled I [] links s → IsNetwork J → edited I (Unfix e) ≡ Ok J → IsReach I (Unfix e) (rows_of links s) (rows_of links s') → AreFor J links n → AreAtRest links n → KeepsClosed n.period links.ends links.lists (has_at s'.rows) (has_at n.rows) → AreSettled J [] links n
+loosened_free I J e links s s' n h network made reach fits rest closed =
+    let is = effect_is I J (Unfix e) made in
+    let same : (f : ℕ) → has_event J f ≡ has_event I f = λ f. ap (λ (K : Network). has_event K f) is ∙ (keeps_unfix e I).1 f in
+    loosened I J (Unfix e) links links s s' n h network made same reach fits rest (has_at s'.rows) closed
+    (λ f r i. i)
+    (λ f r i was.
+    let a = InDomains-admitted I [] f r ((h.domains.exact f r).0 was) in
+    elim (cases_eq f e) [
+      | inl at ↦
+          let free : fixed_of J f ≡ None = ap (fixed_of J) at ∙ ap (λ (K : Network). fixed_of K e) is ∙ refixed_here I e None (subst (λ k. IsTrue (has_event I k)) at a.of_event) in
+          rw free refl
+      | inr apart ↦ elsewhere I J (Unfix e) f r h.network made (ap (λ (K : Network). fixed_of K f) is ∙ ap (option_and_then (λ (x : Event). x.fixed)) (refixed_elsewhere I e f None apart)) ∙ a.fixed
+    ])
+    (λ f r a i. i)
+
+is_number : (a b : ℕ) → (a == b) ≡ true → a ≡ b
+is_number a b same =
+    elim (cases_eq a b) [
+      | inl is ↦ is
+      | inr apart ↦ absurd (false≢true (sym (ne_eqb a b apart) ∙ same))
+    ]
+
+-- an event is fixed at another time: of its residues that one alone is left
+pub loosened_fixed : (I J : Network) (e t p : ℕ) (links : Links) (s s' n : Supports) → AreSettled I [] links s → IsNetwork J → edited I (Fix e t) ≡ Ok J → place_of links.events e ≡ Some p → IsReach I (Fix e t) (rows_of links s) (rows_of links s') → AreFor J links n → AreAtRest links n → KeepsClosed n.period links.ends links.lists (limited (has_at s'.rows) p t) (has_at n.rows) → AreSettled J [] links n
+loosened_fixed I J e t p links s s' n h network made at reach fits rest closed =
+    let is = effect_is I J (Fix e t) made in
+    let same : (f : ℕ) → has_event J f ≡ has_event I f = λ f. ap (λ (K : Network). has_event K f) is ∙ (keeps_fix e t I).1 f in
+    let event : IsTrue (has_event I e) = sym (h.fits.stand.of_events e) ∙ ap is_some at in
+    let fixed : fixed_of J e ≡ Some t = ap (λ (K : Network). fixed_of K e) is ∙ refixed_here I e (Some t) event in
+    let numbers = limited_numbered links.events (has_at s'.rows) e p t h.fits.stand.events at in
+    loosened I J (Fix e t) links links s s' n h network made same reach fits rest (limited (has_at s'.rows) p t) closed
+    (λ f r i. and_left (rows_of links s' f r) _ (sym (numbers f r) ∙ i))
+    (λ f r i was.
+    let a = InDomains-admitted I [] f r ((h.domains.exact f r).0 was) in
+    elim (cases_eq f e) [
+      | inl here ↦
+          let r_is : r ≡ t = limited_agrees (rows_of links s') e t f r (sym (numbers f r) ∙ i) here in
+          let fixed_here : fixed_of J f ≡ Some t = ap (fixed_of J) here ∙ fixed in
+          rw fixed_here (eq-eqb t r (sym r_is))
+      | inr apart ↦ elsewhere I J (Fix e t) f r h.network made (ap (λ (K : Network). fixed_of K f) is ∙ ap (option_and_then (λ (x : Event). x.fixed)) (refixed_elsewhere I e f (Some t) apart)) ∙ a.fixed
+    ])
+    (λ f r a i.
+    numbers f r ∙ limited_keeps (rows_of links s') e t f r i
+    (λ here.
+    let fixed_here : fixed_of J f ≡ Some t = ap (fixed_of J) here ∙ fixed in
+    sym (is_number t r (sym (ap (λ o. agrees_with J.period o r) fixed_here) ∙ a.fixed))))
+
+-- ---- what is reached was put back
+
+module _ (I J : Network) (edit : Edit) (links links' : Links) (s n : Supports) (starts : List ℕ) (spared : Option ℕ) (back : List Placed) (w : WereLoose I J edit links s) (network : IsNetwork J) (fits : AreFor J links' s) (events : (e : ℕ) → place_of links'.events e ≡ place_of links.events e) (start : AreStarts I edit links' starts) (others : AreSpared I J edit links' spared) where
+  module _ (left : Pairs → Pairs) (put : IsPutBack left J links' starts spared s n back) where
+    put_reach : IsReach I edit (rows_of links s) (rows_of links' put.middle)
+    put_reach = restored_reach I J edit links links' s starts spared w.settled w.made fits.stand events start others put.middle back put.restored
+
+    put_reached : AreReached I edit links' back
+    put_reached = restored_reached I J edit links links' s starts spared w.settled w.made fits.stand events start others put.middle back put.restored
+
+  -- after an edit of activities
+  pub loosened_by : J.events ≡ I.events → IsPutBack (λ S. S) J links' starts spared s n back → IsLoosened I J edit links' n back
+  loosened_by events_stay put =
+      record {
+        settled = loosened_even I J edit links links' s put.middle n w.settled network w.made events_stay (put_reach (λ S. S) put) (for_same J links' s n put.shape fits) put.rest put.keeps;
+        reached = put_reached (λ S. S) put;
+      }
+
+-- after an event's fixed time is gone, or another one
+pub loosened_by_unfix : (I J : Network) (e p : ℕ) (links : Links) (s n : Supports) (back : List Placed) → WereLoose I J (Unfix e) links s → IsNetwork J → AreFor J links s → place_of links.events e ≡ Some p → IsPutBack (λ S. S) J links (p ∷ []) None s n back → IsLoosened I J (Unfix e) links n back
+loosened_by_unfix I J e p links s n back w network fits at put =
+    let start = one_start I (Unfix e) links e p refl at in
+    let others = spared_none I J (Unfix e) links (ap (λ (K : Network). K.activities) (effect_is I J (Unfix e) w.made)) (λ a. refl) in
+    record {
+      settled = loosened_free I J e links s put.middle n w.settled network w.made
+          (put_reach I J (Unfix e) links links s n (p ∷ []) None back w network fits (λ f. refl) start others (λ S. S) put)
+          (for_same J links s n put.shape fits) put.rest put.keeps;
+      reached = put_reached I J (Unfix e) links links s n (p ∷ []) None back w network fits (λ f. refl) start others (λ S. S) put;
+    }
+
+pub loosened_by_fix : (I J : Network) (e t p : ℕ) (links : Links) (s n : Supports) (back : List Placed) → WereLoose I J (Fix e t) links s → IsNetwork J → AreFor J links s → place_of links.events e ≡ Some p → IsPutBack (λ S. limited S p t) J links (p ∷ []) None s n back → IsLoosened I J (Fix e t) links n back
+loosened_by_fix I J e t p links s n back w network fits at put =
+    let start = one_start I (Fix e t) links e p (starts_fix I e t w.loose) at in
+    let others = spared_none I J (Fix e t) links (ap (λ (K : Network). K.activities) (effect_is I J (Fix e t) w.made)) (λ a. refl) in
+    record {
+      settled = loosened_fixed I J e t p links s put.middle n w.settled network w.made at
+          (put_reach I J (Fix e t) links links s n (p ∷ []) None back w network fits (λ f. refl) start others (λ S. limited S p t) put)
+          (for_same J links s n put.shape fits) put.rest put.keeps;
+      reached = put_reached I J (Fix e t) links links s n (p ∷ []) None back w network fits (λ f. refl) start others (λ S. limited S p t) put;
+    }

@@ -1,0 +1,29 @@
+-- The counts are exact at all ends but those of the activity, which are counted anew.
+use Rattle.std.proofs.Common.{◌*◌}
+use Rattle.pesp_counts.proofs.Keeping.{for_linked}
+use Rattle.pesp_counts.proofs.Marks.{fit_same}
+use Rattle.pesp_counts.proofs.Reopened.{rejoined_exact, rejoined_rest, spared_mates}
+use Rattle.pesp_counts.proofs.keeper.loosening.rejoin.Goals as goal
+
+pub restore-requires-clause-linked : goal.restore-requires-clause-linked
+restore-requires-clause-linked c = for_linked c.args.instance.now c.args.links.now c.args.supports.now c.requires.fits
+
+pub restore-requires-clause-mates : goal.restore-requires-clause-mates
+restore-requires-clause-mates c = spared_mates c.args.instance.now c.args.links.now c.args.place c.requires.fits.stand
+
+pub restore-requires-clause-exact : goal.restore-requires-clause-exact
+restore-requires-clause-exact c = rejoined_exact c.args.instance.now c.args.links.now c.args.place c.requires.listed.0 c.requires.fits.stand c.requires.listed.1 c.args.supports.now c.requires.rest
+
+pub tail_at-requires : goal.tail_at-requires
+tail_at-requires c = c.requires.fits.stand.shared.within c.requires.listed.0 (2 * c.args.place) c.requires.listed.1
+
+pub narrow_ends-requires-clause-linked : goal.narrow_ends-requires-clause-linked
+narrow_ends-requires-clause-linked c = rw c.restore.ensures.restored.shape.period (for_linked c.args.instance.now c.args.links.now c.args.supports.now c.requires.fits)
+
+pub narrow_ends-requires-clause-fit : goal.narrow_ends-requires-clause-fit
+narrow_ends-requires-clause-fit c = fit_same c.args.links.now c.args.supports.now c.restore.new.self c.restore.ensures.restored.shape c.requires.fits.fit
+
+pub narrow_ends-requires-clause-rest : goal.narrow_ends-requires-clause-rest
+narrow_ends-requires-clause-rest c =
+    rw (c.tail_at.ensures, c.pairs.ensures)
+    (rejoined_rest c.args.instance.now c.args.links.now c.args.place c.requires.listed.0 c.requires.fits.stand c.requires.listed.1 c.args.starts.now c.args.supports.now c.restore.new.self c.restore.new.back.pairs c.restore.ensures.restored c.requires.fits.period c.requires.rest)

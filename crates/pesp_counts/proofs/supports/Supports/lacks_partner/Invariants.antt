@@ -1,0 +1,15 @@
+-- The ends to come decide.
+use Rattle.std.proofs.Common.{◌≡◌, ◌==◌, ℕ}
+use Rattle.std.specs.List.{Contains, list_any}
+use Rattle.pesp_counts.specs.Counts.{count_at, ends_of}
+use Rattle.pesp_counts.specs.Supports.{lacks_partner}
+use Rattle.pesp_counts.proofs.supports.Supports.lacks_partner.Given as goal
+
+abbrev pub invariant-loop-end : goal.invariant-loop-end
+invariant-loop-end l =
+    record {
+      can : (goal.iterator-loop-end).can_next l.end-iterator;
+      finite : (goal.iterator-loop-end).is_finite l.end-iterator;
+      listed : (k : ℕ) → Contains l.end-iterator k → Contains (ends_of l.fn.links.lists l.fn.pair.place) k;
+      same : lacks_partner l.fn.links l.fn.self l.fn.pair.place l.fn.pair.residue ≡ list_any (λ k. count_at l.fn.self.period l.fn.self.counts k l.fn.pair.residue == 0) l.end-iterator;
+    }

@@ -1,0 +1,26 @@
+-- What has no partner waits, and settling counts it out.
+use Rattle.std.proofs.Common.{subst}
+use Rattle.pesp_counts.specs.Counts.{KeepsClosed, has_at}
+use Rattle.pesp_counts.proofs.Marks.{fit_same}
+use Rattle.pesp_counts.proofs.PutBack.{back_keeps, back_pending, back_rest}
+use Rattle.pesp_counts.proofs.Taken.{keeps_then, kept_shape}
+use Rattle.pesp_counts.proofs.supports.Supports.settle_back.Goals as goal
+
+pub settle-requires-clause-fit : goal.settle-requires-clause-fit
+settle-requires-clause-fit c = fit_same c.args.links.now c.args.self.now c.sift_back.new.self (kept_shape c.args.self.now c.sift_back.new.self c.sift_back.ensures.keeps) c.requires.fit
+
+pub settle-requires-clause-pending : goal.settle-requires-clause-pending
+settle-requires-clause-pending c = back_pending c.args.links.now c.args.self.now c.sift_back.new.self c.args.back.now c.requires.pending c.sift_back.ensures.rows c.sift_back.ensures.taken c.sift_back.ensures.keeps
+
+pub returns-clause-rest : goal.returns-clause-rest
+returns-clause-rest c = back_rest c.args.links.now c.args.self.now c.sift_back.new.self c.args.back.now c.requires.pending c.sift_back.ensures.rows c.sift_back.ensures.taken c.sift_back.ensures.keeps c.settle.new.self c.settle.ensures.pending c.settle.ensures.taken c.settle.ensures.shape
+
+pub returns-clause-keeps : goal.returns-clause-keeps
+returns-clause-keeps c =
+    let links = c.args.links.now in
+    let s = c.args.self.now in
+    let m = c.sift_back.new.self in
+    let n = c.settle.new.self in
+    keeps_then s.period links.ends links.lists (has_at s.rows) (has_at m.rows) (has_at n.rows)
+    (back_keeps links s m c.args.back.now c.requires.pending c.sift_back.ensures.rows c.sift_back.ensures.taken c.sift_back.ensures.keeps)
+    (subst (λ k. KeepsClosed k links.ends links.lists (has_at m.rows) (has_at n.rows)) c.sift_back.ensures.keeps.period c.settle.ensures.keeps)

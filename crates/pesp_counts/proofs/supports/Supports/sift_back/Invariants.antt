@@ -1,0 +1,13 @@
+-- Of the pairs so far those with a partner at each end are left.
+use Rattle.std.proofs.Common.{take}
+use Rattle.pesp_counts.specs.Supports.{IsTaken, Keeps}
+use Rattle.pesp_counts.proofs.PutBack.{Sifts}
+use Rattle.pesp_counts.proofs.supports.Supports.sift_back.Given as goal
+
+abbrev pub invariant-loop-pair : goal.invariant-loop-pair
+invariant-loop-pair l =
+    record {
+      rows : Sifts l.fn.links l.fn.self (take l.pair-index l.fn.back) l.self.rows;
+      taken : IsTaken l.fn.self l.self;
+      keeps : Keeps l.fn.self l.self;
+    }

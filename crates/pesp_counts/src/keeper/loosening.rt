@@ -1,0 +1,227 @@
+//! Edits that may bring pairs back: what they reach is put back, and what has no partner goes again.
+
+ghost use Rattle.std.specs.Prelude.{◌≡◌, ◌<◌, ◌≤◌, ◌*◌, ℕ, [], ◌∷◌, None, Some, length, All};
+ghost use Rattle.std.specs.List.{Contains};
+ghost use Rattle.pesp_instance.specs.declared.edit.Edit.TheVariants as edits;
+ghost use Rattle.pesp_instance.specs.Network.{Network};
+ghost use Rattle.pesp_domains.proofs.Pushes.{limited};
+ghost use Rattle.pesp_counts.specs.Counts.{ends_of};
+ghost use Rattle.pesp_counts.specs.Keeping.{AreAtRest, AreAtRestBut, AreFor};
+ghost use Rattle.pesp_counts.specs.Loosening.{IsLoosened, IsPutBack, WereLoose};
+ghost use Rattle.pesp_counts.specs.Supports.{HaveSameShape};
+
+use super::spans::narrow_ends;
+use crate::back::Back;
+use crate::links::Links;
+use crate::supports::Supports;
+use pesp_base::{ActivityId, EventId, Span};
+use pesp_instance::{Edit, Instance};
+
+/// Puts back what is reached from these places, and takes out what has no partner.
+fn reopen(
+    instance: &Instance,
+    links: &Links,
+    supports: &mut Supports,
+    back: &mut Back,
+    starts: &[usize],
+)
+    requires fits { AreFor instance.now links.now supports.old }
+    requires rest { AreAtRest links.now supports.old }
+    requires trail { (supports.old).trail ≡ [] }
+    requires starts { All (λ p. p < length (supports.old).rows) starts.now }
+    requires empty { (back.old).pairs ≡ [] }
+    requires room { length (supports.old).rows * (supports.old).period ≤ (back.old).room }
+    ensures back { IsPutBack (λ S. S) instance.now links.now starts.now None supports.old supports.new (back.new).pairs }
+    ensures room { (back.new).room ≡ (back.old).room }
+{
+    supports.restore(instance, links, starts, None, back);
+    supports.settle_back(links, back.pairs());
+}
+
+/// Puts back what is reached from the place of an event, of whose residues but one is left then, and takes out what has no partner.
+fn reopen_fixed(
+    instance: &Instance,
+    links: &Links,
+    supports: &mut Supports,
+    back: &mut Back,
+    place: usize,
+    time: u16,
+)
+    requires fits { AreFor instance.now links.now supports.old }
+    requires rest { AreAtRest links.now supports.old }
+    requires trail { (supports.old).trail ≡ [] }
+    requires place { place < length (supports.old).rows }
+    requires empty { (back.old).pairs ≡ [] }
+    requires room { length (supports.old).rows * (supports.old).period ≤ (back.old).room }
+    ensures back { IsPutBack (λ S. limited S place time) instance.now links.now (place ∷ []) None supports.old supports.new (back.new).pairs }
+    ensures room { (back.new).room ≡ (back.old).room }
+{
+    supports.restore(instance, links, &[place], None, back);
+    supports.limit(place, time);
+    supports.settle_back(links, back.pairs());
+}
+
+/// Puts back what is reached from these places by other activities than the one at a place, whose ends were changed, and takes out
+/// what has no partner.
+fn rejoin(
+    instance: &Instance,
+    links: &Links,
+    supports: &mut Supports,
+    back: &mut Back,
+    starts: &[usize],
+    place: usize,
+)
+    requires fits { AreFor instance.now links.now supports.old }
+    requires rest { AreAtRestBut links.now supports.old (2 * place) [] }
+    requires listed { (p : ℕ) × Contains (ends_of (links.now).lists p) (2 * place) }
+    requires starts { All (λ p. p < length (supports.old).rows) starts.now }
+    requires empty { (back.old).pairs ≡ [] }
+    requires room { length (supports.old).rows * (supports.old).period ≤ (back.old).room }
+    ensures back { IsPutBack (λ S. S) instance.now links.now starts.now (Some place) supports.old supports.new (back.new).pairs }
+    ensures room { (back.new).room ≡ (back.old).room }
+{
+    supports.restore(instance, links, starts, Some(place), back);
+    narrow_ends(links, supports, links.tail_at(place), back.pairs());
+}
+
+/// Follows a fixed time that is not the one before.
+fn refix(
+    instance: &Instance,
+    links: &Links,
+    supports: &mut Supports,
+    back: &mut Back,
+    event: EventId,
+    time: u16,
+)
+    requires loose { (I : Network) × WereLoose I instance.now (edits.Fix event time) links.now supports.old }
+    requires empty { (back.old).pairs ≡ [] }
+    requires room { length (supports.old).rows * (supports.old).period ≤ (back.old).room }
+    ensures loosened { (I : Network) → WereLoose I instance.now (edits.Fix event time) links.now supports.old → IsLoosened I instance.now (edits.Fix event time) links.now supports.new (back.new).pairs }
+    ensures shape { HaveSameShape supports.old supports.new }
+    ensures room { (back.new).room ≡ (back.old).room }
+{
+    let _period = instance.period();
+    if let Some(place) = links.event(event) {
+        reopen_fixed(instance, links, supports, back, place, time);
+    }
+}
+
+/// Follows a fixed time that is taken away.
+fn unfix(
+    instance: &Instance,
+    links: &Links,
+    supports: &mut Supports,
+    back: &mut Back,
+    event: EventId,
+)
+    requires loose { (I : Network) × WereLoose I instance.now (edits.Unfix event) links.now supports.old }
+    requires empty { (back.old).pairs ≡ [] }
+    requires room { length (supports.old).rows * (supports.old).period ≤ (back.old).room }
+    ensures loosened { (I : Network) → WereLoose I instance.now (edits.Unfix event) links.now supports.old → IsLoosened I instance.now (edits.Unfix event) links.now supports.new (back.new).pairs }
+    ensures shape { HaveSameShape supports.old supports.new }
+    ensures room { (back.new).room ≡ (back.old).room }
+{
+    let _period = instance.period();
+    if let Some(place) = links.event(event) {
+        reopen(instance, links, supports, back, &[place]);
+    }
+}
+
+/// Follows an activity that goes.
+fn release(
+    instance: &Instance,
+    links: &mut Links,
+    supports: &mut Supports,
+    back: &mut Back,
+    id: ActivityId,
+)
+    requires loose { (I : Network) × WereLoose I instance.now (edits.DropActivity id) links.old supports.old }
+    requires empty { (back.old).pairs ≡ [] }
+    requires room { length (supports.old).rows * (supports.old).period ≤ (back.old).room }
+    ensures loosened { (I : Network) → WereLoose I instance.now (edits.DropActivity id) links.old supports.old → IsLoosened I instance.now (edits.DropActivity id) links.new supports.new (back.new).pairs }
+    ensures shape { HaveSameShape supports.old supports.new }
+    ensures room { (back.new).room ≡ (back.old).room }
+{
+    let _period = instance.period();
+    if let Some(place) = links.activity(id) {
+        let (from, to) = links.events_of(place);
+        links.drop_activity(id);
+        reopen(instance, links, supports, back, &[from, to]);
+    }
+}
+
+/// Follows a span that admits more than the one before.
+fn loosen_span(
+    instance: &Instance,
+    links: &mut Links,
+    supports: &mut Supports,
+    back: &mut Back,
+    id: ActivityId,
+    span: Span,
+)
+    requires loose { (I : Network) × WereLoose I instance.now (edits.SetSpan id span) links.old supports.old }
+    requires empty { (back.old).pairs ≡ [] }
+    requires room { length (supports.old).rows * (supports.old).period ≤ (back.old).room }
+    ensures loosened { (I : Network) → WereLoose I instance.now (edits.SetSpan id span) links.old supports.old → IsLoosened I instance.now (edits.SetSpan id span) links.new supports.new (back.new).pairs }
+    ensures shape { HaveSameShape supports.old supports.new }
+    ensures room { (back.new).room ≡ (back.old).room }
+{
+    let period = instance.period();
+    if let Some(place) = links.activity(id) {
+        let (from, to) = links.events_of(place);
+        links.set_span(period, id, span);
+        rejoin(instance, links, supports, back, &[from, to], place);
+    }
+}
+
+/// Follows an activity that comes to other events.
+fn move_ends(
+    instance: &Instance,
+    links: &mut Links,
+    supports: &mut Supports,
+    back: &mut Back,
+    id: ActivityId,
+    from: EventId,
+    to: EventId,
+)
+    requires loose { (I : Network) × WereLoose I instance.now (edits.SetEnds id from to) links.old supports.old }
+    requires empty { (back.old).pairs ≡ [] }
+    requires room { length (supports.old).rows * (supports.old).period ≤ (back.old).room }
+    ensures loosened { (I : Network) → WereLoose I instance.now (edits.SetEnds id from to) links.old supports.old → IsLoosened I instance.now (edits.SetEnds id from to) links.new supports.new (back.new).pairs }
+    ensures shape { HaveSameShape supports.old supports.new }
+    ensures room { (back.new).room ≡ (back.old).room }
+{
+    let _period = instance.period();
+    if let Some(place) = links.activity(id) {
+        let (old_from, old_to) = links.events_of(place);
+        links.set_ends(id, from, to);
+        rejoin(instance, links, supports, back, &[old_from, old_to], place);
+    }
+}
+
+/// Follows an edit that may bring pairs back, and lists those that it reaches.
+pub fn loosen(
+    instance: &Instance,
+    links: &mut Links,
+    supports: &mut Supports,
+    back: &mut Back,
+    edit: &Edit,
+)
+    requires loose { (I : Network) × WereLoose I instance.now edit.now links.old supports.old }
+    requires empty { (back.old).pairs ≡ [] }
+    requires room { length (supports.old).rows * (supports.old).period ≤ (back.old).room }
+    ensures loosened { (I : Network) → WereLoose I instance.now edit.now links.old supports.old → IsLoosened I instance.now edit.now links.new supports.new (back.new).pairs }
+    ensures shape { HaveSameShape supports.old supports.new }
+    ensures room { (back.new).room ≡ (back.old).room }
+{
+    match *edit {
+        Edit::Fix(event, time) => refix(instance, links, supports, back, event, time),
+        Edit::Unfix(event) => unfix(instance, links, supports, back, event),
+        Edit::DropActivity(id) => release(instance, links, supports, back, id),
+        Edit::SetSpan(id, span) => loosen_span(instance, links, supports, back, id, span),
+        Edit::SetEnds(id, from, to) => {
+            move_ends(instance, links, supports, back, id, from, to);
+        }
+        _ => {}
+    }
+}

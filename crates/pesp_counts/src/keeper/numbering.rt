@@ -1,0 +1,36 @@
+//! The pairs that were put back, by the numbers of their events.
+
+ghost use Rattle.std.specs.Prelude.{◌≡◌, ◌≤◌, Some, length, map, All, vec_capacity};
+ghost use Rattle.pesp_counts.specs.Restores.{IsEventPlace, numbered_pair};
+
+use crate::Placed;
+use crate::links::Links;
+use pesp_base::EventId;
+use pesp_domains::Pair;
+
+/// A pair by the number of its event.
+fn numbered(links: &Links, placed: Placed) -> Option<Pair>
+    requires { IsEventPlace links.now placed.place }
+    ensures { result ≡ Some (numbered_pair links.now placed) }
+{
+    let event = EventId::new(links.event_at(placed.place)?)?;
+    Some(Pair {
+        event,
+        residue: placed.residue,
+    })
+}
+
+/// Lists pairs by the numbers of their events, in place of what was listed before. There is room for them.
+pub fn number_pairs(links: &Links, back: &[Placed], restored: &mut Vec<Pair>)
+    requires places { All (λ x. IsEventPlace links.now x.place) back.now }
+    requires room { length back.now ≤ vec_capacity restored.old }
+    ensures pairs { restored.new.items ≡ map (numbered_pair links.now) back.now }
+    ensures capacity { vec_capacity restored.new ≡ vec_capacity restored.old }
+{
+    restored.clear();
+    for placed in back {
+        if let Some(pair) = numbered(links, *placed) {
+            restored.push_reserved(pair);
+        }
+    }
+}
