@@ -17,6 +17,8 @@ mod edits;
 #[cfg(test)]
 mod made;
 #[cfg(test)]
+mod restored;
+#[cfg(test)]
 mod search;
 #[cfg(test)]
 mod timetables;
