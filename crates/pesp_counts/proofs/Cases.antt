@@ -1,13 +1,19 @@
--- Which edits may bring pairs back, what ends pass, and counts of partners, by computation.
-use Rattle.std.proofs.Common.{◌≡◌, ◌||◌, ◌==◌, ℤ, pos, negsuc, refl, true, false, [], ◌∷◌}
+-- Which edits may bring pairs back, what they reach, what ends pass, and counts of partners, by computation.
+use Rattle.std.proofs.Common.{◌≡◌, ◌||◌, ◌==◌, ℤ, pos, negsuc, refl, true, false, [], ◌∷◌, arith}
+use Rattle.std.proofs.lemmas.Bool.{false≢true}
 use Rattle.pesp_base.specs.Bounds.{Bounds}
+use Rattle.pesp_base.proofs.Laws.{met_is}
 use Rattle.pesp_base.proofs.Samples.{arc}
 use Rattle.pesp_instance.specs.declared.edit.Edit.TheVariants as do_
 use Rattle.pesp_instance.specs.Edited.{after}
 use Rattle.pesp_instance.specs.Network.{Network, new_event}
+use Rattle.pesp_domains.specs.declared.side.Side.TheVariants.{Head}
+use Rattle.pesp_domains.proofs.Families.{here, not_in_none}
+use Rattle.pesp_domains.proofs.Sweeps.{swept}
 use Rattle.pesp_counts.specs.declared.end.End.{End}
 use Rattle.pesp_counts.specs.Counts.{passes, supporters}
-use Rattle.pesp_counts.specs.Reached.{admits_more, starts}
+use Rattle.pesp_counts.specs.Reached.{Reached, admits_more, starts}
+use Rattle.pesp_counts.specs.Reached.Reached.{begins, follows}
 
 abbrev span : ℤ → ℤ → Bounds
 span lower upper = record { lower = lower; upper = upper }
@@ -54,6 +60,26 @@ wider_span = refl
 
 narrower_span : starts one_fixed (do_.SetSpan 1 (span (pos 3) (pos 4))) ≡ []
 narrower_span = refl
+
+-- ---- what is reached
+
+-- the event's own pair at its new time, and from there a pair of the other event
+moved_here : Reached one_fixed (do_.Fix 1 1) 1 1
+moved_here =
+    begins 1 1 (here 1 [])
+    (record {
+      outside = λ d. false≢true ((swept one_fixed [] 2 refl 1 1).1 d);
+      admitted = record { of_event = refl; below = omega arith; fixed = refl; pushed = λ s i. absurd (not_in_none _ i) };
+    })
+
+moved_there : Reached one_fixed (do_.Fix 1 1) 2 6
+moved_there =
+    follows Head (arc 1 1 2 3 5 2) 6 1 moved_here (here (arc 1 1 2 3 5 2) (arc 2 2 1 4 6 1 ∷ [])) refl
+    ((met_is 10 (span (pos 3) (pos 5)) 1 6 (omega arith)).0 refl)
+    (record {
+      outside = λ d. false≢true ((swept one_fixed [] 2 refl 2 6).1 d);
+      admitted = record { of_event = refl; below = omega arith; fixed = refl; pushed = λ s i. absurd (not_in_none _ i) };
+    })
 
 -- ---- ends and counts
 

@@ -47,7 +47,7 @@ pub record AreReached (I : Network) (edit : Edit) (links : Links) (back : List P
   pub only : (p r : ℕ) → IsTrue (is_in back p r) → (e : ℕ) × (place_of links.events e ≡ Some p) × Reached I edit e r
   pub once : AllPairs (λ x y. x ≢ y) back
 
--- what is reached by place came to the rows, and of what was left of them went what has no partner
+-- what is reached by place came to the rows, and of the part of them that is left what has no partner went
 pub record IsPutBack (left : Pairs → Pairs) (I : Network) (links : Links) (starts : List ℕ) (spared : Option ℕ) (s n : Supports) (back : List Placed) : Type 0 where
   pub middle : Supports
   pub restored : IsRestored I links starts spared s middle back
