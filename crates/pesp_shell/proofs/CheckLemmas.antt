@@ -47,3 +47,7 @@ check_refused I m refusal text is told_thrice = by (first_missing I m) is
         ≡ Some text
     by None memory = let none : behind [] (joined (refusal_text no.Memory) (joined (refusal_text no.Memory) (refusal_text no.Memory))) ≡ Some text = rw memory at told_thrice in absurd (cc)
     by (Some k) first = rw first at told_thrice
+
+-- three texts that are put one behind the other
+pub three_behind : (before one two x y z : List ℕ) → one ≡ before ++ x → two ≡ one ++ y → two ++ z ≡ before ++ (x ++ (y ++ z))
+three_behind before one two x y z a b = ap (λ t. t ++ z) (b ∙ ap (λ t. t ++ y) a) ∙ append_assoc (before ++ x) y z ∙ append_assoc before x (y ++ z)

@@ -69,5 +69,8 @@ pub fn check(
     ensures fault { IfErr result (IsCheckFault (files period activities.now (option_copied fixed.entry) (option_copied times.entry))) }
 {
     let (instance, timetable) = read(alloc, period, activities, fixed, times)?;
-    told_check(alloc, &instance, &timetable).map_err(|_| RunFault::Memory { line: 0 })
+    match told_check(alloc, &instance, &timetable) {
+        Ok(text) => Ok(text),
+        Err(AllocError) => Err(RunFault::Memory { line: 0 }),
+    }
 }

@@ -34,7 +34,10 @@ fn write_check<W: ByteSink>(
     ensures fault { IfErr result (IsUnchecked (files settings.now.period activities.now (option_copied fixed.entry) (option_copied times.entry)) (W.written sink.old) (W.written sink.new) (W.failed sink.new)) }
 {
     let replies = check(alloc, settings.period, activities, fixed, times)?;
-    write(sink, replies.as_slice()).map_err(|_| RunFault::Write)
+    match write(sink, replies.as_slice()) {
+        Ok(()) => Ok(()),
+        Err(Failed) => Err(RunFault::Write),
+    }
 }
 
 /// Answers what the settings ask for.

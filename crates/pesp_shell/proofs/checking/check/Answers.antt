@@ -1,4 +1,5 @@
--- The instance and the timetable of files have one period.
+-- The instance and the timetable of files have one period, and behind files that can be read only memory is wanted.
+use Rattle.std.proofs.Common.{refl}
 use Rattle.pesp_shell.proofs.OpeningLemmas.{one_period}
 use Rattle.pesp_shell.proofs.checking.check.Goals as goal
 
@@ -6,3 +7,8 @@ pub told_check-requires : goal.told_check-requires
 told_check-requires c =
     let (I, fixed, stand, same) = c.in_ok-instance.ensures.ok in
     one_period _ c.in_ok-instance.instance I fixed c.in_ok-instance.timetable stand same
+
+pub returns-clause-fault : goal.returns-clause-fault
+returns-clause-fault c =
+    let (I, fixed, stand, same) = c.in_ok-instance.ensures.ok in
+    (I, fixed, c.in_ok-instance.timetable, stand, refl)

@@ -1,4 +1,4 @@
--- The fault of the times comes behind files that can be read.
+-- The files stand for what was read of them, and the fault of the times comes behind files that can be read.
 use Rattle.std.proofs.Common.{◌≡◌, ap, rules}
 use Rattle.std.specs.Prelude.{option_copied, is_ok}
 use Rattle.pesp_shell.specs.Opening.{given}
@@ -15,3 +15,14 @@ returns-in-Err-read_times-clause-fault c =
     let found : IsReadFault (given (option_copied c.args.times)) (times_read c.args.period (given (option_copied c.args.times))) c.in-Err-read_times.fault
     = rw times at c.in-Err-read_times.ensures.fault in
     (source.Times, c.in-Err-read_times.fault, c.in_file-in-Err-read_times.ensures, (c.in-Ok.instance, c.in-Ok.ensures.ok, ap is_ok stand, found))
+
+pub returns-in-Ok-read_times-clause-ok : goal.returns-in-Ok-read_times-clause-ok
+returns-in-Ok-read_times-clause-ok c =
+    let fixed : c.unwrap_or.result.now ≡ given (option_copied c.args.fixed) = search (rules, c.unwrap_or.ensures) in
+    let times : c.unwrap_or-2.result.now ≡ given (option_copied c.args.times) = search (rules, c.unwrap_or-2.ensures) in
+    let (m, is, same) = c.in_default.ensures.ok in (
+      c.in-Ok.instance,
+      m,
+      record { activities = c.in-Ok.ensures.ok; fixed_times = rw fixed at is; timetable = rw times at c.in-Ok-read_times.ensures.ok },
+      same,
+    )

@@ -1,7 +1,6 @@
 -- Before the first line nothing is read or written, and the files open a work.
 use Rattle.std.proofs.Common.{◌≡◌, Err, refl, sym, subst, ◌∙◌, ap, rules}
 use Rattle.std.specs.Prelude.{option_copied}
-use Rattle.pesp_shell.specs.declared.run_fault.RunFault.TheVariants as fault
 use Rattle.pesp_shell.specs.Opening.{files, opened}
 use Rattle.pesp_shell.specs.Runs.{IsRun, marks}
 use Rattle.pesp_shell.proofs.OpeningLemmas.{one_period}
