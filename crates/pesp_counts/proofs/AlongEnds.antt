@@ -1,6 +1,6 @@
 -- What one end after another brings.
-use Rattle.std.proofs.Common.{◌≡◌, ℕ, ◌+◌, ◌<◌, ◌==◌, ◌&&◌, ◌||◌, not, nat_le, nat_lt, Bool, true, false, Some, None, List, [], ◌∷◌, length, take, get_or, refl, sym, ap, ◌∙◌, inl, inr, arith, IsTrue}
-use Rattle.std.proofs.lemmas.Bool.{cases_Bool, cases_lt, false≢true}
+use Rattle.std.proofs.Common.{◌≡◌, ℕ, ◌+◌, ◌<◌, ◌≤◌, ◌==◌, ◌&&◌, ◌||◌, not, nat_le, nat_lt, Bool, true, false, Some, None, List, [], ◌∷◌, length, take, get_or, refl, sym, ap, ◌∙◌, inl, inr, arith, IsTrue}
+use Rattle.std.proofs.lemmas.Bool.{cases_Bool, cases_eq, cases_lt, eq-eqb, ne_eqb, false≢true}
 use Rattle.std.proofs.lemmas.List.{take_more}
 use Rattle.std.proofs.lemmas.List.Folds.{list_any-append}
 use Rattle.std.specs.List.{list_any}
@@ -14,9 +14,11 @@ use Rattle.pesp_counts.specs.Counts.{has_at, passes}
 use Rattle.pesp_counts.specs.Links.{Links}
 use Rattle.pesp_counts.specs.Places.{number_at}
 use Rattle.pesp_counts.specs.Put.{Back}
-use Rattle.pesp_counts.specs.Restored.{IsBrought, in_window, of_admitted, of_end, of_starts}
+use Rattle.pesp_counts.specs.Ranges.{is_from_to}
+use Rattle.pesp_counts.specs.Restored.{IsBrought, in_window, of_admitted, of_end, of_pair, of_range, of_start, of_starts}
 use Rattle.pesp_counts.specs.Restoring.{admits_at}
 use Rattle.pesp_counts.specs.Supports.{HaveSameShape, Supports, held}
+use Rattle.pesp_counts.proofs.Ranges.{no_and, range_from_to}
 use Rattle.pesp_counts.proofs.Taken.{eqb_is, shape_then}
 
 -- counts changed before pairs came
@@ -81,33 +83,56 @@ window_full period I links residue end w rows same is full p r h =
 
 -- ---- one start
 
+-- a test that is that of what is admitted below the period, and of nothing beyond it
+pub start_is : (I : Network) (links : Links) (place : ℕ) (f : ℕ → Bool) → ((r : ℕ) → r < I.period → f r ≡ admits_at I links place r) → ((r : ℕ) → I.period ≤ r → f r ≡ false) → (p r : ℕ) → (p == place && f r) ≡ of_start I links place p r
+start_is I links place f below beyond p r =
+    elim (cases_lt r I.period) [
+      | inl low ↦ ap (λ b. p == place && b) (below r low)
+      | inr high ↦ ap (λ b. p == place && b) (beyond r high ∙ sym (none high))
+    ]
+  where
+    none : I.period ≤ r → admits_at I links place r ≡ false
+    none high =
+        elim (cases_Bool (admits_at I links place r)) [
+          | inl there ↦ let low = admits_below I links place r there in absurd (omega (arith, low, high))
+          | inr out ↦ out
+        ]
+
+-- nothing is admitted
+pub start_none : (I : Network) (links : Links) (place : ℕ) → ((r : ℕ) → r < I.period → false ≡ admits_at I links place r) → (p r : ℕ) → IsTrue (of_start I links place p r) → ⊥
+start_none I links place is p r h =
+    let there = and_right (p == place) (admits_at I links place r) h in
+    false≢true (is r (admits_below I links place r there) ∙ there)
+
+-- one residue is admitted
+pub start_one : (I : Network) (links : Links) (place time : ℕ) → time < I.period → ((r : ℕ) → r < I.period → (time == r) ≡ admits_at I links place r) → (p r : ℕ) → of_pair place time p r ≡ of_start I links place p r
+start_one I links place time low is =
+    start_is I links place (λ r. r == time) (λ r below. turned r ∙ is r below) (λ r beyond. ne_eqb r time (λ e. omega (arith, e, low, beyond)))
+  where
+    turned : (r : ℕ) → (r == time) ≡ (time == r)
+    turned r =
+        elim (cases_eq r time) [
+          | inl same ↦ eq-eqb r time same ∙ sym (eq-eqb time r (sym same))
+          | inr apart ↦ ne_eqb r time apart ∙ sym (ne_eqb time r (λ e. apart (sym e)))
+        ]
+
+-- each residue is admitted
+pub start_all : (I : Network) (links : Links) (place n : ℕ) → n ≡ I.period → ((r : ℕ) → r < I.period → true ≡ admits_at I links place r) → (p r : ℕ) → of_range place 0 n p r ≡ of_start I links place p r
+start_all I links place n all is =
+    start_is I links place (is_from_to 0 n) (λ r below. range_from_to 0 n r (omega arith) (omega (arith, below, all)) ∙ is r below) out
+  where
+    out : (r : ℕ) → I.period ≤ r → is_from_to 0 n r ≡ false
+    out r beyond = let high : nat_lt r n ≡ false = grind (arith, beyond, all) in rw high (no_and (nat_le 0 r))
+
 -- one place more is open
-pub starts_one : (I : Network) (links : Links) (starts : List ℕ) (i : ℕ) (w : Window) → i < length starts → ((r : ℕ) → r < I.period → in_window w r ≡ true) → (p r : ℕ) → (of_starts I links (take i starts) p r || of_admitted I links (get_or starts i 0) w p r) ≡ of_starts I links (take (i + 1) starts) p r
-starts_one I links starts i w within whole p r =
+pub starts_one : (I : Network) (links : Links) (starts : List ℕ) (i : ℕ) → i < length starts → (p r : ℕ) → (of_starts I links (take i starts) p r || of_start I links (get_or starts i 0) p r) ≡ of_starts I links (take (i + 1) starts) p r
+starts_one I links starts i within p r =
     let test : ℕ → Bool = λ q. p == q && admits_at I links q r in
     let at : ℕ = get_or starts i 0 in
-    let last : of_admitted I links at w p r ≡ (test at || false) =
-    elim (cases_Bool (admits_at I links at r)) [
-      | inl there ↦ rw (there, whole r (admits_below I links at r there)) (with_it (p == at))
-      | inr out ↦ rw out (by (p == at) (in_window w r))
-    ]
-    in
-    ap (λ b. of_starts I links (take i starts) p r || b) last
+    ap (λ b. of_starts I links (take i starts) p r || b) (alone (test at))
     ∙ sym (list_any-append test (take i starts) (at ∷ []))
     ∙ ap (list_any test) (sym (take_more starts i 0 within))
   where
-    with_it : (a : Bool) → (a && (true && true)) ≡ ((a && true) || false)
-    with_it true = refl
-    with_it false = refl
-
-    by : (a b : Bool) → (a && (b && false)) ≡ ((a && false) || false)
-    by true true = refl
-    by true false = refl
-    by false b = refl
-
--- a window from 0 up to the period has each residue
-pub whole_window : (w : Window) (n : ℕ) → w.start ≡ 0 → w.end ≡ n → (r : ℕ) → r < n → in_window w r ≡ true
-whole_window w n start end r below =
-    let low : nat_le w.start r ≡ true = grind (arith, start) in
-    let high : nat_lt r w.end ≡ true = grind (arith, end, below) in
-    rw (low, high) refl
+    alone : (a : Bool) → a ≡ (a || false)
+    alone true = refl
+    alone false = refl

@@ -24,7 +24,8 @@ use Rattle.pesp_domains.specs.declared.side.Side.TheVariants.{Tail, Head}
 use Rattle.pesp_domains.specs.Domains.{Joins, other, own}
 use Rattle.pesp_domains.proofs.Families.{here, in_range, none_passes, there}
 use Rattle.pesp_counts.specs.Loosened.{AsksAgain, HasHeir}
-use Rattle.pesp_counts.specs.Reached.{admits_more, ends_of, is_edited, is_looser}
+use Rattle.pesp_counts.specs.Reached.{admits_anew, admits_more, ends_of, is_edited, is_looser}
+use Rattle.pesp_counts.proofs.Anew.{anew_at}
 
 abbrev id_of : Activity → ℕ
 id_of a = a.id
@@ -141,6 +142,16 @@ refixed_here I n fixed event = ap (option_and_then (λ x. x.fixed)) (with_number
     at None event is = absurd (false≢true event)
     at (Some x) event is = rw (eq-eqb (number x) n (is x refl)) refl
 
+-- what is admitted after was admitted before, or is a reason to begin at the event
+before_or_start : (I J : Network) (n e r : ℕ) → e ≡ n → r < I.period → IsTrue (admits J e r) → IsTrue (admits I e r) ⊎ Contains (if admits_anew I J n then n ∷ [] else []) e
+before_or_start I J n e r same below agrees =
+    elim (cases_Bool (admits I e r)) [
+      | inl as_before ↦ inl as_before
+      | inr not_before ↦
+          let new : admits_anew I J n ≡ true = ap (admits_anew I J) (sym same) ∙ anew_at I J e r below agrees not_before in
+          inr (rw new (subst (Contains (n ∷ [])) (sym same) (here n [])))
+    ]
+
 -- ---- the nine edits
 
 pub asks_again : (I J : Network) (edit : Edit) → IsNetwork I → edited I edit ≡ Ok J → AsksAgain I edit
@@ -148,7 +159,7 @@ asks_again I J (AddEvent v) network ok =
     let new : has_event I v ≡ false = first_fails _ _ _ _ J ok in
     record {
       period = refl;
-      fixed = λ e r event event' agrees.
+      fixed = λ e r below event event' agrees.
           let apart : v ≢ e = λ same. false≢true (sym new ∙ ap (has_event I) same ∙ event) in
           let same : event_of (effect I (AddEvent v)) e ≡ event_of I e = with_number-put_in number e (record { id = v; fixed = None }) I.events ∙ rw (ne_eqb v e apart) refl in
           inl (fixed_stays I.period (event_of I e) (event_of (effect I (AddEvent v)) e) same r agrees);
@@ -157,7 +168,7 @@ asks_again I J (AddEvent v) network ok =
 asks_again I J (DropEvent n) network ok =
     record {
       period = refl;
-      fixed = λ e r event event' agrees.
+      fixed = λ e r below event event' agrees.
           let found = with_number-take_out number e n I.events in
           let apart : (e == n) ≡ false =
           elim (cases_Bool (e == n)) [
@@ -172,25 +183,20 @@ asks_again I J (DropEvent n) network ok =
 asks_again I J (Fix n t) network ok =
     record {
       period = refl;
-      fixed = λ e r event event' agrees.
+      fixed = λ e r below event event' agrees.
           elim (cases_eq e n) [
             | inr apart ↦ inl (fixed_stays I.period (event_of I e) (event_of (effect I (Fix n t)) e) (refixed_elsewhere I n e (Some t) apart) r agrees)
-            | inl same ↦
-                let here' : IsTrue (t == r) = subst (λ o. IsTrue (agrees_with I.period o r)) (ap (λ k. fixed_of (effect I (Fix n t)) k) same ∙ refixed_here I n (Some t) (subst (λ k. IsTrue (has_event I k)) same event)) agrees in
-                elim (admits I n t) as (λ b. admits I n t ≡ b → IsTrue (admits I e r) ⊎ Contains (if b then [] else n ∷ []) e) [
-                  | true ↦ λ as_before. inl (subst (λ k. IsTrue (admits I k r)) (sym same) (subst (λ k. IsTrue (admits I n k)) (eqb_is t r here') as_before))
-                  | false ↦ λ _. inr (subst (Contains (n ∷ [])) (sym same) (here n []))
-                ] refl
+            | inl same ↦ before_or_start I (effect I (Fix n t)) n e r same below agrees
           ];
       activities = λ side a is. inr (itself I (Fix n t) side a is refl);
     }
 asks_again I J (Unfix n) network ok =
     record {
       period = refl;
-      fixed = λ e r event event' agrees.
+      fixed = λ e r below event event' agrees.
           elim (cases_eq e n) [
             | inr apart ↦ inl (fixed_stays I.period (event_of I e) (event_of (effect I (Unfix n)) e) (refixed_elsewhere I n e None apart) r agrees)
-            | inl same ↦ inr (subst (Contains (n ∷ [])) (sym same) (here n []))
+            | inl same ↦ before_or_start I (effect I (Unfix n)) n e r same below agrees
           ];
       activities = λ side a is. inr (itself I (Unfix n) side a is refl);
     }
@@ -198,7 +204,7 @@ asks_again I J (AddActivity b) network ok =
     let new : is_some (activity_of I b.id) ≡ false = first_fails _ _ _ _ J ok in
     record {
       period = refl;
-      fixed = λ e r event event' agrees. inl agrees;
+      fixed = λ e r below event event' agrees. inl agrees;
       activities = λ side a is.
           let found = activity_found I a network is in
           let apart : b.id ≢ a.id = λ same. false≢true (sym new ∙ ap (λ n. is_some (activity_of I n)) same ∙ ap is_some found) in
@@ -208,7 +214,7 @@ asks_again I J (AddActivity b) network ok =
 asks_again I J (DropActivity n) network ok =
     record {
       period = refl;
-      fixed = λ e r event event' agrees. inl agrees;
+      fixed = λ e r below event event' agrees. inl agrees;
       activities = λ side a is.
           elim (cases_Bool (a.id == n)) [
             | inl same ↦ inl (at_start I n side a network is same)
@@ -220,7 +226,7 @@ asks_again I J (SetSpan n span) network ok =
     let set : Activity → Activity = λ a. record a { span = span } in
     record {
       period = refl;
-      fixed = λ e r event event' agrees. inl agrees;
+      fixed = λ e r below event event' agrees. inl agrees;
       activities = λ side a is.
           elim (cases_Bool (a.id == n)) [
             | inr apart ↦ inr (itself I (SetSpan n span) side a (others_stay I n set (λ b. refl) a network is apart) apart)
@@ -245,7 +251,7 @@ asks_again I J (SetWeight n weight) network ok =
     let set : Activity → Activity = λ a. record a { weight = weight } in
     record {
       period = refl;
-      fixed = λ e r event event' agrees. inl agrees;
+      fixed = λ e r below event event' agrees. inl agrees;
       activities = λ side a is.
           elim (cases_Bool (a.id == n)) [
             | inr apart ↦ inr (itself I (SetWeight n weight) side a (others_stay I n set (λ b. refl) a network is apart) refl)
@@ -264,7 +270,7 @@ asks_again I J (SetEnds n from to) network ok =
     let set : Activity → Activity = λ a. record a { from = from; to = to } in
     record {
       period = refl;
-      fixed = λ e r event event' agrees. inl agrees;
+      fixed = λ e r below event event' agrees. inl agrees;
       activities = λ side a is.
           elim (cases_Bool (a.id == n)) [
             | inl same ↦ inl (at_start I n side a network is same)

@@ -1,5 +1,5 @@
 -- Pairs come to the rows and into a list, one after another.
-use Rattle.std.proofs.Common.{◌≡◌, ℕ, ◌+◌, ◌*◌, ◌<◌, ◌≤◌, ◌==◌, ◌&&◌, ◌||◌, not, nat_le, nat_lt, Bool, true, false, Some, None, [], ◌∷◌, ◌++◌, length, refl, sym, ap, ◌∙◌, inl, inr, arith, IsTrue, append_assoc}
+use Rattle.std.proofs.Common.{◌≡◌, ℕ, ◌+◌, ◌*◌, ◌<◌, ◌≤◌, ◌==◌, ◌&&◌, ◌||◌, not, nat_le, nat_lt, Bool, true, false, Some, None, [], ◌∷◌, ◌++◌, length, refl, sym, ap, subst, ◌∙◌, inl, inr, arith, IsTrue, IfSome, append_assoc}
 use Rattle.std.proofs.lemmas.Bool.{cases_Bool, cases_eq, cases_lt, eq-eqb, ne_eqb, false≢true}
 use Rattle.std.proofs.lemmas.List.{append-nil, length_push}
 use Rattle.std.proofs.lemmas.List.Folds.{list_any-append}
@@ -267,4 +267,14 @@ unfixed_beyond I n network beyond =
           let number = number-with_number (λ (e : Event). e.id) n I.events x is in
           let within = (IfSome-with_number (λ (e : Event). e.id) (IsEvent I.period) n I.events x network.events_within is).number in
           absurd (omega (arith, number, within, beyond))
+    ] refl
+
+-- a fixed time is below the period
+pub fixed_below : (I : Network) (n time : ℕ) → IsNetwork I → fixed_of I n ≡ Some time → time < I.period
+fixed_below I n time network =
+    elim (event_of I n) as (λ o. event_of I n ≡ o → option_and_then (λ (x : Event). x.fixed) o ≡ Some time → time < I.period) [
+      | None ↦ λ is none. absurd (cc)
+      | Some x ↦ λ is fixed.
+          let within = (IfSome-with_number (λ (e : Event). e.id) (IsEvent I.period) n I.events x network.events_within is).fixed in
+          subst (λ o. IfSome o (λ t. t < I.period)) fixed within
     ] refl

@@ -1,5 +1,5 @@
 -- What is so of links, counts and rows as the links follow an edit.
-use Rattle.std.proofs.Common.{◌≡◌, ◌≢◌, ℕ, ◌+◌, ◌*◌, ◌<◌, true, false, List, [], Option, Some, None, is_some, is_none, Ok, IfSome, length, refl, sym, ap, subst, ◌∙◌, inl, inr, arith}
+use Rattle.std.proofs.Common.{◌≡◌, ◌≢◌, ℕ, ◌+◌, ◌*◌, ◌<◌, IsTrue, true, false, List, [], Option, Some, None, is_some, is_none, Ok, IfSome, length, refl, sym, ap, subst, ◌∙◌, inl, inr, arith}
 use Rattle.std.specs.List.{Contains}
 use Rattle.std.proofs.lemmas.Bool.{eq-eqb, false≢true}
 use Rattle.pesp_instance.specs.declared.edit.Edit.{Edit}
@@ -59,6 +59,12 @@ for_relinked I J links links' s h period stand listed places =
       even = h.even;
     }
 
+-- a dropped event is not there
+pub dropped_not : (I J : Network) (n : ℕ) → edited I (DropEvent n) ≡ Ok J → (e : ℕ) → IsTrue (has_event J e) → e ≢ n
+dropped_not I J n made e stays same =
+    let gone : has_event J n ≡ false = ap (λ (K : Network). has_event K n) (effect_is I J (DropEvent n) made) ∙ has_out I.events n n ∙ rw (eq-eqb n n refl) refl in
+    false≢true (sym gone ∙ ap (has_event J) (sym same) ∙ stays)
+
 -- a dropped event has no place
 pub places_dropped : (I J : Network) (links links' : Links) (n : ℕ) → edited I (DropEvent n) ≡ Ok J → StandFor J links' → ((e : ℕ) → e ≢ n → place_of links'.events e ≡ place_of links.events e) → (e p : ℕ) → place_of links'.events e ≡ Some p → (e ≢ n) × (place_of links.events e ≡ Some p)
 places_dropped I J links links' n made stand others e p at =
@@ -116,6 +122,7 @@ roomier_none s =
       rows = λ p r. refl;
       more_rows = omega arith;
       trail = refl;
+      probes = refl;
     }
 
 module _ (links links' : Links) (s s' : Supports) (more : IsRoomier s s') where

@@ -51,6 +51,9 @@ same_time = refl
 first_time : starts two (do_.Fix 1 0) ≡ []
 first_time = refl
 
+no_time_more : starts one_fixed (do_.Unfix 1) ≡ 1 ∷ []
+no_time_more = refl
+
 -- also to the same ends
 same_ends : starts one_fixed (do_.SetEnds 2 2 1) ≡ 2 ∷ 1 ∷ []
 same_ends = refl

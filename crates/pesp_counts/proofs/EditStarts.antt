@@ -1,13 +1,13 @@
 -- Where chains begin, and which ends a pass leaves out, for each edit that brings pairs back.
-use Rattle.std.proofs.Common.{◌≡◌, ◌≢◌, ℕ, ◌*◌, ◌+◌, ◌==◌, ◌||◌, nat_lt, Bool, true, false, [], ◌∷◌, length, Some, None, Ok, refl, sym, ap, subst, ◌∙◌, inl, inr, arith, IsTrue}
+use Rattle.std.proofs.Common.{◌≡◌, ◌≢◌, ℕ, ◌*◌, ◌+◌, ◌==◌, ◌||◌, nat_lt, if◌then◌else◌, Bool, true, false, [], ◌∷◌, length, Some, None, Ok, refl, sym, ap, subst, ◌∙◌, inl, inr, arith, IsTrue}
 use Rattle.std.specs.List.{Contains}
 use Rattle.std.proofs.lemmas.Bool.{eq-eqb, false≢true, ne_eqb}
 use Rattle.pesp_base.specs.declared.activity.Activity.{Activity}
 use Rattle.pesp_base.specs.Numbered.{change_in}
 use Rattle.pesp_instance.specs.declared.edit.Edit.{Edit}
 use Rattle.pesp_instance.specs.declared.edit.Edit.TheVariants.{AddEvent, DropEvent, Fix, Unfix, AddActivity, DropActivity, SetSpan, SetWeight, SetEnds}
-use Rattle.pesp_instance.specs.Edited.{edited}
-use Rattle.pesp_instance.specs.Network.{Network, activity_of, admits}
+use Rattle.pesp_instance.specs.Edited.{edited, effect}
+use Rattle.pesp_instance.specs.Network.{Network, activity_of}
 use Rattle.pesp_instance.proofs.Numbers.{activity_number as id_of}
 use Rattle.pesp_domains.specs.declared.side.Side.{Side}
 use Rattle.pesp_domains.specs.declared.side.Side.TheVariants.{Tail, Head}
@@ -16,7 +16,7 @@ use Rattle.pesp_domains.proofs.Families.{here, here_or_there, not_in_none, there
 use Rattle.pesp_counts.specs.Links.{Links, end_number}
 use Rattle.pesp_counts.specs.Loosening.{AreSpared, AreStarts}
 use Rattle.pesp_counts.specs.Places.{ArePlaces, place_of}
-use Rattle.pesp_counts.specs.Reached.{ends_of, is_edited, is_looser, starts}
+use Rattle.pesp_counts.specs.Reached.{admits_anew, ends_of, is_edited, is_looser, starts}
 use Rattle.pesp_counts.specs.Restoring.{is_spared}
 use Rattle.pesp_counts.proofs.Bridge.{the_same}
 use Rattle.pesp_counts.proofs.StandAround.{apart_places}
@@ -24,13 +24,16 @@ use Rattle.pesp_counts.proofs.StandMembers.{in_change_other, in_take_out, of_cha
 
 -- ---- starts
 
+only_one : (b : Bool) (e : ℕ) → IsTrue (nat_lt 0 (length (if b then e ∷ [] else []))) → (if b then e ∷ [] else []) ≡ e ∷ []
+only_one true e some = refl
+only_one false e some = absurd (false≢true some)
+
 -- an edit with starts has those of its kind
 pub starts_fix : (I : Network) (e t : ℕ) → IsTrue (nat_lt 0 (length (starts I (Fix e t)))) → starts I (Fix e t) ≡ e ∷ []
-starts_fix I e t =
-    elim (admits I e t) as (λ b. admits I e t ≡ b → IsTrue (nat_lt 0 (length (starts I (Fix e t)))) → starts I (Fix e t) ≡ e ∷ []) [
-      | true ↦ λ is some. absurd (false≢true (rw is at some))
-      | false ↦ λ is some. rw is refl
-    ] refl
+starts_fix I e t = only_one (admits_anew I (effect I (Fix e t)) e) e
+
+pub starts_unfix : (I : Network) (e : ℕ) → IsTrue (nat_lt 0 (length (starts I (Unfix e)))) → starts I (Unfix e) ≡ e ∷ []
+starts_unfix I e = only_one (admits_anew I (effect I (Unfix e)) e) e
 
 pub starts_span : (I : Network) (n : ℕ) (span : _) → IsTrue (nat_lt 0 (length (starts I (SetSpan n span)))) → starts I (SetSpan n span) ≡ ends_of (activity_of I n)
 starts_span I n span =

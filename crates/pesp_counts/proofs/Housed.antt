@@ -357,3 +357,9 @@ pub rows_seen : (links links' : Links) (s s' : Supports) → ((e : ℕ) → plac
 rows_seen links links' s s' events more e r =
     ap (λ o. option_map_or (λ p. has_at s'.rows p r) o false) (events e)
     ∙ ap (λ (test : ℕ → Bool). option_map_or test (place_of links.events e) false) (λ i p. more.rows p r i)
+
+-- an event that had a place is not the added one
+pub opened_places : (I J : Network) (links : Links) (event e p : ℕ) → edited I (AddEvent event) ≡ Ok J → StandFor I links → place_of links.events e ≡ Some p → e ≢ event
+opened_places I J links event e p made stand is same =
+    let there : has_event I event ≡ true = sym (stand.of_events event) ∙ ap is_some (ap (place_of links.events) (sym same) ∙ is) in
+    false≢true (sym (new_event_of I J event made) ∙ there)

@@ -1,19 +1,23 @@
 mod Cases
 pub mod AlongEnds
+pub mod Anew
 pub mod Applied
 pub mod Asks
 pub mod Bridge
 pub mod Brought
 pub mod Carried
 pub mod Coming
+pub mod Degrees
 pub mod EditStarts
 pub mod EndLaws
 pub mod Filled
 pub mod Followed
+pub mod Gone
 pub mod Grown
 pub mod Housed
 pub mod Keeping
 pub mod ListLaws
+pub mod Looked
 pub mod Loosened
 pub mod Marks
 pub mod Narrowed
@@ -26,6 +30,7 @@ pub mod Remade
 pub mod Reopened
 pub mod Rows
 pub mod Sparing
+pub mod Spent
 pub mod Spread
 pub mod StandAround
 pub mod StandEdits
@@ -44,3 +49,4 @@ pub mod Union
 pub mod Waiting
 pub mod Windowed
 pub mod Windows
+pub mod Worked

@@ -27,7 +27,7 @@ use Rattle.pesp_counts.proofs.Carried.{same_period}
 use Rattle.pesp_counts.proofs.Followed.{still_admitted}
 use Rattle.pesp_counts.proofs.Keeping.{for_same, limited_numbered}
 use Rattle.pesp_counts.proofs.ReachLaws.{outside_of, restored_reach, restored_reached}
-use Rattle.pesp_counts.proofs.EditStarts.{one_start, spared_none, starts_fix}
+use Rattle.pesp_counts.proofs.EditStarts.{one_start, spared_none, starts_fix, starts_unfix}
 use Rattle.pesp_counts.proofs.Tightened.{admits_same, events_same}
 use Rattle.pesp_counts.proofs.Union.{reach_covers}
 
@@ -141,7 +141,7 @@ module _ (I J : Network) (edit : Edit) (links links' : Links) (s n : Supports) (
 -- after an event's fixed time is gone, or another one
 pub loosened_by_unfix : (I J : Network) (e p : ℕ) (links : Links) (s n : Supports) (back : List Placed) → WereLoose I J (Unfix e) links s → IsNetwork J → AreFor J links s → place_of links.events e ≡ Some p → IsPutBack (λ S. S) J links (p ∷ []) None s n back → IsLoosened I J (Unfix e) links n back
 loosened_by_unfix I J e p links s n back w network fits at put =
-    let start = one_start I (Unfix e) links e p refl at in
+    let start = one_start I (Unfix e) links e p (starts_unfix I e w.loose) at in
     let others = spared_none I J (Unfix e) links (ap (λ (K : Network). K.activities) (effect_is I J (Unfix e) w.made)) (λ a. refl) in
     record {
       settled = loosened_free I J e links s put.middle n w.settled network w.made

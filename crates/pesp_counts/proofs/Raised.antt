@@ -245,7 +245,7 @@ next_once m rest once (x, l, e) = once 0 (suc x) m (omega arith) (omega (arith, 
 
 -- the same, with other counts
 abbrev pub with_counts : List ℕ → Supports → Supports
-with_counts counts s = record { period = s.period; counts = counts; counted = s.counted; rows = s.rows; trail = s.trail; room = s.room }
+with_counts counts s = record { period = s.period; counts = counts; counted = s.counted; rows = s.rows; trail = s.trail; room = s.room; probes = s.probes }
 
 -- and they are as sound
 pub supports_with : (counts : List ℕ) (s : Supports) → AreSupports s → AreSupports (with_counts counts s)

@@ -18,7 +18,7 @@ all_and false = refl
 
 -- ---- a range that grows by one
 
-empty : (low r : ℕ) → is_from_to low low r ≡ false
+pub empty : (low r : ℕ) → is_from_to low low r ≡ false
 empty low r =
     elim (cases_lt r low) [
       | inl below ↦ let out : nat_le low r ≡ false = grind (arith, below) in rw out refl

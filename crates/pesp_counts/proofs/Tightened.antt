@@ -1,5 +1,5 @@
 -- What is settled after each edit that brings no pair back.
-use Rattle.std.proofs.Common.{◌≡◌, ◌≢◌, ℕ, ◌*◌, ◌==◌, not, Bool, true, false, List, [], Option, Some, None, is_some, is_none, option_map, Ok, refl, sym, ap, ◌∙◌, inl, inr, IsTrue}
+use Rattle.std.proofs.Common.{◌≡◌, ◌≢◌, ℕ, ◌*◌, ◌==◌, not, if◌then◌else◌, Bool, true, false, List, [], ◌∷◌, Option, Some, None, is_some, is_none, option_map, Ok, refl, sym, ap, ◌∙◌, inl, inr, IsTrue}
 use Rattle.std.specs.Option.{option_and_then, option_map_or}
 use Rattle.std.proofs.lemmas.Bool.{cases_eq, eq-eqb, ne_eqb, false≢true}
 use Rattle.pesp_base.specs.declared.activity.Activity.{Activity}
@@ -7,7 +7,7 @@ use Rattle.pesp_base.specs.Numbered.{with_number}
 use Rattle.pesp_instance.specs.declared.edit.Edit.{Edit}
 use Rattle.pesp_instance.specs.declared.edit.Edit.TheVariants.{AddEvent, DropEvent, Fix, Unfix, AddActivity, DropActivity, SetSpan, SetWeight, SetEnds}
 use Rattle.pesp_instance.specs.declared.event.Event.{Event}
-use Rattle.pesp_instance.specs.Edited.{edited}
+use Rattle.pesp_instance.specs.Edited.{edited, effect}
 use Rattle.pesp_instance.specs.Network.{IsNetwork, Network, activity_of, admits, agrees_with, event_of, fixed_of, has_event}
 use Rattle.pesp_instance.proofs.Rising.{with_number-take_out}
 use Rattle.pesp_domains.specs.Sweeps.{Pairs}
@@ -19,8 +19,9 @@ use Rattle.pesp_counts.specs.Counts.{KeepsClosed, has_at}
 use Rattle.pesp_counts.specs.Keeping.{AreAtRest, AreFor, AreSettled, IsNarrowed, adds, rows_of}
 use Rattle.pesp_counts.specs.Links.{Links, StandFor}
 use Rattle.pesp_counts.specs.Places.{Places, numbered, place_of}
-use Rattle.pesp_counts.specs.Reached.{ends_of, starts}
+use Rattle.pesp_counts.specs.Reached.{admits_anew, ends_of, starts}
 use Rattle.pesp_counts.specs.Supports.{Supports}
+use Rattle.pesp_counts.proofs.Anew.{unfixed_anew}
 use Rattle.pesp_counts.proofs.Asks.{first_fails, refixed_elsewhere, refixed_here}
 use Rattle.pesp_counts.proofs.Bridge.{counts_settle, numbered_at, place_is, test_of}
 use Rattle.pesp_counts.proofs.Carried.{places_dropped, same_period}
@@ -146,17 +147,21 @@ some_start : (o : Option Activity) → is_none o ≡ false → ends_of o ≡ [] 
 some_start None some none = false≢true (sym some)
 some_start (Some a) some none = absurd (cc)
 
+some_anew : (b : Bool) (e : ℕ) → b ≡ true → (if b then e ∷ [] else []) ≡ [] → ⊥
+some_anew true e is none = absurd (cc)
+some_anew false e is none = false≢true is
+
 -- of the other edits only one of a weight brings no pair back
-pub only_weight : (I J : Network) (edit : Edit) → edited I edit ≡ Ok J → adds edit ≡ false → starts I edit ≡ [] → ((e : ℕ) → edit ≡ DropEvent e → ⊥) → ((e t : ℕ) → edit ≡ Fix e t → ⊥) → ((n : ℕ) (span : _) → edit ≡ SetSpan n span → ⊥) → (n : ℕ) × (weight : ℕ) × (edit ≡ SetWeight n weight)
-only_weight I J (AddEvent e) made adding tight a b c = absurd (false≢true (sym adding))
-only_weight I J (AddActivity x) made adding tight a b c = absurd (false≢true (sym adding))
-only_weight I J (DropEvent e) made adding tight a b c = absurd (a e refl)
-only_weight I J (Fix e t) made adding tight a b c = absurd (b e t refl)
-only_weight I J (Unfix e) made adding tight a b c = absurd (cc)
-only_weight I J (DropActivity n) made adding tight a b c = absurd (some_start (activity_of I n) (first_fails _ _ _ _ J made) tight)
-only_weight I J (SetSpan n span) made adding tight a b c = absurd (c n span refl)
-only_weight I J (SetWeight n weight) made adding tight a b c = (n, weight, refl)
-only_weight I J (SetEnds n from to) made adding tight a b c = absurd (some_start (activity_of I n) (first_fails _ _ _ _ J made) tight)
+pub only_weight : (I J : Network) (edit : Edit) → IsNetwork I → edited I edit ≡ Ok J → adds edit ≡ false → starts I edit ≡ [] → ((e : ℕ) → edit ≡ DropEvent e → ⊥) → ((e t : ℕ) → edit ≡ Fix e t → ⊥) → ((n : ℕ) (span : _) → edit ≡ SetSpan n span → ⊥) → (n : ℕ) × (weight : ℕ) × (edit ≡ SetWeight n weight)
+only_weight I J (AddEvent e) network made adding tight a b c = absurd (false≢true (sym adding))
+only_weight I J (AddActivity x) network made adding tight a b c = absurd (false≢true (sym adding))
+only_weight I J (DropEvent e) network made adding tight a b c = absurd (a e refl)
+only_weight I J (Fix e t) network made adding tight a b c = absurd (b e t refl)
+only_weight I J (Unfix e) network made adding tight a b c = absurd (some_anew (admits_anew I (effect I (Unfix e)) e) e (unfixed_anew I e J network made) tight)
+only_weight I J (DropActivity n) network made adding tight a b c = absurd (some_start (activity_of I n) (first_fails _ _ _ _ J made) tight)
+only_weight I J (SetSpan n span) network made adding tight a b c = absurd (c n span refl)
+only_weight I J (SetWeight n weight) network made adding tight a b c = (n, weight, refl)
+only_weight I J (SetEnds n from to) network made adding tight a b c = absurd (some_start (activity_of I n) (first_fails _ _ _ _ J made) tight)
 
 -- where the events have the same places the sets by number are the same
 pub numbers_same : (before after : Places) (S : Pairs) → ((e : ℕ) → place_of after e ≡ place_of before e) → (e r : ℕ) → numbered after S e r ≡ numbered before S e r

@@ -14,3 +14,4 @@ pub mod Restoring
 pub mod Shared
 pub mod Support
 pub mod Supports
+pub mod Works

@@ -12,6 +12,10 @@ use Rattle.pesp_instance.specs.Network.{Network, activity_of, admits}
 use Rattle.pesp_domains.specs.declared.side.Side.{Side}
 use Rattle.pesp_domains.specs.Domains.{InDomains, IsAdmitted, Joins, other, own}
 
+-- whether the second instance admits a residue at the event that the first one does not
+abbrev pub admits_anew : Network → Network → ℕ → Bool
+admits_anew I J e = list_any (λ r. admits J e r && not (admits I e r)) (range_with_len 0 I.period)
+
 -- both ends of the activity, if there is one
 abbrev pub ends_of : Option Activity → List ℕ
 ends_of None = []
@@ -31,8 +35,8 @@ starts I (AddEvent e) = []
 starts I (DropEvent e) = []
 starts I (AddActivity a) = []
 starts I (SetWeight n weight) = []
-starts I (Fix e t) = if admits I e t then [] else e ∷ []
-starts I (Unfix e) = e ∷ []
+starts I (Fix e t) = if admits_anew I (effect I (Fix e t)) e then e ∷ [] else []
+starts I (Unfix e) = if admits_anew I (effect I (Unfix e)) e then e ∷ [] else []
 starts I (SetSpan n span) = if is_looser I n span then ends_of (activity_of I n) else []
 starts I (DropActivity n) = ends_of (activity_of I n)
 starts I (SetEnds n from to) = ends_of (activity_of I n)

@@ -51,6 +51,10 @@ of_end period I links residue end p r = p == end.looks_at && (passes period end 
 abbrev pub of_ends : ℕ → Network → Links → Option ℕ → ℕ → List ℕ → Pairs
 of_ends period I links spared residue ends p r = list_any (λ k. not (is_spared spared k) && of_end period I links residue (end_at links.ends k) p r) ends
 
+-- the admitted ones of a place
+abbrev pub of_start : Network → Links → ℕ → Pairs
+of_start I links place p r = p == place && admits_at I links place r
+
 -- the admitted ones of these places
 abbrev pub of_starts : Network → Links → List ℕ → Pairs
 of_starts I links starts p r = list_any (λ q. p == q && admits_at I links q r) starts

@@ -7,15 +7,17 @@ use Rattle.pesp_instance.specs.Network.{Network, has_event}
 use Rattle.pesp_domains.specs.declared.pair.Pair.{Pair}
 use Rattle.pesp_domains.specs.Domains.{In, InDomains}
 use Rattle.pesp_counts.specs.declared.trail.Placed.{Placed}
+use Rattle.pesp_counts.specs.declared.work.Work.{Work}
 use Rattle.pesp_counts.specs.Links.{Links}
 use Rattle.pesp_counts.specs.Places.{number_at}
 use Rattle.pesp_counts.specs.Reached.{Reached}
 
--- an instance, the pushed pairs, the last one at the end, and the pairs that the last accepted edit put back
+-- an instance, the pushed pairs, the last one at the end, the pairs that the last accepted edit put back, and its work
 pub record Seen : Type 0 where
   pub network : Network
   pub pushes : List Pair
   pub restored : List Pair
+  pub work : Work
 
 -- the list has each of the pairs, once
 pub record AreThePairs (P : ℕ → ℕ → Type 0) (pairs : List Pair) : Type 0 where

@@ -8,7 +8,7 @@ use Rattle.pesp_counts.specs.declared.trail.Placed.{Placed}
 use Rattle.pesp_counts.specs.Counts.{IsExactAt, count_at, end_at, ends_of, has_at, held_in}
 use Rattle.pesp_counts.specs.Links.{Links}
 
--- the counts by end and then residue, the rows by place as the counts have seen them and as they are, the pairs that were taken out, and for how many of these there is room
+-- the counts by end and then residue, the rows by place as the counts have seen them and as they are, the pairs that were taken out, for how many of these there is room, and how many probes were made
 pub record Supports : Type 0 where
   pub period : ℕ
   pub counts : List ℕ
@@ -16,6 +16,7 @@ pub record Supports : Type 0 where
   pub rows : List (List Bool)
   pub trail : List Placed
   pub room : ℕ
+  pub probes : ℕ
 
 -- how many pairs the rows hold
 abbrev pub held : List (List Bool) → ℕ
@@ -97,6 +98,7 @@ pub record IsRoomier (before after : Supports) : Type 0 where
   pub rows : (p r : ℕ) → has_at after.rows p r ≡ has_at before.rows p r
   pub more_rows : length before.rows ≤ length after.rows
   pub trail : after.trail ≡ before.trail
+  pub probes : after.probes ≡ before.probes
 
 -- the set with a pair
 abbrev pub joined : Pairs → ℕ → ℕ → Pairs

@@ -1,8 +1,11 @@
 //! Pairs come to the rows, and into a list.
 
-ghost use Rattle.std.specs.Prelude.{◌≡◌, ◌<◌, ◌≤◌, ℕ, [], length, option_map};
-ghost use Rattle.pesp_counts.specs.Restored.{HasRoom, IsBrought, admitted_by, in_window, of_admitted, of_pair, of_range, of_window};
+ghost use Rattle.std.specs.Prelude.{◌≡◌, ◌<◌, ◌≤◌, ◌+◌, ◌*◌, ℕ, [], false, IsTrue, length, option_map};
+ghost use Rattle.pesp_counts.specs.declared.bringing.Admitted.TheVariants as admitted;
+ghost use Rattle.pesp_counts.specs.Counts.{has_at};
+ghost use Rattle.pesp_counts.specs.Restored.{HasRoom, IsBrought, admitted_by, in_window, of_admitted, of_pair, of_range, of_start, of_window};
 ghost use Rattle.pesp_counts.specs.Restoring.{admits_at};
+ghost use Rattle.pesp_counts.specs.Works.{looked};
 
 use crate::Placed;
 use crate::back::Back;
@@ -11,6 +14,7 @@ use crate::links::Links;
 use crate::supports::Supports;
 use pesp_base::EventId;
 use pesp_instance::Instance;
+use std::ops::Range;
 
 /// What the fixed time of an event leaves of its residues.
 #[derive(Clone, Copy)]
@@ -22,7 +26,8 @@ pub enum Admitted {
 
 /// What is admitted at a place. Where no event has the place, nothing is.
 fn admitted_at(instance: &Instance, links: &Links, place: usize) -> Admitted
-    ensures { (r : ℕ) → r < (instance.now).period → admitted_by result r ≡ admits_at instance.now links.now place r }
+    ensures admitted { (r : ℕ) → r < (instance.now).period → admitted_by result r ≡ admits_at instance.now links.now place r }
+    ensures below { (time : ℕ) → result ≡ admitted.One time → time < (instance.now).period }
 {
     let _period = instance.period();
     let Some(number) = links.event_at(place) else {
@@ -53,6 +58,7 @@ impl Supports {
         requires room { HasRoom self.old back.old }
         ensures counts { (self.new).counts ≡ (self.old).counts }
         ensures brought { IsBrought (of_pair place residue) self.old self.new back.old back.new }
+        ensures probes { (self.new).probes ≡ (self.old).probes }
     {
         if !self.holds(place, residue) {
             self.rows[place].put_in(residue);
@@ -61,7 +67,23 @@ impl Supports {
     }
 
     /// Brings the residues of a range at a place.
-    fn bring_range(&mut self, place: usize, low: u16, high: u16, back: &mut Back)
+    fn bring_range(&mut self, place: usize, residues: Range<u16>, back: &mut Back)
+        requires place { place < length (self.old).rows }
+        requires order { residues.start ≤ residues.end }
+        requires high { residues.end ≤ (self.old).period }
+        requires trail { (self.old).trail ≡ [] }
+        requires room { HasRoom self.old back.old }
+        ensures counts { (self.new).counts ≡ (self.old).counts }
+        ensures brought { IsBrought (of_range place residues.start residues.end) self.old self.new back.old back.new }
+        ensures probes { (self.new).probes ≡ (self.old).probes }
+    {
+        for residue in residues {
+            self.bring(place, residue, back);
+        }
+    }
+
+    /// Brings the residues of a range at a place, which are looked at along an activity.
+    fn bring_along(&mut self, place: usize, low: u16, high: u16, back: &mut Back)
         requires place { place < length (self.old).rows }
         requires order { low ≤ high }
         requires high { high ≤ (self.old).period }
@@ -69,38 +91,41 @@ impl Supports {
         requires room { HasRoom self.old back.old }
         ensures counts { (self.new).counts ≡ (self.old).counts }
         ensures brought { IsBrought (of_range place low high) self.old self.new back.old back.new }
+        ensures probes { (self.new).probes + low ≤ (self.old).probes + high }
     {
-        for residue in low..high {
-            self.bring(place, residue, back);
-        }
+        let residues = self.probes.over(low, high);
+        self.bring_range(place, residues, back);
     }
 
-    /// Brings what a fixed time leaves of a window at a place.
+    /// Brings what a fixed time leaves of a window at a place, along an activity.
     fn bring_window(&mut self, place: usize, window: Window, admitted: Admitted, back: &mut Back)
         requires place { place < length (self.old).rows }
         requires order { window.start ≤ window.end }
         requires end { window.end ≤ (self.old).period }
-        requires wrapped { window.wrapped ≤ (self.old).period }
+        requires wrapped { window.wrapped ≤ window.start }
         requires trail { (self.old).trail ≡ [] }
         requires room { HasRoom self.old back.old }
         ensures counts { (self.new).counts ≡ (self.old).counts }
         ensures brought { IsBrought (of_window place window admitted) self.old self.new back.old back.new }
+        ensures probes { (self.new).probes ≤ (self.old).probes + looked admitted window }
     {
         match admitted {
             Admitted::Nothing => {}
             Admitted::One(time) => {
                 if is_in_window(window, time) {
-                    self.bring(place, time, back);
+                    let residue = self.probes.at(time);
+                    self.bring(place, residue, back);
                 }
             }
             Admitted::Any => {
-                self.bring_range(place, window.start, window.end, back);
-                self.bring_range(place, 0, window.wrapped, back);
+                self.bring_along(place, window.start, window.end, back);
+                self.bring_along(place, 0, window.wrapped, back);
             }
         }
     }
 
-    /// Brings what is admitted of a window at a place.
+    /// Brings what is admitted of a window at a place of which the rows lack some residue, along an activity. Where more than one
+    /// residue is looked at for it, some pair comes.
     pub(crate) fn bring_admitted(
         &mut self,
         instance: &Instance,
@@ -113,13 +138,38 @@ impl Supports {
         requires period { (self.old).period ≡ (instance.now).period }
         requires order { window.start ≤ window.end }
         requires end { window.end ≤ (self.old).period }
-        requires wrapped { window.wrapped ≤ (self.old).period }
+        requires wrapped { window.wrapped ≤ window.start }
+        requires lacks { (r : ℕ) × IsTrue (in_window window r) × (has_at (self.old).rows place r ≡ false) }
         requires trail { (self.old).trail ≡ [] }
         requires room { HasRoom self.old back.old }
         ensures counts { (self.new).counts ≡ (self.old).counts }
         ensures brought { IsBrought (of_admitted instance.now links.now place window) self.old self.new back.old back.new }
+        ensures probes { (self.new).probes + (self.old).period * length back.old.pairs ≤ (self.old).probes + 1 + (self.old).period * length back.new.pairs }
     {
         let admitted = admitted_at(instance, links, place);
         self.bring_window(place, window, admitted, back);
+    }
+
+    /// Brings all that is admitted at a place.
+    pub(crate) fn bring_start(
+        &mut self,
+        instance: &Instance,
+        links: &Links,
+        place: usize,
+        back: &mut Back,
+    )
+        requires place { place < length (self.old).rows }
+        requires period { (self.old).period ≡ (instance.now).period }
+        requires trail { (self.old).trail ≡ [] }
+        requires room { HasRoom self.old back.old }
+        ensures counts { (self.new).counts ≡ (self.old).counts }
+        ensures brought { IsBrought (of_start instance.now links.now place) self.old self.new back.old back.new }
+        ensures probes { (self.new).probes ≡ (self.old).probes }
+    {
+        match admitted_at(instance, links, place) {
+            Admitted::Nothing => {}
+            Admitted::One(time) => self.bring(place, time, back),
+            Admitted::Any => self.bring_range(place, 0..self.period.get(), back),
+        }
     }
 }

@@ -10,6 +10,7 @@ ghost use Rattle.pesp_counts.specs.Supports.{AreExact, Fit, HaveSameShape, IsWid
 use crate::End;
 use crate::counts::Counts;
 use crate::links::Links;
+use crate::probes::Probes;
 use crate::supports::Supports;
 use pesp_domains::Row;
 
@@ -22,13 +23,14 @@ fn after(residue: u16, period: u16) -> u16
 }
 
 /// How many of so many residues from one on a row has, around the period.
-fn count_around(row: &Row, period: u16, first: u16, width: u16) -> u16
+fn count_around(row: &Row, period: u16, first: u16, width: u16, probes: &mut Probes) -> u16
     requires first { first < period }
-    ensures { result ≡ around period (holds row.now) first width }
+    ensures count { result ≡ around period (holds row.now) first width }
+    ensures probes { probes.new ≤ probes.old + width }
 {
     let mut count = 0;
     let mut residue = first;
-    for _ in 0..width {
+    for _ in probes.over(0, width) {
         count += u16::from(row.holds(residue));
         residue = after(residue, period);
     }
@@ -37,7 +39,14 @@ fn count_around(row: &Row, period: u16, first: u16, width: u16) -> u16
 
 /// Counts the partners at an end, whose counts begin at `base`, in a row anew. From one residue to the next the window moves on,
 /// so that one residue leaves it and one enters.
-fn recount_block(counts: &mut Counts, base: usize, period: u16, end: End, row: &Row)
+fn recount_block(
+    counts: &mut Counts,
+    base: usize,
+    period: u16,
+    end: End,
+    row: &Row,
+    probes: &mut Probes,
+)
     requires period { period ≤ greatest_period }
     requires first { end.first < period }
     requires width { end.width ≤ period }
@@ -46,11 +55,12 @@ fn recount_block(counts: &mut Counts, base: usize, period: u16, end: End, row: &
     ensures long { length counts.new ≡ length counts.old }
     ensures here { (r : ℕ) → r < period → slice_index_or counts.new (base + r) 0 ≡ around period (holds row.now) (r + end.first) end.width }
     ensures elsewhere { (i : ℕ) → i < base ⊎ base + period ≤ i → slice_index_or counts.new i 0 ≡ slice_index_or counts.old i 0 }
+    ensures probes { probes.new ≤ probes.old + 3 * period }
 {
-    let mut count = count_around(row, period, end.first, end.width);
+    let mut count = count_around(row, period, end.first, end.width, probes);
     let mut leaves = end.first;
     let mut enters = (end.first + end.width) % period;
-    for residue in 0..period {
+    for residue in probes.twice_over(0, period) {
         counts.set(base + residue as usize, count);
         count += u16::from(row.holds(enters));
         count -= u16::from(row.holds(leaves));
@@ -125,11 +135,12 @@ impl Supports {
         ensures counted { (self.new).counted ≡ (self.old).counted }
         ensures trail { (self.new).trail ≡ (self.old).trail }
         ensures shape { HaveSameShape self.old self.new }
+        ensures probes { (self.new).probes ≤ (self.old).probes + 3 * (self.old).period }
     {
         let period = self.period.get();
         let base = self.counts.base(number, period);
         let row = &self.counted[end.looks_at];
-        recount_block(&mut self.counts, base, period, end, row);
+        recount_block(&mut self.counts, base, period, end, row, &mut self.probes);
     }
 
     /// Puts every residue into every row, with the counts for it, and forgets the trail.

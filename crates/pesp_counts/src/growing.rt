@@ -126,6 +126,7 @@ impl Supports {
         ensures counts { (self.new).counts ≡ (self.old).counts }
         ensures trail { (self.new).trail ≡ [] }
         ensures shape { HaveSameShape self.old self.new }
+        ensures probes { (self.new).probes ≡ (self.old).probes }
     {
         self.rows[place].open(None);
         self.counted[place].open(None);

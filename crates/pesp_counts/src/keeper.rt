@@ -7,6 +7,7 @@ ghost use Rattle.pesp_domains.specs.declared.pair.Pair.{Pair};
 ghost use Rattle.pesp_domains.specs.Domains.{In};
 ghost use Rattle.pesp_counts.specs.Restores.{Restores, StaysWithin};
 ghost use Rattle.pesp_counts.specs.Support.{IsSupportAnswer};
+ghost use Rattle.pesp_counts.specs.Works.{IsWork};
 
 mod edits;
 mod filled;
@@ -17,10 +18,12 @@ mod numbering;
 mod remake;
 mod restores;
 mod spans;
+mod told;
 
 use crate::back::Back;
 use crate::links::Links;
 use crate::supports::Supports;
+use crate::work::Work;
 use edits::follow;
 use filled::house;
 use grown::{add_activity, add_event, take_back};
@@ -33,6 +36,7 @@ use remake::remake;
 use restores::restores;
 use std::alloc::Global;
 use std::marker::Model;
+use told::work_of;
 
 /// Keeps the domains by counts: for each residue at an end of an activity, how many residues of the other event go with it.
 ///
@@ -51,6 +55,8 @@ pub struct CountKeeper {
     back: Back,
     // The same by number, of the last edit that was accepted.
     restored: Vec<Pair>,
+    // That of the last edit that was accepted.
+    work: Work,
     alloc: Global,
 }
 
@@ -61,7 +67,7 @@ impl Model for CountKeeper {
 
     ghost Value = { Seen };
 
-    ghost view = { λ k. record { network = k.instance; pushes = k.pushed.items; restored = k.restored.items } };
+    ghost view = { λ k. record { network = k.instance; pushes = k.pushed.items; restored = k.restored.items; work = k.work } };
 
     ghost invariant = { λ k. IsKeeping k.instance k.pushed.items k.marks.items k.links k.supports (vec_capacity k.pushed) (vec_capacity k.marks) k.back.room (vec_capacity k.restored) };
 }
@@ -83,14 +89,6 @@ impl CountKeeper {
         };
         Some(self.supports.count(end, residue))
     }
-
-    /// The pairs that the last accepted edit put back, each once: those that it reaches. It took some of them out again, where
-    /// they have no partner.
-    pub fn restored(&self) -> &[Pair]
-        ensures { result.now ≡ (self.now).restored }
-    {
-        &self.restored
-    }
 }
 
 impl Keeper for CountKeeper {
@@ -102,6 +100,7 @@ impl Keeper for CountKeeper {
         ensures network { IfOk result (λ keeper. keeper.network ≡ instance) }
         ensures pushes { IfOk result (λ keeper. keeper.pushes ≡ []) }
         ensures restored { IfOk result (λ keeper. keeper.restored ≡ []) }
+        ensures work { IfOk result (λ keeper. keeper.work ≡ record { restored = 0; removed = 0; probes = 0 }) }
         ensures back { IfErr result (λ no_room. no_room.instance ≡ instance) }
     {
         let Ok(pushed) = Vec::with_capacity(alloc, instance.event_count()) else {
@@ -135,6 +134,7 @@ impl Keeper for CountKeeper {
             supports,
             back,
             restored,
+            work: Work::none(),
             alloc,
         })
     }
@@ -162,9 +162,10 @@ impl Keeper for CountKeeper {
         ensures ok { OnOk result (edited (self.old).network edit.now ≡ Ok (self.new).network) }
         ensures restored { OnOk result (Restores (self.old).network edit.now (self.new).restored) }
         ensures within { OnOk result (StaysWithin (self.old).network edit.now (self.new).restored) }
+        ensures work { OnOk result (IsWork (self.old).network edit.now (self.new).restored (self.new).work) }
         ensures err { IfErr result (IsRefusal (self.old).network edit.now) }
         ensures unchanged { OnErr result ((self.new).network ≡ (self.old).network) }
-        ensures still { OnErr result ((self.new).restored ≡ (self.old).restored) }
+        ensures still { OnErr result (((self.new).restored ≡ (self.old).restored) × ((self.new).work ≡ (self.old).work)) }
         ensures pushes { (self.new).pushes ≡ [] }
     {
         let restores = restores(&self.instance, edit);
@@ -206,6 +207,7 @@ impl Keeper for CountKeeper {
             return Err(Refusal::Memory);
         }
         number_pairs(&self.links, self.back.pairs(), &mut self.restored);
+        self.work = work_of(&self.back, &self.supports);
         Ok(())
     }
 
@@ -216,6 +218,7 @@ impl Keeper for CountKeeper {
         ensures network { (self.new).network ≡ (self.old).network }
         ensures pushes { (self.new).pushes ≡ (self.old).pushes ++ record { event = event; residue = residue } ∷ [] }
         ensures restored { (self.new).restored ≡ (self.old).restored }
+        ensures work { (self.new).work ≡ (self.old).work }
     {
         let mark = self.supports.mark();
         self.pushed.push_reserved(Pair { event, residue });
@@ -228,6 +231,7 @@ impl Keeper for CountKeeper {
         ensures network { (self.new).network ≡ (self.old).network }
         ensures pushes { (last : Pair) × ((self.old).pushes ≡ (self.new).pushes ++ last ∷ []) }
         ensures restored { (self.new).restored ≡ (self.old).restored }
+        ensures work { (self.new).work ≡ (self.old).work }
     {
         self.pushed.pop();
         if let Some(mark) = self.marks.pop() {

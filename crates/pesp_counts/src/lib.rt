@@ -11,12 +11,15 @@ mod keeper;
 mod links;
 mod lists;
 mod places;
+mod probes;
 mod raising;
 mod restoring;
 mod supports;
 mod taking;
 mod trail;
+mod work;
 
 use end::End;
 pub use keeper::CountKeeper;
 use trail::Placed;
+pub use work::Work;

@@ -164,6 +164,7 @@ impl Links {
     pub fn set_span(&mut self, period: Period, id: ActivityId, span: Span)
         ensures stand { (I J : Network) → I.period ≡ period → edited I (edits.SetSpan id span) ≡ Ok J → StandFor I self.old → StandFor J self.new }
         ensures changed { IfSome (place_of (self.old).activities id) (λ q. IsChangedAt self.old self.new q) }
+        ensures events { (self.new).events ≡ (self.old).events }
         ensures activities { (self.new).activities ≡ (self.old).activities }
         ensures lists { (self.new).lists ≡ (self.old).lists }
         ensures ends { length (self.new).ends ≡ length (self.old).ends }

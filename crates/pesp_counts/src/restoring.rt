@@ -9,18 +9,27 @@ ghost use Rattle.pesp_counts.specs.Ranges.{is_from_to};
 ghost use Rattle.pesp_counts.specs.Restored.{AreExactBut, AreSparedTogether, HasRoom, IsBrought, in_window, of_end, of_ends, of_starts};
 ghost use Rattle.pesp_counts.specs.Restoring.{IsRestored, is_spared};
 ghost use Rattle.pesp_counts.specs.Supports.{AreLevel, Fit, HaveSameShape, joined};
+ghost use Rattle.pesp_counts.specs.Works.{ends_at};
 
 use crate::back::Back;
 use crate::counts::Counts;
 use crate::end::Window;
 use crate::links::Links;
+use crate::probes::Probes;
 use crate::supports::Supports;
 use crate::{End, Placed};
 use pesp_domains::Row;
 use pesp_instance::Instance;
 
 /// Makes the counts of a range of residues one more, of which the first begin at `base`, and tells whether the row holds them all.
-fn raise_beside(counts: &mut Counts, base: usize, row: &Row, low: u16, high: u16) -> bool
+fn raise_beside(
+    counts: &mut Counts,
+    base: usize,
+    row: &Row,
+    low: u16,
+    high: u16,
+    probes: &mut Probes,
+) -> bool
     requires order { low ≤ high }
     requires within { base + high ≤ length counts.old }
     requires small { base + high < 18446744073709551616 }
@@ -28,9 +37,11 @@ fn raise_beside(counts: &mut Counts, base: usize, row: &Row, low: u16, high: u16
     ensures long { length counts.new ≡ length counts.old }
     ensures counts { (i : ℕ) → slice_index_or counts.new i 0 ≡ slice_index_or counts.old i 0 + cond (is_from_to (base + low) (base + high) i) 1 0 }
     ensures full { IsTrue result → (r : ℕ) → IsTrue (is_from_to low high r) → IsTrue (holds row.now r) }
+    ensures lacks { result ≡ false → (r : ℕ) × IsTrue (is_from_to low high r) × (holds row.now r ≡ false) }
+    ensures probes { probes.new + low ≤ probes.old + high }
 {
     let mut full = true;
-    for residue in low..high {
+    for residue in probes.over(low, high) {
         counts.raise(base + residue as usize);
         full = full && row.holds(residue);
     }
@@ -38,7 +49,13 @@ fn raise_beside(counts: &mut Counts, base: usize, row: &Row, low: u16, high: u16
 }
 
 /// Makes the counts of a window one more, and tells whether the row holds all of it.
-fn raise_window_beside(counts: &mut Counts, base: usize, row: &Row, window: Window) -> bool
+fn raise_window_beside(
+    counts: &mut Counts,
+    base: usize,
+    row: &Row,
+    window: Window,
+    probes: &mut Probes,
+) -> bool
     requires order { window.start ≤ window.end }
     requires wrapped { window.wrapped ≤ window.start }
     requires within { base + window.end ≤ length counts.old }
@@ -48,9 +65,11 @@ fn raise_window_beside(counts: &mut Counts, base: usize, row: &Row, window: Wind
     ensures here { (r : ℕ) → slice_index_or counts.new (base + r) 0 ≡ slice_index_or counts.old (base + r) 0 + cond (in_window window r) 1 0 }
     ensures elsewhere { (i : ℕ) → i < base ⊎ base + window.end ≤ i → slice_index_or counts.new i 0 ≡ slice_index_or counts.old i 0 }
     ensures full { IsTrue result → (r : ℕ) → IsTrue (in_window window r) → IsTrue (holds row.now r) }
+    ensures lacks { result ≡ false → (r : ℕ) × IsTrue (in_window window r) × (holds row.now r ≡ false) }
+    ensures probes { probes.new ≤ probes.old + window.end }
 {
-    let first = raise_beside(counts, base, row, window.start, window.end);
-    let second = raise_beside(counts, base, row, 0, window.wrapped);
+    let first = raise_beside(counts, base, row, window.start, window.end, probes);
+    let second = raise_beside(counts, base, row, 0, window.wrapped, probes);
     first && second
 }
 
@@ -79,12 +98,13 @@ impl Supports {
         ensures counts { (r : ℕ) → r < (self.old).period → count_at (self.old).period (self.new).counts end.mate r ≡ count_at (self.old).period (self.old).counts end.mate r + cond (passes (self.old).period end residue r) 1 0 }
         ensures elsewhere { (k r : ℕ) → k ≢ end.mate → r < (self.old).period → count_at (self.old).period (self.new).counts k r ≡ count_at (self.old).period (self.old).counts k r }
         ensures brought { IsBrought (of_end (self.old).period instance.now links.now residue end) self.old self.new back.old back.new }
+        ensures probes { (self.new).probes + (self.old).period * length back.old.pairs ≤ (self.old).probes + (self.old).period + 1 + (self.old).period * length back.new.pairs }
     {
         let period = self.period.get();
         let window = end.window(period, residue);
         let base = self.counts.base(end.mate, period);
         let row = &self.rows[end.looks_at];
-        let full = raise_window_beside(&mut self.counts, base, row, window);
+        let full = raise_window_beside(&mut self.counts, base, row, window, &mut self.probes);
         if !full {
             self.bring_admitted(instance, links, end.looks_at, window, back);
         }
@@ -110,6 +130,7 @@ impl Supports {
         requires room { HasRoom self.old back.old }
         ensures exact { AreExactBut links.now spared self.new (joined (has_at (self.old).counted) pair.place pair.residue) }
         ensures brought { IsBrought (of_ends (self.old).period instance.now links.now spared pair.residue (ends_of (links.now).lists pair.place)) self.old self.new back.old back.new }
+        ensures probes { (self.new).probes + (self.old).period * length back.old.pairs ≤ (self.old).probes + ((self.old).period + 1) * length (ends_of (links.now).lists pair.place) + (self.old).period * length back.new.pairs }
     {
         for number in links.at(pair.place) {
             if !is_spared_end(spared, number) {
@@ -128,6 +149,7 @@ impl Supports {
         ensures counts { (self.new).counts ≡ (self.old).counts }
         ensures trail { (self.new).trail ≡ (self.old).trail }
         ensures shape { HaveSameShape self.old self.new }
+        ensures probes { (self.new).probes ≡ (self.old).probes }
     {
         self.counted[pair.place].put_in(pair.residue);
     }
@@ -146,14 +168,10 @@ impl Supports {
         requires room { HasRoom self.old back.old }
         ensures counts { (self.new).counts ≡ (self.old).counts }
         ensures brought { IsBrought (of_starts instance.now links.now starts.now) self.old self.new back.old back.new }
+        ensures probes { (self.new).probes ≡ (self.old).probes }
     {
-        let all = Window {
-            start: 0,
-            end: self.period.get(),
-            wrapped: 0,
-        };
         for place in starts {
-            self.bring_admitted(instance, links, *place, all, back);
+            self.bring_start(instance, links, *place, back);
         }
     }
 
@@ -179,6 +197,7 @@ impl Supports {
         requires room { length (self.old).rows * (self.old).period ≤ back.old.room }
         ensures restored { IsRestored instance.now links.now starts.now spared self.old self.new back.new.pairs }
         ensures room { back.new.room ≡ back.old.room }
+        ensures probes { (self.new).probes ≤ (self.old).probes + ((self.old).period + 1) * ends_at links.now back.new.pairs + (self.old).period * length back.new.pairs }
     {
         self.bring_starts(instance, links, starts, back);
         let mut next = 0;

@@ -8,6 +8,7 @@ ghost use Rattle.pesp_counts.specs.Supports.{AreExact, AreLevel, AreOut, Fit, Ha
 
 use crate::counts::Counts;
 use crate::links::Links;
+use crate::probes::Probes;
 use crate::{End, Placed};
 use pesp_base::Period;
 use pesp_domains::Row;
@@ -25,6 +26,8 @@ pub struct Supports {
     pub(crate) counted: Vec<Row>,
     pub(crate) rows: Vec<Row>,
     pub(crate) trail: Vec<Placed>,
+    // Those made since the trail was forgotten.
+    pub(crate) probes: Probes,
 }
 
 impl Model for Supports {
@@ -33,15 +36,15 @@ impl Model for Supports {
 
     ghost Value = { words.Supports };
 
-    ghost view = { λ a. record { period = a.period; counts = a.counts; counted = a.counted.items; rows = a.rows.items; trail = a.trail.items; room = vec_capacity a.trail } };
+    ghost view = { λ a. record { period = a.period; counts = a.counts; counted = a.counted.items; rows = a.rows.items; trail = a.trail.items; room = vec_capacity a.trail; probes = a.probes } };
 
-    ghost invariant = { λ a. words.AreSupports (record { period = a.period; counts = a.counts; counted = a.counted.items; rows = a.rows.items; trail = a.trail.items; room = vec_capacity a.trail }) };
+    ghost invariant = { λ a. words.AreSupports (record { period = a.period; counts = a.counts; counted = a.counted.items; rows = a.rows.items; trail = a.trail.items; room = vec_capacity a.trail; probes = a.probes }) };
 }
 
 impl Supports {
     /// No row and no count.
     pub fn new(alloc: Global, period: Period) -> Supports
-        ensures { result ≡ record { period = period; counts = []; counted = []; rows = []; trail = []; room = 0 } }
+        ensures { result ≡ record { period = period; counts = []; counted = []; rows = []; trail = []; room = 0; probes = 0 } }
     {
         Supports {
             period,
@@ -49,6 +52,7 @@ impl Supports {
             counted: Vec::new(alloc),
             rows: Vec::new(alloc),
             trail: Vec::new(alloc),
+            probes: Probes::none(),
         }
     }
 
@@ -83,5 +87,12 @@ impl Supports {
         ensures { result ≡ length (self.now).trail }
     {
         self.trail.len()
+    }
+
+    /// How many probes were made since the trail was forgotten.
+    pub fn probes(&self) -> u64
+        ensures { result ≡ (self.now).probes }
+    {
+        self.probes.count()
     }
 }

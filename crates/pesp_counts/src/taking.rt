@@ -1,6 +1,6 @@
 //! Pairs are taken out as the counts of their partners fall to none.
 
-ghost use Rattle.std.specs.Prelude.{◌≡◌, ◌<◌, ◌≤◌, ◌*◌, ◌+◌, ◌==◌, ◌&&◌, not, cond, ℕ, false, [], IsTrue, length};
+ghost use Rattle.std.specs.Prelude.{◌≡◌, ◌<◌, ◌≤◌, ◌*◌, ◌+◌, ◌==◌, ◌&&◌, not, cond, ℕ, false, [], IsTrue, drop, length, slice_index_or};
 ghost use Rattle.std.specs.List.{Contains};
 ghost use Rattle.pesp_domains.specs.Sweeps.{Of};
 ghost use Rattle.pesp_domains.specs.Removals.{without};
@@ -9,8 +9,10 @@ ghost use Rattle.pesp_counts.specs.Counts.{AreLinked, ArePending, IsLiveAt, Keep
 ghost use Rattle.pesp_counts.specs.Ranges.{Fall, Thins, is_from_to};
 ghost use Rattle.pesp_counts.specs.Keeping.{AreAtRest, ArePendingBut};
 ghost use Rattle.pesp_counts.specs.Supports.{AreExact, Fit, HaveSameShape, IsTaken, Keeps, is_in, lacks_partner};
+ghost use Rattle.pesp_counts.specs.Works.{ends_at};
 
 use crate::links::Links;
+use crate::probes::Probes;
 use crate::supports::Supports;
 use crate::{End, Placed};
 
@@ -24,6 +26,7 @@ impl Supports {
         ensures keeps { KeepsClosed (self.old).period (links.now).ends (links.now).lists (has_at (self.old).rows) (has_at (self.new).rows) }
         ensures taken { IsTaken self.old self.new }
         ensures shape { HaveSameShape self.old self.new }
+        ensures probes { (self.new).probes ≤ (self.old).probes + (self.old).period * ends_at links.now (drop next (self.new).trail) }
     {
         let mut next = next;
         while next < self.trail.len() {
@@ -42,6 +45,7 @@ impl Supports {
         ensures keeps { KeepsClosed (self.old).period (links.now).ends (links.now).lists (has_at (self.old).rows) (has_at (self.new).rows) }
         ensures taken { IsTaken self.old self.new }
         ensures shape { HaveSameShape self.old self.new }
+        ensures probes { (self.new).probes ≤ (self.old).probes + (self.old).period * length (ends_of (links.now).lists (slice_index_or (self.old).trail next (record { place = 0; residue = 0 })).place) }
     {
         let pair = self.trail[next];
         if self.has_counted(pair.place, pair.residue) && !self.holds(pair.place, pair.residue) {
@@ -74,6 +78,7 @@ impl Supports {
         ensures keeps { KeepsClosed (self.old).period (links.now).ends (links.now).lists (has_at (self.old).rows) (has_at (self.new).rows) }
         ensures taken { IsTaken self.old self.new }
         ensures shape { HaveSameShape self.old self.new }
+        ensures probes { (self.new).probes ≤ (self.old).probes + (self.old).period * length (ends_of (links.now).lists place) }
     {
         for number in links.at(place) {
             let end = links.end(number);
@@ -94,6 +99,7 @@ impl Supports {
         ensures counted { (self.new).counted ≡ (self.old).counted }
         ensures taken { IsTaken self.old self.new }
         ensures shape { HaveSameShape self.old self.new }
+        ensures probes { (self.new).probes ≤ (self.old).probes + (self.old).period }
     {
         let window = end.window(self.period.get(), residue);
         let place = end.looks_at;
@@ -113,9 +119,10 @@ impl Supports {
         ensures counted { (self.new).counted ≡ (self.old).counted }
         ensures taken { IsTaken self.old self.new }
         ensures shape { HaveSameShape self.old self.new }
+        ensures probes { (self.new).probes + low ≤ (self.old).probes + high }
     {
         let base = self.counts.base(end, self.period.get());
-        for residue in low..high {
+        for residue in self.probes.over(low, high) {
             let none_left = self.counts.lower(base + residue as usize);
             if none_left && self.holds(place, residue) {
                 self.take_out(place, residue);
@@ -129,6 +136,7 @@ impl Supports {
         ensures rows { (p r : ℕ) → has_at (self.new).rows p r ≡ limited (has_at (self.old).rows) place residue p r }
         ensures taken { IsTaken self.old self.new }
         ensures keeps { Keeps self.old self.new }
+        ensures probes { (self.new).probes ≡ (self.old).probes }
     {
         for other in 0..self.period.get() {
             if other != residue && self.holds(place, other) {
@@ -144,8 +152,9 @@ impl Supports {
         ensures rows { (p r : ℕ) → has_at (self.new).rows p r ≡ (has_at (self.old).rows p r && not (p == place && (count_at (self.old).period (self.old).counts end r == 0))) }
         ensures taken { IsTaken self.old self.new }
         ensures keeps { Keeps self.old self.new }
+        ensures probes { (self.new).probes ≤ (self.old).probes + (self.old).period }
     {
-        for residue in 0..self.period.get() {
+        for residue in self.probes.over(0, self.period.get()) {
             if self.holds(place, residue) && self.count(end, residue) == 0 {
                 self.take_out(place, residue);
             }
@@ -159,7 +168,9 @@ impl Supports {
         requires pending { ArePendingBut links.now self.old back.now }
         ensures rest { AreAtRest links.now self.new }
         ensures keeps { KeepsClosed (self.old).period (links.now).ends (links.now).lists (has_at (self.old).rows) (has_at (self.new).rows) }
+        ensures taken { IsTaken self.old self.new }
         ensures shape { HaveSameShape self.old self.new }
+        ensures probes { (self.new).probes ≤ (self.old).probes + ends_at links.now back.now + (self.old).period * ends_at links.now (self.new).trail }
     {
         self.sift_back(links, back);
         self.settle(links, 0);
@@ -172,6 +183,7 @@ impl Supports {
         ensures rows { (p r : ℕ) → has_at (self.new).rows p r ≡ (has_at (self.old).rows p r && not (is_in back.now p r && lacks_partner links.now self.old p r)) }
         ensures taken { IsTaken self.old self.new }
         ensures keeps { Keeps self.old self.new }
+        ensures probes { (self.new).probes ≤ (self.old).probes + ends_at links.now back.now }
     {
         for pair in back {
             if self.holds(pair.place, pair.residue) && self.lacks_partner(links, *pair) {
@@ -181,13 +193,16 @@ impl Supports {
     }
 
     /// Whether a pair has a count of 0 at an end at its place.
-    fn lacks_partner(&self, links: &Links, pair: Placed) -> bool
-        requires fit { Fit links.now self.now }
-        requires residue { pair.residue < (self.now).period }
-        ensures { result ≡ lacks_partner links.now self.now pair.place pair.residue }
+    fn lacks_partner(&mut self, links: &Links, pair: Placed) -> bool
+        requires fit { Fit links.now self.old }
+        requires residue { pair.residue < (self.old).period }
+        ensures lacks { result ≡ lacks_partner links.now self.old pair.place pair.residue }
+        ensures same { self.new ≡ record self.old { probes = (self.new).probes } }
+        ensures probes { (self.new).probes ≤ (self.old).probes + length (ends_of (links.now).lists pair.place) }
     {
         for end in links.at(pair.place) {
-            if self.count(end, pair.residue) == 0 {
+            let residue = self.probes.at(pair.residue);
+            if self.count(end, residue) == 0 {
                 return true;
             }
         }
@@ -200,19 +215,22 @@ impl Supports {
         ensures rows { (p r : ℕ) → has_at (self.new).rows p r ≡ without (has_at (self.old).rows) place residue p r }
         ensures taken { IsTaken self.old self.new }
         ensures keeps { Keeps self.old self.new }
+        ensures probes { (self.new).probes ≡ (self.old).probes }
     {
         self.rows[place].take_out(residue);
         self.trail.push_reserved(Placed { place, residue });
     }
 
-    /// Forgets the trail.
+    /// Forgets the trail, and begins to count probes anew.
     pub fn forget(&mut self)
         ensures rows { (self.new).rows ≡ (self.old).rows }
         ensures counted { (self.new).counted ≡ (self.old).counted }
         ensures counts { (self.new).counts ≡ (self.old).counts }
         ensures trail { (self.new).trail ≡ [] }
         ensures shape { HaveSameShape self.old self.new }
+        ensures probes { (self.new).probes ≡ 0 }
     {
         self.trail.clear();
+        self.probes = Probes::none();
     }
 }

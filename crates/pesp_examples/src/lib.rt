@@ -22,3 +22,5 @@ mod restored;
 mod search;
 #[cfg(test)]
 mod timetables;
+#[cfg(test)]
+mod works;

@@ -8,26 +8,26 @@ use pesp_domains::Keeper;
 use pesp_instance::{Edit, Instance};
 use std::process::Abort;
 
-pub fn event(rt: &impl Abort, number: u32) -> EventId
+pub(crate) fn event(rt: &impl Abort, number: u32) -> EventId
     ensures { result ≡ number }
 {
     EventId::new(number).expect(rt, "the number of an event")
 }
 
-pub fn id(rt: &impl Abort, number: u32) -> ActivityId {
+pub(crate) fn id(rt: &impl Abort, number: u32) -> ActivityId {
     ActivityId::new(number).expect(rt, "the number of an activity")
 }
 
-pub fn span(rt: &impl Abort, lower: i32, upper: i32) -> Span {
+pub(crate) fn span(rt: &impl Abort, lower: i32, upper: i32) -> Span {
     Span::new(lower, upper).expect(rt, "a span")
 }
 
-pub fn weight(rt: &impl Abort, weight: u32) -> Weight {
+pub(crate) fn weight(rt: &impl Abort, weight: u32) -> Weight {
     Weight::new(weight).expect(rt, "a weight")
 }
 
 /// An activity of this number, from the first of these events to the second.
-pub fn activity(
+pub(crate) fn activity(
     rt: &impl Abort,
     number: u32,
     ends: (u32, u32),
@@ -44,7 +44,7 @@ pub fn activity(
 }
 
 /// A keeper of an empty instance.
-pub fn keeper<K: Keeper>(rt: &(impl Abort + AllocGlobal), period: u16) -> K
+pub(crate) fn keeper<K: Keeper>(rt: &(impl Abort + AllocGlobal), period: u16) -> K
     ensures { K.pushes result ≡ [] }
 {
     let period = Period::new(period).expect(rt, "a period");
@@ -52,21 +52,21 @@ pub fn keeper<K: Keeper>(rt: &(impl Abort + AllocGlobal), period: u16) -> K
     kept.ok().expect(rt, "memory")
 }
 
-pub fn edit<K: Keeper>(rt: &impl Abort, keeper: &mut K, edit: Edit)
+pub(crate) fn edit<K: Keeper>(rt: &impl Abort, keeper: &mut K, edit: Edit)
     requires { K.pushes keeper.old ≡ [] }
     ensures { K.pushes keeper.new ≡ [] }
 {
     assert_eq!(rt; keeper.apply(&edit), Ok(()));
 }
 
-pub fn add_event<K: Keeper>(rt: &impl Abort, keeper: &mut K, number: u32)
+pub(crate) fn add_event<K: Keeper>(rt: &impl Abort, keeper: &mut K, number: u32)
     requires { K.pushes keeper.old ≡ [] }
     ensures { K.pushes keeper.new ≡ [] }
 {
     edit(rt, keeper, Edit::AddEvent(event(rt, number)));
 }
 
-pub fn add_activity<K: Keeper>(
+pub(crate) fn add_activity<K: Keeper>(
     rt: &impl Abort,
     keeper: &mut K,
     number: u32,
@@ -81,7 +81,13 @@ pub fn add_activity<K: Keeper>(
     edit(rt, keeper, Edit::AddActivity(activity));
 }
 
-pub fn set_span<K: Keeper>(rt: &impl Abort, keeper: &mut K, number: u32, lower: i32, upper: i32)
+pub(crate) fn set_span<K: Keeper>(
+    rt: &impl Abort,
+    keeper: &mut K,
+    number: u32,
+    lower: i32,
+    upper: i32,
+)
     requires { K.pushes keeper.old ≡ [] }
     ensures { K.pushes keeper.new ≡ [] }
 {
@@ -92,7 +98,7 @@ pub fn set_span<K: Keeper>(rt: &impl Abort, keeper: &mut K, number: u32, lower: 
     );
 }
 
-pub fn fix<K: Keeper>(rt: &impl Abort, keeper: &mut K, number: u32, time: u16)
+pub(crate) fn fix<K: Keeper>(rt: &impl Abort, keeper: &mut K, number: u32, time: u16)
     requires { K.pushes keeper.old ≡ [] }
     ensures { K.pushes keeper.new ≡ [] }
 {
@@ -100,7 +106,7 @@ pub fn fix<K: Keeper>(rt: &impl Abort, keeper: &mut K, number: u32, time: u16)
 }
 
 /// Two events and an activity each way between them.
-pub fn two_activities<K: Keeper>(rt: &(impl Abort + AllocGlobal)) -> K
+pub(crate) fn two_activities<K: Keeper>(rt: &(impl Abort + AllocGlobal)) -> K
     ensures { K.pushes result ≡ [] }
 {
     let mut keeper: K = keeper(rt, 10);
@@ -112,7 +118,7 @@ pub fn two_activities<K: Keeper>(rt: &(impl Abort + AllocGlobal)) -> K
 }
 
 /// Four events and an activity between any two, at period three.
-pub fn four_events<K: Keeper>(rt: &(impl Abort + AllocGlobal)) -> K
+pub(crate) fn four_events<K: Keeper>(rt: &(impl Abort + AllocGlobal)) -> K
     ensures { K.pushes result ≡ [] }
 {
     let mut keeper: K = keeper(rt, 3);
@@ -130,7 +136,7 @@ pub fn four_events<K: Keeper>(rt: &(impl Abort + AllocGlobal)) -> K
 }
 
 /// Pushes a pair of an event of the instance.
-pub fn push<K: Keeper>(rt: &impl Abort, keeper: &mut K, event: EventId, residue: u16)
+pub(crate) fn push<K: Keeper>(rt: &impl Abort, keeper: &mut K, event: EventId, residue: u16)
     requires { (r : ℕ) → In (K.pushes keeper.old) event r → ⊥ }
     ensures { K.pushes keeper.new ≡ K.pushes keeper.old ++ record { event = event; residue = residue } ∷ [] }
 {

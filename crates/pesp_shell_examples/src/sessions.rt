@@ -220,6 +220,12 @@ fn texts_and_times(rt: HostRuntime) {
             "ok\nrefused 4 time 12 is out of range\nrefused 11 event 2 has no time\nok\ncost 3\nok\nrefused 11 event 2 has no time\nok\ncost 4\nok\nrefused 12 infeasible\ncost 4\n",
         ),
         (
+            "ends that reach a new residue",
+            alone(3, "1; 100; 99; 0; 0; 0\n"),
+            "fix 100 0\nspan 1 1 1\nends 1 99 100\nadopt\ndomain 99\n",
+            "ok\nok\nok\nok\n99: 2\n",
+        ),
+        (
             "violations with a fixed event",
             two,
             "fix 1 5\ntime 1 0\ntime 2 3\nviolations\n",

@@ -6,6 +6,7 @@ ghost use Rattle.pesp_instance.specs.Network.{Network};
 ghost use Rattle.pesp_counts.specs.Keeping.{AreSettled, WereTight, adds};
 ghost use Rattle.pesp_counts.specs.Loosening.{IsLoosened, WereFollowed};
 ghost use Rattle.pesp_counts.specs.Supports.{HaveSameShape};
+ghost use Rattle.pesp_counts.specs.Works.{IsWorked, KeepPlaces};
 
 use super::limits::limit_event;
 use super::loosening::loosen;
@@ -32,6 +33,8 @@ pub fn follow(
     ensures followed { (I : Network) → WereFollowed I instance.now edit.now restores links.old supports.old → IsLoosened I instance.now edit.now links.new supports.new back.new.pairs }
     ensures shape { HaveSameShape supports.old supports.new }
     ensures room { back.new.room ≡ back.old.room }
+    ensures worked { IsWorked links.new supports.old supports.new back.new.pairs }
+    ensures places { KeepPlaces instance.now links.old links.new supports.new.trail }
 {
     if restores {
         loosen(instance, links, supports, back, edit);
@@ -46,6 +49,8 @@ fn tighten(instance: &Instance, links: &mut Links, supports: &mut Supports, edit
     requires before { WereTight instance.now edit.now links.old supports.old }
     ensures settled { AreSettled instance.now [] links.new supports.new }
     ensures shape { HaveSameShape supports.old supports.new }
+    ensures worked { IsWorked links.new supports.old supports.new [] }
+    ensures places { KeepPlaces instance.now links.old links.new supports.new.trail }
 {
     let _period = instance.period();
     match *edit {
@@ -67,6 +72,8 @@ fn set_span(
     requires { WereTight instance.now (edits.SetSpan id span) links.old supports.old }
     ensures settled { AreSettled instance.now [] links.new supports.new }
     ensures shape { HaveSameShape supports.old supports.new }
+    ensures worked { IsWorked links.new supports.old supports.new [] }
+    ensures places { (links.new).events ≡ (links.old).events }
 {
     let period = instance.period();
     if let Some(tail) = links.tail(id) {

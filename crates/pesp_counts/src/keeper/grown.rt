@@ -8,6 +8,7 @@ ghost use Rattle.pesp_counts.specs.Keeping.{AreFor, AreSettled, HaveRoom, IsHous
 ghost use Rattle.pesp_counts.specs.Links.{IsChangedAt, StandFor};
 ghost use Rattle.pesp_counts.specs.Places.{place_of};
 ghost use Rattle.pesp_counts.specs.Supports.{IsRoomier};
+ghost use Rattle.pesp_counts.specs.Works.{IsWorked, KeepPlaces};
 
 use super::spans::narrow_ends;
 use crate::back::Back;
@@ -87,6 +88,8 @@ pub fn add_event(
     ensures room { HaveRoom supports.old back.old.room (vec_capacity restored.old) → HaveRoom supports.new back.new.room (vec_capacity restored.new) }
     ensures listed { back.new.pairs ≡ back.old.pairs }
     ensures restored { restored.new.items ≡ restored.old.items }
+    ensures worked { OnOk result (IsWorked links.new supports.old supports.new []) }
+    ensures places { OnOk result (KeepPlaces instance.now links.old links.new supports.new.trail) }
 {
     make_room(pushed, marks, instance.event_count())?;
     open_event(alloc, instance, links, supports, back, restored, event)
@@ -108,6 +111,8 @@ fn open_event(
     ensures room { HaveRoom supports.old back.old.room (vec_capacity restored.old) → HaveRoom supports.new back.new.room (vec_capacity restored.new) }
     ensures listed { back.new.pairs ≡ back.old.pairs }
     ensures restored { restored.new.items ≡ restored.old.items }
+    ensures worked { OnOk result (IsWorked links.new supports.old supports.new []) }
+    ensures places { OnOk result (KeepPlaces instance.now links.old links.new supports.new.trail) }
 {
     let _period = instance.period();
     let place = house_event(alloc, links, supports, back, restored, event)?;
@@ -153,6 +158,8 @@ pub fn add_activity(
     ensures err { OnErr result ((I : Network) → edited I (edits.AddActivity activity.now) ≡ Ok instance.now → AreSettled I [] links.old supports.old → AreSettled I [] links.new supports.new) }
     ensures period { supports.new.period ≡ supports.old.period }
     ensures rows { length supports.new.rows ≡ length supports.old.rows }
+    ensures worked { OnOk result (IsWorked links.new supports.old supports.new []) }
+    ensures places { OnOk result (KeepPlaces instance.now links.old links.new supports.new.trail) }
 {
     house_activity(instance.period(), links, supports, activity)?;
     if let Some(tail) = links.tail(activity.id) {

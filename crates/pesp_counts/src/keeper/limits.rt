@@ -1,12 +1,13 @@
 //! Events of which one residue alone is left.
 
-ghost use Rattle.std.specs.Prelude.{◌≡◌, ◌<◌, ◌&&◌, ℕ, [], Some, IsSome, length, nat_lt};
+ghost use Rattle.std.specs.Prelude.{◌≡◌, ◌<◌, ◌≤◌, ◌+◌, ◌*◌, ◌&&◌, ℕ, [], Some, IsSome, drop, length, nat_lt};
 ghost use Rattle.pesp_instance.specs.Network.{IsNetwork};
 ghost use Rattle.pesp_domains.specs.Sweeps.{AreOpen};
 ghost use Rattle.pesp_counts.specs.Counts.{AreLinked, has_at};
 ghost use Rattle.pesp_counts.specs.Keeping.{AreAtRest, AreFor, IsNarrowed, rows_of};
 ghost use Rattle.pesp_counts.specs.Places.{place_of};
 ghost use Rattle.pesp_counts.specs.Supports.{Fit, IsTaken, Keeps};
+ghost use Rattle.pesp_counts.specs.Works.{ends_at};
 
 use crate::links::Links;
 use crate::supports::Supports;
@@ -20,7 +21,8 @@ pub fn limit_event(links: &Links, supports: &mut Supports, event: EventId, resid
     requires rest { AreAtRest links.now supports.old }
     requires place { IsSome (place_of (links.now).events event) }
     requires housed { (p : ℕ) → place_of (links.now).events event ≡ Some p → p < length (supports.old).rows }
-    ensures { (p : ℕ) → place_of (links.now).events event ≡ Some p → IsNarrowed links.now p residue supports.old supports.new }
+    ensures narrowed { (p : ℕ) → place_of (links.now).events event ≡ Some p → IsNarrowed links.now p residue supports.old supports.new }
+    ensures probes { (supports.new).probes ≤ (supports.old).probes + (supports.old).period * ends_at links.now (drop (length (supports.old).trail) (supports.new).trail) }
 {
     if let Some(place) = links.event(event) {
         let mark = supports.mark();

@@ -8,7 +8,9 @@ ghost use Rattle.pesp_domains.proofs.Pushes.{limited};
 ghost use Rattle.pesp_counts.specs.Counts.{ends_of};
 ghost use Rattle.pesp_counts.specs.Keeping.{AreAtRest, AreAtRestBut, AreFor};
 ghost use Rattle.pesp_counts.specs.Loosening.{IsLoosened, IsPutBack, WereLoose};
+ghost use Rattle.pesp_counts.specs.Places.{place_of};
 ghost use Rattle.pesp_counts.specs.Supports.{HaveSameShape};
+ghost use Rattle.pesp_counts.specs.Works.{IsWorked};
 
 use super::spans::narrow_ends;
 use crate::back::Back;
@@ -33,6 +35,7 @@ fn reopen(
     requires room { length (supports.old).rows * (supports.old).period ≤ (back.old).room }
     ensures back { IsPutBack (λ S. S) instance.now links.now starts.now None supports.old supports.new (back.new).pairs }
     ensures room { (back.new).room ≡ (back.old).room }
+    ensures worked { IsWorked links.now supports.old supports.new (back.new).pairs }
 {
     supports.restore(instance, links, starts, None, back);
     supports.settle_back(links, back.pairs());
@@ -50,11 +53,13 @@ fn reopen_fixed(
     requires fits { AreFor instance.now links.now supports.old }
     requires rest { AreAtRest links.now supports.old }
     requires trail { (supports.old).trail ≡ [] }
+    requires event { (e : ℕ) × (place_of (links.now).events e ≡ Some place) }
     requires place { place < length (supports.old).rows }
     requires empty { (back.old).pairs ≡ [] }
     requires room { length (supports.old).rows * (supports.old).period ≤ (back.old).room }
     ensures back { IsPutBack (λ S. limited S place time) instance.now links.now (place ∷ []) None supports.old supports.new (back.new).pairs }
     ensures room { (back.new).room ≡ (back.old).room }
+    ensures worked { IsWorked links.now supports.old supports.new (back.new).pairs }
 {
     supports.restore(instance, links, &[place], None, back);
     supports.limit(place, time);
@@ -79,6 +84,7 @@ fn rejoin(
     requires room { length (supports.old).rows * (supports.old).period ≤ (back.old).room }
     ensures back { IsPutBack (λ S. S) instance.now links.now starts.now (Some place) supports.old supports.new (back.new).pairs }
     ensures room { (back.new).room ≡ (back.old).room }
+    ensures worked { IsWorked links.now supports.old supports.new (back.new).pairs }
 {
     supports.restore(instance, links, starts, Some(place), back);
     narrow_ends(links, supports, links.tail_at(place), back.pairs());
@@ -99,6 +105,7 @@ fn refix(
     ensures loosened { (I : Network) → WereLoose I instance.now (edits.Fix event time) links.now supports.old → IsLoosened I instance.now (edits.Fix event time) links.now supports.new (back.new).pairs }
     ensures shape { HaveSameShape supports.old supports.new }
     ensures room { (back.new).room ≡ (back.old).room }
+    ensures worked { IsWorked links.now supports.old supports.new (back.new).pairs }
 {
     let _period = instance.period();
     if let Some(place) = links.event(event) {
@@ -120,6 +127,7 @@ fn unfix(
     ensures loosened { (I : Network) → WereLoose I instance.now (edits.Unfix event) links.now supports.old → IsLoosened I instance.now (edits.Unfix event) links.now supports.new (back.new).pairs }
     ensures shape { HaveSameShape supports.old supports.new }
     ensures room { (back.new).room ≡ (back.old).room }
+    ensures worked { IsWorked links.now supports.old supports.new (back.new).pairs }
 {
     let _period = instance.period();
     if let Some(place) = links.event(event) {
@@ -141,6 +149,8 @@ fn release(
     ensures loosened { (I : Network) → WereLoose I instance.now (edits.DropActivity id) links.old supports.old → IsLoosened I instance.now (edits.DropActivity id) links.new supports.new (back.new).pairs }
     ensures shape { HaveSameShape supports.old supports.new }
     ensures room { (back.new).room ≡ (back.old).room }
+    ensures worked { IsWorked links.new supports.old supports.new (back.new).pairs }
+    ensures places { (links.new).events ≡ (links.old).events }
 {
     let _period = instance.period();
     if let Some(place) = links.activity(id) {
@@ -165,6 +175,8 @@ fn loosen_span(
     ensures loosened { (I : Network) → WereLoose I instance.now (edits.SetSpan id span) links.old supports.old → IsLoosened I instance.now (edits.SetSpan id span) links.new supports.new (back.new).pairs }
     ensures shape { HaveSameShape supports.old supports.new }
     ensures room { (back.new).room ≡ (back.old).room }
+    ensures worked { IsWorked links.new supports.old supports.new (back.new).pairs }
+    ensures places { (links.new).events ≡ (links.old).events }
 {
     let period = instance.period();
     if let Some(place) = links.activity(id) {
@@ -190,6 +202,8 @@ fn move_ends(
     ensures loosened { (I : Network) → WereLoose I instance.now (edits.SetEnds id from to) links.old supports.old → IsLoosened I instance.now (edits.SetEnds id from to) links.new supports.new (back.new).pairs }
     ensures shape { HaveSameShape supports.old supports.new }
     ensures room { (back.new).room ≡ (back.old).room }
+    ensures worked { IsWorked links.new supports.old supports.new (back.new).pairs }
+    ensures places { (links.new).events ≡ (links.old).events }
 {
     let _period = instance.period();
     if let Some(place) = links.activity(id) {
@@ -213,6 +227,8 @@ pub fn loosen(
     ensures loosened { (I : Network) → WereLoose I instance.now edit.now links.old supports.old → IsLoosened I instance.now edit.now links.new supports.new (back.new).pairs }
     ensures shape { HaveSameShape supports.old supports.new }
     ensures room { (back.new).room ≡ (back.old).room }
+    ensures worked { IsWorked links.new supports.old supports.new (back.new).pairs }
+    ensures places { (links.new).events ≡ (links.old).events }
 {
     match *edit {
         Edit::Fix(event, time) => refix(instance, links, supports, back, event, time),

@@ -1,10 +1,11 @@
 //! Ends that were made or changed.
 
-ghost use Rattle.std.specs.Prelude.{ℕ};
+ghost use Rattle.std.specs.Prelude.{ℕ, ◌≤◌, ◌+◌, ◌*◌};
 ghost use Rattle.std.specs.List.{Contains};
 ghost use Rattle.pesp_counts.specs.Counts.{AreLinked, KeepsClosed, ends_of, has_at};
 ghost use Rattle.pesp_counts.specs.Keeping.{AreAtRest, AreAtRestBut};
 ghost use Rattle.pesp_counts.specs.Supports.{Fit, HaveSameShape, IsTaken};
+ghost use Rattle.pesp_counts.specs.Works.{ends_at};
 
 use crate::Placed;
 use crate::links::Links;
@@ -18,7 +19,9 @@ pub fn narrow_ends(links: &Links, supports: &mut Supports, tail: usize, back: &[
     requires listed { (p : ℕ) × Contains (ends_of (links.now).lists p) tail }
     requires rest { AreAtRestBut links.now supports.old tail back.now }
     ensures rest { AreAtRest links.now supports.new }
+    ensures taken { IsTaken supports.old supports.new }
     ensures shape { HaveSameShape supports.old supports.new }
+    ensures probes { (supports.new).probes ≤ (supports.old).probes + 8 * (supports.old).period + ends_at links.now back.now + (supports.old).period * ends_at links.now (supports.new).trail }
     ensures keeps { KeepsClosed (supports.old).period (links.now).ends (links.now).lists (has_at (supports.old).rows) (has_at (supports.new).rows) }
 {
     let end = links.end(tail);

@@ -1,5 +1,5 @@
 -- The residues so far are counted.
-use Rattle.std.proofs.Common.{◌≡◌, ◌+◌, ◌%◌}
+use Rattle.std.proofs.Common.{◌≡◌, ◌+◌, ◌%◌, ◌≤◌}
 use Rattle.pesp_domains.specs.Domains.{holds}
 use Rattle.pesp_counts.specs.Supports.{around}
 use Rattle.pesp_counts.proofs.counting.count_around.Given as goal
@@ -7,6 +7,11 @@ use Rattle.pesp_counts.proofs.counting.count_around.Given as goal
 abbrev pub invariant-loop : goal.invariant-loop
 invariant-loop l =
     record {
-      count : l.count ≡ around l.period (holds l.row) l.first l.counter;
-      residue : l.residue ≡ (l.first + l.counter) % l.period;
+      can_next : (goal.iterator-loop).can_next l.iterator';
+      finite : (goal.iterator-loop).is_finite l.iterator';
+      end : l.iterator'.end ≡ l.width;
+      within : l.iterator'.start ≤ l.width;
+      count : l.count ≡ around l.period (holds l.row) l.first l.iterator'.start;
+      residue : l.residue ≡ (l.first + l.iterator'.start) % l.period;
+      probes : l.probes ≤ l.fn.probes + l.width;
     }

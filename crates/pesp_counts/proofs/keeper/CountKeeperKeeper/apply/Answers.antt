@@ -14,6 +14,9 @@ use Rattle.pesp_counts.specs.Restores.{Restores, Seen, StaysWithin, numbered_pai
 use Rattle.pesp_counts.proofs.Applied.{forgotten, keeping_none, none_of_length, not_adds}
 use Rattle.pesp_counts.proofs.Keeping.{room_same}
 use Rattle.pesp_counts.proofs.Told.{reached_none, told_places, told_restored, told_room, within_told}
+use Rattle.pesp_counts.specs.declared.work.Work.{Work}
+use Rattle.pesp_counts.specs.Works.{IsWork, IsWorked, KeepPlaces}
+use Rattle.pesp_counts.proofs.Worked.{work_is}
 use Rattle.pesp_counts.proofs.keeper.CountKeeperKeeper.apply.Goals as goal
 use Rattle.pesp_counts.proofs.keeper.CountKeeperKeeper.apply.Goals.{in-AddEvent, in-AddActivity, in_default}
 
@@ -278,3 +281,58 @@ returns-clause-within c =
     let restored = c.number_pairs.new.restored.items in
     let told : Restores i.instance c.args.edit.now restored = subst (λ (v : Seen). Restores v.network c.args.edit.now restored) (sym c.self.view_is) (returns-clause-restored c) in
     subst (λ (v : Seen). StaysWithin v.network c.args.edit.now restored) c.self.view_is (within_told i.instance c.apply.new.self c.args.edit.now restored c.self.invariant.settled.network c.in_ok-apply.ensures.ok told)
+
+pub returns-clause-work : goal.returns-clause-work
+returns-clause-work c =
+    let i = c.self.inside in
+    let I = i.instance in
+    let J = c.apply.new.self in
+    let f = c.forget.ensures in
+    let h = c.self.invariant in
+    let s = c.forget.new.self in
+    let nothing : i.pushed.items ≡ [] = ap (λ (k : Seen). k.pushes) c.self.view_is ∙ c.requires in
+    let settled = forgotten I i.links i.supports s (subst (λ pushes. AreSettled I pushes i.links i.supports) nothing h.settled) f.rows f.counted f.counts f.trail f.shape in
+    let made = c.in_ok-apply.ensures.ok in
+    let none : c.clear.new.self.pairs ≡ [] = ap (λ (b : Back). b.pairs) c.clear.ensures in
+    let same_room : c.clear.new.self.room ≡ i.back.room = ap (λ (b : Back). b.room) c.clear.ensures in
+    let room : HaveRoom s c.clear.new.self.room (vec_capacity i.restored) = rw same_room (room_same i.supports s i.back.room (vec_capacity i.restored) f.shape h.room_back) in
+    let were : WereFollowed I J c.args.edit.now c.restores-restores.result i.links s = record { made = made; settled = settled; trail = f.trail; known = c.restores-restores.ensures } in
+    let k = c.match-edit.self-inside in
+    let followed : IsLoosened I J c.args.edit.now k.links k.supports k.back.pairs × HaveRoom k.supports k.back.room (vec_capacity k.restored) =
+    elim c.match-edit.branch [
+      | in-AddEvent w ↦
+          let a = w.add_event-followed in
+          let ok = on_ok a.result (c.if-is_err.ensures.value ∙ ap is_err w.followed-is) a.ensures.ok in
+          let empty : a.new.back.pairs ≡ [] = a.ensures.listed ∙ none in
+          rw w.self-inside-is (record { settled = ok; reached = rw empty (reached_none I c.args.edit.now a.new.links (ap (starts I) w.in-AddEvent.is)) }, a.ensures.room room)
+      | in-AddActivity w ↦
+          let a = w.add_activity-followed in
+          let ok = on_ok a.result (c.if-is_err.ensures.value ∙ ap is_err w.followed-is) a.ensures.ok in
+          rw w.self-inside-is (
+            record { settled = ok; reached = rw none (reached_none I c.args.edit.now a.new.links (ap (starts I) w.in-AddActivity.is)) },
+            record { back = rw (a.ensures.period, a.ensures.rows) room.back; restored = rw (a.ensures.period, a.ensures.rows) room.restored },
+          )
+      | in_default w ↦
+          let a = w.follow in
+          rw w.self-inside-is (a.ensures.followed I were, rw a.ensures.room (room_same s a.new.supports c.clear.new.self.room (vec_capacity i.restored) a.ensures.shape room))
+    ]
+    in
+    let worked : IsWorked k.links s k.supports k.back.pairs × KeepPlaces J i.links k.links k.supports.trail =
+    elim c.match-edit.branch [
+      | in-AddEvent w ↦
+          let a = w.add_event-followed in
+          let is_ok = c.if-is_err.ensures.value ∙ ap is_err w.followed-is in
+          let empty : a.new.back.pairs ≡ [] = a.ensures.listed ∙ none in
+          rw w.self-inside-is (rw empty (on_ok a.result is_ok a.ensures.worked), on_ok a.result is_ok a.ensures.places)
+      | in-AddActivity w ↦
+          let a = w.add_activity-followed in
+          let is_ok = c.if-is_err.ensures.value ∙ ap is_err w.followed-is in
+          rw w.self-inside-is (rw none (on_ok a.result is_ok a.ensures.worked), on_ok a.result is_ok a.ensures.places)
+      | in_default w ↦ rw w.self-inside-is (w.follow.ensures.worked, w.follow.ensures.places)
+    ]
+    in
+    let same = c.number_pairs.ensures.pairs ∙ ap (map (numbered_pair k.links)) c.pairs.ensures in
+    let work = c.work_of-self-inside.result in
+    let is = c.work_of-self-inside.ensures in
+    let told = work_is I J c.args.edit.now i.links k.links s k.supports k.back.pairs made settled followed.0.settled f.probes worked.0 followed.0.reached worked.1 work (ap (λ (w : Work). w.restored) is) (ap (λ (w : Work). w.removed) is) (ap (λ (w : Work). w.probes) is) in
+    subst (λ (v : Seen). IsWork v.network c.args.edit.now c.number_pairs.new.restored.items work) c.self.view_is (subst (λ restored. IsWork I c.args.edit.now restored work) (sym same) told)

@@ -36,4 +36,4 @@ invariant_of-self c =
     let p = place_is I c.self.inside.links c.self.invariant.settled.fits.stand c.args.event event in
     rw (c.push_reserved.ensures.items, c.push_reserved-2.ensures.items, c.mark-mark.ensures, c.push_reserved.ensures.capacity, c.push_reserved-2.ensures.capacity)
     (keeping_push I c.self.inside.pushed.items x c.self.inside.links c.self.inside.supports c.limit_event.new.supports c.self.inside.marks.items p.0 (vec_capacity c.self.inside.pushed) (vec_capacity c.self.inside.marks) c.self.inside.back.room (vec_capacity c.self.inside.restored) c.self.invariant event
-    (λ r i. c.requires.free r (subst (λ (k : Seen). In k.pushes c.args.event r) c.self.view_is i)) p.1 (c.limit_event.ensures p.0 p.1))
+    (λ r i. c.requires.free r (subst (λ (k : Seen). In k.pushes c.args.event r) c.self.view_is i)) p.1 (c.limit_event.ensures.narrowed p.0 p.1))

@@ -2,6 +2,7 @@
 use Rattle.std.proofs.Common.{sym, ◌∙◌}
 use Rattle.pesp_counts.proofs.Applied.{no_starts}
 use Rattle.pesp_counts.proofs.Told.{reached_none}
+use Rattle.pesp_counts.proofs.Gone.{keep_same}
 use Rattle.pesp_counts.proofs.keeper.edits.follow.Goals as goal
 
 pub loosen-requires-clause-loose : goal.loosen-requires-clause-loose
@@ -23,3 +24,9 @@ returns-else-restores-clause-followed c I w =
       settled = c.tighten.ensures.settled;
       reached = rw c.requires.empty (reached_none I c.args.edit.now c.tighten.new.links (no_starts _ (sym w.known ∙ c.if-restores.false)));
     }
+
+pub returns-then-restores-clause-places : goal.returns-then-restores-clause-places
+returns-then-restores-clause-places c = keep_same c.args.instance.now c.args.links.now c.loosen.new.links c.loosen.new.supports.trail c.loosen.ensures.places c.loosen.ensures.worked.placed
+
+pub returns-else-restores-clause-worked : goal.returns-else-restores-clause-worked
+returns-else-restores-clause-worked c = rw c.requires.empty c.tighten.ensures.worked

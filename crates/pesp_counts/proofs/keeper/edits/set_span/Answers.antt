@@ -1,5 +1,5 @@
 -- Both ends pass less.
-use Rattle.std.proofs.Common.{ℕ, ◌*◌, ◌∙◌, ap, sym, subst, option_map, refl, []}
+use Rattle.std.proofs.Common.{ℕ, ◌*◌, ◌∙◌, ap, sym, subst, option_map, refl, [], arith, ◌≡◌}
 use Rattle.std.specs.List.{Contains}
 use Rattle.pesp_instance.specs.declared.edit.Edit.TheVariants.{SetSpan}
 use Rattle.pesp_instance.specs.Network.{Network}
@@ -12,6 +12,8 @@ use Rattle.pesp_counts.proofs.Carried.{for_relinked, if_some, place_changed, res
 use Rattle.pesp_counts.proofs.Keeping.{for_linked, for_same}
 use Rattle.pesp_counts.proofs.Marks.{keeps_like}
 use Rattle.pesp_counts.proofs.Tightened.{numbers_same, settled_even, twice_of}
+use Rattle.pesp_counts.specs.Works.{ends_at}
+use Rattle.pesp_counts.proofs.Gone.{gone_placed, worked_tight}
 use Rattle.pesp_counts.proofs.keeper.edits.set_span.Goals as goal
 
 pub tail-requires : goal.tail-requires
@@ -114,6 +116,28 @@ returns-in-Some-clause-settled c =
 
 pub returns-in_default-clause-settled : goal.returns-in_default-clause-settled
 returns-in_default-clause-settled c =
+    let w = c.requires.were in
+    let q = place_changed w.before c.args.instance.now c.args.links.now c.args.id c.args.span w.settled.fits.stand w.made in
+    absurd (c.in_default.not-Some (2 * q.0) (c.tail.ensures ∙ ap (option_map (λ k. 2 * k)) q.1))
+
+pub returns-in-Some-clause-worked : goal.returns-in-Some-clause-worked
+returns-in-Some-clause-worked c =
+    let w = c.requires.were in
+    let I = w.before in
+    let J = c.args.instance.now in
+    let links = c.args.links.now in
+    let after = c.set_span.new.self in
+    let s = c.args.supports.now in
+    let n = c.narrow_ends.new.supports in
+    let id = c.args.id in
+    let period = same_period I J (SetSpan id c.args.span) w.settled.network w.made in
+    let stand = c.set_span.ensures.stand I J (sym period ∙ sym c.period-period.ensures.value) w.made w.settled.fits.stand in
+    let none : ends_at after [] ≡ 0 = refl in
+    let spent = c.narrow_ends.ensures.probes in
+    worked_tight after s n w.trail c.narrow_ends.ensures.taken (gone_placed J after s.period (has_at s.rows) (has_at n.rows) stand c.narrow_ends.ensures.keeps) (omega (arith, none, spent))
+
+pub returns-in_default-clause-worked : goal.returns-in_default-clause-worked
+returns-in_default-clause-worked c =
     let w = c.requires.were in
     let q = place_changed w.before c.args.instance.now c.args.links.now c.args.id c.args.span w.settled.fits.stand w.made in
     absurd (c.in_default.not-Some (2 * q.0) (c.tail.ensures ∙ ap (option_map (λ k. 2 * k)) q.1))

@@ -1,5 +1,5 @@
 -- The ends of a new activity take out what has no partner there.
-use Rattle.std.proofs.Common.{◌≡◌, ◌*◌, ℕ, ◌∙◌, ap, sym, subst, refl, option_map, []}
+use Rattle.std.proofs.Common.{◌≡◌, ◌*◌, ℕ, ◌∙◌, ap, sym, subst, refl, option_map, [], arith, ◌≤◌, ◌+◌}
 use Rattle.std.specs.List.{Contains}
 use Rattle.pesp_instance.specs.declared.edit.Edit.TheVariants.{AddActivity}
 use Rattle.pesp_instance.specs.Network.{Network}
@@ -13,6 +13,9 @@ use Rattle.pesp_counts.proofs.Housed.{activity_period, rows_seen, settled_seen, 
 use Rattle.pesp_counts.proofs.Keeping.{for_linked, for_same}
 use Rattle.pesp_counts.proofs.Marks.{keeps_like}
 use Rattle.pesp_counts.proofs.Tightened.{settled_even}
+use Rattle.pesp_counts.specs.Works.{ends_at}
+use Rattle.pesp_counts.proofs.Gone.{gone_placed, keep_seen, worked_tight}
+use Rattle.pesp_counts.proofs.Taken.{taken_same, taken_then}
 use Rattle.pesp_counts.proofs.keeper.grown.add_activity.Goals as goal
 
 pub returns-in_err-house_activity-clause-err : goal.returns-in_err-house_activity-clause-err
@@ -131,3 +134,27 @@ returns-in-Some-clause-ok c =
     settled_even I J (AddActivity a) links after s n (has_at m.rows) w.settled c.period.ensures.network w.made refl (ap (λ (K : Network). K.events) (effect_is I J (AddActivity a) w.made))
     (for_same J after m n c.narrow_ends.ensures.shape fits) c.narrow_ends.ensures.rest (rows_seen links after s m q.2.events c.house_activity.ensures.grown)
     (keeps_like after n.period m.period (has_at m.rows) (has_at m.rows) (has_at n.rows) (sym c.narrow_ends.ensures.shape.period) (λ p r. refl) c.narrow_ends.ensures.keeps)
+
+pub returns-in-Some-clause-worked : goal.returns-in-Some-clause-worked
+returns-in-Some-clause-worked c =
+    let w = c.requires.before in
+    let I = w.before in
+    let J = c.args.instance.now in
+    let a = c.args.activity.now in
+    let after = c.house_activity.new.links in
+    let s = c.args.supports.now in
+    let m = c.house_activity.new.supports in
+    let n = c.narrow_ends.new.supports in
+    let period = activity_period I J a w.made in
+    let fits = c.in_ok-house_activity.ensures.ok I J (sym period ∙ sym c.period.ensures.value) w.made w.settled.fits in
+    let grown = c.house_activity.ensures.grown in
+    let none : ends_at after [] ≡ 0 = refl in
+    let spent : n.probes ≤ m.probes + 8 * s.period + ends_at after [] + s.period * ends_at after n.trail =
+    subst (λ k. n.probes ≤ m.probes + 8 * k + ends_at after [] + k * ends_at after n.trail) grown.period c.narrow_ends.ensures.probes
+    in
+    worked_tight after s n w.trail (taken_then s m n (taken_same s m grown.trail grown.rows) c.narrow_ends.ensures.taken)
+    (λ p r was out. gone_placed J after m.period (has_at m.rows) (has_at n.rows) fits.stand c.narrow_ends.ensures.keeps p r (grown.rows p r ∙ was) out)
+    (omega (arith, none, spent, grown.probes))
+
+pub returns-in-Some-clause-places : goal.returns-in-Some-clause-places
+returns-in-Some-clause-places c = keep_seen c.args.instance.now c.args.links.now c.house_activity.new.links c.narrow_ends.new.supports.trail c.in_ok-house_activity.ensures.changed.2.events (returns-in-Some-clause-worked c).placed

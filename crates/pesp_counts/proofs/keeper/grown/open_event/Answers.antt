@@ -1,10 +1,14 @@
 -- The row of a new event has all residues.
-use Rattle.std.proofs.Common.{sym, subst, []}
+use Rattle.std.proofs.Common.{sym, subst, [], ◌≡◌, ap, ◌∙◌, ◌||◌, ◌==◌, ◌&&◌, nat_lt, arith, IsTrue}
 use Rattle.pesp_instance.specs.declared.edit.Edit.TheVariants.{AddEvent}
 use Rattle.pesp_instance.specs.Network.{Network}
 use Rattle.pesp_domains.proofs.Edits.{effect_is}
 use Rattle.pesp_counts.specs.Keeping.{AreFor}
 use Rattle.pesp_counts.proofs.Housed.{opened_settled, settled_seen, to_err}
+use Rattle.std.proofs.lemmas.Bool.{false≢true}
+use Rattle.pesp_counts.specs.Supports.{is_in}
+use Rattle.pesp_counts.proofs.Gone.{worked_none}
+use Rattle.pesp_counts.proofs.Housed.{opened_places}
 use Rattle.pesp_counts.proofs.keeper.grown.open_event.Goals as goal
 
 pub returns-in_err-place-clause-err : goal.returns-in_err-place-clause-err
@@ -33,3 +37,20 @@ returns-clause-ok c =
     let o = c.open.ensures in
     opened_settled I J c.args.links.now c.house_event.new.links c.args.supports.now c.house_event.new.supports c.open.new.self e c.in_ok-place.place w.settled c.period-period.ensures.network w.made fits
     c.in_ok-place.ensures.place c.house_event.ensures.grown o.rows o.counted o.counts o.trail o.shape
+
+pub returns-clause-worked : goal.returns-clause-worked
+returns-clause-worked c =
+    let s = c.args.supports.now in
+    let grown = c.house_event.ensures.grown in
+    worked_none c.house_event.new.links s c.open.new.self c.open.ensures.trail
+    (λ p r was. c.open.ensures.rows p r ∙ ap (λ b. b || (p == c.in_ok-place.place && nat_lt r c.house_event.new.supports.period)) (grown.rows p r ∙ was))
+    (omega (arith, c.open.ensures.probes, grown.probes))
+
+pub returns-clause-places : goal.returns-clause-places
+returns-clause-places c =
+    let w = c.requires.before in
+    let at = c.in_ok-place.ensures.place in
+    record {
+      places = λ e p is stays. at.others e (opened_places w.before c.args.instance.now c.args.links.now c.args.event e p w.made w.settled.fits.stand is) ∙ is;
+      placed = λ p r i. absurd (false≢true (subst (λ xs. IsTrue (is_in xs p r)) c.open.ensures.trail i));
+    }

@@ -21,3 +21,6 @@ returns-in-Some-clause-loosened c I w =
     let s = c.args.supports.now in
     let fits = for_relinked I J links links s w.settled.fits (same_period I J (Fix c.args.event c.args.time) w.settled.network w.made) (stands_fix I J links c.args.event c.args.time w.made w.settled.fits.stand) (λ p k is. (p, is)) (λ e p at. at) in
     loosened_by_fix I J c.args.event c.args.time c.in-Some.place links s c.reopen_fixed.new.supports c.reopen_fixed.new.back.pairs w c.period-period.ensures.network fits (sym c.event.ensures ∙ c.in-Some.is) c.reopen_fixed.ensures.back
+
+pub reopen_fixed-requires-clause-event : goal.reopen_fixed-requires-clause-event
+reopen_fixed-requires-clause-event c = (c.args.event, sym c.event.ensures ∙ c.in-Some.is)

@@ -1,5 +1,8 @@
 -- The counts are exact at all ends but those of the activity, which are counted anew.
-use Rattle.std.proofs.Common.{◌*◌}
+use Rattle.std.proofs.Common.{◌+◌, ◌*◌, ◌≤◌, length, subst}
+use Rattle.pesp_counts.specs.Counts.{has_at}
+use Rattle.pesp_counts.specs.Works.{ends_at}
+use Rattle.pesp_counts.proofs.Gone.{gone_placed, rejoined_probes, worked_is}
 use Rattle.pesp_counts.proofs.Keeping.{for_linked}
 use Rattle.pesp_counts.proofs.Marks.{fit_same}
 use Rattle.pesp_counts.proofs.Reopened.{rejoined_exact, rejoined_rest, spared_mates}
@@ -27,3 +30,16 @@ pub narrow_ends-requires-clause-rest : goal.narrow_ends-requires-clause-rest
 narrow_ends-requires-clause-rest c =
     rw (c.tail_at.ensures, c.pairs.ensures)
     (rejoined_rest c.args.instance.now c.args.links.now c.args.place c.requires.listed.0 c.requires.fits.stand c.requires.listed.1 c.args.starts.now c.args.supports.now c.restore.new.self c.restore.new.back.pairs c.restore.ensures.restored c.requires.fits.period c.requires.rest)
+
+pub returns-clause-worked : goal.returns-clause-worked
+returns-clause-worked c =
+    let links = c.args.links.now in
+    let s = c.args.supports.now in
+    let m = c.restore.new.self in
+    let n = c.narrow_ends.new.supports in
+    let back = c.restore.new.back.pairs in
+    let r = c.restore.ensures.restored in
+    let spent = subst (λ xs. n.probes ≤ m.probes + 8 * m.period + ends_at links xs + m.period * ends_at links n.trail) c.pairs.ensures c.narrow_ends.ensures.probes in
+    worked_is links s m n back c.requires.rest.trail r.trail r.rows c.narrow_ends.ensures.taken
+    (gone_placed c.args.instance.now links m.period (has_at m.rows) (has_at n.rows) c.requires.fits.stand c.narrow_ends.ensures.keeps)
+    (rejoined_probes s.period m.period s.probes m.probes n.probes (ends_at links back) (length back) (ends_at links n.trail) r.shape.period c.restore.ensures.probes spent)

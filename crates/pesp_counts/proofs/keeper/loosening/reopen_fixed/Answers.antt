@@ -1,9 +1,12 @@
 -- The counts are exact at all ends, and what has no partner is among the pairs that came.
-use Rattle.std.proofs.Common.{◌∷◌, []}
+use Rattle.std.proofs.Common.{◌+◌, ◌*◌, ◌≤◌, ◌∷◌, [], length, subst, ◌∙◌}
 use Rattle.pesp_counts.proofs.Keeping.{for_linked}
 use Rattle.pesp_counts.proofs.Marks.{fit_same}
 use Rattle.pesp_counts.proofs.Reopened.{reopened_pending}
-use Rattle.pesp_counts.proofs.Taken.{kept_shape, shape_then}
+use Rattle.pesp_counts.proofs.Taken.{kept_shape, shape_then, taken_then}
+use Rattle.pesp_counts.proofs.Gone.{limited_placed, reopened_probes, worked_is}
+use Rattle.pesp_counts.specs.Counts.{has_at}
+use Rattle.pesp_counts.specs.Works.{ends_at}
 use Rattle.pesp_counts.proofs.keeper.loosening.reopen_fixed.Goals as goal
 
 pub restore-requires-clause-linked : goal.restore-requires-clause-linked
@@ -26,3 +29,20 @@ settle_back-requires-clause-pending c =
     let m = c.restore.new.self in
     rw c.pairs.ensures
     (reopened_pending c.args.instance.now c.args.links.now (c.args.place ∷ []) c.args.supports.now m c.limit.new.self c.restore.new.back.pairs c.restore.ensures.restored c.requires.fits.period c.requires.rest c.requires.trail c.limit.ensures.taken c.limit.ensures.keeps)
+
+pub returns-clause-worked : goal.returns-clause-worked
+returns-clause-worked c =
+    let links = c.args.links.now in
+    let s = c.args.supports.now in
+    let m = c.restore.new.self in
+    let l = c.limit.new.self in
+    let n = c.settle_back.new.self in
+    let back = c.restore.new.back.pairs in
+    let r = c.restore.ensures.restored in
+    let e = c.requires.event in
+    let same = c.limit.ensures.keeps.period ∙ r.shape.period in
+    let looked = subst (λ xs. n.probes ≤ l.probes + ends_at links xs + l.period * ends_at links n.trail) c.pairs.ensures c.settle_back.ensures.probes in
+    let spent = subst (λ k. n.probes ≤ k + ends_at links back + l.period * ends_at links n.trail) c.limit.ensures.probes looked in
+    worked_is links s m n back c.requires.trail r.trail r.rows (taken_then m l n c.limit.ensures.taken c.settle_back.ensures.taken)
+    (limited_placed c.args.instance.now links l.period e.0 c.args.place c.args.time (has_at m.rows) (has_at l.rows) (has_at n.rows) c.requires.fits.stand e.1 c.limit.ensures.rows c.settle_back.ensures.keeps)
+    (reopened_probes s.period l.period s.probes m.probes n.probes (ends_at links back) (length back) (ends_at links n.trail) same c.restore.ensures.probes spent)

@@ -3,7 +3,9 @@ use Rattle.std.proofs.Common.{◌∙◌, ap, subst}
 use Rattle.pesp_counts.specs.Counts.{AreLinked, KeepsClosed, has_at}
 use Rattle.pesp_counts.proofs.Marks.{fit_same, keeps_like}
 use Rattle.pesp_counts.proofs.Narrowed.{anew_below, anew_exact, anew_level, anew_live, anew_trail, first_sift, second_sift, sifted_keeps, sifted_pending}
-use Rattle.pesp_counts.proofs.Taken.{keeps_then, kept_shape, kept_then, shape_then, taken_then}
+use Rattle.pesp_counts.specs.Works.{ends_at}
+use Rattle.pesp_counts.proofs.Gone.{narrowed_probes}
+use Rattle.pesp_counts.proofs.Taken.{keeps_then, kept_shape, kept_then, shape_then, taken_same, taken_then}
 use Rattle.pesp_counts.proofs.keeper.spans.narrow_ends.Goals as goal
 
 pub end-end-requires : goal.end-end-requires
@@ -141,3 +143,25 @@ returns-clause-keeps c =
     let after : KeepsClosed b.period links.ends links.lists (has_at m.rows) (has_at n.rows) = subst (λ k. KeepsClosed k links.ends links.lists (has_at m.rows) (has_at n.rows)) keeps.period c.settle_back.ensures.keeps in
     keeps_like links s.period b.period (has_at s.rows) (has_at b.rows) (has_at n.rows) (q.shape.period ∙ r.shape.period) (λ p x. ap (λ xs. has_at xs p x) (q.rows ∙ r.rows))
     (keeps_then b.period links.ends links.lists (has_at b.rows) (has_at m.rows) (has_at n.rows) before after)
+
+pub returns-clause-taken : goal.returns-clause-taken
+returns-clause-taken c =
+    let s = c.args.supports.now in
+    let b = c.recount-2.new.self in
+    let d = c.sift.new.self in
+    let m = c.sift-2.new.self in
+    let n = c.settle_back.new.self in
+    let r = c.recount.ensures in
+    let q = c.recount-2.ensures in
+    let same = taken_same s b (q.trail ∙ r.trail) (λ p x. ap (λ xs. has_at xs p x) (q.rows ∙ r.rows)) in
+    taken_then s b n same (taken_then b m n (taken_then b d m c.sift.ensures.taken c.sift-2.ensures.taken) c.settle_back.ensures.taken)
+
+pub returns-clause-probes : goal.returns-clause-probes
+returns-clause-probes c =
+    let s = c.args.supports.now in
+    let r = c.recount.ensures in
+    let q = c.recount-2.ensures in
+    narrowed_probes s.period c.recount.new.self.period c.recount-2.new.self.period c.sift.new.self.period c.sift-2.new.self.period s.probes c.recount.new.self.probes c.recount-2.new.self.probes c.sift.new.self.probes c.sift-2.new.self.probes c.settle_back.new.self.probes
+    (ends_at c.args.links.now c.args.back.now) (ends_at c.args.links.now c.settle_back.new.self.trail)
+    r.shape.period q.shape.period c.sift.ensures.keeps.period c.sift-2.ensures.keeps.period
+    r.probes q.probes c.sift.ensures.probes c.sift-2.ensures.probes c.settle_back.ensures.probes

@@ -8,4 +8,5 @@ invariant-loop-place l =
     record {
       counts : l.self.counts ≡ l.fn.self.counts;
       brought : IsBrought (of_starts l.instance l.links (take l.place-index l.starts)) l.fn.self l.self l.fn.back l.back;
+      probes : l.self.probes ≡ l.fn.self.probes;
     }

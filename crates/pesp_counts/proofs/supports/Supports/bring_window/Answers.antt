@@ -22,5 +22,5 @@ returns-in-Any-clause-brought c =
     let first = of_range place w.start w.end in
     let second = of_range place 0 w.wrapped in
     rw c.in-Any.is
-    (brought_as (λ p r. first p r || second p r) (of_window place w Any) c.args.self.now c.bring_range-in-Any.new.self c.args.back.now c.bring_range-in-Any.new.back (window_any place w)
-    (brought_then first second c.args.self.now c.bring_range.new.self c.bring_range-in-Any.new.self c.args.back.now c.bring_range.new.back c.bring_range-in-Any.new.back c.bring_range.ensures.brought c.bring_range-in-Any.ensures.brought))
+    (brought_as (λ p r. first p r || second p r) (of_window place w Any) c.args.self.now c.bring_along-in-Any.new.self c.args.back.now c.bring_along-in-Any.new.back (window_any place w)
+    (brought_then first second c.args.self.now c.bring_along.new.self c.bring_along-in-Any.new.self c.args.back.now c.bring_along.new.back c.bring_along-in-Any.new.back c.bring_along.ensures.brought c.bring_along-in-Any.ensures.brought))

@@ -58,3 +58,9 @@ returns-clause-rows c p r rl =
 
 pub returns-clause-taken : goal.returns-clause-taken
 returns-clause-taken c = taken_then c.args.self.now c.lower.new.self c.lower-2.new.self c.lower.ensures.taken c.lower-2.ensures.taken
+
+pub returns-clause-probes : goal.returns-clause-probes
+returns-clause-probes c =
+    let window = c.window-window.ensures in
+    let period : c.get.result ≡ c.args.self.now.period = c.get.ensures.value ∙ ap (λ (x : Supports). x.period) c.self.view_is in
+    omega (arith, c.lower.ensures.probes, c.lower-2.ensures.probes, window.order, window.below, window.wrapped, period)

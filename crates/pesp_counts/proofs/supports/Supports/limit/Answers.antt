@@ -24,6 +24,7 @@ loop-other-preserved c =
             rows = clears_taken c.args.place f start.rows other now.rows after.rows goes w.take_out.ensures.rows inv.rows;
             taken = taken_then start now after inv.taken w.take_out.ensures.taken;
             keeps = kept_then start now after inv.keeps w.take_out.ensures.keeps;
+            probes = w.take_out.ensures.probes ∙ inv.probes;
           })
       | else-other-residue w ↦
           let stays : (has_at now.rows c.args.place other && f other) ≡ false =
@@ -40,5 +41,6 @@ loop-other-preserved c =
             rows = clears_passed c.args.place f start.rows other now.rows stays inv.rows;
             taken = inv.taken;
             keeps = inv.keeps;
+            probes = inv.probes;
           })
     ]

@@ -1,5 +1,5 @@
 -- Of the residues before this one the given one alone is left.
-use Rattle.std.proofs.Common.{◌==◌, not}
+use Rattle.std.proofs.Common.{◌≡◌, ◌==◌, not}
 use Rattle.pesp_counts.specs.Supports.{IsTaken, Keeps}
 use Rattle.pesp_counts.proofs.Rows.{Clears}
 use Rattle.pesp_counts.proofs.supports.Supports.limit.Given as goal
@@ -9,4 +9,5 @@ invariant-loop-other l = record {
   rows : Clears l.place (λ r. not (r == l.residue)) l.other l.fn.self.rows l.self.rows;
   taken : IsTaken l.fn.self l.self;
   keeps : Keeps l.fn.self l.self;
+  probes : l.self.probes ≡ l.fn.self.probes;
 }

@@ -1,5 +1,5 @@
 -- An end more is behind, and the first of those to come is at the place.
-use Rattle.std.proofs.Common.{◌≡◌, ◌≢◌, ◌<◌, ◌+◌, ◌∷◌, ◌++◌, ◌||◌, cond, false, [], ℕ, filter, AllPairs, sym, ap, subst, ◌∙◌, append_assoc}
+use Rattle.std.proofs.Common.{◌≡◌, ◌≢◌, ◌<◌, ◌≤◌, ◌+◌, ◌*◌, ◌∷◌, ◌++◌, ◌||◌, cond, false, [], ℕ, length, filter, AllPairs, sym, ap, subst, ◌∙◌, append_assoc, arith}
 use Rattle.std.proofs.lemmas.Bool.{false≢true}
 use Rattle.std.specs.List.{Contains}
 use Rattle.pesp_counts.specs.declared.end.End.{End}
@@ -8,6 +8,7 @@ use Rattle.pesp_counts.specs.Restored.{IsBrought, of_end, of_ends}
 use Rattle.pesp_counts.specs.Restoring.{is_spared}
 use Rattle.pesp_counts.specs.Supports.{joined}
 use Rattle.pesp_counts.proofs.Brought.{brought_as, brought_none, brought_then}
+use Rattle.pesp_counts.proofs.Looked.{one_end_less, one_end_more}
 use Rattle.pesp_counts.proofs.Raised.{AreJoined}
 use Rattle.pesp_counts.proofs.Sparing.{but_end, but_low, but_more, but_passed, but_start, ends_none, ends_one, is_kept, kept}
 use Rattle.pesp_counts.proofs.Spread.{listed_after, once_after}
@@ -27,6 +28,7 @@ loop-number-init c =
       walked = ([], all, brought_none (of_ends start.period c.args.instance.now links c.args.spared s []) start c.args.back.now (λ p r h. absurd (false≢true h)));
       joined = subst (λ xs. AreJoined start.period links.ends (kept c.args.spared links.lists) start.counts S p s (filter (is_kept c.args.spared) xs)) (sym all)
           (but_start start.period links.ends links.lists c.args.spared c.requires.linked c.requires.mates S p s c.requires.residue c.requires.absent start.counts c.requires.exact);
+      probes = let long = ap (λ xs. (start.period + 1) * length xs) all in omega (arith, long);
     }
 
 pub end-end-requires : goal.end-end-requires
@@ -120,6 +122,7 @@ loop-number-preserved-then-not-is_spared_end c =
     subst (λ (e : End). IsBrought (of_end T I links s e) now after c.loop-number.back c.reach.new.back) c.end-end.ensures
     (subst (λ n. IsBrought (of_end n I links s c.end-end.result) now after c.loop-number.back c.reach.new.back) w.2.shape.period c.reach.ensures.brought)
     in
+    let looked = subst (λ n. after.probes + n * length c.loop-number.back.pairs ≤ now.probes + n + 1 + n * length c.reach.new.back.pairs) w.2.shape.period c.reach.ensures.probes in
     record {
       can_next = tt;
       is_finite = tt;
@@ -131,6 +134,7 @@ loop-number-preserved-then-not-is_spared_end c =
             (brought_then (of_ends T I links spared s w.0) (of_end T I links s end) start now after c.args.back.now c.loop-number.back c.reach.new.back w.2 came),
       );
       joined = but_more T links.ends links.lists spared c.requires.linked c.requires.mates S p s c.requires.residue c.requires.absent now.counts number rest listed free so_far after.counts once rose stay;
+      probes = one_end_more T c.args.back.now.pairs c.loop-number.back.pairs c.reach.new.back.pairs start.probes now.probes after.probes (ends_of links.lists p) c.loop-number.number-iterator rest number c.in-Some.ensures.steps inv.probes looked;
     }
 
 pub loop-number-preserved : goal.loop-number-preserved
@@ -161,6 +165,7 @@ loop-number-preserved c =
             (ends_none T I links spared s w.0 number out) w.2,
       );
       joined = but_passed T links.ends links.lists spared c.requires.linked c.requires.mates S p s c.requires.residue c.requires.absent now.counts number rest out so_far;
+      probes = one_end_less T c.args.back.now.pairs c.loop-number.back.pairs start.probes now.probes (ends_of links.lists p) c.loop-number.number-iterator rest number c.in-Some.ensures.steps inv.probes;
     }
 
 pub returns-clause-exact : goal.returns-clause-exact
@@ -176,3 +181,9 @@ returns-clause-exact c =
     let so_far = subst (λ xs. AreJoined start.period links.ends (kept spared links.lists) now.counts S p s (filter (is_kept spared) xs)) c.in-None.ensures.steps.0 inv.joined in
     subst (λ n. (q k : ℕ) → Contains (ends_of links.lists q) k → is_spared spared k ≡ false → IsExactAt n links.ends now.counts (joined S p s) k) (sym inv.walked.2.shape.period)
     (but_end start.period links.ends links.lists spared c.requires.linked c.requires.mates S p s c.requires.residue c.requires.absent now.counts so_far)
+
+pub returns-clause-probes : goal.returns-clause-probes
+returns-clause-probes c =
+    let T = c.args.self.now.period in
+    let none = ap (λ xs. (T + 1) * length xs) c.in-None.ensures.steps.0 in
+    omega (arith, none, c.loop-number.invariant.probes)

@@ -1,6 +1,9 @@
 -- What the pairs before did and what the next one does, one after the other.
-use Rattle.std.proofs.Common.{◌+◌, subst}
-use Rattle.pesp_counts.specs.Counts.{ArePending, KeepsClosed, has_at}
+use Rattle.std.proofs.Common.{◌+◌, ◌*◌, ◌<◌, ◌≤◌, length, get_or, ap, subst, arith}
+use Rattle.pesp_counts.specs.declared.trail.Placed.{Placed}
+use Rattle.pesp_counts.specs.Counts.{ArePending, KeepsClosed, ends_of, has_at}
+use Rattle.pesp_counts.specs.Supports.{Supports}
+use Rattle.pesp_counts.proofs.Spent.{pair_behind}
 use Rattle.pesp_counts.proofs.Taken.{fit_then, keeps_then, shape_then, taken_then}
 use Rattle.pesp_counts.proofs.supports.Supports.settle.Goals as goal
 
@@ -14,10 +17,15 @@ loop-next-preserved c =
     let now = c.loop-next.self in
     let after = c.settle_one.new.self in
     let inv = c.loop-next.invariant in
+    let within : c.loop-next.next < length now.trail = omega (arith, c.loop-next-test.true, c.len.ensures, ap (λ (s : Supports). length s.trail) c.self.view_is) in
+    let none : Placed = record { place = 0; residue = 0 } in
     record {
       pending = subst (λ n. ArePending n links.ends links.lists after.counts (has_at after.counted) (has_at after.rows) after.trail (c.loop-next.next + 1)) inv.shape.period c.settle_one.ensures.pending;
       keeps = keeps_then start.period links.ends links.lists (has_at start.rows) (has_at now.rows) (has_at after.rows) inv.keeps
           (subst (λ n. KeepsClosed n links.ends links.lists (has_at now.rows) (has_at after.rows)) inv.shape.period c.settle_one.ensures.keeps);
       taken = taken_then start now after inv.taken c.settle_one.ensures.taken;
       shape = shape_then start now after inv.shape c.settle_one.ensures.shape;
+      onward = omega (arith, inv.onward);
+      probes = pair_behind links now after start.period start.probes c.args.next c.loop-next.next none c.settle_one.ensures.taken inv.onward within inv.probes
+          (subst (λ n. after.probes ≤ now.probes + n * length (ends_of links.lists (get_or now.trail c.loop-next.next none).place)) inv.shape.period c.settle_one.ensures.probes);
     }

@@ -1,7 +1,8 @@
 -- The pairs of the trail before the next one are counted out.
-use Rattle.std.proofs.Common.{◌-◌}
+use Rattle.std.proofs.Common.{◌+◌, ◌-◌, ◌*◌, ◌≤◌, drop}
 use Rattle.pesp_counts.specs.Counts.{ArePending, KeepsClosed, has_at}
 use Rattle.pesp_counts.specs.Supports.{HaveSameShape, IsTaken}
+use Rattle.pesp_counts.specs.Works.{ends_at}
 use Rattle.pesp_counts.proofs.supports.Supports.settle.Given as goal
 
 abbrev pub invariant-loop-next : goal.invariant-loop-next
@@ -10,6 +11,8 @@ invariant-loop-next l = record {
   keeps : KeepsClosed l.fn.self.period l.links.ends l.links.lists (has_at l.fn.self.rows) (has_at l.self.rows);
   taken : IsTaken l.fn.self l.self;
   shape : HaveSameShape l.fn.self l.self;
+  onward : l.fn.next ≤ l.next;
+  probes : l.self.probes + l.fn.self.period * ends_at l.links (drop l.next l.self.trail) ≤ l.fn.self.probes + l.fn.self.period * ends_at l.links (drop l.fn.next l.self.trail);
 }
 
 abbrev pub decreases-loop-next : goal.decreases-loop-next

@@ -1,5 +1,5 @@
 -- The pair that waited longest goes from what is counted.
-use Rattle.std.proofs.Common.{◌≡◌, ◌+◌, ◌<◌, ◌==◌, ◌&&◌, not, ℕ, [], false, length, get_or, set, sym, ap, subst, ◌∙◌}
+use Rattle.std.proofs.Common.{◌≡◌, ◌+◌, ◌*◌, ◌<◌, ◌≤◌, ◌==◌, ◌&&◌, not, ℕ, [], false, length, get_or, set, sym, ap, subst, ◌∙◌}
 use Rattle.std.specs.List.{Contains}
 use Rattle.std.proofs.lemmas.List.{get_or_default}
 use Rattle.pesp_domains.specs.Domains.{holds}
@@ -39,3 +39,14 @@ returns-then-not-holds-clause-pending c =
     (pending_then start.period links.ends links.lists start c.spread.new.self (has_at (set counted pair.place c.take_out.new.self)) c.args.next pair.place pair.residue c.requires.next at gone goes c.spread.ensures.taken c.requires.pending
     (subst (λ n. (q k : ℕ) → Contains (ends_of links.lists q) k → IsExactAt n links.ends c.spread.new.self.counts (without (has_at start.counted) pair.place pair.residue) k) c.spread.ensures.shape.period c.spread.ensures.exact)
     (subst (λ n. (q k : ℕ) → Contains (ends_of links.lists q) k → IsLiveAt n c.spread.new.self.counts (has_at c.spread.new.self.rows) q k) c.spread.ensures.shape.period c.spread.ensures.live))
+
+pub returns-then-not-holds-clause-probes : goal.returns-then-not-holds-clause-probes
+returns-then-not-holds-clause-probes c =
+    let start = c.args.self.now in
+    let links = c.args.links.now in
+    let none : Placed = record { place = 0; residue = 0 } in
+    let pair = c.index-pair.result.now in
+    let at : get_or start.trail c.args.next none ≡ pair =
+    ap (λ (s : Supports). get_or s.trail c.args.next none) (sym c.self.view_is) ∙ get_or_default c.self.inside.trail.items c.args.next none pair (subst (λ (s : Supports). c.args.next < length s.trail) (sym c.self.view_is) c.requires.next) ∙ sym c.index-pair.ensures
+    in
+    rw at (subst (λ (s : Supports). s.probes ≤ start.probes + start.period * length (ends_of links.lists pair.place)) (sym c.self-then-not-holds.view_is) c.spread.ensures.probes)

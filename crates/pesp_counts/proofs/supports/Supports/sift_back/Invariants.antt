@@ -1,6 +1,7 @@
 -- Of the pairs so far those with a partner at each end are left.
-use Rattle.std.proofs.Common.{take}
+use Rattle.std.proofs.Common.{◌+◌, ◌≤◌, take, drop}
 use Rattle.pesp_counts.specs.Supports.{IsTaken, Keeps}
+use Rattle.pesp_counts.specs.Works.{ends_at}
 use Rattle.pesp_counts.proofs.PutBack.{Sifts}
 use Rattle.pesp_counts.proofs.supports.Supports.sift_back.Given as goal
 
@@ -10,4 +11,5 @@ invariant-loop-pair l =
       rows : Sifts l.fn.links l.fn.self (take l.pair-index l.fn.back) l.self.rows;
       taken : IsTaken l.fn.self l.self;
       keeps : Keeps l.fn.self l.self;
+      probes : l.self.probes + ends_at l.fn.links (drop l.pair-index l.fn.back) ≤ l.fn.self.probes + ends_at l.fn.links l.fn.back;
     }

@@ -1,10 +1,11 @@
 -- An end more is behind, and the first of those to come is at the place.
-use Rattle.std.proofs.Common.{◌≡◌, ◌≢◌, ◌<◌, ◌+◌, ◌∷◌, ◌++◌, ◌==◌, ◌&&◌, cond, not, [], ℕ, AllPairs, refl, sym, ap, subst, ◌∙◌, append_assoc}
+use Rattle.std.proofs.Common.{◌≡◌, ◌≢◌, ◌<◌, ◌≤◌, ◌+◌, ◌*◌, ◌∷◌, ◌++◌, ◌==◌, ◌&&◌, cond, not, [], ℕ, AllPairs, refl, sym, ap, subst, ◌∙◌, append_assoc, length, arith}
 use Rattle.std.specs.List.{Contains}
 use Rattle.pesp_domains.specs.Sweeps.{Of}
 use Rattle.pesp_counts.specs.declared.end.End.{End}
-use Rattle.pesp_counts.specs.Counts.{count_at, end_at, has_at, passes}
+use Rattle.pesp_counts.specs.Counts.{count_at, end_at, ends_of, has_at, passes}
 use Rattle.pesp_counts.proofs.Spread.{AreSpread, keeps_end, listed_after, live_then, once_after, some_left, spread_end, spread_start, spread_then}
+use Rattle.pesp_counts.proofs.Spent.{end_behind}
 use Rattle.pesp_counts.proofs.Taken.{keeps_none, keeps_then, shape_none, shape_then, taken_fewer, taken_none, taken_then}
 use Rattle.pesp_counts.proofs.supports.Supports.spread.Goals as goal
 
@@ -24,6 +25,7 @@ loop-number-init c =
       counted = refl;
       taken = taken_none start;
       shape = shape_none start;
+      probes = subst (λ xs. start.probes + start.period * length xs ≤ start.probes + start.period * length (ends_of links.lists c.args.place)) (sym all) (omega arith);
     }
 
 pub end-end-requires : goal.end-end-requires
@@ -112,6 +114,7 @@ loop-number-preserved c =
       counted = c.count_out.ensures.counted ∙ inv.counted;
       taken = taken_then start now after inv.taken c.count_out.ensures.taken;
       shape = shape_then start now after inv.shape c.count_out.ensures.shape;
+      probes = end_behind T now.probes after.probes (start.probes + T * length (ends_of links.lists c.args.place)) number rest c.loop-number.number-iterator c.in-Some.ensures.steps inv.probes (subst (λ n. after.probes ≤ now.probes + n) inv.shape.period c.count_out.ensures.probes);
     }
 
 pub returns-clause-exact : goal.returns-clause-exact

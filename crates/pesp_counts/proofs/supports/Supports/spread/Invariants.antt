@@ -1,5 +1,5 @@
 -- The pair is counted out at the ends before, and the others are still to come.
-use Rattle.std.proofs.Common.{◌≡◌, ◌++◌, ℕ, List}
+use Rattle.std.proofs.Common.{◌≡◌, ◌+◌, ◌*◌, ◌≤◌, ◌++◌, ℕ, List, length}
 use Rattle.std.specs.List.{Contains}
 use Rattle.pesp_counts.specs.Counts.{IsLiveAt, KeepsClosed, ends_of, has_at}
 use Rattle.pesp_counts.specs.Supports.{HaveSameShape, IsTaken}
@@ -17,4 +17,5 @@ invariant-loop-number l = record {
   counted : l.self.counted ≡ l.fn.self.counted;
   taken : IsTaken l.fn.self l.self;
   shape : HaveSameShape l.fn.self l.self;
+  probes : l.self.probes + l.fn.self.period * length l.number-iterator ≤ l.fn.self.probes + l.fn.self.period * length (ends_of l.links.lists l.place);
 }
