@@ -4,28 +4,28 @@ use pesp_base::{Activity, ActivityId, EventId, Period, Span, Weight};
 use pesp_instance::{Edit, Instance};
 use std::process::Abort;
 
-pub fn period(rt: &impl Abort, length: u16) -> Period {
+pub(crate) fn period(rt: &impl Abort, length: u16) -> Period {
     Period::new(length).expect(rt, "a period")
 }
 
-pub fn event(rt: &impl Abort, number: u32) -> EventId {
+pub(crate) fn event(rt: &impl Abort, number: u32) -> EventId {
     EventId::new(number).expect(rt, "the number of an event")
 }
 
-pub fn id(rt: &impl Abort, number: u32) -> ActivityId {
+pub(crate) fn id(rt: &impl Abort, number: u32) -> ActivityId {
     ActivityId::new(number).expect(rt, "the number of an activity")
 }
 
-pub fn span(rt: &impl Abort, lower: i32, upper: i32) -> Span {
+pub(crate) fn span(rt: &impl Abort, lower: i32, upper: i32) -> Span {
     Span::new(lower, upper).expect(rt, "a span")
 }
 
-pub fn weight(rt: &impl Abort, value: u32) -> Weight {
+pub(crate) fn weight(rt: &impl Abort, value: u32) -> Weight {
     Weight::new(value).expect(rt, "a weight")
 }
 
 /// An activity of this number, from the first of these events to the second.
-pub fn activity(
+pub(crate) fn activity(
     rt: &impl Abort,
     number: u32,
     ends: (u32, u32),
@@ -41,12 +41,12 @@ pub fn activity(
     }
 }
 
-pub fn apply(rt: &impl Abort, instance: &mut Instance, edit: Edit) {
+pub(crate) fn apply(rt: &impl Abort, instance: &mut Instance, edit: Edit) {
     assert_eq!(rt; instance.apply(&edit), Ok(()), "{edit:?}");
 }
 
 /// An instance at period 10 of one event and nothing else.
-pub fn lone_event(rt: &(impl Abort + AllocGlobal), number: u32) -> Instance {
+pub(crate) fn lone_event(rt: &(impl Abort + AllocGlobal), number: u32) -> Instance {
     let mut instance = Instance::new(rt.alloc(), period(rt, 10));
     apply(rt, &mut instance, Edit::AddEvent(event(rt, number)));
     instance
@@ -77,7 +77,7 @@ fn assert_activities(
 }
 
 /// The instance has events 1 and 2, an activity each way between them, and nothing else.
-pub fn assert_two_activities(rt: &(impl Abort + AllocGlobal), instance: &Instance, message: &str) {
+pub(crate) fn assert_two_activities(rt: &(impl Abort + AllocGlobal), instance: &Instance, message: &str) {
     assert_events(rt, instance, &[1, 2], message);
     let there = activity(rt, 1, (1, 2), (3, 5), 2);
     let back = activity(rt, 2, (2, 1), (4, 6), 1);

@@ -11,17 +11,17 @@ use std::alloc::Global;
 use std::process::Abort;
 
 /// The instance of a file of activities.
-pub fn read(alloc: Global, period: Period, text: &[u8]) -> Result<Instance, ReadFault> {
+pub(crate) fn read(alloc: Global, period: Period, text: &[u8]) -> Result<Instance, ReadFault> {
     read_activities(alloc, period, text)
 }
 
 /// Fixes the times of a file.
-pub fn fix(alloc: Global, instance: &mut Instance, text: &[u8]) -> Result<(), ReadFault> {
+pub(crate) fn fix(alloc: Global, instance: &mut Instance, text: &[u8]) -> Result<(), ReadFault> {
     read_fixed(alloc, instance, text)
 }
 
 /// The instance of files of activities and of fixed times, at period 10.
-pub fn read_both(
+pub(crate) fn read_both(
     rt: &(impl Abort + AllocGlobal),
     activities: &str,
     fixed: &str,
@@ -32,6 +32,6 @@ pub fn read_both(
 }
 
 /// The timetable of a file of times, at period 10.
-pub fn timetable(rt: &(impl Abort + AllocGlobal), text: &[u8]) -> Result<Timetable, ReadFault> {
+pub(crate) fn timetable(rt: &(impl Abort + AllocGlobal), text: &[u8]) -> Result<Timetable, ReadFault> {
     read_times(rt.alloc(), period(rt, 10), text)
 }
