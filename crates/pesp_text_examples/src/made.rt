@@ -77,7 +77,11 @@ fn assert_activities(
 }
 
 /// The instance has events 1 and 2, an activity each way between them, and nothing else.
-pub(crate) fn assert_two_activities(rt: &(impl Abort + AllocGlobal), instance: &Instance, message: &str) {
+pub(crate) fn assert_two_activities(
+    rt: &(impl Abort + AllocGlobal),
+    instance: &Instance,
+    message: &str,
+) {
     assert_events(rt, instance, &[1, 2], message);
     let there = activity(rt, 1, (1, 2), (3, 5), 2);
     let back = activity(rt, 2, (2, 1), (4, 6), 1);

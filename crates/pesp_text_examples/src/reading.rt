@@ -32,6 +32,9 @@ pub(crate) fn read_both(
 }
 
 /// The timetable of a file of times, at period 10.
-pub(crate) fn timetable(rt: &(impl Abort + AllocGlobal), text: &[u8]) -> Result<Timetable, ReadFault> {
+pub(crate) fn timetable(
+    rt: &(impl Abort + AllocGlobal),
+    text: &[u8],
+) -> Result<Timetable, ReadFault> {
     read_times(rt.alloc(), period(rt, 10), text)
 }
