@@ -12,6 +12,7 @@ use Rattle.pesp_counts.specs.Put.{Back}
 use Rattle.pesp_counts.specs.Reached.{starts}
 use Rattle.pesp_counts.specs.Restores.{Restores, Seen, StaysWithin, numbered_pair}
 use Rattle.pesp_counts.proofs.Applied.{forgotten, keeping_none, none_of_length, not_adds}
+use Rattle.pesp_counts.proofs.Housed.{to_err}
 use Rattle.pesp_counts.proofs.Keeping.{room_same}
 use Rattle.pesp_counts.proofs.Told.{reached_none, told_places, told_restored, told_room, within_told}
 use Rattle.pesp_counts.specs.declared.work.Work.{Work}
@@ -336,3 +337,6 @@ returns-clause-work c =
     let is = c.work_of-self-inside.ensures in
     let told = work_is I J c.args.edit.now i.links k.links s k.supports k.back.pairs made settled followed.0.settled f.probes worked.0 followed.0.reached worked.1 work (ap (λ (w : Work). w.restored) is) (ap (λ (w : Work). w.removed) is) (ap (λ (w : Work). w.probes) is) in
     subst (λ (v : Seen). IsWork v.network c.args.edit.now c.number_pairs.new.restored.items work) c.self.view_is (subst (λ restored. IsWork I c.args.edit.now restored work) (sym same) told)
+
+pub returns-in_err-apply-clause-still : goal.returns-in_err-apply-clause-still
+returns-in_err-apply-clause-still c = to_err c.from_residual.result (ap (λ (v : Seen). v.restored) c.self.view_is, ap (λ (v : Seen). v.work) c.self.view_is)

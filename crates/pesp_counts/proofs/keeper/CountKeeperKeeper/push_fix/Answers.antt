@@ -1,5 +1,5 @@
 -- A pair more goes on from the domains that there are.
-use Rattle.std.proofs.Common.{IsTrue, subst, sym, arith}
+use Rattle.std.proofs.Common.{IsTrue, ap, subst, sym, arith}
 use Rattle.std.specs.Vec.{vec_capacity}
 use Rattle.pesp_instance.specs.Network.{has_event}
 use Rattle.pesp_domains.specs.declared.pair.Pair.{Pair}
@@ -37,3 +37,6 @@ invariant_of-self c =
     rw (c.push_reserved.ensures.items, c.push_reserved-2.ensures.items, c.mark-mark.ensures, c.push_reserved.ensures.capacity, c.push_reserved-2.ensures.capacity)
     (keeping_push I c.self.inside.pushed.items x c.self.inside.links c.self.inside.supports c.limit_event.new.supports c.self.inside.marks.items p.0 (vec_capacity c.self.inside.pushed) (vec_capacity c.self.inside.marks) c.self.inside.back.room (vec_capacity c.self.inside.restored) c.self.invariant event
     (λ r i. c.requires.free r (subst (λ (k : Seen). In k.pushes c.args.event r) c.self.view_is i)) p.1 (c.limit_event.ensures.narrowed p.0 p.1))
+
+pub returns-clause-work : goal.returns-clause-work
+returns-clause-work c = ap (λ (v : Seen). v.work) c.self.view_is
