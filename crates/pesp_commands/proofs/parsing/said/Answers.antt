@@ -31,3 +31,7 @@ pub returns-in_ok-event-in-Fix : goal.returns-in_ok-event-in-Fix
 returns-in_ok-event-in-Fix c =
     fixed c.args.name c.args.numbers.now c.in-Fix.is c.in_ok-event-in-Fix.event c.in_ok-event-in-Fix.time
     c.in_ok-event-in-Fix.ensures.no_fault c.in_ok-event-in-Fix.ensures.event c.in_ok-event-in-Fix.ensures.time
+
+-- by search, and named so that a wrong body is refused here at once
+pub returns-in_ok-event-in-Untime : goal.returns-in_ok-event-in-Untime
+returns-in_ok-event-in-Untime c = search rules

@@ -1,5 +1,5 @@
 -- The two ranges have no residue in common.
-use Rattle.std.proofs.Common.{◌≡◌, ◌+◌, ◌-◌, ◌<◌, ◌≤◌, ◌||◌, nat_le, nat_lt, Bool, true, false, ℕ, IsTrue, slice_index_or, refl, sym, subst, ◌∙◌, inl, inr, arith}
+use Rattle.std.proofs.Common.{◌≡◌, ◌+◌, ◌-◌, ◌<◌, ◌≤◌, ◌||◌, nat_le, nat_lt, Bool, true, false, ℕ, IsTrue, slice_index_or, refl, sym, subst, ◌∙◌, inl, inr, arith, rules}
 use Rattle.std.proofs.lemmas.Bool.{cases_lt, false≢true}
 use Rattle.pesp_base.specs.Limits.{greatest_period}
 use Rattle.pesp_domains.proofs.Families.{and_left, and_right}
@@ -57,3 +57,10 @@ raise_beside-second-requires-clause-low c i h =
     let out : is_from_to (base + w.start) (base + w.end) i ≡ false = not_in_range _ (base + w.end) i (omega (arith, high, c.requires.wrapped)) in
     let same : slice_index_or c.raise_beside-first.new.counts i 0 ≡ slice_index_or c.args.counts.now i 0 + 0 = rw out at (c.raise_beside-first.ensures.counts i) in
     omega (arith, same, before)
+
+-- by search, and named so that a wrong body is refused here at once
+pub returns-then-first-clause-full : goal.returns-then-first-clause-full
+returns-then-first-clause-full c = search rules
+
+pub returns-else-first-clause-full : goal.returns-else-first-clause-full
+returns-else-first-clause-full c = search rules

@@ -1,5 +1,5 @@
 -- Nothing was held, and nothing more came.
-use Rattle.std.proofs.Common.{◌≡◌, [], ap, ◌∙◌}
+use Rattle.std.proofs.Common.{◌≡◌, [], ap, ◌∙◌, rules}
 use Rattle.std.specs.Prelude.{not}
 use Rattle.std.proofs.lemmas.List.{nil_from_length}
 use Rattle.pesp_shell.specs.Runs.{marks}
@@ -18,3 +18,7 @@ pub returns-in-Err-clause-ending : goal.returns-in-Err-clause-ending
 returns-in-Err-clause-ending g c =
     let none : c.args.lines.now ≡ [] = nil_from_length c.args.lines.now (search rules) in
     (c.in-Err.ensures.failed ∙ none, c.in-Err.ensures.failure)
+
+-- by search, and named so that a wrong body is refused here at once
+pub returns-in-Ok-true-clause-ending : goal.returns-in-Ok-true-clause-ending
+returns-in-Ok-true-clause-ending g c = search rules

@@ -10,3 +10,7 @@ loop-timed-preserved-else-is_err g c =
     set_more c.args.bench.now.instance c.args.timetable.now (c.in-Some.timed.event, c.in-Some.timed.time) c.next.new.self c.loop-timed.bench c.set_time.new.self
     (subst (λ es. IsCopied c.args.bench.now.instance c.args.timetable.now es c.loop-timed.bench) c.in-Some.ensures.steps c.loop-timed.invariant)
     of_event (ok_of c.set_time.result _ c.set_time.ensures.ok (sym c.if-is_err.ensures.value))
+
+-- by search, and named so that a wrong body is refused here at once
+pub loop-timed-preserved : goal.loop-timed-preserved
+loop-timed-preserved g c = search rules

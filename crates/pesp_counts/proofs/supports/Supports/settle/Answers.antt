@@ -1,5 +1,5 @@
 -- What the pairs before did and what the next one does, one after the other.
-use Rattle.std.proofs.Common.{◌+◌, ◌*◌, ◌<◌, ◌≤◌, length, get_or, ap, subst, arith}
+use Rattle.std.proofs.Common.{◌+◌, ◌*◌, ◌<◌, ◌≤◌, length, get_or, ap, subst, arith, rules}
 use Rattle.pesp_counts.specs.declared.trail.Placed.{Placed}
 use Rattle.pesp_counts.specs.Counts.{ArePending, KeepsClosed, ends_of, has_at}
 use Rattle.pesp_counts.specs.Supports.{Supports}
@@ -29,3 +29,7 @@ loop-next-preserved c =
       probes = pair_behind links now after start.period start.probes c.args.next c.loop-next.next none c.settle_one.ensures.taken inv.onward within inv.probes
           (subst (λ n. after.probes ≤ now.probes + n * length (ends_of links.lists (get_or now.trail c.loop-next.next none).place)) inv.shape.period c.settle_one.ensures.probes);
     }
+
+-- by search, and named so that a wrong body is refused here at once
+pub returns-clause-pending : goal.returns-clause-pending
+returns-clause-pending c = search rules

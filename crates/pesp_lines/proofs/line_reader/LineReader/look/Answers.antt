@@ -1,5 +1,5 @@
 -- What one more call took stands behind what was taken before.
-use Rattle.std.proofs.Common.{◌≡◌, List, ℕ, Option, ◌++◌, ap, ◌∙◌, append_assoc}
+use Rattle.std.proofs.Common.{◌≡◌, List, ℕ, Option, ◌++◌, ap, ◌∙◌, append_assoc, rules}
 use Rattle.std.specs.Io.KnownBytes.{Consumes}
 use Rattle.std.proofs.KnownBytes.{Consumes-trans}
 use Rattle.pesp_lines.proofs.line_reader.LineReader.look.Goals as goal
@@ -17,3 +17,7 @@ returns-in_err-fill-clause-taken g c = Taken-trans _ _ _ _ _ _ c.pieces.invarian
 
 pub returns-then-not-branch-clause-taken : goal.returns-then-not-branch-clause-taken
 returns-then-not-branch-clause-taken g c = Taken-trans _ _ _ _ _ _ c.pieces.invariant.taken c.fill.ensures.taken
+
+-- by search, and named so that a wrong body is refused here at once
+pub returns-then-not-branch-clause-front : goal.returns-then-not-branch-clause-front
+returns-then-not-branch-clause-front g c = search rules

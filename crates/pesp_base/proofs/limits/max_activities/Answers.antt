@@ -1,0 +1,9 @@
+-- Found by search, and named so that a wrong body is refused here at once.
+use Rattle.std.proofs.Common.{rules}
+use Rattle.pesp_base.proofs.limits.max_activities.Goals as goal
+
+pub returns-clause-value : goal.returns-clause-value
+returns-clause-value c = search rules
+
+pub returns-clause-few : goal.returns-clause-few
+returns-clause-few c = search rules
