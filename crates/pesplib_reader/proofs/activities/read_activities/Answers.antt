@@ -1,4 +1,6 @@
 -- Want of memory stands where the reading stopped, and a fault is that of the row that was read last.
+use Rattle.std.proofs.Common.{arith}
+use Rattle.std.proofs.lemmas.Grind.{common_steps}
 use Rattle.std.proofs.lemmas.Result.{err_from_is_err_and}
 use Rattle.pesp_instance.specs.Edited.{empty_network}
 use Rattle.pesplib_reader.specs.Reading.{activity_faults_behind, with_activity_row}

@@ -1,5 +1,5 @@
 -- An activity with other ends, listed there and no longer at the old ones, leaves an instance.
-use Rattle.std.proofs.Common.{◌≡◌, Some, sym, refl, ◌∙◌}
+use Rattle.std.proofs.Common.{◌≡◌, Some, sym, refl, ◌∙◌, rules}
 use Rattle.pesp_base.specs.declared.activity.Activity.{Activity}
 use Rattle.pesp_base.specs.Numbered.{with_number, change_in}
 use Rattle.pesp_instance.specs.Stored.{network_in}
@@ -33,3 +33,7 @@ returns-clause-ok c =
     let from = sym (rw (← c.self.view_is) at c.if-not-has_event.ensures.value) in
     let to = sym (rw (← c.self.view_is) at c.if-not-has_event-2.ensures.value) in
     rw (← c.self.view_is, is, from, to, same) refl
+
+-- by search, and named so that a wrong body is refused here at once
+pub returns-then-not-has_event-2-clause-err : goal.returns-then-not-has_event-2-clause-err
+returns-then-not-has_event-2-clause-err c = search rules

@@ -1,5 +1,6 @@
 -- What was read into the room stands behind what was held.
-use Rattle.std.proofs.Common.{◌≡◌, ℕ, ◌+◌, ◌-◌, ◌≤◌, List, ◌++◌, length, take, slice_range, sym, ap, ◌∙◌, rules, length-take-le}
+use Rattle.std.proofs.Common.{◌≡◌, ℕ, ◌+◌, ◌-◌, ◌≤◌, List, ◌++◌, length, take, slice_range, sym, ap, ◌∙◌, rules, length-take-le, arith}
+use Rattle.std.proofs.lemmas.Grind.{common_steps}
 use Rattle.std.proofs.Math.Seq.{take-append-add}
 use Rattle.std.proofs.lemmas.List.{take-append-le, with_items_is}
 use Rattle.std.proofs.lemmas.Slice.{between_from_start}
@@ -34,3 +35,10 @@ returns-clause-taken g c =
       ap (λ l. slice_range l 0 (n + count)) (with_items_is (with_items old.buffer moved) _ long)
           ∙ filled (take n packed) c.take.new.room rest c.args.self.now n count (length-take-le n packed within) same c.in_ok-count.ensures.count.0,
     )
+
+-- by search, and named so that a wrong body is refused here at once
+pub returns-clause-none : goal.returns-clause-none
+returns-clause-none g c = grind (arith, common_steps)
+
+pub returns-clause-mark : goal.returns-clause-mark
+returns-clause-mark g c = search rules

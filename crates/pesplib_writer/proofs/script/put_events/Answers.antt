@@ -1,0 +1,7 @@
+-- Found by search, and named so that a wrong body is refused here at once.
+use Rattle.std.proofs.Common.{arith}
+use Rattle.std.proofs.lemmas.Grind.{common_steps}
+use Rattle.pesplib_writer.proofs.script.put_events.Goals as goal
+
+pub loop-event-preserved : goal.loop-event-preserved
+loop-event-preserved c = grind (arith, common_steps)
