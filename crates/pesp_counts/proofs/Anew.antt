@@ -21,7 +21,8 @@ number e = e.id
 abbrev pub agrees_anew : ℕ → Option ℕ → Option ℕ → ℕ → Bool
 agrees_anew period old new r = agrees_with period new r && not (agrees_with period old r)
 
-some_below : (test : ℕ → Bool) (n r : ℕ) → r < n → test r ≡ true → list_any test (range_with_len 0 n) ≡ true
+-- one number below that passes
+pub some_below : (test : ℕ → Bool) (n r : ℕ) → r < n → test r ≡ true → list_any test (range_with_len 0 n) ≡ true
 some_below test n r below is =
     elim (cases_Bool (list_any test (range_with_len 0 n))) [
       | inl some ↦ some

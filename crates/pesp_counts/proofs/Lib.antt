@@ -47,6 +47,7 @@ pub mod Tightened
 pub mod Told
 pub mod Union
 pub mod Waiting
+pub mod Wider
 pub mod Windowed
 pub mod Windows
 pub mod Worked

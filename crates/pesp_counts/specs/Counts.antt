@@ -1,6 +1,6 @@
 -- Support counts by place: events and ends of activities are places here, and a pair is a place and a residue.
-use Rattle.std.specs.Prelude.{◌≡◌, ◌≢◌, ℕ, zero, suc, ◌+◌, ◌-◌, ◌*◌, ◌%◌, ◌<◌, ◌≤◌, Bool, true, false, ◌&&◌, nat_lt, cond, IsTrue, List, [], length, slice_index_or, AllPairs}
-use Rattle.std.specs.List.{Contains}
+use Rattle.std.specs.Prelude.{◌≡◌, ◌≢◌, ℕ, zero, suc, ◌+◌, ◌-◌, ◌*◌, ◌%◌, ◌<◌, ◌≤◌, Bool, true, false, ◌&&◌, nat_lt, cond, not, IsTrue, List, [], length, slice_index_or, AllPairs}
+use Rattle.std.specs.List.{Contains, list_any, range_with_len}
 use Rattle.pesp_domains.specs.Domains.{holds}
 use Rattle.pesp_domains.specs.Sweeps.{Of, Pairs}
 use Rattle.pesp_counts.specs.declared.end.End.{End}
@@ -11,6 +11,10 @@ use Rattle.pesp_counts.specs.declared.trail.Placed.{Placed}
 -- whether residue s of the other event goes with residue r of this one
 abbrev pub passes : ℕ → End → ℕ → ℕ → Bool
 passes period end r s = nat_lt ((s + (period - (r + end.first) % period)) % period) end.width
+
+-- whether a residue goes with residue 0 at the first end and not at the second one
+abbrev pub passes_more : ℕ → End → End → Bool
+passes_more period new old = list_any (λ s. passes period new 0 s && not (passes period old 0 s)) (range_with_len 0 period)
 
 -- the end of a number
 abbrev pub end_at : List End → ℕ → End

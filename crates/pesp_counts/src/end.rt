@@ -3,7 +3,7 @@
 ghost use Rattle.std.specs.Prelude.{◌≡◌, ℕ, ◌+◌, ◌<◌, ◌≤◌, ◌*◌, ◌↔◌, ◌||◌, IsTrue};
 ghost use Rattle.pesp_base.specs.Residues.{reach};
 ghost use Rattle.pesp_base.specs.Tensions.{IsMet, residue};
-ghost use Rattle.pesp_counts.specs.Counts.{passes};
+ghost use Rattle.pesp_counts.specs.Counts.{passes, passes_more};
 ghost use Rattle.pesp_counts.specs.Ranges.{is_from_to};
 
 use pesp_base::{Period, Span};
@@ -82,6 +82,18 @@ impl End {
             first,
             width,
         }
+    }
+
+    /// Whether a residue goes with residue 0 at this end that does not at the other one.
+    pub fn passes_more(self, period: u16, other: End) -> bool
+        requires period { 2 * period < 65536 }
+        requires first { (self.first < period) × (other.first < period) }
+        requires some { 0 < self.width }
+        requires width { (self.width ≤ period) × (other.width ≤ period) }
+        ensures { result ≡ passes_more period self other }
+    {
+        let ahead = (self.first + (period - other.first)) % period;
+        other.width < period && other.width < ahead + self.width
     }
 
     /// The residues of the other event that go with one of this one.

@@ -4,7 +4,8 @@ ghost use Rattle.std.specs.Prelude.{◌≡◌, nat_lt, length};
 ghost use Rattle.pesp_instance.specs.Edited.{refixed};
 ghost use Rattle.pesp_counts.specs.Reached.{admits_anew, admits_more, starts};
 
-use pesp_base::{EventId, Period, Span, allows};
+use crate::End;
+use pesp_base::{EventId, Period, Span};
 use pesp_instance::{Edit, Event, Instance};
 
 /// Whether the event may stand at a residue with this fixed time, or with none, at which it may not now.
@@ -24,7 +25,8 @@ fn admits_anew(instance: &Instance, event: EventId, fixed: Option<u16>) -> bool
 fn admits_more(period: Period, old: Span, new: Span) -> bool
     ensures { result ≡ admits_more period old new }
 {
-    (0..period.get()).any(|ahead| allows(period, new, 0, ahead) && !allows(period, old, 0, ahead))
+    let (old, new) = (End::tail(period, old, 0, 0), End::tail(period, new, 0, 0));
+    new.passes_more(period.get(), old)
 }
 
 /// Whether chains of pairs that come back may begin at some event.
