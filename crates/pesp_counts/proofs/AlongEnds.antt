@@ -8,13 +8,13 @@ use Rattle.std.specs.Option.{option_map_or}
 use Rattle.pesp_instance.specs.Network.{Network, admits}
 use Rattle.pesp_domains.specs.Sweeps.{Pairs}
 use Rattle.pesp_domains.proofs.Families.{and_left, and_right}
-use Rattle.pesp_counts.specs.declared.end.End.{End}
-use Rattle.pesp_counts.specs.declared.end.Window.{Window}
-use Rattle.pesp_counts.specs.Counts.{has_at, passes}
-use Rattle.pesp_counts.specs.Links.{Links}
-use Rattle.pesp_counts.specs.Places.{number_at}
+use Rattle.pesp_links.specs.declared.end.End.{End}
+use Rattle.pesp_links.specs.declared.end.Window.{Window}
+use Rattle.pesp_links.specs.Ends.{is_from_to, passes}
+use Rattle.pesp_counts.specs.Counts.{has_at}
+use Rattle.pesp_links.specs.Links.{Links}
+use Rattle.pesp_links.specs.Places.{number_at}
 use Rattle.pesp_counts.specs.Put.{Back}
-use Rattle.pesp_counts.specs.Ranges.{is_from_to}
 use Rattle.pesp_counts.specs.Restored.{IsBrought, in_window, of_admitted, of_end, of_pair, of_range, of_start, of_starts}
 use Rattle.pesp_counts.specs.Restoring.{admits_at}
 use Rattle.pesp_counts.specs.Supports.{HaveSameShape, Supports, held}

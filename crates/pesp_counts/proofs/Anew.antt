@@ -11,7 +11,7 @@ use Rattle.pesp_instance.specs.declared.event.Event.{Event}
 use Rattle.pesp_instance.specs.Edited.{edited, effect, refixed}
 use Rattle.pesp_instance.specs.Network.{IsNetwork, Network, admits, agrees_with, event_of, fixed_of}
 use Rattle.pesp_instance.proofs.Rising.{number-with_number, with_number-change_in}
-use Rattle.pesp_domains.proofs.Families.{in_range, none_passes}
+use Rattle.pesp_links.proofs.Wider.{some_below}
 use Rattle.pesp_counts.specs.Reached.{admits_anew}
 
 abbrev number : Event → ℕ
@@ -20,14 +20,6 @@ number e = e.id
 -- whether a residue agrees with the second fixed time and not with the first one
 abbrev pub agrees_anew : ℕ → Option ℕ → Option ℕ → ℕ → Bool
 agrees_anew period old new r = agrees_with period new r && not (agrees_with period old r)
-
--- one number below that passes
-pub some_below : (test : ℕ → Bool) (n r : ℕ) → r < n → test r ≡ true → list_any test (range_with_len 0 n) ≡ true
-some_below test n r below is =
-    elim (cases_Bool (list_any test (range_with_len 0 n))) [
-      | inl some ↦ some
-      | inr none ↦ absurd (none_passes test (range_with_len 0 n) none r (in_range 0 n r (omega arith) (omega (arith, below))) is)
-    ]
 
 none_of : (test : ℕ → Bool) (rs : List ℕ) → ((r : ℕ) → test r ≡ false) → list_any test rs ≡ false
 none_of test [] each = refl

@@ -10,8 +10,8 @@ use Rattle.pesp_domains.specs.Sweeps.{AreDomains}
 use Rattle.pesp_domains.proofs.Pushes.{pushed_none}
 use Rattle.pesp_counts.specs.Counts.{has_at}
 use Rattle.pesp_counts.specs.Keeping.{AreSettled, HaveRoom, IsKeeping, adds}
-use Rattle.pesp_counts.specs.Links.{Links}
-use Rattle.pesp_counts.specs.Places.{numbered}
+use Rattle.pesp_links.specs.Links.{Links}
+use Rattle.pesp_links.specs.Places.{numbered}
 use Rattle.pesp_counts.specs.Supports.{HaveSameShape, Supports}
 use Rattle.pesp_counts.proofs.Keeping.{for_same}
 use Rattle.pesp_counts.proofs.Remade.{out_none}

@@ -12,12 +12,12 @@ use Rattle.pesp_domains.specs.Sweeps.{Pairs}
 use Rattle.pesp_domains.proofs.Families.{and_left, and_right}
 use Rattle.pesp_counts.specs.declared.bringing.Admitted.{Admitted}
 use Rattle.pesp_counts.specs.declared.bringing.Admitted.TheVariants.{Any, Nothing, One}
-use Rattle.pesp_counts.specs.declared.end.Window.{Window}
+use Rattle.pesp_links.specs.declared.end.Window.{Window}
 use Rattle.pesp_counts.specs.declared.trail.Placed.{Placed}
 use Rattle.pesp_counts.specs.Counts.{has_at}
-use Rattle.pesp_counts.specs.Links.{Links}
+use Rattle.pesp_links.specs.Links.{Links}
 use Rattle.pesp_counts.specs.Put.{Back}
-use Rattle.pesp_counts.specs.Ranges.{is_from_to}
+use Rattle.pesp_links.specs.Ends.{is_from_to}
 use Rattle.pesp_counts.specs.Restored.{HasRoom, IsBrought, admitted_by, in_window, of_admitted, of_pair, of_range, of_window}
 use Rattle.pesp_counts.specs.Restoring.{admits_at}
 use Rattle.pesp_counts.specs.Supports.{HaveSameShape, Supports, held, is_in, joined}

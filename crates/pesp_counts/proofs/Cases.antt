@@ -10,8 +10,9 @@ use Rattle.pesp_instance.specs.Network.{Network, new_event}
 use Rattle.pesp_domains.specs.declared.side.Side.TheVariants.{Head}
 use Rattle.pesp_domains.proofs.Families.{here, not_in_none}
 use Rattle.pesp_domains.proofs.Sweeps.{swept}
-use Rattle.pesp_counts.specs.declared.end.End.{End}
-use Rattle.pesp_counts.specs.Counts.{passes, supporters}
+use Rattle.pesp_links.specs.declared.end.End.{End}
+use Rattle.pesp_links.specs.Ends.{passes}
+use Rattle.pesp_counts.specs.Counts.{supporters}
 use Rattle.pesp_counts.specs.Reached.{Reached, admits_more, starts}
 use Rattle.pesp_counts.specs.Reached.Reached.{begins, follows}
 

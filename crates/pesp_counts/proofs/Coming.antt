@@ -7,10 +7,11 @@ use Rattle.std.specs.List.{Contains, list_any}
 use Rattle.pesp_instance.specs.Network.{Network}
 use Rattle.pesp_domains.specs.Sweeps.{Of, Pairs}
 use Rattle.pesp_domains.proofs.Families.{and_left, and_right, none_passes, passing}
-use Rattle.pesp_counts.specs.declared.end.End.{End}
+use Rattle.pesp_links.specs.declared.end.End.{End}
 use Rattle.pesp_counts.specs.declared.trail.Placed.{Placed}
-use Rattle.pesp_counts.specs.Counts.{AreLinked, end_at, ends_of, has_at, passes}
-use Rattle.pesp_counts.specs.Links.{Links}
+use Rattle.pesp_links.specs.Ends.{AreLinked, end_at, ends_of, passes}
+use Rattle.pesp_counts.specs.Counts.{has_at}
+use Rattle.pesp_links.specs.Links.{Links}
 use Rattle.pesp_counts.specs.Put.{Back}
 use Rattle.pesp_counts.specs.Restored.{AreExactBut, AreSparedTogether, HasRoom, IsBrought, of_end, of_ends, of_starts}
 use Rattle.pesp_counts.specs.Restoring.{IsRestored, ReachedAt, admits_at, is_spared}

@@ -13,14 +13,14 @@ use Rattle.pesp_domains.specs.declared.side.Side.{Side}
 use Rattle.pesp_domains.specs.declared.side.Side.TheVariants.{Tail, Head}
 use Rattle.pesp_domains.proofs.Edits.{effect_is}
 use Rattle.pesp_domains.proofs.Families.{here, here_or_there, not_in_none, there}
-use Rattle.pesp_counts.specs.Links.{Links, end_number}
+use Rattle.pesp_links.specs.Links.{Links, end_number}
 use Rattle.pesp_counts.specs.Loosening.{AreSpared, AreStarts}
-use Rattle.pesp_counts.specs.Places.{ArePlaces, place_of}
+use Rattle.pesp_links.specs.Places.{ArePlaces, place_of}
 use Rattle.pesp_counts.specs.Reached.{admits_anew, ends_of, is_edited, is_looser, starts}
 use Rattle.pesp_counts.specs.Restoring.{is_spared}
 use Rattle.pesp_counts.proofs.Bridge.{the_same}
-use Rattle.pesp_counts.proofs.StandAround.{apart_places}
-use Rattle.pesp_counts.proofs.StandMembers.{in_change_other, in_take_out, of_change, of_take_out}
+use Rattle.pesp_links.proofs.StandAround.{apart_places}
+use Rattle.pesp_links.proofs.StandMembers.{in_change_other, in_take_out, of_change, of_take_out}
 
 -- ---- starts
 

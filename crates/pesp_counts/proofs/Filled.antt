@@ -15,8 +15,8 @@ use Rattle.pesp_instance.proofs.Rising.{IsAbove, Rises, Rises-from_increasing}
 use Rattle.pesp_domains.proofs.Edits.{has_put}
 use Rattle.pesp_domains.proofs.Families.{here}
 use Rattle.pesp_counts.specs.Keeping.{AreFor}
-use Rattle.pesp_counts.specs.Links.{IsEndOf, Links, StandFor}
-use Rattle.pesp_counts.specs.Places.{place_of}
+use Rattle.pesp_links.specs.Links.{IsEndOf, Links, StandFor}
+use Rattle.pesp_links.specs.Places.{place_of}
 use Rattle.pesp_counts.specs.Supports.{Supports}
 
 module _ {X : Type 0} (number : X → ℕ) where

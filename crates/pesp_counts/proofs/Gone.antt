@@ -9,9 +9,10 @@ use Rattle.pesp_domains.specs.Sweeps.{Of, Pairs}
 use Rattle.pesp_domains.proofs.Families.{here}
 use Rattle.pesp_domains.proofs.Pushes.{limited}
 use Rattle.pesp_counts.specs.declared.trail.Placed.{Placed}
-use Rattle.pesp_counts.specs.Counts.{IsClosed, KeepsClosed, ends_of, has_at}
-use Rattle.pesp_counts.specs.Links.{Links, StandFor}
-use Rattle.pesp_counts.specs.Places.{place_of}
+use Rattle.pesp_links.specs.Ends.{ends_of}
+use Rattle.pesp_counts.specs.Counts.{IsClosed, KeepsClosed, has_at}
+use Rattle.pesp_links.specs.Links.{Links, StandFor}
+use Rattle.pesp_links.specs.Places.{place_of}
 use Rattle.pesp_counts.specs.Supports.{IsTaken, Supports, is_in}
 use Rattle.pesp_counts.specs.Works.{IsWorked, KeepPlaces, ends_at}
 use Rattle.pesp_counts.proofs.Taken.{eqb_is}

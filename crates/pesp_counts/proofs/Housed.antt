@@ -17,10 +17,11 @@ use Rattle.pesp_domains.specs.declared.pair.Pair.{Pair}
 use Rattle.pesp_domains.proofs.Edits.{effect_is, undone}
 use Rattle.pesp_domains.proofs.Families.{not_in_none}
 use Rattle.pesp_domains.proofs.Laws.{InDomains-admitted}
-use Rattle.pesp_counts.specs.Counts.{end_at, ends_of, has_at}
+use Rattle.pesp_links.specs.Ends.{end_at, ends_of}
+use Rattle.pesp_counts.specs.Counts.{has_at}
 use Rattle.pesp_counts.specs.Keeping.{AreAtRest, AreFor, AreSettled, IsHousedAt, SeeSame, rows_of}
-use Rattle.pesp_counts.specs.Links.{IsChangedAt, IsEndOfPlace, Links, LookSame, StandFor}
-use Rattle.pesp_counts.specs.Places.{place_of}
+use Rattle.pesp_links.specs.Links.{IsChangedAt, IsEndOfPlace, Links, LookSame, StandFor}
+use Rattle.pesp_links.specs.Places.{place_of}
 use Rattle.pesp_counts.specs.Supports.{HaveSameShape, IsRoomier, Supports}
 use Rattle.pesp_counts.proofs.Asks.{first_fails}
 use Rattle.pesp_counts.proofs.Bridge.{counts_settle, numbered_at, test_of}

@@ -14,10 +14,11 @@ use Rattle.pesp_domains.specs.Kept.{ArePushed}
 use Rattle.pesp_domains.specs.Sweeps.{AreDomains, Pairs}
 use Rattle.pesp_domains.proofs.Pushes.{limited, push_settles, pushed_more}
 use Rattle.pesp_counts.specs.declared.trail.Placed.{Placed}
-use Rattle.pesp_counts.specs.Counts.{AreLinked, has_at}
+use Rattle.pesp_links.specs.Ends.{AreLinked}
+use Rattle.pesp_counts.specs.Counts.{has_at}
 use Rattle.pesp_counts.specs.Keeping.{AreFor, AreMarks, AreSettled, HaveRoom, IsKeeping, IsNarrowed, rows_of, with_pairs}
-use Rattle.pesp_counts.specs.Links.{Links}
-use Rattle.pesp_counts.specs.Places.{ArePlaces, Places, number_at, numbered, place_of}
+use Rattle.pesp_links.specs.Links.{Links}
+use Rattle.pesp_links.specs.Places.{ArePlaces, Places, number_at, numbered, place_of}
 use Rattle.pesp_counts.specs.Supports.{AreExact, AreLevel, AreOut, HaveSameShape, IsTaken, Supports, is_in}
 use Rattle.pesp_counts.proofs.Bridge.{counts_settle, domains_live, numbered_at, numbered_same, stand_linked, the_same}
 use Rattle.pesp_counts.proofs.Marks.{fit_same, keeps_like}

@@ -9,14 +9,12 @@ pub mod Carried
 pub mod Coming
 pub mod Degrees
 pub mod EditStarts
-pub mod EndLaws
 pub mod Filled
 pub mod Followed
 pub mod Gone
 pub mod Grown
 pub mod Housed
 pub mod Keeping
-pub mod ListLaws
 pub mod Looked
 pub mod Loosened
 pub mod Marks
@@ -32,14 +30,6 @@ pub mod Rows
 pub mod Sparing
 pub mod Spent
 pub mod Spread
-pub mod StandAround
-pub mod StandEdits
-pub mod StandLaws
-pub mod StandLists
-pub mod StandMembers
-pub mod StandMore
-pub mod StandMoved
-pub mod StandPairs
 pub mod Supported
 pub mod Supporters
 pub mod Taken
@@ -49,5 +39,4 @@ pub mod Union
 pub mod Waiting
 pub mod Wider
 pub mod Windowed
-pub mod Windows
 pub mod Worked

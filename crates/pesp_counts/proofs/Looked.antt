@@ -7,10 +7,11 @@ use Rattle.std.proofs.Math.Nat.{mul-le-mul_left}
 use Rattle.pesp_domains.specs.Sweeps.{Pairs}
 use Rattle.pesp_counts.specs.declared.bringing.Admitted.{Admitted}
 use Rattle.pesp_counts.specs.declared.bringing.Admitted.TheVariants.{Any, Nothing, One}
-use Rattle.pesp_counts.specs.declared.end.Window.{Window}
+use Rattle.pesp_links.specs.declared.end.Window.{Window}
 use Rattle.pesp_counts.specs.declared.trail.Placed.{Placed}
-use Rattle.pesp_counts.specs.Counts.{ends_of, has_at}
-use Rattle.pesp_counts.specs.Links.{Links}
+use Rattle.pesp_links.specs.Ends.{ends_of}
+use Rattle.pesp_counts.specs.Counts.{has_at}
+use Rattle.pesp_links.specs.Links.{Links}
 use Rattle.pesp_counts.specs.Put.{Back}
 use Rattle.pesp_counts.specs.Restored.{IsBrought, in_window, of_window}
 use Rattle.pesp_counts.specs.Supports.{Supports, is_in}

@@ -10,7 +10,7 @@ use Rattle.pesp_domains.specs.Sweeps.{Of, Pairs}
 use Rattle.pesp_counts.specs.declared.trail.Placed.{Placed}
 use Rattle.pesp_counts.specs.Counts.{ArePending, KeepsClosed, has_at}
 use Rattle.pesp_counts.specs.Keeping.{AreAtRest, AreLive, IsNarrowed}
-use Rattle.pesp_counts.specs.Links.{Links}
+use Rattle.pesp_links.specs.Links.{Links}
 use Rattle.pesp_counts.specs.Supports.{AreExact, AreLevel, AreOut, Fit, HaveSameShape, IsTaken, Keeps, Supports, is_in}
 use Rattle.pesp_counts.proofs.Taken.{found_in, kept_shape, level_after, once_then, shape_then, stands_in, taken_fewer, taken_then}
 

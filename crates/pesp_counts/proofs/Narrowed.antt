@@ -3,11 +3,12 @@ use Rattle.std.proofs.Common.{◌≡◌, ◌≢◌, ℕ, ◌<◌, ◌==◌, ◌&
 use Rattle.std.specs.List.{Contains}
 use Rattle.std.proofs.lemmas.Bool.{and_from, and_parts, cases_eq, eq-eqb, ne_eqb, false≢true}
 use Rattle.pesp_domains.specs.Sweeps.{Of, Pairs}
-use Rattle.pesp_counts.specs.declared.end.End.{End}
+use Rattle.pesp_links.specs.declared.end.End.{End}
 use Rattle.pesp_counts.specs.declared.trail.Placed.{Placed}
-use Rattle.pesp_counts.specs.Counts.{AreLinked, IsClosed, IsLiveAt, KeepsClosed, count_at, end_at, ends_of, has_at, passes, supporters}
+use Rattle.pesp_links.specs.Ends.{AreLinked, end_at, ends_of, passes}
+use Rattle.pesp_counts.specs.Counts.{IsClosed, IsLiveAt, KeepsClosed, count_at, has_at, supporters}
 use Rattle.pesp_counts.specs.Keeping.{AreAtRestBut, ArePendingBut}
-use Rattle.pesp_counts.specs.Links.{Links}
+use Rattle.pesp_links.specs.Links.{Links}
 use Rattle.pesp_counts.specs.Supports.{AreExact, AreLevel, HaveSameShape, IsTaken, Keeps, Supports, is_in, without_those}
 use Rattle.pesp_counts.proofs.PutBack.{pending_but}
 use Rattle.pesp_counts.proofs.Remade.{out_none}

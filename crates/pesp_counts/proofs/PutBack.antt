@@ -7,9 +7,10 @@ use Rattle.pesp_domains.specs.Removals.{without}
 use Rattle.pesp_domains.specs.Sweeps.{Of}
 use Rattle.pesp_domains.proofs.Families.{none_passes, passing}
 use Rattle.pesp_counts.specs.declared.trail.Placed.{Placed}
-use Rattle.pesp_counts.specs.Counts.{ArePending, IsLiveAt, KeepsClosed, count_at, end_at, ends_of, has_at, passes}
+use Rattle.pesp_links.specs.Ends.{end_at, ends_of, passes}
+use Rattle.pesp_counts.specs.Counts.{ArePending, IsLiveAt, KeepsClosed, count_at, has_at}
 use Rattle.pesp_counts.specs.Keeping.{AreAtRest, AreLive, ArePendingBut}
-use Rattle.pesp_counts.specs.Links.{Links}
+use Rattle.pesp_links.specs.Links.{Links}
 use Rattle.pesp_counts.specs.Supports.{AreExact, AreLevel, AreOut, HaveSameShape, IsTaken, Keeps, Supports, is_in, lacks_partner, without_those}
 use Rattle.pesp_counts.proofs.Marks.{out_more, pending_rest}
 use Rattle.pesp_counts.proofs.Ranges.{all_and, no_and}

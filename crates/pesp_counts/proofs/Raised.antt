@@ -11,11 +11,11 @@ use Rattle.std.proofs.lemmas.List.Sums.{sum_by-set}
 use Rattle.pesp_domains.specs.Domains.{holds}
 use Rattle.pesp_domains.specs.Sweeps.{Pairs}
 use Rattle.pesp_domains.proofs.Families.{here, none_passes, passing}
-use Rattle.pesp_counts.specs.declared.end.End.{End}
+use Rattle.pesp_links.specs.declared.end.End.{End}
 use Rattle.pesp_counts.specs.declared.trail.Placed.{Placed}
-use Rattle.pesp_counts.specs.Counts.{AreLinked, IsExactAt, count_at, end_at, ends_of, has_at, held_in, passes, supporters}
-use Rattle.pesp_counts.specs.Links.{Links}
-use Rattle.pesp_counts.specs.Ranges.{is_from_to}
+use Rattle.pesp_links.specs.Ends.{AreLinked, end_at, ends_of, is_from_to, passes}
+use Rattle.pesp_counts.specs.Counts.{IsExactAt, count_at, has_at, held_in, supporters}
+use Rattle.pesp_links.specs.Links.{Links}
 use Rattle.pesp_counts.specs.Supports.{AreExact, AreLevel, AreOut, AreSupports, Fit, HaveSameShape, Supports, held, is_in, joined}
 use Rattle.pesp_counts.proofs.Grown.{supporters_le}
 use Rattle.pesp_counts.proofs.Supporters.{one, supporters_same, supporters_without}

@@ -4,7 +4,8 @@ use Rattle.std.proofs.lemmas.Bool.{cases_Bool, cases_eq, cases_lt, eq-eqb, ne_eq
 use Rattle.std.proofs.lemmas.List.{get_or-set_same, get_or-set_other}
 use Rattle.pesp_domains.specs.Removals.{without}
 use Rattle.pesp_counts.specs.Counts.{count_at, has_at}
-use Rattle.pesp_counts.specs.Ranges.{Fall, Thins, is_from_to}
+use Rattle.pesp_links.specs.Ends.{is_from_to}
+use Rattle.pesp_counts.specs.Ranges.{Fall, Thins}
 use Rattle.pesp_counts.proofs.Spread.{blocks_apart}
 use Rattle.pesp_counts.proofs.Supporters.{one}
 

@@ -11,12 +11,13 @@ use Rattle.pesp_domains.specs.Sweeps.{Of}
 use Rattle.pesp_domains.proofs.Edits.{effect_is}
 use Rattle.pesp_domains.proofs.Families.{not_in_none}
 use Rattle.pesp_counts.specs.declared.trail.Placed.{Placed}
-use Rattle.pesp_counts.specs.Counts.{end_at, ends_of, has_at, passes}
+use Rattle.pesp_links.specs.Ends.{end_at, ends_of, passes}
+use Rattle.pesp_counts.specs.Counts.{has_at}
 use Rattle.pesp_counts.specs.Keeping.{AreSettled, rows_of}
-use Rattle.pesp_counts.specs.Links.{Links, StandFor, end_number}
+use Rattle.pesp_links.specs.Links.{Links, StandFor, end_number}
 use Rattle.pesp_counts.specs.Loosened.{IsReach}
 use Rattle.pesp_counts.specs.Loosening.{AreReached, AreSpared, AreStarts}
-use Rattle.pesp_counts.specs.Places.{number_at, place_of}
+use Rattle.pesp_links.specs.Places.{number_at, place_of}
 use Rattle.pesp_counts.specs.Reached.{IsOutside, Reached}
 use Rattle.pesp_counts.specs.Reached.Reached.{begins, follows}
 use Rattle.pesp_counts.specs.Restoring.{IsRestored, ReachedAt, admits_at, is_spared}

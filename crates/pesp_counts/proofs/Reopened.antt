@@ -6,10 +6,11 @@ use Rattle.pesp_instance.specs.Network.{Network, admits}
 use Rattle.pesp_domains.specs.declared.side.Side.{Side}
 use Rattle.pesp_domains.specs.Sweeps.{Of, Pairs}
 use Rattle.pesp_counts.specs.declared.trail.Placed.{Placed}
-use Rattle.pesp_counts.specs.Counts.{IsLiveAt, end_at, ends_of, has_at, passes}
+use Rattle.pesp_links.specs.Ends.{end_at, ends_of, passes}
+use Rattle.pesp_counts.specs.Counts.{IsLiveAt, has_at}
 use Rattle.pesp_counts.specs.Keeping.{AreAtRest, AreAtRestBut, ArePendingBut}
-use Rattle.pesp_counts.specs.Links.{Links, StandFor, end_number, opposite}
-use Rattle.pesp_counts.specs.Places.{number_at}
+use Rattle.pesp_links.specs.Links.{Links, StandFor, end_number, opposite}
+use Rattle.pesp_links.specs.Places.{number_at}
 use Rattle.pesp_counts.specs.Restored.{AreExactBut, AreSparedTogether}
 use Rattle.pesp_counts.specs.Restoring.{IsRestored, ReachedAt, admits_at, is_spared}
 use Rattle.pesp_counts.specs.Restoring.ReachedAt.{begins, follows}

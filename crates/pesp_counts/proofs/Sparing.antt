@@ -10,9 +10,10 @@ use Rattle.pesp_domains.specs.declared.side.Side.{Side}
 use Rattle.pesp_domains.specs.declared.side.Side.TheVariants.{Tail, Head}
 use Rattle.pesp_domains.specs.Sweeps.{Pairs}
 use Rattle.pesp_domains.proofs.Families.{in_filter, of_filter}
-use Rattle.pesp_counts.specs.declared.end.End.{End}
-use Rattle.pesp_counts.specs.Counts.{AreLinked, IsExactAt, count_at, end_at, ends_of, passes}
-use Rattle.pesp_counts.specs.Links.{Links, StandFor, end_number, opposite}
+use Rattle.pesp_links.specs.declared.end.End.{End}
+use Rattle.pesp_links.specs.Ends.{AreLinked, end_at, ends_of, passes}
+use Rattle.pesp_counts.specs.Counts.{IsExactAt, count_at}
+use Rattle.pesp_links.specs.Links.{Links, StandFor, end_number, opposite}
 use Rattle.pesp_counts.specs.Restored.{AreSparedTogether, of_end, of_ends}
 use Rattle.pesp_counts.specs.Restoring.{is_spared}
 use Rattle.pesp_counts.specs.Supports.{joined}

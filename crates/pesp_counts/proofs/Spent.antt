@@ -4,8 +4,9 @@ use Rattle.std.proofs.Math.Nat.{mul-add}
 use Rattle.std.proofs.lemmas.List.{drop-append-le}
 use Rattle.std.proofs.lemmas.List.Sums.{sum_by-append, sum_by-drop_more}
 use Rattle.pesp_counts.specs.declared.trail.Placed.{Placed}
-use Rattle.pesp_counts.specs.Counts.{ends_of, has_at}
-use Rattle.pesp_counts.specs.Links.{Links}
+use Rattle.pesp_links.specs.Ends.{ends_of}
+use Rattle.pesp_counts.specs.Counts.{has_at}
+use Rattle.pesp_links.specs.Links.{Links}
 use Rattle.pesp_counts.specs.Supports.{IsTaken, Keeps, Supports}
 use Rattle.pesp_counts.specs.Works.{ends_at}
 use Rattle.pesp_counts.proofs.Taken.{taken_same}

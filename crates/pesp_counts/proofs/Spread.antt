@@ -9,8 +9,9 @@ use Rattle.std.proofs.lemmas.List.{get_or-append-add, length-append}
 use Rattle.std.proofs.lemmas.List.Elements.{Contains-append_right}
 use Rattle.pesp_domains.proofs.Families.{and_left, and_right, here, none_passes, passing}
 use Rattle.pesp_domains.proofs.Passes.{without_other}
-use Rattle.pesp_counts.specs.declared.end.End.{End}
-use Rattle.pesp_counts.specs.Counts.{AreLinked, IsExactAt, IsLiveAt, KeepsClosed, count_at, end_at, ends_of, passes}
+use Rattle.pesp_links.specs.declared.end.End.{End}
+use Rattle.pesp_links.specs.Ends.{AreLinked, end_at, ends_of, passes}
+use Rattle.pesp_counts.specs.Counts.{IsExactAt, IsLiveAt, KeepsClosed, count_at}
 use Rattle.pesp_counts.proofs.Supporters.{one, supporters_from, supporters_none, supporters_same, supporters_without}
 
 eqb_is : (m n : ℕ) → (m == n) ≡ true → m ≡ n

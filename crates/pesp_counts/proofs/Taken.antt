@@ -8,10 +8,10 @@ use Rattle.std.proofs.lemmas.List.Folds.{list_any-append}
 use Rattle.pesp_domains.specs.Removals.{without}
 use Rattle.pesp_domains.specs.Sweeps.{Of, Pairs}
 use Rattle.pesp_domains.proofs.Families.{and_left, and_right, none_passes, passing}
-use Rattle.pesp_counts.specs.declared.end.End.{End}
+use Rattle.pesp_links.specs.declared.end.End.{End}
 use Rattle.pesp_counts.specs.declared.trail.Placed.{Placed}
 use Rattle.pesp_counts.specs.Counts.{ArePending, KeepsClosed, has_at}
-use Rattle.pesp_counts.specs.Links.{Links}
+use Rattle.pesp_links.specs.Links.{Links}
 use Rattle.pesp_counts.specs.Supports.{Fit, HaveSameShape, IsTaken, Keeps, Supports, is_in}
 use Rattle.pesp_counts.proofs.Ranges.{no_and}
 

@@ -17,8 +17,8 @@ use Rattle.pesp_domains.proofs.Pushes.{limited, limited_agrees, limited_keeps}
 use Rattle.pesp_domains.proofs.Families.{and_left}
 use Rattle.pesp_counts.specs.Counts.{KeepsClosed, has_at}
 use Rattle.pesp_counts.specs.Keeping.{AreAtRest, AreFor, AreSettled, IsNarrowed, adds, rows_of}
-use Rattle.pesp_counts.specs.Links.{Links, StandFor}
-use Rattle.pesp_counts.specs.Places.{Places, numbered, place_of}
+use Rattle.pesp_links.specs.Links.{Links, StandFor}
+use Rattle.pesp_links.specs.Places.{Places, numbered, place_of}
 use Rattle.pesp_counts.specs.Reached.{admits_anew, ends_of, starts}
 use Rattle.pesp_counts.specs.Supports.{Supports}
 use Rattle.pesp_counts.proofs.Anew.{unfixed_anew}

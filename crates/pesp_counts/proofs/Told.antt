@@ -19,9 +19,9 @@ use Rattle.pesp_domains.proofs.Families.{and_left, and_right, none_passes, passi
 use Rattle.pesp_domains.proofs.Sweeps.{left, swept, swept_at_last}
 use Rattle.pesp_counts.specs.declared.trail.Placed.{Placed}
 use Rattle.pesp_counts.specs.Keeping.{AreFor, HaveRoom}
-use Rattle.pesp_counts.specs.Links.{Links, StandFor}
+use Rattle.pesp_links.specs.Links.{Links, StandFor}
 use Rattle.pesp_counts.specs.Loosening.{AreReached, IsLoosened}
-use Rattle.pesp_counts.specs.Places.{number_at, place_of}
+use Rattle.pesp_links.specs.Places.{number_at, place_of}
 use Rattle.pesp_counts.specs.Reached.{Reached, starts}
 use Rattle.pesp_counts.specs.Restores.{IsEventPlace, Restores, StaysWithin, numbered_pair}
 use Rattle.pesp_counts.specs.Supports.{Supports}
@@ -29,7 +29,7 @@ use Rattle.pesp_counts.proofs.Asks.{asks_again}
 use Rattle.pesp_counts.proofs.Bridge.{place_is, some_of, the_same}
 use Rattle.pesp_counts.proofs.ReachLaws.{outside_of}
 use Rattle.pesp_counts.proofs.Spread.{block_below, blocks_apart}
-use Rattle.pesp_counts.proofs.StandMembers.{in_map, of_map}
+use Rattle.pesp_links.proofs.StandMembers.{in_map, of_map}
 use Rattle.pesp_counts.proofs.Taken.{found_in, stands_in}
 use Rattle.pesp_counts.proofs.Union.{reach_covers, reached_nowhere}
 

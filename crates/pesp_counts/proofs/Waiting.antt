@@ -5,9 +5,10 @@ use Rattle.std.proofs.lemmas.Bool.{cases_Bool, cases_eq, eq-eqb, ne_eqb, falseâ‰
 use Rattle.pesp_domains.specs.Removals.{without}
 use Rattle.pesp_domains.specs.Sweeps.{Of, Pairs}
 use Rattle.pesp_domains.proofs.Families.{and_left}
-use Rattle.pesp_counts.specs.declared.end.End.{End}
+use Rattle.pesp_links.specs.declared.end.End.{End}
 use Rattle.pesp_counts.specs.declared.trail.Placed.{Placed}
-use Rattle.pesp_counts.specs.Counts.{ArePending, IsExactAt, IsLiveAt, end_at, ends_of, has_at, passes}
+use Rattle.pesp_links.specs.Ends.{end_at, ends_of, passes}
+use Rattle.pesp_counts.specs.Counts.{ArePending, IsExactAt, IsLiveAt, has_at}
 use Rattle.pesp_counts.specs.Supports.{IsTaken, Supports}
 use Rattle.pesp_counts.proofs.Supporters.{supporters_same}
 use Rattle.pesp_counts.proofs.Ranges.{no_and}

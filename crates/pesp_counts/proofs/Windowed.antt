@@ -3,13 +3,14 @@ use Rattle.std.proofs.Common.{◌≡◌, ◌≢◌, ℕ, zero, suc, ◌+◌, ◌
 use Rattle.std.specs.Int.{from_bool}
 use Rattle.std.proofs.Math.Nat.{mod-add-mod, mod-lt}
 use Rattle.std.proofs.lemmas.Bool.{cases_eq, cases_lt, eq-eqb, ne_eqb}
-use Rattle.pesp_counts.specs.declared.end.End.{End}
+use Rattle.pesp_links.specs.declared.end.End.{End}
 use Rattle.pesp_domains.specs.Sweeps.{Pairs}
-use Rattle.pesp_counts.specs.Counts.{IsExactAt, end_at, passes, supporters}
+use Rattle.pesp_links.specs.Ends.{end_at, passes}
+use Rattle.pesp_counts.specs.Counts.{IsExactAt, supporters}
 use Rattle.pesp_counts.specs.Supports.{IsWide, around}
 use Rattle.pesp_counts.proofs.Raised.{block_out}
 use Rattle.pesp_counts.proofs.Supporters.{one, supporters_same}
-use Rattle.pesp_counts.proofs.Windows.{mod_above, mod_below}
+use Rattle.pesp_links.proofs.Windows.{mod_above, mod_below}
 
 -- ---- a window that moves on
 

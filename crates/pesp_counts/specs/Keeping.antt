@@ -10,9 +10,10 @@ use Rattle.pesp_domains.specs.Kept.{ArePushed}
 use Rattle.pesp_domains.proofs.Pushes.{limited}
 use Rattle.pesp_domains.specs.Sweeps.{AreDomains, Of, Pairs}
 use Rattle.pesp_counts.specs.declared.trail.Placed.{Placed}
-use Rattle.pesp_counts.specs.Counts.{IsExactAt, IsLiveAt, KeepsClosed, end_at, ends_of, has_at}
-use Rattle.pesp_counts.specs.Links.{Links, StandFor}
-use Rattle.pesp_counts.specs.Places.{numbered, place_of}
+use Rattle.pesp_links.specs.Ends.{end_at, ends_of}
+use Rattle.pesp_counts.specs.Counts.{IsExactAt, IsLiveAt, KeepsClosed, has_at}
+use Rattle.pesp_links.specs.Links.{Links, StandFor}
+use Rattle.pesp_links.specs.Places.{numbered, place_of}
 use Rattle.pesp_counts.specs.Reached.{starts}
 use Rattle.pesp_counts.specs.Supports.{AreExact, AreLevel, AreOut, Fit, HaveSameShape, IsTaken, Supports, is_in, without_those}
 

@@ -1,17 +1,13 @@
 pub mod Counts
 pub mod Keeping
-pub mod Lists
-pub mod Links
 pub mod Loosened
 pub mod Loosening
-pub mod Places
 pub mod Put
 pub mod Ranges
 pub mod Reached
 pub mod Restored
 pub mod Restores
 pub mod Restoring
-pub mod Shared
 pub mod Support
 pub mod Supports
 pub mod Works

@@ -10,8 +10,8 @@ use Rattle.pesp_domains.specs.Sweeps.{Pairs}
 use Rattle.pesp_counts.specs.declared.trail.Placed.{Placed}
 use Rattle.pesp_counts.specs.Counts.{KeepsClosed, has_at}
 use Rattle.pesp_counts.specs.Keeping.{AreAtRest, AreSettled}
-use Rattle.pesp_counts.specs.Links.{Links, end_number}
-use Rattle.pesp_counts.specs.Places.{place_of}
+use Rattle.pesp_links.specs.Links.{Links, end_number}
+use Rattle.pesp_links.specs.Places.{place_of}
 use Rattle.pesp_counts.specs.Reached.{Reached, is_edited, starts}
 use Rattle.pesp_counts.specs.Restoring.{IsRestored, is_spared}
 use Rattle.pesp_counts.specs.Supports.{HaveSameShape, Supports, is_in}

@@ -1,10 +1,7 @@
 -- What a pass over a range of residues does to the counts at one end, and to the row that they belong to.
-use Rattle.std.specs.Prelude.{◌≡◌, ℕ, ◌+◌, ◌<◌, Bool, ◌&&◌, ◌==◌, not, nat_le, nat_lt, cond, List}
+use Rattle.std.specs.Prelude.{◌≡◌, ℕ, ◌+◌, ◌<◌, Bool, ◌&&◌, ◌==◌, not, cond, List}
+use Rattle.pesp_links.specs.Ends.{is_from_to}
 use Rattle.pesp_counts.specs.Counts.{count_at, has_at}
-
--- whether the residue is in the range
-abbrev pub is_from_to : ℕ → ℕ → ℕ → Bool
-is_from_to low high r = nat_le low r && nat_lt r high
 
 -- the counts of the residues of a range fall by one at an end, and no others
 abbrev pub Fall : ℕ → ℕ → ℕ → ℕ → List ℕ → List ℕ → Type 0

@@ -5,13 +5,13 @@ use Rattle.pesp_instance.specs.Network.{Network}
 use Rattle.pesp_domains.specs.Sweeps.{Pairs}
 use Rattle.pesp_counts.specs.declared.bringing.Admitted.{Admitted}
 use Rattle.pesp_counts.specs.declared.bringing.Admitted.TheVariants.{Nothing, One, Any}
-use Rattle.pesp_counts.specs.declared.end.End.{End}
-use Rattle.pesp_counts.specs.declared.end.Window.{Window}
+use Rattle.pesp_links.specs.declared.end.End.{End}
+use Rattle.pesp_links.specs.declared.end.Window.{Window}
 use Rattle.pesp_counts.specs.declared.trail.Placed.{Placed}
-use Rattle.pesp_counts.specs.Counts.{IsExactAt, end_at, ends_of, has_at, passes}
-use Rattle.pesp_counts.specs.Links.{Links}
+use Rattle.pesp_links.specs.Ends.{end_at, ends_of, is_from_to, passes}
+use Rattle.pesp_counts.specs.Counts.{IsExactAt, has_at}
+use Rattle.pesp_links.specs.Links.{Links}
 use Rattle.pesp_counts.specs.Put.{Back}
-use Rattle.pesp_counts.specs.Ranges.{is_from_to}
 use Rattle.pesp_counts.specs.Restoring.{admits_at, is_spared}
 use Rattle.pesp_counts.specs.Supports.{HaveSameShape, Supports, held, is_in}
 

@@ -5,9 +5,10 @@ use Rattle.std.specs.Option.{option_map_or}
 use Rattle.pesp_instance.specs.Network.{Network, admits}
 use Rattle.pesp_domains.specs.Sweeps.{Of, Pairs}
 use Rattle.pesp_counts.specs.declared.trail.Placed.{Placed}
-use Rattle.pesp_counts.specs.Counts.{IsExactAt, end_at, ends_of, has_at, passes}
-use Rattle.pesp_counts.specs.Links.{Links}
-use Rattle.pesp_counts.specs.Places.{number_at}
+use Rattle.pesp_links.specs.Ends.{end_at, ends_of, passes}
+use Rattle.pesp_counts.specs.Counts.{IsExactAt, has_at}
+use Rattle.pesp_links.specs.Links.{Links}
+use Rattle.pesp_links.specs.Places.{number_at}
 use Rattle.pesp_counts.specs.Supports.{AreLevel, HaveSameShape, Supports, is_in}
 
 -- whether the event at the place admits the residue by its fixed time; where no event has the place, none is admitted

@@ -3,10 +3,11 @@ use Rattle.std.specs.Prelude.{◌≡◌, ◌≢◌, ℕ, zero, suc, ◌+◌, ◌
 use Rattle.std.specs.List.{list_any}
 use Rattle.std.specs.List.{Contains}
 use Rattle.pesp_domains.specs.Sweeps.{Pairs}
-use Rattle.pesp_counts.specs.declared.end.End.{End}
+use Rattle.pesp_links.specs.declared.end.End.{End}
 use Rattle.pesp_counts.specs.declared.trail.Placed.{Placed}
-use Rattle.pesp_counts.specs.Counts.{IsExactAt, count_at, end_at, ends_of, has_at, held_in}
-use Rattle.pesp_counts.specs.Links.{Links}
+use Rattle.pesp_links.specs.Ends.{end_at, ends_of}
+use Rattle.pesp_counts.specs.Counts.{IsExactAt, count_at, has_at, held_in}
+use Rattle.pesp_links.specs.Links.{Links}
 
 -- the counts by end and then residue, the rows by place as the counts have seen them and as they are, the pairs that were taken out, for how many of these there is room, and how many probes were made
 pub record Supports : Type 0 where

@@ -8,12 +8,13 @@ use Rattle.pesp_domains.specs.Domains.{In, InDomains}
 use Rattle.pesp_domains.specs.Sweeps.{Of}
 use Rattle.pesp_counts.specs.declared.bringing.Admitted.{Admitted}
 use Rattle.pesp_counts.specs.declared.bringing.Admitted.TheVariants.{Nothing, One, Any}
-use Rattle.pesp_counts.specs.declared.end.Window.{Window}
+use Rattle.pesp_links.specs.declared.end.Window.{Window}
 use Rattle.pesp_counts.specs.declared.trail.Placed.{Placed}
 use Rattle.pesp_counts.specs.declared.work.Work.{Work}
-use Rattle.pesp_counts.specs.Counts.{ends_of, has_at}
-use Rattle.pesp_counts.specs.Links.{Links}
-use Rattle.pesp_counts.specs.Places.{place_of}
+use Rattle.pesp_links.specs.Ends.{ends_of}
+use Rattle.pesp_counts.specs.Counts.{has_at}
+use Rattle.pesp_links.specs.Links.{Links}
+use Rattle.pesp_links.specs.Places.{place_of}
 use Rattle.pesp_counts.specs.Restores.{AreThePairs}
 use Rattle.pesp_counts.specs.Supports.{Supports, is_in}
 

@@ -9,11 +9,10 @@ ghost use Rattle.pesp_counts.specs.Works.{looked};
 
 use crate::Placed;
 use crate::back::Back;
-use crate::end::Window;
-use crate::links::Links;
 use crate::supports::Supports;
 use pesp_base::EventId;
 use pesp_instance::Instance;
+use pesp_links::{Links, Window};
 use std::ops::Range;
 
 /// What the fixed time of an event leaves of its residues.

@@ -4,15 +4,15 @@ ghost use Rattle.std.specs.Prelude.{◌≡◌, ◌<◌, ◌≤◌, ◌*◌, ◌+
 ghost use Rattle.pesp_base.specs.Limits.{greatest_period};
 ghost use Rattle.std.specs.List.{Contains};
 ghost use Rattle.pesp_domains.specs.Domains.{holds};
-ghost use Rattle.pesp_counts.specs.Counts.{AreLinked, count_at, ends_of, has_at, passes, supporters};
+ghost use Rattle.pesp_links.specs.Ends.{AreLinked, ends_of, passes};
+ghost use Rattle.pesp_counts.specs.Counts.{count_at, has_at, supporters};
 ghost use Rattle.pesp_counts.specs.Supports.{AreExact, Fit, HaveSameShape, IsWide, around};
 
-use crate::End;
 use crate::counts::Counts;
-use crate::links::Links;
 use crate::probes::Probes;
 use crate::supports::Supports;
 use pesp_domains::Row;
+use pesp_links::{End, Links};
 
 /// The residue after one, around the period.
 fn after(residue: u16, period: u16) -> u16

@@ -21,7 +21,6 @@ mod spans;
 mod told;
 
 use crate::back::Back;
-use crate::links::Links;
 use crate::supports::Supports;
 use crate::work::Work;
 use edits::follow;
@@ -32,6 +31,7 @@ use numbering::number_pairs;
 use pesp_base::{ActivityId, EventId, Refusal};
 use pesp_domains::{Keeper, NoRoom, Pair, Row, Side};
 use pesp_instance::{Edit, Instance};
+use pesp_links::Links;
 use remake::remake;
 use restores::restores;
 use std::alloc::Global;

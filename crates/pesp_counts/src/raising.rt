@@ -2,14 +2,14 @@
 
 ghost use Rattle.std.specs.Prelude.{◌≡◌, ◌<◌, ◌≤◌, ◌*◌, ◌+◌, ◌||◌, ◌⊎◌, cond, drop, take, false, ℕ, All, IsTrue, length, slice_index_or};
 ghost use Rattle.pesp_base.specs.Limits.{greatest_period};
-ghost use Rattle.pesp_counts.specs.Counts.{AreLinked, has_at, passes};
-ghost use Rattle.pesp_counts.specs.Ranges.{is_from_to};
+ghost use Rattle.pesp_links.specs.Ends.{AreLinked, is_from_to, passes};
+ghost use Rattle.pesp_counts.specs.Counts.{has_at};
 ghost use Rattle.pesp_counts.specs.Supports.{AreExact, AreLevel, AreOut, Fit, HaveSameShape, held, is_in, joined};
 
+use crate::Placed;
 use crate::counts::Counts;
-use crate::links::Links;
 use crate::supports::Supports;
-use crate::{End, Placed};
+use pesp_links::{End, Links};
 
 /// Makes each count of a range one more.
 fn raise_range(counts: &mut Counts, from: usize, to: usize)

@@ -4,22 +4,21 @@ ghost use Rattle.std.specs.Prelude.{◌≡◌, ◌≢◌, ◌<◌, ◌≤◌, �
 ghost use Rattle.std.specs.List.{Contains};
 ghost use Rattle.pesp_base.specs.Limits.{greatest_period};
 ghost use Rattle.pesp_domains.specs.Domains.{holds};
-ghost use Rattle.pesp_counts.specs.Counts.{AreLinked, IsExactAt, count_at, end_at, ends_of, has_at, passes};
-ghost use Rattle.pesp_counts.specs.Ranges.{is_from_to};
+ghost use Rattle.pesp_links.specs.Ends.{AreLinked, end_at, ends_of, is_from_to, passes};
+ghost use Rattle.pesp_counts.specs.Counts.{IsExactAt, count_at, has_at};
 ghost use Rattle.pesp_counts.specs.Restored.{AreExactBut, AreSparedTogether, HasRoom, IsBrought, in_window, of_end, of_ends, of_starts};
 ghost use Rattle.pesp_counts.specs.Restoring.{IsRestored, is_spared};
 ghost use Rattle.pesp_counts.specs.Supports.{AreLevel, Fit, HaveSameShape, joined};
 ghost use Rattle.pesp_counts.specs.Works.{ends_at};
 
+use crate::Placed;
 use crate::back::Back;
 use crate::counts::Counts;
-use crate::end::Window;
-use crate::links::Links;
 use crate::probes::Probes;
 use crate::supports::Supports;
-use crate::{End, Placed};
 use pesp_domains::Row;
 use pesp_instance::Instance;
+use pesp_links::{End, Links, Window};
 
 /// Makes the counts of a range of residues one more, of which the first begin at `base`, and tells whether the row holds them all.
 fn raise_beside(

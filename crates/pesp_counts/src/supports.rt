@@ -3,15 +3,16 @@
 ghost use Rattle.std.specs.Prelude.{◌≡◌, ◌<◌, ◌≤◌, ◌*◌, ◌+◌, ◌==◌, ◌&&◌, ◌||◌, not, nat_lt, ℕ, [], IsTrue, length, slice_index_or, take, drop, OnOk, OnErr};
 ghost use Rattle.pesp_domains.specs.Sweeps.{Of};
 ghost use Rattle.pesp_domains.proofs.Pushes.{limited};
-ghost use Rattle.pesp_counts.specs.Counts.{AreLinked, ArePending, KeepsClosed, count_at, end_at, ends_of, has_at, passes, supporters};
+ghost use Rattle.pesp_links.specs.Ends.{AreLinked, end_at, ends_of, passes};
+ghost use Rattle.pesp_counts.specs.Counts.{ArePending, KeepsClosed, count_at, has_at, supporters};
 ghost use Rattle.pesp_counts.specs.Supports.{AreExact, AreLevel, AreOut, Fit, HaveSameShape, IsRoomier, IsTaken, Keeps, is_in};
 
+use crate::Placed;
 use crate::counts::Counts;
-use crate::links::Links;
 use crate::probes::Probes;
-use crate::{End, Placed};
 use pesp_base::Period;
 use pesp_domains::Row;
+use pesp_links::{End, Links};
 use std::alloc::{AllocError, Global};
 use std::marker::Model;
 

@@ -5,16 +5,17 @@ ghost use Rattle.std.specs.List.{Contains};
 ghost use Rattle.pesp_domains.specs.Sweeps.{Of};
 ghost use Rattle.pesp_domains.specs.Removals.{without};
 ghost use Rattle.pesp_domains.proofs.Pushes.{limited};
-ghost use Rattle.pesp_counts.specs.Counts.{AreLinked, ArePending, IsLiveAt, KeepsClosed, count_at, end_at, ends_of, has_at, passes};
-ghost use Rattle.pesp_counts.specs.Ranges.{Fall, Thins, is_from_to};
+ghost use Rattle.pesp_links.specs.Ends.{AreLinked, end_at, ends_of, is_from_to, passes};
+ghost use Rattle.pesp_counts.specs.Counts.{ArePending, IsLiveAt, KeepsClosed, count_at, has_at};
+ghost use Rattle.pesp_counts.specs.Ranges.{Fall, Thins};
 ghost use Rattle.pesp_counts.specs.Keeping.{AreAtRest, ArePendingBut};
 ghost use Rattle.pesp_counts.specs.Supports.{AreExact, Fit, HaveSameShape, IsTaken, Keeps, is_in, lacks_partner};
 ghost use Rattle.pesp_counts.specs.Works.{ends_at};
 
-use crate::links::Links;
+use crate::Placed;
 use crate::probes::Probes;
 use crate::supports::Supports;
-use crate::{End, Placed};
+use pesp_links::{End, Links};
 
 impl Supports {
     /// Counts each pair of the trail from `next` on out, and takes the pairs out that are left without a partner.

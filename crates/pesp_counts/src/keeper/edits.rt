@@ -12,10 +12,10 @@ use super::limits::limit_event;
 use super::loosening::loosen;
 use super::spans::narrow_ends;
 use crate::back::Back;
-use crate::links::Links;
 use crate::supports::Supports;
 use pesp_base::{ActivityId, Span};
 use pesp_instance::{Edit, Instance};
+use pesp_links::Links;
 
 /// Follows an edit, of which is known whether it may bring pairs back, and lists those that it reaches.
 pub fn follow(

@@ -5,19 +5,19 @@ ghost use Rattle.std.specs.List.{Contains};
 ghost use Rattle.pesp_instance.specs.declared.edit.Edit.TheVariants as edits;
 ghost use Rattle.pesp_instance.specs.Network.{Network};
 ghost use Rattle.pesp_domains.proofs.Pushes.{limited};
-ghost use Rattle.pesp_counts.specs.Counts.{ends_of};
+ghost use Rattle.pesp_links.specs.Ends.{ends_of};
 ghost use Rattle.pesp_counts.specs.Keeping.{AreAtRest, AreAtRestBut, AreFor};
 ghost use Rattle.pesp_counts.specs.Loosening.{IsLoosened, IsPutBack, WereLoose};
-ghost use Rattle.pesp_counts.specs.Places.{place_of};
+ghost use Rattle.pesp_links.specs.Places.{place_of};
 ghost use Rattle.pesp_counts.specs.Supports.{HaveSameShape};
 ghost use Rattle.pesp_counts.specs.Works.{IsWorked};
 
 use super::spans::narrow_ends;
 use crate::back::Back;
-use crate::links::Links;
 use crate::supports::Supports;
 use pesp_base::{ActivityId, EventId, Span};
 use pesp_instance::{Edit, Instance};
+use pesp_links::Links;
 
 /// Puts back what is reached from these places, and takes out what has no partner.
 fn reopen(

@@ -5,9 +5,9 @@ ghost use Rattle.pesp_counts.specs.Keeping.{AreFor, AreSettled};
 ghost use Rattle.pesp_counts.specs.Supports.{HaveSameShape};
 
 use super::limits::limit_fixed;
-use crate::links::Links;
 use crate::supports::Supports;
 use pesp_instance::Instance;
+use pesp_links::Links;
 
 /// Makes the rows the domains, whatever they were.
 pub fn remake(instance: &Instance, links: &Links, supports: &mut Supports)

@@ -4,9 +4,9 @@ ghost use Rattle.std.specs.Prelude.{◌≡◌, nat_lt, length};
 ghost use Rattle.pesp_instance.specs.Edited.{refixed};
 ghost use Rattle.pesp_counts.specs.Reached.{admits_anew, admits_more, starts};
 
-use crate::End;
 use pesp_base::{EventId, Period, Span};
 use pesp_instance::{Edit, Event, Instance};
+use pesp_links::End;
 
 /// Whether the event may stand at a residue with this fixed time, or with none, at which it may not now.
 fn admits_anew(instance: &Instance, event: EventId, fixed: Option<u16>) -> bool

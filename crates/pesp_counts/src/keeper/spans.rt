@@ -2,14 +2,15 @@
 
 ghost use Rattle.std.specs.Prelude.{ℕ, ◌≤◌, ◌+◌, ◌*◌};
 ghost use Rattle.std.specs.List.{Contains};
-ghost use Rattle.pesp_counts.specs.Counts.{AreLinked, KeepsClosed, ends_of, has_at};
+ghost use Rattle.pesp_links.specs.Ends.{AreLinked, ends_of};
+ghost use Rattle.pesp_counts.specs.Counts.{KeepsClosed, has_at};
 ghost use Rattle.pesp_counts.specs.Keeping.{AreAtRest, AreAtRestBut};
 ghost use Rattle.pesp_counts.specs.Supports.{Fit, HaveSameShape, IsTaken};
 ghost use Rattle.pesp_counts.specs.Works.{ends_at};
 
 use crate::Placed;
-use crate::links::Links;
 use crate::supports::Supports;
+use pesp_links::Links;
 
 /// Counts at both ends of an activity anew, and takes out the pairs that are left without a partner, there or among those of a list
 /// that were put back.

@@ -1,7 +1,7 @@
 -- The ends so far are wide.
 use Rattle.std.proofs.Common.{◌≡◌, ℕ, ◌⊎◌, length}
 use Rattle.std.specs.List.{Contains}
-use Rattle.pesp_counts.specs.Counts.{ends_of}
+use Rattle.pesp_links.specs.Ends.{ends_of}
 use Rattle.pesp_counts.specs.Supports.{IsWide}
 use Rattle.pesp_counts.proofs.counting.widen.Given as goal
 

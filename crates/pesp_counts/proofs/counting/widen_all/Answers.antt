@@ -2,7 +2,7 @@
 use Rattle.std.proofs.Common.{inl, inr, subst, ◌∙◌, arith}
 use Rattle.std.specs.List.{Contains}
 use Rattle.std.proofs.lemmas.Bool.{cases_eq}
-use Rattle.pesp_counts.specs.Counts.{ends_of}
+use Rattle.pesp_links.specs.Ends.{ends_of}
 use Rattle.pesp_counts.proofs.counting.widen_all.Goals as goal
 
 pub widen-requires-clause-within : goal.widen-requires-clause-within

@@ -1,7 +1,7 @@
 -- One count more of the range.
 use Rattle.std.proofs.Common.{◌≡◌, ℕ, ◌+◌, ◌&&◌, nat_le, nat_lt, Bool, true, false, List, cond, length, slice_index_or, refl, subst, ap, ◌∙◌, arith}
 use Rattle.std.proofs.lemmas.List.{length-set}
-use Rattle.pesp_counts.specs.Ranges.{is_from_to}
+use Rattle.pesp_links.specs.Ends.{is_from_to}
 use Rattle.pesp_counts.proofs.Raised.{rise_more}
 use Rattle.pesp_counts.proofs.Supporters.{one}
 use Rattle.pesp_counts.proofs.raising.raise_range.Goals as goal

@@ -1,6 +1,6 @@
 -- The counts so far are one more.
 use Rattle.std.proofs.Common.{◌≡◌, ℕ, ◌+◌, cond, length, slice_index_or}
-use Rattle.pesp_counts.specs.Ranges.{is_from_to}
+use Rattle.pesp_links.specs.Ends.{is_from_to}
 use Rattle.pesp_counts.proofs.raising.raise_range.Given as goal
 
 abbrev pub invariant-loop-at : goal.invariant-loop-at

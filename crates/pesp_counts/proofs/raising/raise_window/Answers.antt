@@ -1,7 +1,7 @@
 -- The two ranges have no residue in common.
 use Rattle.std.proofs.Common.{◌≡◌, ◌+◌, ◌-◌, ◌<◌, ◌≤◌, ◌||◌, nat_le, nat_lt, Bool, true, false, ℕ, slice_index_or, refl, subst, ◌∙◌, arith}
 use Rattle.pesp_base.specs.Limits.{greatest_period}
-use Rattle.pesp_counts.specs.Ranges.{is_from_to}
+use Rattle.pesp_links.specs.Ends.{is_from_to}
 use Rattle.pesp_counts.proofs.raising.raise_window.Goals as goal
 
 in_range : (low high r : ℕ) → low ≤ r → r < high → is_from_to low high r ≡ true

@@ -1,7 +1,7 @@
 -- The counts so far are one more, and the row was asked for each residue.
 use Rattle.std.proofs.Common.{◌≡◌, ℕ, ◌+◌, ◌≤◌, false, cond, length, slice_index_or, IsTrue}
 use Rattle.pesp_domains.specs.Domains.{holds}
-use Rattle.pesp_counts.specs.Ranges.{is_from_to}
+use Rattle.pesp_links.specs.Ends.{is_from_to}
 use Rattle.pesp_counts.proofs.restoring.raise_beside.Given as goal
 
 abbrev pub invariant-loop-residue : goal.invariant-loop-residue

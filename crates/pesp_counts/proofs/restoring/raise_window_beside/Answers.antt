@@ -3,7 +3,7 @@ use Rattle.std.proofs.Common.{◌≡◌, ◌+◌, ◌-◌, ◌<◌, ◌≤◌, �
 use Rattle.std.proofs.lemmas.Bool.{cases_lt, false≢true}
 use Rattle.pesp_base.specs.Limits.{greatest_period}
 use Rattle.pesp_domains.proofs.Families.{and_left, and_right}
-use Rattle.pesp_counts.specs.Ranges.{is_from_to}
+use Rattle.pesp_links.specs.Ends.{is_from_to}
 use Rattle.pesp_counts.proofs.Ranges.{range_from_to}
 use Rattle.pesp_counts.proofs.restoring.raise_window_beside.Goals as goal
 

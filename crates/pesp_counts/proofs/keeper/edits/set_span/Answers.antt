@@ -4,10 +4,11 @@ use Rattle.std.specs.List.{Contains}
 use Rattle.pesp_instance.specs.declared.edit.Edit.TheVariants.{SetSpan}
 use Rattle.pesp_instance.specs.Network.{Network}
 use Rattle.pesp_domains.proofs.Edits.{effect_is}
-use Rattle.pesp_counts.specs.Counts.{ends_of, has_at}
+use Rattle.pesp_links.specs.Ends.{ends_of}
+use Rattle.pesp_counts.specs.Counts.{has_at}
 use Rattle.pesp_counts.specs.Keeping.{AreAtRestBut}
-use Rattle.pesp_counts.specs.Links.{IsChangedAt}
-use Rattle.pesp_counts.specs.Places.{place_of}
+use Rattle.pesp_links.specs.Links.{IsChangedAt}
+use Rattle.pesp_links.specs.Places.{place_of}
 use Rattle.pesp_counts.proofs.Carried.{for_relinked, if_some, place_changed, rest_but, roomier_none, same_period, tail_listed, tail_low, tail_mate}
 use Rattle.pesp_counts.proofs.Keeping.{for_linked, for_same}
 use Rattle.pesp_counts.proofs.Marks.{keeps_like}

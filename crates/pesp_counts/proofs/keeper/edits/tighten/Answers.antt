@@ -5,13 +5,14 @@ use Rattle.pesp_instance.specs.declared.edit.Edit.TheVariants.{DropEvent, Fix, S
 use Rattle.pesp_instance.specs.Edited.{edited}
 use Rattle.pesp_instance.specs.Network.{Network}
 use Rattle.pesp_domains.proofs.Edits.{effect_is}
-use Rattle.pesp_counts.specs.Counts.{end_at, ends_of, has_at}
-use Rattle.pesp_counts.specs.Places.{place_of}
+use Rattle.pesp_links.specs.Ends.{end_at, ends_of}
+use Rattle.pesp_counts.specs.Counts.{has_at}
+use Rattle.pesp_links.specs.Places.{place_of}
 use Rattle.pesp_counts.specs.Reached.{starts}
 use Rattle.pesp_counts.proofs.Bridge.{some_of}
 use Rattle.pesp_counts.proofs.Carried.{dropped_not, for_relinked, places_dropped, rest_same, roomier_none, same_period, stands_still}
 use Rattle.pesp_counts.proofs.Keeping.{for_linked}
-use Rattle.pesp_counts.proofs.StandLaws.{stands_fix}
+use Rattle.pesp_links.proofs.StandLaws.{stands_fix}
 use Rattle.pesp_counts.proofs.Taken.{keeps_none}
 use Rattle.pesp_counts.proofs.Tightened.{fixed_event, only_weight, settled_dropped, settled_even, settled_fixed}
 use Rattle.std.proofs.lemmas.Bool.{false≢true}

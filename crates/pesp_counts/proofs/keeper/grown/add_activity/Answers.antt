@@ -4,9 +4,10 @@ use Rattle.std.specs.List.{Contains}
 use Rattle.pesp_instance.specs.declared.edit.Edit.TheVariants.{AddActivity}
 use Rattle.pesp_instance.specs.Network.{Network}
 use Rattle.pesp_domains.proofs.Edits.{effect_is}
-use Rattle.pesp_counts.specs.Counts.{ends_of, has_at}
+use Rattle.pesp_links.specs.Ends.{ends_of}
+use Rattle.pesp_counts.specs.Counts.{has_at}
 use Rattle.pesp_counts.specs.Keeping.{AreAtRestBut}
-use Rattle.pesp_counts.specs.Places.{place_of}
+use Rattle.pesp_links.specs.Places.{place_of}
 use Rattle.pesp_counts.proofs.Bridge.{the_same}
 use Rattle.pesp_counts.proofs.Carried.{rest_but, tail_listed, tail_low, tail_mate}
 use Rattle.pesp_counts.proofs.Housed.{activity_period, rows_seen, settled_seen, to_err}

@@ -1,7 +1,7 @@
 -- Limiting takes pairs out that wait, and settling counts them out.
 use Rattle.std.proofs.Common.{◌≡◌, sym, subst, ◌∙◌, ◌≤◌, ◌+◌, ◌*◌, drop, length}
 use Rattle.pesp_counts.specs.Keeping.{IsNarrowed}
-use Rattle.pesp_counts.specs.Places.{place_of}
+use Rattle.pesp_links.specs.Places.{place_of}
 use Rattle.pesp_counts.proofs.Bridge.{the_same}
 use Rattle.pesp_counts.proofs.Marks.{fit_same, narrowed, rest_pending}
 use Rattle.pesp_counts.proofs.Taken.{kept_shape}

@@ -3,7 +3,7 @@ use Rattle.std.proofs.Common.{sym, ◌∙◌}
 use Rattle.pesp_instance.specs.declared.edit.Edit.TheVariants.{Fix}
 use Rattle.pesp_counts.proofs.Carried.{for_relinked, same_period}
 use Rattle.pesp_counts.proofs.Loosened.{loosened_by_fix}
-use Rattle.pesp_counts.proofs.StandLaws.{stands_fix}
+use Rattle.pesp_links.proofs.StandLaws.{stands_fix}
 use Rattle.pesp_counts.proofs.keeper.loosening.refix.Goals as goal
 
 pub reopen_fixed-requires-clause-fits : goal.reopen_fixed-requires-clause-fits

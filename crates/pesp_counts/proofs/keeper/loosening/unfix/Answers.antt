@@ -3,7 +3,7 @@ use Rattle.std.proofs.Common.{sym, ◌∙◌}
 use Rattle.pesp_instance.specs.declared.edit.Edit.TheVariants.{Unfix}
 use Rattle.pesp_counts.proofs.Carried.{for_relinked, same_period}
 use Rattle.pesp_counts.proofs.Loosened.{loosened_by_unfix}
-use Rattle.pesp_counts.proofs.StandLaws.{stands_unfix}
+use Rattle.pesp_links.proofs.StandLaws.{stands_unfix}
 use Rattle.pesp_counts.proofs.keeper.loosening.unfix.Goals as goal
 
 pub reopen-requires-clause-fits : goal.reopen-requires-clause-fits

@@ -1,6 +1,7 @@
 -- Ends that were counted anew.
 use Rattle.std.proofs.Common.{◌∙◌, ap, subst}
-use Rattle.pesp_counts.specs.Counts.{AreLinked, KeepsClosed, has_at}
+use Rattle.pesp_links.specs.Ends.{AreLinked}
+use Rattle.pesp_counts.specs.Counts.{KeepsClosed, has_at}
 use Rattle.pesp_counts.proofs.Marks.{fit_same, keeps_like}
 use Rattle.pesp_counts.proofs.Narrowed.{anew_below, anew_exact, anew_level, anew_live, anew_trail, first_sift, second_sift, sifted_keeps, sifted_pending}
 use Rattle.pesp_counts.specs.Works.{ends_at}

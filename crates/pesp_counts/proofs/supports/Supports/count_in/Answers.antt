@@ -2,7 +2,8 @@
 use Rattle.std.proofs.Common.{◌≡◌, ◌≢◌, ℕ, AllPairs, ◌<◌, length, subst, sym, ap, ◌∙◌, arith}
 use Rattle.std.specs.List.{Contains}
 use Rattle.pesp_domains.proofs.Families.{here, there}
-use Rattle.pesp_counts.specs.Counts.{AreLinked, IsExactAt, ends_of, has_at}
+use Rattle.pesp_links.specs.Ends.{AreLinked, ends_of}
+use Rattle.pesp_counts.specs.Counts.{IsExactAt, has_at}
 use Rattle.pesp_counts.specs.Supports.{AreExact, AreSupports, Supports, joined}
 use Rattle.pesp_counts.proofs.Raised.{AreJoined, joined_start, joined_end, next_low, next_more, next_once, rest_apart, supports_with, with_counts}
 use Rattle.pesp_counts.proofs.supports.Supports.count_in.Goals as goal

@@ -1,7 +1,8 @@
 -- The mates of the ends to come are exact by the old set, and all others by the set with the pair.
 use Rattle.std.proofs.Common.{◌≡◌, ◌≢◌, ℕ, AllPairs, length, vec_capacity}
 use Rattle.std.specs.List.{Contains}
-use Rattle.pesp_counts.specs.Counts.{ends_of, has_at}
+use Rattle.pesp_links.specs.Ends.{ends_of}
+use Rattle.pesp_counts.specs.Counts.{has_at}
 use Rattle.pesp_counts.proofs.Raised.{AreJoined, with_counts}
 use Rattle.pesp_counts.proofs.supports.Supports.count_in.Given as goal
 

@@ -1,8 +1,8 @@
 -- The two ranges are what passes, and no residue is in both.
 use Rattle.std.proofs.Common.{◌≡◌, ℕ, ◌+◌, ◌<◌, ◌==◌, ◌&&◌, ◌||◌, cond, Bool, true, false, refl, sym, ◌∙◌, ap, subst, arith}
 use Rattle.std.proofs.lemmas.Bool.{false≢true}
-use Rattle.pesp_counts.specs.Counts.{passes}
-use Rattle.pesp_counts.specs.Ranges.{Fall, Thins, is_from_to}
+use Rattle.pesp_links.specs.Ends.{is_from_to, passes}
+use Rattle.pesp_counts.specs.Ranges.{Fall, Thins}
 use Rattle.pesp_counts.specs.Supports.{Supports}
 use Rattle.pesp_counts.proofs.Ranges.{both_thin, one_of_two}
 use Rattle.pesp_counts.proofs.Taken.{taken_then}

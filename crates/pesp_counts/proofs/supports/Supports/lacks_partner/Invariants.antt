@@ -1,7 +1,8 @@
 -- The ends to come decide.
 use Rattle.std.proofs.Common.{◌≡◌, ◌+◌, ◌≤◌, ◌==◌, ℕ, length}
 use Rattle.std.specs.List.{Contains, list_any}
-use Rattle.pesp_counts.specs.Counts.{count_at, ends_of}
+use Rattle.pesp_links.specs.Ends.{ends_of}
+use Rattle.pesp_counts.specs.Counts.{count_at}
 use Rattle.pesp_counts.specs.Supports.{lacks_partner}
 use Rattle.pesp_counts.proofs.supports.Supports.lacks_partner.Given as goal
 

@@ -4,7 +4,8 @@ use Rattle.std.proofs.lemmas.Bool.{false≢true, ne_eqb}
 use Rattle.std.proofs.lemmas.List.{length-set}
 use Rattle.pesp_domains.specs.Removals.{without}
 use Rattle.pesp_counts.specs.Counts.{count_at, has_at}
-use Rattle.pesp_counts.specs.Ranges.{Fall, Thins, is_from_to}
+use Rattle.pesp_links.specs.Ends.{is_from_to}
+use Rattle.pesp_counts.specs.Ranges.{Fall, Thins}
 use Rattle.pesp_counts.specs.Supports.{HaveSameShape, IsTaken, Supports}
 use Rattle.pesp_counts.specs.Works.{most_probes}
 use Rattle.pesp_counts.proofs.Ranges.{all_and, empty, fall_here, fall_more, no_and, range_from_to, thins_here, thins_passed, thins_taken}

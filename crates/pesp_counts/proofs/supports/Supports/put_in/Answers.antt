@@ -2,7 +2,8 @@
 use Rattle.std.proofs.Common.{◌≡◌, ◌*◌, ◌<◌, length, slice_set, subst, sym, ap, ◌∙◌, refl, arith}
 use Rattle.std.proofs.lemmas.List.{length-set}
 use Rattle.std.proofs.lemmas.List.Elements.{All-get_or}
-use Rattle.pesp_counts.specs.Counts.{end_at, has_at, passes}
+use Rattle.pesp_links.specs.Ends.{end_at, passes}
+use Rattle.pesp_counts.specs.Counts.{has_at}
 use Rattle.pesp_counts.specs.Supports.{AreExact, Supports, held, joined}
 use Rattle.pesp_counts.proofs.Grown.{long_set}
 use Rattle.pesp_counts.proofs.Raised.{has_put, held_put}

@@ -2,7 +2,8 @@
 use Rattle.std.proofs.Common.{◌≡◌, ◌+◌, ◌*◌, ◌<◌, ◌≤◌, ◌⊎◌, ℕ, [], length, slice_index_or, sym, ap, subst, ◌∙◌, inl, inr, arith, IsTrue}
 use Rattle.std.proofs.lemmas.List.{get_or_read}
 use Rattle.pesp_domains.specs.Domains.{holds}
-use Rattle.pesp_counts.specs.Counts.{has_at, passes}
+use Rattle.pesp_links.specs.Ends.{passes}
+use Rattle.pesp_counts.specs.Counts.{has_at}
 use Rattle.pesp_counts.specs.Restored.{in_window, of_admitted, of_end}
 use Rattle.pesp_counts.specs.Supports.{Supports}
 use Rattle.pesp_counts.proofs.AlongEnds.{brought_from, window_end, window_full}

@@ -2,8 +2,9 @@
 use Rattle.std.proofs.Common.{◌≡◌, ◌≢◌, ◌<◌, ◌≤◌, ◌+◌, ◌*◌, ◌∷◌, ◌++◌, ◌||◌, cond, false, [], ℕ, length, filter, AllPairs, sym, ap, subst, ◌∙◌, append_assoc, arith}
 use Rattle.std.proofs.lemmas.Bool.{false≢true}
 use Rattle.std.specs.List.{Contains}
-use Rattle.pesp_counts.specs.declared.end.End.{End}
-use Rattle.pesp_counts.specs.Counts.{IsExactAt, count_at, end_at, ends_of, has_at, passes}
+use Rattle.pesp_links.specs.declared.end.End.{End}
+use Rattle.pesp_links.specs.Ends.{end_at, ends_of, passes}
+use Rattle.pesp_counts.specs.Counts.{IsExactAt, count_at, has_at}
 use Rattle.pesp_counts.specs.Restored.{IsBrought, of_end, of_ends}
 use Rattle.pesp_counts.specs.Restoring.{is_spared}
 use Rattle.pesp_counts.specs.Supports.{joined}

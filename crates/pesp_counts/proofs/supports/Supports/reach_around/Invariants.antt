@@ -1,6 +1,7 @@
 -- The mates of the ends to come are exact by the old set, and all others but the spared ones by the set with the pair.
 use Rattle.std.proofs.Common.{◌≡◌, ◌≤◌, ◌+◌, ◌*◌, ◌++◌, ℕ, List, length, filter}
-use Rattle.pesp_counts.specs.Counts.{ends_of, has_at}
+use Rattle.pesp_links.specs.Ends.{ends_of}
+use Rattle.pesp_counts.specs.Counts.{has_at}
 use Rattle.pesp_counts.specs.Restored.{IsBrought, of_ends}
 use Rattle.pesp_counts.proofs.Raised.{AreJoined}
 use Rattle.pesp_counts.proofs.Sparing.{is_kept, kept}

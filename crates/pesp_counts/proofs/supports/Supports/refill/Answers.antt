@@ -2,7 +2,8 @@
 use Rattle.std.proofs.Common.{◌≡◌, ◌*◌, ◌<◌, nat_lt, length, slice_index_or, [], subst, sym, ap, ◌∙◌, arith}
 use Rattle.std.proofs.lemmas.Bool.{lt-ltb}
 use Rattle.std.proofs.lemmas.List.Elements.{All-get_or}
-use Rattle.pesp_counts.specs.Counts.{AreLinked, end_at, has_at}
+use Rattle.pesp_links.specs.Ends.{AreLinked, end_at}
+use Rattle.pesp_counts.specs.Counts.{has_at}
 use Rattle.pesp_counts.specs.Supports.{IsWide, Supports}
 use Rattle.pesp_counts.proofs.Grown.{held_le, long_as}
 use Rattle.pesp_counts.proofs.Windowed.{exact_full}

@@ -2,7 +2,7 @@
 use Rattle.std.proofs.Common.{◌≡◌, ◌<◌, ◌≤◌, ◌+◌, ◌*◌, length, ap, subst, ◌∙◌, arith}
 use Rattle.std.proofs.lemmas.List.{take_all}
 use Rattle.pesp_counts.specs.Restored.{HasRoom, IsBrought, of_ends}
-use Rattle.pesp_counts.specs.Counts.{ends_of}
+use Rattle.pesp_links.specs.Ends.{ends_of}
 use Rattle.pesp_counts.specs.Works.{ends_at}
 use Rattle.pesp_counts.proofs.Coming.{coming_end, coming_more, coming_start, next_absent, next_below, next_there}
 use Rattle.pesp_counts.proofs.Looked.{ends_more}

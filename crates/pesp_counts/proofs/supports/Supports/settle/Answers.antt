@@ -1,7 +1,8 @@
 -- What the pairs before did and what the next one does, one after the other.
 use Rattle.std.proofs.Common.{◌+◌, ◌*◌, ◌<◌, ◌≤◌, length, get_or, ap, subst, arith, rules}
 use Rattle.pesp_counts.specs.declared.trail.Placed.{Placed}
-use Rattle.pesp_counts.specs.Counts.{ArePending, KeepsClosed, ends_of, has_at}
+use Rattle.pesp_links.specs.Ends.{ends_of}
+use Rattle.pesp_counts.specs.Counts.{ArePending, KeepsClosed, has_at}
 use Rattle.pesp_counts.specs.Supports.{Supports}
 use Rattle.pesp_counts.proofs.Spent.{pair_behind}
 use Rattle.pesp_counts.proofs.Taken.{fit_then, keeps_then, shape_then, taken_then}

@@ -6,7 +6,8 @@ use Rattle.pesp_domains.specs.Domains.{holds}
 use Rattle.pesp_domains.specs.Removals.{without}
 use Rattle.pesp_domains.specs.Sweeps.{Of}
 use Rattle.pesp_counts.specs.declared.trail.Placed.{Placed}
-use Rattle.pesp_counts.specs.Counts.{ArePending, IsExactAt, IsLiveAt, ends_of, has_at}
+use Rattle.pesp_links.specs.Ends.{ends_of}
+use Rattle.pesp_counts.specs.Counts.{ArePending, IsExactAt, IsLiveAt, has_at}
 use Rattle.pesp_counts.specs.Supports.{Supports}
 use Rattle.pesp_counts.proofs.Rows.{rows_without, within_rows}
 use Rattle.pesp_counts.proofs.Waiting.{pending_then}

@@ -5,7 +5,8 @@ use Rattle.std.proofs.lemmas.List.{take_more}
 use Rattle.std.proofs.lemmas.List.Sums.{sum_by-drop_more}
 use Rattle.pesp_domains.specs.Removals.{without}
 use Rattle.pesp_counts.specs.declared.trail.Placed.{Placed}
-use Rattle.pesp_counts.specs.Counts.{count_at, ends_of, has_at}
+use Rattle.pesp_links.specs.Ends.{ends_of}
+use Rattle.pesp_counts.specs.Counts.{count_at, has_at}
 use Rattle.pesp_counts.specs.Supports.{Supports, lacks_partner}
 use Rattle.pesp_counts.proofs.Marks.{fit_same}
 use Rattle.pesp_counts.proofs.PutBack.{Sifts, sifts_passed, sifts_taken}

@@ -2,8 +2,9 @@
 use Rattle.std.proofs.Common.{◌≡◌, ◌≢◌, ◌<◌, ◌≤◌, ◌+◌, ◌*◌, ◌∷◌, ◌++◌, ◌==◌, ◌&&◌, cond, not, [], ℕ, AllPairs, refl, sym, ap, subst, ◌∙◌, append_assoc, length, arith}
 use Rattle.std.specs.List.{Contains}
 use Rattle.pesp_domains.specs.Sweeps.{Of}
-use Rattle.pesp_counts.specs.declared.end.End.{End}
-use Rattle.pesp_counts.specs.Counts.{count_at, end_at, ends_of, has_at, passes}
+use Rattle.pesp_links.specs.declared.end.End.{End}
+use Rattle.pesp_links.specs.Ends.{end_at, ends_of, passes}
+use Rattle.pesp_counts.specs.Counts.{count_at, has_at}
 use Rattle.pesp_counts.proofs.Spread.{AreSpread, keeps_end, listed_after, live_then, once_after, some_left, spread_end, spread_start, spread_then}
 use Rattle.pesp_counts.proofs.Spent.{end_behind}
 use Rattle.pesp_counts.proofs.Taken.{keeps_none, keeps_then, shape_none, shape_then, taken_fewer, taken_none, taken_then}

@@ -1,7 +1,8 @@
 -- The pair is counted out at the ends before, and the others are still to come.
 use Rattle.std.proofs.Common.{◌≡◌, ◌+◌, ◌*◌, ◌≤◌, ◌++◌, ℕ, List, length}
 use Rattle.std.specs.List.{Contains}
-use Rattle.pesp_counts.specs.Counts.{IsLiveAt, KeepsClosed, ends_of, has_at}
+use Rattle.pesp_links.specs.Ends.{ends_of}
+use Rattle.pesp_counts.specs.Counts.{IsLiveAt, KeepsClosed, has_at}
 use Rattle.pesp_counts.specs.Supports.{HaveSameShape, IsTaken}
 use Rattle.pesp_counts.proofs.Spread.{AreSpread}
 use Rattle.pesp_counts.proofs.supports.Supports.spread.Given as goal

@@ -1,0 +1,12 @@
+pub mod EndLaws
+pub mod ListLaws
+pub mod StandAround
+pub mod StandEdits
+pub mod StandLaws
+pub mod StandLists
+pub mod StandMembers
+pub mod StandMore
+pub mod StandMoved
+pub mod StandPairs
+pub mod Wider
+pub mod Windows
