@@ -7,7 +7,7 @@ use Rattle.pesp_instance.specs.Network.{Network, IsNetwork, event_ids}
 use Rattle.pesp_tension.specs.Timetables.{Times}
 use Rattle.pesp_tension.specs.Answers.{cost_of}
 use Rattle.pesp_search.specs.Places.{timetable_of}
-use Rattle.pesp_search.specs.Walk.{Before, IsAt, IsFull, IsNext, IsSpent, Nothing, full_cost, known_cost}
+use Rattle.pesp_search.specs.Walk.{Before, IsAt, IsFull, IsSpent, Nothing, full_cost, known_cost}
 use Rattle.pesp_search.specs.Found.{AtLeast, IsAbove, IsBest}
 use Rattle.pesp_search.specs.Optima.{IsBound, IsMember, IsOptimum, Precedes}
 use Rattle.pesp_search.proofs.Costs.{known_le_cost}
@@ -19,19 +19,6 @@ use Rattle.pesp_search.proofs.Order.{before_zero}
 spent_more : (P Q : List ℕ → Type 0) (I : Network) (path : List ℕ) (from : ℕ) → ((times : List ℕ) → P times → Q times) → IsSpent P I path from → IsSpent Q I path from
 spent_more P Q I path from more h = record { passes = λ times full extends later. more times (h.passes times full extends later) }
 
--- and the next residue for P is the next for Q
-next_more : (P Q : List ℕ → Type 0) (I : Network) (path : List ℕ) (from r : ℕ) → ((times : List ℕ) → P times → Q times) → IsNext P I path from r → IsNext Q I path from r
-next_more P Q I path from r more h =
-    record {
-      room = h.room;
-      above = h.above;
-      below = h.below;
-      inside = h.inside;
-      alive = h.alive;
-      between = h.between;
-      skips = λ times full extends low high. more times (h.skips times full extends low high);
-    }
-
 -- and a place for P is one for Q
 at_more : (P Q : List ℕ → Type 0) (I : Network) (pushes : List Pair) (path : List ℕ) (from : ℕ) → ((times : List ℕ) → P times → Q times) → IsAt P I pushes path from → IsAt Q I pushes path from
 at_more P Q I pushes path from more h =
@@ -42,10 +29,6 @@ at_more P Q I pushes path from more h =
 -- a place with nothing left is spent for any limit
 pub spent_any : (I : Network) (limit : Option ℕ) (path : List ℕ) (from : ℕ) → IsSpent Nothing I path from → IsSpent (AtLeast I limit) I path from
 spent_any I limit path from h = spent_more Nothing (AtLeast I limit) I path from (λ times x. absurd x) h
-
--- a next residue with nothing passed over is the next for any limit
-pub next_any : (I : Network) (limit : Option ℕ) (path : List ℕ) (from r : ℕ) → IsNext Nothing I path from r → IsNext (AtLeast I limit) I path from r
-next_any I limit path from r h = next_more Nothing (AtLeast I limit) I path from r (λ times x. absurd x) h
 
 -- what is known of the path is at least the limit, and so the place is spent
 pub spent_cut : (I : Network) (limit : ℕ) (path : List ℕ) (from : ℕ) → limit ≤ known_cost I path → IsSpent (AtLeast I (Some limit)) I path from

@@ -7,20 +7,19 @@ use Rattle.pesp_domains.specs.declared.pair.Pair.{Pair}
 use Rattle.pesp_tension.specs.Answers.{cost_of}
 use Rattle.pesp_tension.specs.Timetables.{Times}
 use Rattle.pesp_search.specs.declared.answer.Best.{Best}
-use Rattle.pesp_search.specs.Found.{AtLeast, IsAbove, IsBest, IsTold, under_bound}
+use Rattle.pesp_search.specs.Found.{AtLeast, IsAbove, IsBest, IsOver, IsTold, under_bound}
 use Rattle.pesp_search.specs.declared.answer.Answer.{Answer}
 use Rattle.pesp_search.specs.declared.answer.Answer.TheVariants.{Infeasible, Optimal}
 use Rattle.pesp_search.specs.declared.answer.Tried.{Tried}
 use Rattle.pesp_search.specs.declared.answer.Tried.TheVariants.{Done, Stopped}
 use Rattle.pesp_search.specs.Optima.{IsAnswer, IsBound, IsMember}
 use Rattle.pesp_search.specs.Places.{IsDead}
-use Rattle.pesp_search.specs.Walk.{IsAt, IsFull, IsNext, IsOver, IsSpent, IsStuck, full_cost, known_cost}
+use Rattle.pesp_search.specs.Walk.{IsAt, IsFull, IsNext, IsSpent, IsStuck, full_cost}
 use Rattle.pesp_search.specs.Tree.{AreNodes, IsPlaceOf, IsTreeSize}
 use Rattle.pesp_search.specs.Tried.{IsBestSoFar, IsEnd, IsFound, IsOutcome, IsWithin, MayTry}
 use Rattle.pesp_search.proofs.BestSoFar.{above_of_bound, best_none, best_optimum}
 use Rattle.pesp_search.proofs.Costs.{known_is_cost, known_small}
 use Rattle.pesp_search.proofs.Members.{before_of_precedes, full_of_member, member_in_domains, member_of_full}
-use Rattle.pesp_search.proofs.Fronts.{known_none}
 use Rattle.pesp_search.proofs.Placed.{before_decided, place_after}
 use Rattle.pesp_search.proofs.Sizes.{IsCounted, counted_below, size_unique}
 use Rattle.pesp_search.proofs.Stations.{at_end}
@@ -118,18 +117,14 @@ stop_outcome I bound limit cost_limit found times best pushes path from r nodes 
 -- ---- the end
 
 -- where a search is over at its first place the tree has no node
-over_first : (I : Network) (bound : Option ℕ) → IsNetwork I → IsOver I (under_bound bound) [] 0 → IsTreeSize I 0
-over_first I bound network (inl cut) = absurd (no_cut bound cut)
+over_first : (I : Network) (bound : Option ℕ) → IsNetwork I → IsBound I bound → IsOver I (under_bound bound) [] 0 → IsTreeSize I 0
+over_first I bound network is_bound (inl cut) = absurd (not_spent (under_bound bound) cut (above_under I bound network is_bound))
   where
-    no_cut : (bound : Option ℕ) → IsSomeAnd (under_bound bound) (λ l. l ≤ known_cost I []) → ⊥
-    no_cut None cut = cut
-    no_cut (Some bound) cut =
-        elim (cases_lt bound (2 ^ 64 - 1)) [
-          | inl less ↦ let l = rw (lt-ltb bound (2 ^ 64 - 1) less) at cut in omega (arith, l, known_none I)
-          | inr most ↦ rw (le-ltb bound (2 ^ 64 - 1) most) at cut
-        ]
-over_first I bound network (inr (inl full)) = rw (← full) refl
-over_first I bound network (inr (inr stuck)) = by (length (event_ids I)) refl stuck
+    not_spent : (limit : Option ℕ) → IsSomeAnd limit (λ l. IsSpent (AtLeast I (Some l)) I [] 0) → IsAbove I limit → ⊥
+    not_spent None cut above = cut
+    not_spent (Some limit) spent (times, full, less) = let high = spent.passes times full tt (λ _. omega arith) in omega (arith, high, less)
+over_first I bound network is_bound (inr (inl full)) = rw (← full) refl
+over_first I bound network is_bound (inr (inr stuck)) = by (length (event_ids I)) refl stuck
   where
     by : (n : ℕ) → length (event_ids I) ≡ n → IsStuck I [] 0 → IsTreeSize I 0
     by zero none stuck = rw none refl
@@ -157,7 +152,7 @@ end_outcome I bound limit old_limit cost_limit found times best pushes path from
       λ zero.
           let nodes_zero : nodes ≡ 0 = omega (arith, within, zero) in
           let first = start nodes_zero in
-          over_first I bound network (rw (none, first.0, first.1) at over),
+          over_first I bound network is_bound (rw (none, first.0, first.1) at over),
     )
 
 -- ---- nodes within a limit

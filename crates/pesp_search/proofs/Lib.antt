@@ -2,6 +2,7 @@ pub mod BestSoFar
 mod Cases
 pub mod Counted
 pub mod Costs
+pub mod Cuts
 pub mod Decided
 pub mod Ends
 pub mod Enumerated

@@ -165,7 +165,7 @@ spent_dead I pushes path from ok is (e, event, dead) =
     }
 
 -- the time that a full list of times gives the next event is in its domain
-next_in_domains : (I : Network) (pushes : List Pair) (path times : List ℕ) → IsNetwork I → pushes ≡ pairs_of (event_ids I) path → length path < length (event_ids I) → IsFull I times → Extends times path → InDomains I pushes (get_or (event_ids I) (length path) 0) (get_or times (length path) 0)
+pub next_in_domains : (I : Network) (pushes : List Pair) (path times : List ℕ) → IsNetwork I → pushes ≡ pairs_of (event_ids I) path → length path < length (event_ids I) → IsFull I times → Extends times path → InDomains I pushes (get_or (event_ids I) (length path) 0) (get_or times (length path) 0)
 next_in_domains I pushes path times ok is room full x =
     let next : ℕ = get_or (event_ids I) (length path) 0 in
     let within : length path < length times = omega (arith, room, full.events) in
@@ -187,7 +187,6 @@ next_some I pushes path from r ok is room live (above, inside, between) =
       below = (InDomains-admitted I pushes next r inside).below;
       inside = subst (λ ps. InDomains I ps next r) is inside;
       alive = λ (e, event, dead). let w = live e event in dead w.0 (subst (λ ps. InDomains I ps e w.0) is w.1);
-      between = λ s low high d. between s low high (subst (λ ps. InDomains I ps next s) (sym is) d);
       skips = λ times full x low high. between _ low high (next_in_domains I pushes path times ok is room full x);
     }
 

@@ -24,26 +24,30 @@ left_start I zero prefix n size = size
 left_start I (suc free) prefix n (inl dead) = inl dead
 left_start I (suc free) prefix n (inr live) = inr (I.period, omega arith, live.1)
 
--- residues that are not in the domain have no nodes
-sum_skip : (I : Network) (free : ℕ) (path : List ℕ) (residues from more n : ℕ) → ((s : ℕ) → from ≤ s → s < from + more → InNext I path s → ⊥) → IsSumFrom (IsSize I free) I path (more + residues) from n → IsSumFrom (IsSize I free) I path residues (from + more) n
-sum_skip I free path residues from zero n none sum =
+-- residues that are passed over leave no more nodes
+sum_skip : (I : Network) (free : ℕ) (path : List ℕ) (residues from more n : ℕ) → IsSumFrom (IsSize I free) I path (more + residues) from n → (m : ℕ) × IsSumFrom (IsSize I free) I path residues (from + more) m × (m ≤ n)
+sum_skip I free path residues from zero n sum =
     let all : zero + residues ≡ residues = omega arith in
     let here : from ≡ from + zero = omega arith in
-    subst (λ f. IsSumFrom (IsSize I free) I path residues f n) here (subst (λ l. IsSumFrom (IsSize I free) I path l from n) all sum)
-sum_skip I free path residues from (suc more) n none sum =
+    (n, subst (λ f. IsSumFrom (IsSize I free) I path residues f n) here (subst (λ l. IsSumFrom (IsSize I free) I path l from n) all sum), omega arith)
+sum_skip I free path residues from (suc more) n sum =
     let one : suc more + residues ≡ suc (more + residues) = omega arith in
-    let on : suc from + more ≡ from + suc more = omega arith in
     let whole : IsSumFrom (IsSize I free) I path (suc (more + residues)) from n = subst (λ l. IsSumFrom (IsSize I free) I path l from n) one sum in
-    subst (λ f. IsSumFrom (IsSize I free) I path residues f n) on
-    (elim whole [
-      | inl out ↦ sum_skip I free path residues (suc from) more n (λ s low high. none s (omega (arith, low)) (omega (arith, high))) out.1
-      | inr inside ↦ absurd (none from (omega arith) (omega arith) inside.0)
-    ])
+    split (λ k sum. sum_skip I free path residues (suc from) more k sum) whole
+  where
+    up : (k : ℕ) → (m : ℕ) × IsSumFrom (IsSize I free) I path residues (suc from + more) m × (m ≤ k) → k ≤ n → (m : ℕ) × IsSumFrom (IsSize I free) I path residues (from + suc more) m × (m ≤ n)
+    up k w less =
+        let on : suc from + more ≡ from + suc more = omega arith in
+        (w.0, subst (λ f. IsSumFrom (IsSize I free) I path residues f w.0) on w.1, (let few = w.2 in omega (arith, few, less)))
+
+    split : ((k : ℕ) → IsSumFrom (IsSize I free) I path (more + residues) (suc from) k → (m : ℕ) × IsSumFrom (IsSize I free) I path residues (suc from + more) m × (m ≤ k)) → IsSumFrom (IsSize I free) I path (suc (more + residues)) from n → (m : ℕ) × IsSumFrom (IsSize I free) I path residues (from + suc more) m × (m ≤ n)
+    split later (inl out) = up n (later n out.1) (omega arith)
+    split later (inr (_, (m, size, (k, sum, total)))) = up k (later k sum) (omega (arith, total))
 
 -- a step down takes one node
-pub left_take : (I : Network) (free : ℕ) (prefix path all : List ℕ) (from r n : ℕ) → prefix ++ path ≡ all → length path < free → (IsDead I all → ⊥) → from ≤ r → r < I.period → InNext I all r → ((s : ℕ) → from ≤ s → s < r → InNext I all s → ⊥) → Left I free prefix path from n → (m : ℕ) × Left I free prefix (path ++ r ∷ []) 0 m × (m + 1 ≤ n)
-left_take I zero prefix path all from r n is room live above below inside between left = absurd (omega (arith, room))
-left_take I (suc free) prefix [] all from r n is room live above below inside between left =
+pub left_take : (I : Network) (free : ℕ) (prefix path all : List ℕ) (from r n : ℕ) → prefix ++ path ≡ all → length path < free → (IsDead I all → ⊥) → from ≤ r → r < I.period → InNext I all r → Left I free prefix path from n → (m : ℕ) × Left I free prefix (path ++ r ∷ []) 0 m × (m + 1 ≤ n)
+left_take I zero prefix path all from r n is room live above below inside left = absurd (omega (arith, room))
+left_take I (suc free) prefix [] all from r n is room live above below inside left =
     let same : prefix ≡ all = sym (append-nil prefix) ∙ is in
     elim left [
       | inl dead ↦ absurd (live (subst (IsDead I) same dead.0))
@@ -54,19 +58,22 @@ left_take I (suc free) prefix [] all from r n is room live above below inside be
           let up : from + more ≡ r = omega arith in
           let long : rest.0 ≡ more + suc later = omega (arith, rest.1) in
           let sum : IsSumFrom (IsSize I free) I prefix (more + suc later) from n = subst (λ l. IsSumFrom (IsSize I free) I prefix l from n) long rest.2 in
-          let skipped = sum_skip I free prefix (suc later) from more n (λ s low high d. between s low (omega (arith, high)) (subst (λ q. InNext I q s) same d)) sum in
-          taken (subst (λ f. IsSumFrom (IsSize I free) I prefix (suc later) f n) up skipped) at
+          let skipped = sum_skip I free prefix (suc later) from more n sum in
+          let fewer = skipped.2 in
+          let w = taken skipped.0 (subst (λ f. IsSumFrom (IsSize I free) I prefix (suc later) f skipped.0) up skipped.1) at in
+          let less = w.2 in
+          (w.0, w.1, omega (arith, fewer, less))
     ]
   where
-    taken : IsSumFrom (IsSize I free) I prefix (suc (I.period - suc r)) r n → InNext I prefix r → (m : ℕ) × Left I (suc free) prefix (r ∷ []) 0 m × (m + 1 ≤ n)
-    taken (inl out) at = absurd (out.0 at)
-    taken (inr (_, (m, size, (k, sum, total)))) at =
+    taken : (some : ℕ) → IsSumFrom (IsSize I free) I prefix (suc (I.period - suc r)) r some → InNext I prefix r → (m : ℕ) × Left I (suc free) prefix (r ∷ []) 0 m × (m + 1 ≤ some)
+    taken some (inl out) at = absurd (out.0 at)
+    taken some (inr (_, (m, size, (k, sum, total)))) at =
         let fits : r + 1 + (I.period - suc r) ≡ I.period = omega (arith, below) in
         let next : suc r ≡ r + 1 = omega arith in
         (m + k, (m, left_start I free (prefix ++ r ∷ []) m size, (k, (I.period - suc r, fits, subst (λ f. IsSumFrom (IsSize I free) I prefix (I.period - suc r) f k) next sum), refl)), omega (arith, total))
-left_take I (suc free) prefix (x ∷ path) all from r n is room live above below inside between (a, left, (b, rest, total)) =
+left_take I (suc free) prefix (x ∷ path) all from r n is room live above below inside (a, left, (b, rest, total)) =
     let same : (prefix ++ x ∷ []) ++ path ≡ all = append_assoc prefix (x ∷ []) path ∙ is in
-    let deeper = left_take I free (prefix ++ x ∷ []) path all from r a same (omega (arith, room)) live above below inside between left in
+    let deeper = left_take I free (prefix ++ x ∷ []) path all from r a same (omega (arith, room)) live above below inside left in
     let fewer = deeper.2 in
     (deeper.0 + b, (deeper.0, deeper.1, (b, rest, refl)), omega (arith, fewer, total))
 
@@ -99,7 +106,7 @@ counted_start I =
 -- a step down counts one
 pub counted_take : (P : List ℕ → Type 0) (I : Network) (path : List ℕ) (from r nodes more : ℕ) → IsNext P I path from r → more ≤ nodes + 1 → IsCounted I path from nodes → IsCounted I (path ++ r ∷ []) 0 more
 counted_take P I path from r nodes more next one counted =
-    let taken = left_take I (length (event_ids I)) [] path path from r counted.left refl next.room next.alive next.above next.below next.inside next.between counted.rest in
+    let taken = left_take I (length (event_ids I)) [] path path from r counted.left refl next.room next.alive next.above next.below next.inside counted.rest in
     record { size = counted.size; tree = counted.tree; left = taken.0; rest = taken.1; within = omega (arith, counted.within, taken.2, one) }
 
 -- a step back counts none

@@ -1,10 +1,10 @@
 -- What a search has found so far.
-use Rattle.std.specs.Prelude.{◌≡◌, ℕ, ◌+◌, ◌-◌, ◌^◌, ◌<◌, ◌≤◌, Bool, true, false, nat_lt, if◌then◌else◌, List, Option, Some, None, IfSome, MatchOption}
-use Rattle.pesp_instance.specs.Network.{Network}
+use Rattle.std.specs.Prelude.{◌≡◌, ℕ, ◌+◌, ◌-◌, ◌^◌, ◌<◌, ◌≤◌, Bool, true, false, nat_lt, if◌then◌else◌, List, [], ◌∷◌, ◌++◌, length, ◌⊎◌, Option, Some, None, IfSome, IsSomeAnd, MatchOption}
+use Rattle.pesp_instance.specs.Network.{Network, event_ids}
 use Rattle.pesp_search.specs.declared.answer.Best.{Best}
 use Rattle.pesp_search.specs.declared.incumbent.Incumbent.{Incumbent}
-use Rattle.pesp_search.specs.Places.{timetable_of}
-use Rattle.pesp_search.specs.Walk.{Before, IsFull, full_cost}
+use Rattle.pesp_search.specs.Places.{InNext, timetable_of}
+use Rattle.pesp_search.specs.Walk.{Before, IsFull, IsSpent, IsStuck, full_cost, known_cost}
 
 -- the times cost at least the limit; with none there are no such times
 abbrev pub AtLeast : Network → Option ℕ → List ℕ → Type 0
@@ -36,3 +36,30 @@ IsAbove I (Some under) = (times : List ℕ) × IsFull I times × (full_cost I ti
 abbrev pub under_bound : Option ℕ → Option ℕ
 under_bound None = None
 under_bound (Some bound) = if nat_lt bound (2 ^ 64 - 1) then Some (bound + 1) else None
+
+-- ---- what is of no use
+
+-- a known cost is of no use: it has come to the limit
+abbrev pub IsCut : Option ℕ → ℕ → Type 0
+IsCut limit cost = IsSomeAnd limit (λ l. l ≤ cost)
+
+-- each residue of the next event's domain from one on and below another is of no use
+abbrev pub AreCut : Network → Option ℕ → List ℕ → ℕ → ℕ → Type 0
+AreCut I limit path from to = (s : ℕ) → from ≤ s → s < to → InNext I path s → IsCut limit (known_cost I (path ++ s ∷ []))
+
+-- r is the first one from there on that is of use
+pub record IsFirstOfUse (I : Network) (limit : Option ℕ) (path : List ℕ) (from r : ℕ) : Type 0 where
+  pub above : from ≤ r
+  pub below : r < I.period
+  pub inside : InNext I path r
+  pub of_use : IfSome limit (λ l. known_cost I (path ++ r ∷ []) < l)
+  pub before : AreCut I limit path from r
+
+-- that residue, or none where none is of use
+abbrev pub IsNextOfUse : Network → Option ℕ → List ℕ → ℕ → Option ℕ → Type 0
+IsNextOfUse I limit path from next = MatchOption next (AreCut I limit path from I.period) (IsFirstOfUse I limit path from)
+
+-- why a place is left: what is left there costs at least the limit, each event has its time, or nothing is left to try
+abbrev pub IsOver : Network → Option ℕ → List ℕ → ℕ → Type 0
+IsOver I limit path from =
+    IsSomeAnd limit (λ l. IsSpent (AtLeast I (Some l)) I path from) ⊎ (length path ≡ length (event_ids I)) ⊎ IsStuck I path from

@@ -1,5 +1,5 @@
 -- What a search keeps on its way through the tree. It stands at a place: times for the first events, the path, and the least time yet to be tried at the next one.
-use Rattle.std.specs.Prelude.{◌≡◌, ℕ, ◌<◌, ◌≤◌, ◌⊎◌, ◌&&◌, IsTrue, is_some, if◌then◌else◌, List, [], ◌∷◌, length, slice_index, sum_by, All, Option, MatchOption, IsSomeAnd}
+use Rattle.std.specs.Prelude.{◌≡◌, ℕ, ◌<◌, ◌≤◌, ◌⊎◌, ◌&&◌, IsTrue, is_some, if◌then◌else◌, List, [], ◌∷◌, length, slice_index, sum_by, All, Option, MatchOption}
 use Rattle.std.specs.List.{Contains}
 use Rattle.pesp_base.specs.declared.activity.Activity.{Activity}
 use Rattle.pesp_base.specs.Tensions.{IsMet}
@@ -64,7 +64,6 @@ pub record IsNext (P : List ℕ → Type 0) (I : Network) (path : List ℕ) (fro
   pub below : r < I.period
   pub inside : InNext I path r
   pub alive : IsDead I path → ⊥
-  pub between : (s : ℕ) → from ≤ s → s < r → InNext I path s → ⊥
   pub skips : (times : List ℕ) → IsFull I times → Extends times path → from ≤ slice_index times (length path) → slice_index times (length path) < r → P times
 
 -- a residue to try next, or none where the place is spent
@@ -107,8 +106,3 @@ abbrev pub IsChoice : (List ℕ → Type 0) → Network → List ℕ → ℕ →
 IsChoice P I path from Full = IsFull I path
 IsChoice P I path from (Take r) = IsNext P I path from r
 IsChoice P I path from Back = IsSpent P I path from × IsStuck I path from
-
--- why a place is left: what is known costs the limit, each event has its time, or nothing is left to try
-abbrev pub IsOver : Network → Option ℕ → List ℕ → ℕ → Type 0
-IsOver I limit path from =
-    IsSomeAnd limit (λ l. l ≤ known_cost I path) ⊎ (length path ≡ length (event_ids I)) ⊎ IsStuck I path from

@@ -6,6 +6,7 @@ ghost use Rattle.pesp_instance.specs.Network.{IsNetwork, around, event_ids};
 ghost use Rattle.pesp_tension.specs.Answers.{cost_in, first_missing};
 ghost use Rattle.pesp_tension.specs.Timetables.{time_of, with_time};
 ghost use Rattle.pesp_search.specs.Branch.{IsBranch, IsFront, IsPopped, is_behind};
+ghost use Rattle.pesp_search.specs.Walk.{known_cost};
 
 use pesp_base::{Activity, EventId, Memory};
 use pesp_instance::Instance;
@@ -84,6 +85,22 @@ impl Branch {
         })
     }
 
+    /// What would be known with this time of the next event, which the timetable has afterwards behind the branch.
+    pub(crate) fn cost_with(&mut self, instance: &Instance, event: EventId, time: u16) -> u64
+        requires network { IsNetwork instance.now }
+        requires branch { IsBranch instance.now self.old.times.items self.old.cost self.old.timetable (vec_capacity self.old.times) }
+        requires next { event ≡ slice_index (event_ids instance.now) (length self.old.times.items) }
+        requires depth { length self.old.times.items < length (event_ids instance.now) }
+        requires below { time < instance.now.period }
+        ensures times { self.new.times ≡ self.old.times }
+        ensures cost { self.new.cost ≡ self.old.cost }
+        ensures front { IsFront instance.now (self.old.times.items ++ time ∷ []) self.new.timetable }
+        ensures value { result ≡ known_cost instance.now (self.old.times.items ++ time ∷ []) }
+    {
+        put_time(&mut self.timetable, event, time);
+        self.cost + cost_behind(instance, &self.timetable, event)
+    }
+
     /// Gives the next event its time.
     pub(crate) fn push(&mut self, instance: &Instance, event: EventId, time: u16)
         requires network { IsNetwork instance.now }
@@ -94,8 +111,7 @@ impl Branch {
         ensures branch { IsBranch instance.now self.new.times.items self.new.cost self.new.timetable (vec_capacity self.new.times) }
         ensures times { self.new.times.items ≡ self.old.times.items ++ time ∷ [] }
     {
-        put_time(&mut self.timetable, event, time);
-        self.cost += cost_behind(instance, &self.timetable, event);
+        self.cost = self.cost_with(instance, event, time);
         self.times.push_reserved(time);
     }
 

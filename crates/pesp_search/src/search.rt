@@ -1,22 +1,22 @@
 //! The search.
 
-ghost use Rattle.std.specs.Prelude.{◌≡◌, ◌≢◌, ℕ, ◌<◌, ◌≤◌, ◌+◌, ◌++◌, ◌∷◌, [], true, false, Some, None, IsTrue, IsSome, IfOk, IfSome, IfNone, List, All, length};
+ghost use Rattle.std.specs.Prelude.{◌≡◌, ◌≢◌, ℕ, ◌<◌, ◌≤◌, ◌+◌, ◌++◌, ◌∷◌, [], true, false, Some, None, IsTrue, IsSome, IfOk, IfSome, IfNone, List, All, length, vec_capacity};
 ghost use Rattle.pesp_instance.specs.Network.{IsNetwork, Network, event_ids, has_event};
 ghost use Rattle.pesp_domains.specs.declared.pair.Pair.{Pair};
 ghost use Rattle.pesp_domains.specs.Domains.{In};
 ghost use Rattle.pesp_search.specs.declared.answer.Answer.TheVariants as answers;
 ghost use Rattle.pesp_search.specs.declared.answer.Tried.TheVariants as attempts;
-ghost use Rattle.pesp_search.specs.Branch.{IsFront};
-ghost use Rattle.pesp_search.specs.Found.{AtLeast, IsTold, StaysBest};
+ghost use Rattle.pesp_search.specs.Branch.{IsBranch, IsFront};
+ghost use Rattle.pesp_search.specs.Found.{AtLeast, IsOver, IsTold, StaysBest};
 ghost use Rattle.pesp_search.specs.Optima.{IsAnswer, IsBound};
 ghost use Rattle.pesp_search.specs.Places.{IsDead, timetable_of};
-ghost use Rattle.pesp_search.specs.Walk.{IsAt, IsOver, IsStep, known_cost};
+ghost use Rattle.pesp_search.specs.Walk.{IsAt, IsStep};
 ghost use Rattle.pesp_search.specs.Tree.{AreNodes};
 ghost use Rattle.pesp_search.specs.Tried.{IsEnd, IsOutcome, MayTry};
 
 use crate::branch::{Branch, put_time};
 use crate::incumbent::Incumbent;
-use crate::steps::{Choice, choose};
+use crate::steps::{Choice, choose, next_of_use};
 use crate::{Answer, Best, Tried};
 use pesp_base::{EventId, Memory};
 use pesp_domains::Keeper;
@@ -55,21 +55,23 @@ fn events_of(alloc: Global, instance: &Instance) -> Result<Vec<EventId>, Memory>
 fn visit<K: Keeper>(
     keeper: &K,
     events: &[EventId],
-    branch: &Branch,
+    branch: &mut Branch,
     from: u16,
     incumbent: &mut Incumbent,
 ) -> Option<u16>
     requires network { IsNetwork (K.network keeper.now) }
     requires events { events.now ≡ event_ids (K.network keeper.now) }
-    requires at { IsAt (AtLeast (K.network keeper.now) incumbent.old.limit) (K.network keeper.now) (K.pushes keeper.now) branch.now.times.items from }
-    requires known { branch.now.cost ≡ known_cost (K.network keeper.now) branch.now.times.items }
+    requires at { IsAt (AtLeast (K.network keeper.now) incumbent.old.limit) (K.network keeper.now) (K.pushes keeper.now) branch.old.times.items from }
+    requires branch { IsBranch (K.network keeper.now) branch.old.times.items branch.old.cost branch.old.timetable (vec_capacity branch.old.times) }
     requires times { length incumbent.old.times.items ≡ length (event_ids (K.network keeper.now)) }
-    ensures at { IsAt (AtLeast (K.network keeper.now) incumbent.new.limit) (K.network keeper.now) (K.pushes keeper.now) branch.now.times.items from }
+    ensures path { branch.new.times.items ≡ branch.old.times.items }
+    ensures branch { IsBranch (K.network keeper.now) branch.new.times.items branch.new.cost branch.new.timetable (vec_capacity branch.new.times) }
+    ensures at { IsAt (AtLeast (K.network keeper.now) incumbent.new.limit) (K.network keeper.now) (K.pushes keeper.now) branch.new.times.items from }
     ensures times { length incumbent.new.times.items ≡ length (event_ids (K.network keeper.now)) }
     ensures best { StaysBest (K.network keeper.now) incumbent.old incumbent.new }
-    ensures next { IsStep (AtLeast (K.network keeper.now) incumbent.new.limit) (K.network keeper.now) branch.now.times.items from result }
+    ensures next { IsStep (AtLeast (K.network keeper.now) incumbent.new.limit) (K.network keeper.now) branch.new.times.items from result }
     ensures same { IfSome result (λ _. (incumbent.new.limit ≡ incumbent.old.limit) × (incumbent.new.is_found ≡ incumbent.old.is_found)) }
-    ensures over { IfNone result (IsOver (K.network keeper.now) incumbent.old.limit branch.now.times.items from) }
+    ensures over { IfNone result (IsOver (K.network keeper.now) incumbent.old.limit branch.new.times.items from) }
 {
     if incumbent.cuts(branch.cost) {
         return None;
@@ -79,7 +81,10 @@ fn visit<K: Keeper>(
             incumbent.keep(&branch.times, branch.cost);
             None
         }
-        Choice::Take(residue) => Some(residue),
+        Choice::Take(residue) => {
+            let event = events[branch.times.len()];
+            next_of_use(keeper, event, branch, residue, incumbent)
+        }
         Choice::Back => None,
     }
 }
@@ -186,7 +191,7 @@ fn search<K: Keeper>(
     // One for each push, those that were popped included.
     let mut nodes = 0;
     'places: loop {
-        match visit(keeper, &events, &branch, from, &mut incumbent) {
+        match visit(keeper, &events, &mut branch, from, &mut incumbent) {
             Some(residue) => {
                 if is_spent(limit, nodes) {
                     unwind(keeper, branch.times.len());

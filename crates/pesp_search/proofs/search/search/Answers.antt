@@ -38,8 +38,8 @@ visit-requires-clause-events g c = c.deref.ensures.value ∙ c.places.invariant.
 pub visit-requires-clause-at : goal.visit-requires-clause-at
 visit-requires-clause-at g c = rw c.places.invariant.network c.places.invariant.at
 
-pub visit-requires-clause-known : goal.visit-requires-clause-known
-visit-requires-clause-known g c = rw c.places.invariant.network c.places.invariant.branch.costs
+pub visit-requires-clause-branch : goal.visit-requires-clause-branch
+visit-requires-clause-branch g c = rw c.places.invariant.network c.places.invariant.branch
 
 pub visit-requires-clause-times : goal.visit-requires-clause-times
 visit-requires-clause-times g c = rw c.places.invariant.network c.places.invariant.times
@@ -60,7 +60,7 @@ best_of-best-requires-clause-events g c = c.deref-then-is_spent.ensures.value �
 
 pub best_of-best-requires-clause-front : goal.best_of-best-requires-clause-front
 best_of-best-requires-clause-front g c =
-    rw (c.instance-then-is_spent.ensures, c.unwind.ensures.network, c.places.invariant.network) (front_none (g.K.Keeper.network c.args.keeper.now) c.places.branch.times.items c.places.branch.timetable c.places.invariant.branch.front)
+    rw (c.instance-then-is_spent.ensures, c.unwind.ensures.network, c.places.invariant.network) (front_none (g.K.Keeper.network c.args.keeper.now) c.visit.new.branch.times.items c.visit.new.branch.timetable (rw c.places.invariant.network at c.visit.ensures.branch).front)
 
 pub best_of-best-requires-clause-below : goal.best_of-best-requires-clause-below
 best_of-best-requires-clause-below g c found =
@@ -80,8 +80,8 @@ returns-then-is_spent-clause-outcome g c =
     let best = (rw c.places.invariant.network at c.visit.ensures.best) (under_bound c.args.bound) c.places.invariant.best in
     let told = rw (c.instance-then-is_spent.ensures, c.unwind.ensures.network, c.places.invariant.network) at c.best_of-best.ensures in
     let is = c.is_spent.ensures.yes c.if-is_spent.true in
-    stop_outcome I c.args.bound c.args.limit c.visit.new.incumbent.limit c.visit.new.incumbent.is_found c.visit.new.incumbent.times.items c.best_of-best.result _ c.places.branch.times.items c.places.from c.in-Some.residue c.places.nodes c.places.invariant.is_network is
-    at next best c.places.invariant.counted (λ zero. c.in-Some.ensures.same.1 ∙ (c.places.invariant.start zero).3) told
+    stop_outcome I c.args.bound c.args.limit c.visit.new.incumbent.limit c.visit.new.incumbent.is_found c.visit.new.incumbent.times.items c.best_of-best.result _ c.visit.new.branch.times.items c.places.from c.in-Some.residue c.places.nodes c.places.invariant.is_network is
+    at next best (rw (← c.visit.ensures.path) at c.places.invariant.counted) (λ zero. c.in-Some.ensures.same.1 ∙ (c.places.invariant.start zero).3) told
 
 pub returns-then-is_spent-clause-nodes : goal.returns-then-is_spent-clause-nodes
 returns-then-is_spent-clause-nodes g c = counted_nodes (g.K.Keeper.network c.args.keeper.now) c.places.branch.times.items c.places.from c.places.nodes c.places.invariant.counted
@@ -100,38 +100,38 @@ pub descend-nodes-requires-clause-event : goal.descend-nodes-requires-clause-eve
 descend-nodes-requires-clause-event g c =
     let I = g.K.Keeper.network c.args.keeper.now in
     let next = rw c.places.invariant.network at c.in-Some.ensures.next in
-    let long : c.len-in-Some.result ≡ length c.places.branch.times.items = omega arith in
+    let long : c.len-in-Some.result ≡ length c.visit.new.branch.times.items = omega arith in
     let here : c.len-in-Some.result < length c.in_ok-events.events.items = omega (arith, long, ap length c.places.invariant.events, next.room) in
-    let item : c.index-event.result.now ≡ get_or (event_ids I) (length c.places.branch.times.items) 0 =
+    let item : c.index-event.result.now ≡ get_or (event_ids I) (length c.visit.new.branch.times.items) 0 =
     get_or_read c.in_ok-events.events.items c.len-in-Some.result c.index-event.result.now here c.index-event.ensures 0 ∙ ap (λ ids. get_or ids c.len-in-Some.result 0) c.places.invariant.events ∙ ap (λ k. get_or (event_ids I) k 0) long
     in
-    rw (c.places.invariant.network, item) (place_has_event I (length c.places.branch.times.items) next.room)
+    rw (c.places.invariant.network, item) (place_has_event I (length c.visit.new.branch.times.items) next.room)
 
 pub descend-nodes-requires-clause-free : goal.descend-nodes-requires-clause-free
 descend-nodes-requires-clause-free g c r is =
     let I = g.K.Keeper.network c.args.keeper.now in
     let next = rw c.places.invariant.network at c.in-Some.ensures.next in
-    let long : c.len-in-Some.result ≡ length c.places.branch.times.items = omega arith in
+    let long : c.len-in-Some.result ≡ length c.visit.new.branch.times.items = omega arith in
     let here : c.len-in-Some.result < length c.in_ok-events.events.items = omega (arith, long, ap length c.places.invariant.events, next.room) in
-    let item : c.index-event.result.now ≡ get_or (event_ids I) (length c.places.branch.times.items) 0 =
+    let item : c.index-event.result.now ≡ get_or (event_ids I) (length c.visit.new.branch.times.items) 0 =
     get_or_read c.in_ok-events.events.items c.len-in-Some.result c.index-event.result.now here c.index-event.ensures 0 ∙ ap (λ ids. get_or ids c.len-in-Some.result 0) c.places.invariant.events ∙ ap (λ k. get_or (event_ids I) k 0) long
     in
     let at = rw c.places.invariant.network at c.visit.ensures.at in
-    at_free (AtLeast I c.visit.new.incumbent.limit) I _ c.places.branch.times.items c.places.from c.places.invariant.is_network at next.room r (rw item at is)
+    at_free (AtLeast I c.visit.new.incumbent.limit) I _ c.visit.new.branch.times.items c.places.from c.places.invariant.is_network at next.room r (rw item at is)
 
 pub push-requires-clause-network : goal.push-requires-clause-network
 push-requires-clause-network g c = rw (c.instance-in-Some.ensures, c.descend-nodes.ensures.network, c.places.invariant.network) c.places.invariant.is_network
 
 pub push-requires-clause-branch : goal.push-requires-clause-branch
-push-requires-clause-branch g c = rw (c.instance-in-Some.ensures, c.descend-nodes.ensures.network, c.places.invariant.network) c.places.invariant.branch
+push-requires-clause-branch g c = rw (c.instance-in-Some.ensures, c.descend-nodes.ensures.network, c.places.invariant.network) (rw c.places.invariant.network at c.visit.ensures.branch)
 
 pub push-requires-clause-next : goal.push-requires-clause-next
 push-requires-clause-next g c =
     let I = g.K.Keeper.network c.args.keeper.now in
     let next = rw c.places.invariant.network at c.in-Some.ensures.next in
-    let long : c.len-in-Some.result ≡ length c.places.branch.times.items = omega arith in
+    let long : c.len-in-Some.result ≡ length c.visit.new.branch.times.items = omega arith in
     let here : c.len-in-Some.result < length c.in_ok-events.events.items = omega (arith, long, ap length c.places.invariant.events, next.room) in
-    let item : c.index-event.result.now ≡ get_or (event_ids I) (length c.places.branch.times.items) 0 =
+    let item : c.index-event.result.now ≡ get_or (event_ids I) (length c.visit.new.branch.times.items) 0 =
     get_or_read c.in_ok-events.events.items c.len-in-Some.result c.index-event.result.now here c.index-event.ensures 0 ∙ ap (λ ids. get_or ids c.len-in-Some.result 0) c.places.invariant.events ∙ ap (λ k. get_or (event_ids I) k 0) long
     in
     rw (c.instance-in-Some.ensures, c.descend-nodes.ensures.network, c.places.invariant.network) item
@@ -140,19 +140,19 @@ pub places-smaller-in-Some : goal.places-smaller-in-Some
 places-smaller-in-Some g c =
     let I = g.K.Keeper.network c.args.keeper.now in
     let next = rw c.places.invariant.network at c.in-Some.ensures.next in
-    rw c.push.ensures.times (rest_down I.period (length (event_ids I) + 1) c.places.branch.times.items c.in-Some.residue c.places.from (omega (arith, next.room)) next.above next.below)
+    rw (c.push.ensures.times, c.visit.ensures.path) (rw c.visit.ensures.path at (rest_down I.period (length (event_ids I) + 1) c.visit.new.branch.times.items c.in-Some.residue c.places.from (omega (arith, next.room)) next.above next.below))
 
 pub places-preserved-in-Some : goal.places-preserved-in-Some
 places-preserved-in-Some g c =
     let I = g.K.Keeper.network c.args.keeper.now in
     let next = rw c.places.invariant.network at c.in-Some.ensures.next in
-    let long : c.len-in-Some.result ≡ length c.places.branch.times.items = omega arith in
+    let long : c.len-in-Some.result ≡ length c.visit.new.branch.times.items = omega arith in
     let here : c.len-in-Some.result < length c.in_ok-events.events.items = omega (arith, long, ap length c.places.invariant.events, next.room) in
-    let item : c.index-event.result.now ≡ get_or (event_ids I) (length c.places.branch.times.items) 0 =
+    let item : c.index-event.result.now ≡ get_or (event_ids I) (length c.visit.new.branch.times.items) 0 =
     get_or_read c.in_ok-events.events.items c.len-in-Some.result c.index-event.result.now here c.index-event.ensures 0 ∙ ap (λ ids. get_or ids c.len-in-Some.result 0) c.places.invariant.events ∙ ap (λ k. get_or (event_ids I) k 0) long
     in
     let at = rw c.places.invariant.network at c.visit.ensures.at in
-    let times = c.places.branch.times.items in
+    let times = c.visit.new.branch.times.items in
     record {
       network = c.descend-nodes.ensures.network ∙ c.places.invariant.network;
       is_network = c.places.invariant.is_network;
@@ -163,7 +163,7 @@ places-preserved-in-Some g c =
       best = (rw c.places.invariant.network at c.visit.ensures.best) (under_bound c.args.bound) c.places.invariant.best;
       counted =
           rw c.push.ensures.times
-          (counted_take (AtLeast I c.visit.new.incumbent.limit) I times c.places.from c.in-Some.residue c.places.nodes c.descend-nodes.result next c.descend-nodes.ensures.more.0 c.places.invariant.counted);
+          (counted_take (AtLeast I c.visit.new.incumbent.limit) I times c.places.from c.in-Some.residue c.places.nodes c.descend-nodes.result next c.descend-nodes.ensures.more.0 (rw (← c.visit.ensures.path) at c.places.invariant.counted));
       within = more_within c.args.limit c.places.nodes c.descend-nodes.result c.places.invariant.within (c.is_spent.ensures.no c.if-is_spent.false) c.descend-nodes.ensures.more.0;
       start = λ zero. absurd (omega (arith, zero, c.descend-nodes.ensures.more.1));
     }
@@ -174,7 +174,7 @@ pub pop-requires-clause-network : goal.pop-requires-clause-network
 pop-requires-clause-network g c = rw (c.instance-in-None.ensures, c.places.invariant.network) c.places.invariant.is_network
 
 pub pop-requires-clause-branch : goal.pop-requires-clause-branch
-pop-requires-clause-branch g c = rw (c.instance-in-None.ensures, c.places.invariant.network) c.places.invariant.branch
+pop-requires-clause-branch g c = rw (c.instance-in-None.ensures, c.places.invariant.network) (rw c.places.invariant.network at c.visit.ensures.branch)
 
 pub pop-requires-clause-events : goal.pop-requires-clause-events
 pop-requires-clause-events g c = c.deref-in-None.ensures.value ∙ c.places.invariant.events ∙ ap event_ids (sym (c.instance-in-None.ensures ∙ c.places.invariant.network))
@@ -197,7 +197,7 @@ pub places-smaller : goal.places-smaller
 places-smaller g c =
     let I = g.K.Keeper.network c.args.keeper.now in
     let at = rw (c.places.invariant.network, c.in-Some-pop.ensures.times) at c.visit.ensures.at in
-    rw c.in-Some-pop.ensures.times (rest_back I.period (length (event_ids I) + 1) c.pop.new.self.times.items c.in-Some-pop.residue c.places.from (omega (arith, at.depth, length_push c.pop.new.self.times.items c.in-Some-pop.residue)) at.small)
+    rw (sym c.visit.ensures.path ∙ c.in-Some-pop.ensures.times) (rest_back I.period (length (event_ids I) + 1) c.pop.new.self.times.items c.in-Some-pop.residue c.places.from (omega (arith, at.depth, length_push c.pop.new.self.times.items c.in-Some-pop.residue)) at.small)
 
 pub places-preserved : goal.places-preserved
 places-preserved g c =
@@ -213,9 +213,9 @@ places-preserved g c =
       times = rw c.places.invariant.network at c.visit.ensures.times;
       at = at_back (AtLeast I c.visit.new.incumbent.limit) I _ _ c.pop_fix.ensures.pushes.0 times c.in-Some-pop.residue c.places.from c.pop_fix.ensures.pushes.1 at spent;
       best = (rw c.places.invariant.network at c.visit.ensures.best) (under_bound c.args.bound) c.places.invariant.best;
-      counted = counted_back I times c.in-Some-pop.residue c.places.from c.places.nodes (rw c.in-Some-pop.ensures.times at c.places.invariant.counted);
+      counted = counted_back I times c.in-Some-pop.residue c.places.from c.places.nodes (rw (sym c.visit.ensures.path ∙ c.in-Some-pop.ensures.times) at c.places.invariant.counted);
       within = c.places.invariant.within;
-      start = λ zero. absurd (omega (arith, ap length (sym c.in-Some-pop.ensures.times ∙ (c.places.invariant.start zero).0), length_push times c.in-Some-pop.residue));
+      start = λ zero. absurd (omega (arith, ap length (sym c.in-Some-pop.ensures.times ∙ c.visit.ensures.path ∙ (c.places.invariant.start zero).0), length_push times c.in-Some-pop.residue));
     }
 
 -- ---- the end
@@ -244,7 +244,7 @@ returns-in-None-pop-clause-outcome g c =
     let over = rw c.places.invariant.network at c.in-None.ensures.over in
     let best = (rw c.places.invariant.network at c.visit.ensures.best) (under_bound c.args.bound) c.places.invariant.best in
     let told = rw (c.instance-in-None-pop.ensures, c.places.invariant.network) at c.best_of-best-in-None-pop.ensures in
-    end_outcome I c.args.bound c.args.limit c.places.incumbent.limit c.visit.new.incumbent.limit c.visit.new.incumbent.is_found c.visit.new.incumbent.times.items c.best_of-best-in-None-pop.result _ c.places.branch.times.items c.places.from c.places.nodes c.places.invariant.is_network c.requires.bound c.in-None-pop.ensures.times.0
+    end_outcome I c.args.bound c.args.limit c.places.incumbent.limit c.visit.new.incumbent.limit c.visit.new.incumbent.is_found c.visit.new.incumbent.times.items c.best_of-best-in-None-pop.result _ c.visit.new.branch.times.items c.places.from c.places.nodes c.places.invariant.is_network c.requires.bound c.in-None-pop.ensures.times.0
     at spent best over (λ zero. ((c.places.invariant.start zero).1, (c.places.invariant.start zero).2)) c.places.invariant.within told
 
 pub returns-in-None-pop-clause-nodes : goal.returns-in-None-pop-clause-nodes

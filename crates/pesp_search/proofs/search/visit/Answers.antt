@@ -1,31 +1,47 @@
 -- What a visit leaves.
-use Rattle.std.proofs.Common.{◌≡◌, sym, ◌∙◌, inr}
+use Rattle.std.proofs.Common.{◌≡◌, sym, ◌∙◌, inl, inr}
 use Rattle.std.proofs.lemmas.Bool.{MatchBool-at_true, MatchBool-at_false}
-use Rattle.pesp_search.specs.Walk.{IsFull, full_cost}
-use Rattle.pesp_search.proofs.BestSoFar.{below_under, best_found, cut_spent, found_spent, kept_best, next_any}
+use Rattle.pesp_search.specs.Walk.{IsFull, IsNext, Nothing, full_cost}
+use Rattle.pesp_search.proofs.BestSoFar.{below_under, best_found, cut_spent, found_spent, kept_best}
 use Rattle.pesp_search.proofs.Costs.{known_is_cost}
+use Rattle.pesp_search.proofs.Cuts.{next_told, over_of_known, over_told}
 use Rattle.pesp_search.proofs.search.visit.Goals as goal
 
 pub returns-then-cuts-clause-next : goal.returns-then-cuts-clause-next
 returns-then-cuts-clause-next g c =
-    cut_spent (g.K.Keeper.network c.args.keeper.now) c.args.incumbent.now.limit c.args.branch.now.cost c.args.branch.now.times.items c.args.from (MatchBool-at_true _ _ c.if-cuts.true c.cuts.ensures) c.requires.known
+    cut_spent (g.K.Keeper.network c.args.keeper.now) c.args.incumbent.now.limit c.args.branch.now.cost c.args.branch.now.times.items c.args.from (MatchBool-at_true _ _ c.if-cuts.true c.cuts.ensures) c.requires.branch.costs
 
 pub returns-in-Full-clause-best : goal.returns-in-Full-clause-best
 returns-in-Full-clause-best g c under h =
     let I = g.K.Keeper.network c.args.keeper.now in
     let times = c.args.branch.now.times.items in
     let full : IsFull I times = rw c.deref.ensures.value at c.in-Full.ensures in
-    let costs : full_cost I times ≡ c.args.branch.now.cost = sym (c.requires.known ∙ known_is_cost I times c.requires.network full.events) in
+    let costs : full_cost I times ≡ c.args.branch.now.cost = sym (c.requires.branch.costs ∙ known_is_cost I times c.requires.network full.events) in
     let less = MatchBool-at_false _ _ c.if-cuts.false c.cuts.ensures in
     kept_best I under _ _ _ times _ c.keep.ensures.found c.keep.ensures.limit (c.keep.ensures.times ∙ c.deref-in-Full.ensures.value)
     (best_found I under c.args.incumbent.now.limit _ _ times c.args.from costs less (below_under I under c.args.incumbent.now.limit c.args.incumbent.now.is_found c.args.incumbent.now.times.items _ h less) full c.requires.at)
 
 pub returns-in-Full-clause-next : goal.returns-in-Full-clause-next
 returns-in-Full-clause-next g c =
-    found_spent (g.K.Keeper.network c.args.keeper.now) _ _ c.args.branch.now.times.items c.args.from c.keep.ensures.limit c.requires.known
+    found_spent (g.K.Keeper.network c.args.keeper.now) _ _ c.args.branch.now.times.items c.args.from c.keep.ensures.limit c.requires.branch.costs
 
 pub returns-in-Take-clause-next : goal.returns-in-Take-clause-next
-returns-in-Take-clause-next g c = next_any (g.K.Keeper.network c.args.keeper.now) c.args.incumbent.now.limit c.args.branch.now.times.items c.args.from c.in-Take.residue (rw c.deref.ensures.value at c.in-Take.ensures)
+returns-in-Take-clause-next g c =
+    let I = g.K.Keeper.network c.args.keeper.now in
+    let next : IsNext Nothing I c.args.branch.now.times.items c.args.from c.in-Take.residue = rw c.deref.ensures.value at c.in-Take.ensures in
+    rw c.next_of_use.ensures.times (next_told I c.args.incumbent.now.limit c.args.branch.now.times.items c.args.from c.in-Take.residue c.next_of_use.result c.requires.network next c.next_of_use.ensures.next)
+
+pub returns-in-Take-clause-over : goal.returns-in-Take-clause-over
+returns-in-Take-clause-over g c =
+    let I = g.K.Keeper.network c.args.keeper.now in
+    let next : IsNext Nothing I c.args.branch.now.times.items c.args.from c.in-Take.residue = rw c.deref.ensures.value at c.in-Take.ensures in
+    rw c.next_of_use.ensures.times (over_told I c.args.incumbent.now.limit c.args.branch.now.times.items c.args.from c.in-Take.residue c.next_of_use.result c.requires.network next c.next_of_use.ensures.next)
+
+pub returns-in-Take-clause-at : goal.returns-in-Take-clause-at
+returns-in-Take-clause-at g c = rw c.next_of_use.ensures.times c.requires.at
+
+pub returns-then-cuts-clause-over : goal.returns-then-cuts-clause-over
+returns-then-cuts-clause-over g c = inl (over_of_known (g.K.Keeper.network c.args.keeper.now) c.args.incumbent.now.limit c.args.branch.now.cost c.args.branch.now.times.items c.args.from (MatchBool-at_true _ _ c.if-cuts.true c.cuts.ensures) c.requires.branch.costs)
 
 pub returns-in-Back-clause-over : goal.returns-in-Back-clause-over
 returns-in-Back-clause-over g c = inr (inr (rw c.deref.ensures.value at c.in-Back.ensures.1))
