@@ -1,6 +1,7 @@
 pub mod BestSoFar
 mod Cases
 pub mod Counted
+pub mod Costed
 pub mod Costs
 pub mod Cuts
 pub mod Decided

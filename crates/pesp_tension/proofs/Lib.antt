@@ -1,2 +1,3 @@
 mod Cases
 pub mod Timed
+pub mod Walks

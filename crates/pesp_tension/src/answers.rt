@@ -91,7 +91,7 @@ fn tension_of(activity: &Activity, timetable: &Timetable) -> ActivityTension
 }
 
 /// Whether an activity is met.
-fn is_met(activity: &Activity, timetable: &Timetable) -> bool
+pub(crate) fn is_met(activity: &Activity, timetable: &Timetable) -> bool
     requires { IsTimed timetable.now activity.now }
     ensures { result ≡ meets timetable.now activity.now }
 {
@@ -108,7 +108,7 @@ pub fn cost_of_activity(activity: &Activity, timetable: &Timetable) -> u64
 }
 
 /// Whether an event stands at its fixed time, if it has one.
-fn is_at_fixed(event: &Event, timetable: &Timetable) -> bool
+pub(crate) fn is_at_fixed(event: &Event, timetable: &Timetable) -> bool
     requires { IsSome (time_of timetable.now event.now.id) }
     ensures { result ≡ agrees timetable.now event.now }
 {

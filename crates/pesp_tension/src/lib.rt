@@ -1,12 +1,14 @@
 //! Timetables, and what they make of an instance: tensions, violations and cost.
 #![tactic(auto)]
 
+mod agreement;
 mod answers;
 mod assessment;
 mod lists;
 mod timetable;
 mod walk;
 
+pub use agreement::{agrees_with_all, meets_all};
 pub use answers::{cost, cost_of_activity, tensions, violations};
 pub use assessment::{Assessment, assess};
 pub use lists::{ActivityTension, Tensions, Violation, Violations};

@@ -1,0 +1,35 @@
+//! Whether a timetable violates nothing, decided without a list: the first violation ends the walk.
+
+ghost use Rattle.std.specs.Prelude.{◌≡◌, ◌↔◌, All, IsTrue, None};
+ghost use Rattle.pesp_tension.specs.Answers.{agrees, first_missing, meets};
+
+use crate::Timetable;
+use crate::answers::{is_at_fixed, is_met};
+use pesp_instance::Instance;
+
+/// Whether each activity is met, where each event of the instance has a time. It takes no memory.
+pub fn meets_all(instance: &Instance, timetable: &Timetable) -> bool
+    requires { first_missing instance.now timetable.now ≡ None }
+    ensures { IsTrue result ↔ All (λ a. IsTrue (meets timetable.now a)) (instance.now).activities }
+{
+    for activity in instance.activities() {
+        if !is_met(activity, timetable) {
+            return false;
+        }
+    }
+    true
+}
+
+/// Whether each event stands at its fixed time, if it has one, where each event of the instance has a time.
+/// It takes no memory.
+pub fn agrees_with_all(instance: &Instance, timetable: &Timetable) -> bool
+    requires { first_missing instance.now timetable.now ≡ None }
+    ensures { IsTrue result ↔ All (λ x. IsTrue (agrees timetable.now x)) (instance.now).events }
+{
+    for event in instance.events() {
+        if !is_at_fixed(event, timetable) {
+            return false;
+        }
+    }
+    true
+}
