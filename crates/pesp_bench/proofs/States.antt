@@ -1,5 +1,5 @@
 -- What stays true of a workbench through edits and through changes of its times.
-use Rattle.std.proofs.Common.{◌≡◌, ℕ, ◌<◌, ◌==◌, ◌&&◌, Bool, true, false, cond, not, nat_le, is_none, is_some, List, [], ◌∷◌, ◌++◌, append_assoc, length, Option, Some, None, IsSome, IsTrue, Result, Ok, Err, OnOk, OnErr, IfErr, refl, sym, ap, subst, ◌∙◌, inl, inr, arith, map}
+use Rattle.std.proofs.Common.{◌≡◌, ℕ, ◌<◌, ◌==◌, ◌&&◌, Bool, true, false, cond, not, nat_le, is_none, is_some, List, [], ◌∷◌, ◌++◌, append_assoc, length, Option, Some, None, IfSome, IsSome, IsTrue, Result, Ok, Err, OnOk, OnErr, IfErr, refl, sym, ap, subst, ◌∙◌, inl, inr, arith, map}
 use Rattle.std.specs.List.Sorted.{IsStrictlyIncreasing}
 use Rattle.std.specs.Map.{keys_of}
 use Rattle.std.specs.Result.{is_err}
@@ -20,7 +20,9 @@ use Rattle.pesp_domains.proofs.Edits.{accepted, effect_is, has_out, has_put, kee
 use Rattle.pesp_domains.specs.declared.pair.Pair.{Pair}
 use Rattle.pesp_search.specs.declared.answer.Answer.{Answer}
 use Rattle.pesp_search.specs.declared.answer.Answer.TheVariants.{Optimal}
-use Rattle.pesp_search.specs.Optima.{IsOptimum}
+use Rattle.pesp_search.specs.Optima.{IsAnswer, IsOptimum}
+use Rattle.pesp_bench.specs.Kept.{IsKeptBy}
+use Rattle.pesp_bench.proofs.KeptAnswers.{kept_answer}
 use Rattle.pesp_instance.proofs.Tables.{same_test}
 use Rattle.pesp_bench.specs.State.{IsState, IsTimeRefusal, State, timed_state, times_after}
 use Rattle.pesp_bench.proofs.Entries.{found, found_put, found_without, key, put_last, rises_put, rises_without, room}
@@ -84,10 +86,16 @@ times_period (SetSpan n span) m = refl
 times_period (SetWeight n weight) m = refl
 times_period (SetEnds n from to) m = refl
 
+-- what is known after an accepted edit is the optimum
+known_after : (I J : Network) (edit : Edit) (known kept : Option Answer) → IsNetwork I → edited I edit ≡ Ok J → IsKeptBy I edit known kept → IfSome known (IsAnswer I) → IfSome kept (IsAnswer J)
+known_after I J edit None kept network is stays answer = rw stays tt
+known_after I J edit (Some known) kept network is (inl (keeps, same)) answer = rw same (kept_answer I J edit known network is keeps answer)
+known_after I J edit (Some known) kept network is (inr (_, none)) answer = rw none tt
+
 -- after an accepted edit
-pub after_edit : (I J : Network) (edit : Edit) (before after : List Pair) (m : Times) (known : Option Answer)
-    → IsState I before m known → edited I edit ≡ Ok J → after ≡ [] → IsState J after (times_after edit m) None
-after_edit I J edit before after m known s is none =
+pub after_edit : (I J : Network) (edit : Edit) (before after : List Pair) (m : Times) (known kept : Option Answer)
+    → IsState I before m known → IsNetwork I → edited I edit ≡ Ok J → after ≡ [] → IsKeptBy I edit known kept → IsState J after (times_after edit m) kept
+after_edit I J edit before after m known kept s network is none stays =
     let up = ascend I before m known s in
     let at : J ≡ effect I edit = effect_is I J edit is in
     record {
@@ -95,7 +103,7 @@ after_edit I J edit before after m known s is none =
       period = times_period edit m ∙ s.period ∙ sym (period_stays I edit) ∙ ap (λ (n : Network). n.period) (sym at);
       rising = increasing_from_rises key (times_after edit m).entries (times_rise edit m up);
       events = λ q some. rw at (events_stay I edit m up s.events q some);
-      optimum = tt;
+      optimum = known_after I J edit known kept network is stays s.optimum;
     }
 
 -- ---- times

@@ -1,11 +1,13 @@
 //! Changes of the instance and of the working timetable.
 
-ghost use Rattle.std.specs.Prelude.{◌≡◌, None, Ok, IfErr, OnOk, OnErr};
+ghost use Rattle.std.specs.Prelude.{◌≡◌, Ok, IfErr, OnOk, OnErr};
 ghost use Rattle.std.specs.Result.{result_map_both};
 ghost use Rattle.pesp_instance.specs.Edited.{IsRefusal};
+ghost use Rattle.pesp_bench.specs.Kept.{IsKeptBy};
 ghost use Rattle.pesp_bench.specs.State.{IsTimeRefusal, edited_state, timed_state, times_after, untimed_state};
 
 use crate::Bench;
+use crate::kept::{brings, retain};
 use pesp_base::{EventId, Refusal};
 use pesp_domains::Keeper;
 use pesp_instance::Edit;
@@ -21,18 +23,23 @@ fn clear_dropped(times: &mut Timetable, edit: &Edit)
 }
 
 impl<K: Keeper> Bench<K> {
-    /// Makes an edit. A dropped event has no time any more, and what was known of the optimum is forgotten.
+    /// Makes an edit. A dropped event has no time any more.
+    ///
+    /// What was known of the optimum stays known exactly where the edit can neither let a timetable meet
+    /// everything that did not nor make one cheaper, and the optimum still meets everything at its cost.
+    /// This takes no memory.
     ///
     /// Refusals are those of the edit, in order.
     pub fn apply(&mut self, edit: &Edit) -> Result<(), Refusal>
         ensures ok { OnOk result (edited_state self.old edit.now self.new.known ≡ Ok self.new) }
-        ensures forgets { OnOk result (self.new.known ≡ None) }
+        ensures kept { OnOk result (IsKeptBy self.old.instance edit.now self.old.known self.new.known) }
         ensures refused { IfErr result (IsRefusal self.old.instance edit.now) }
         ensures unchanged { OnErr result (self.new ≡ self.old) }
     {
+        let is_new = brings(self.keeper.instance(), edit, &self.known);
         self.keeper.apply(edit)?;
         clear_dropped(&mut self.times, edit);
-        self.known = None;
+        retain(self.keeper.instance(), is_new, &mut self.known);
         Ok(())
     }
 

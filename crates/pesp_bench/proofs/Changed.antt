@@ -1,0 +1,135 @@
+-- Lists with one member more, or one changed: what holds of the new list holds of the old one, and what their sums are.
+use Rattle.std.proofs.Common.{◌≡◌, ℕ, ◌+◌, ◌<◌, ◌≤◌, ◌==◌, ◌&&◌, Bool, true, false, not, cond, nat_lt, is_some, List, [], ◌∷◌, ◌++◌, length, map, filter, get_or, None, refl, sym, ap, ◌∙◌, inl, inr, arith, All, sum_by}
+use Rattle.std.specs.List.{list_any, range_with_len}
+use Rattle.std.specs.Option.{option_map_or}
+use Rattle.std.proofs.lemmas.Bool.{cases_lt, eq-eqb, eqb-true, false≢true, le-ltb, lt-ltb, ltb-true, ne_eqb}
+use Rattle.std.proofs.lemmas.List.Elements.{All-cons, All-head, All-nil, All-tail, filter-append}
+use Rattle.std.proofs.lemmas.List.Folds.{list_any_at, list_any_none}
+use Rattle.std.proofs.lemmas.List.FromFn.{get_or-range_with_len, length-range_with_len}
+use Rattle.std.proofs.lemmas.List.Sums.{sum_by-cons}
+use Rattle.pesp_base.specs.Numbered.{change_in, put_in, take_out, with_number}
+use Rattle.pesp_instance.proofs.Rising.{All-found, Rises, filter_above-above, filter_below-above}
+
+module _ {X : Type 0} (number : X → ℕ) where
+  -- the members of smaller numbers and those of greater ones are all, where there is none of the number
+  both_sides : (n : ℕ) (xs : List X) → Rises number xs → with_number number n xs ≡ None → filter (λ x. nat_lt (number x) n) xs ++ filter (λ x. nat_lt n (number x)) xs ≡ xs
+  both_sides n [] rises none = refl
+  both_sides n (x ∷ xs) rises none =
+      elim (cases_lt (number x) n) [
+        | inl low ↦
+            let rest : with_number number n xs ≡ None = rw (ne_eqb (number x) n (λ same. absurd (omega (arith, low, same)))) at none in
+            rw (lt-ltb (number x) n low, le-ltb n (number x) (omega (arith, low))) (ap (λ list. x ∷ list) (both_sides n xs rises.1 rest))
+        | inr high ↦
+            let apart : n ≡ number x → ⊥ = λ same. false≢true (sym (ap is_some none) ∙ found n x xs same) in
+            let above : n < number x = omega (arith, high, apart) in
+            rw (le-ltb (number x) n (omega (arith, above)), lt-ltb n (number x) above, filter_below-above number n (number x) xs (omega (arith, above)) rises.0, filter_above-above number n (number x) xs (omega (arith, above)) rises.0) refl
+      ]
+    where
+      found : (n : ℕ) (x : X) (xs : List X) → n ≡ number x → is_some (with_number number n (x ∷ xs)) ≡ true
+      found n x xs same = rw (eq-eqb (number x) n (sym same)) refl
+
+  others_stay : (n : ℕ) (keep : X → Bool) (xs : List X) → ((x : X) → keep x ≡ true → number x ≡ n → ⊥) → take_out number n (filter keep xs) ≡ filter keep xs
+  others_stay n keep [] apart = refl
+  others_stay n keep (x ∷ xs) apart =
+      elim (keep x) as (λ b. keep x ≡ b → take_out number n (cond b (x ∷ filter keep xs) (filter keep xs)) ≡ cond b (x ∷ filter keep xs) (filter keep xs)) [
+        | true ↦ λ is. rw (ne_eqb (number x) n (apart x is)) (ap (λ list. x ∷ list) (others_stay n keep xs apart))
+        | false ↦ λ _. others_stay n keep xs apart
+      ] refl
+
+  -- one that is put in and taken out again leaves what was there
+  pub taken_out_again : (v : X) (xs : List X) → Rises number xs → with_number number (number v) xs ≡ None → take_out number (number v) (put_in number v xs) ≡ xs
+  taken_out_again v xs rises none =
+      let low : X → Bool = λ x. nat_lt (number x) (number v) in
+      let high : X → Bool = λ x. nat_lt (number v) (number x) in
+      filter-append (λ x. not (number x == number v)) (filter low xs) (v ∷ filter high xs)
+      ∙ rw (
+        eq-eqb (number v) (number v) refl,
+        others_stay (number v) low xs (λ x is same. let below = ltb-true (number x) (number v) is in omega (arith, below, same)),
+        others_stay (number v) high xs (λ x is same. let above = ltb-true (number v) (number x) is in omega (arith, above, same)),
+      )
+      (both_sides (number v) xs rises none)
+
+  -- what holds of each member after one is changed held before, where it did of that one
+  pub All-before_change : (P : X → Type 0) (n : ℕ) (change : X → X) (xs : List X) → All (λ x. number x ≡ n → P (change x) → P x) xs → All P (change_in number n change xs) → All P xs
+  All-before_change P n change [] each all = All-nil P
+  All-before_change P n change (x ∷ xs) each all =
+      All-cons P x xs
+      ((elim (number x == n) as (λ b. (number x == n) ≡ b → P (cond b (change x) x) → P x) [
+        | true ↦ λ same is. All-head (λ y. number y ≡ n → P (change y) → P y) x xs each (eqb-true (number x) n same) is
+        | false ↦ λ _ is. is
+      ]) refl (All-head P _ (change_in number n change xs) all))
+      (All-before_change P n change xs (All-tail (λ y. number y ≡ n → P (change y) → P y) x xs each) (All-tail P _ (change_in number n change xs) all))
+
+  -- a sum does not fall where the share of the one that is changed does not
+  pub sum_by-change : (f : X → ℕ) (n : ℕ) (change : X → X) (xs : List X) → All (λ x. number x ≡ n → f x ≤ f (change x)) xs → sum_by f xs ≤ sum_by f (change_in number n change xs)
+  sum_by-change f n change [] each = omega arith
+  sum_by-change f n change (x ∷ xs) each =
+      let here : f x ≤ f (cond (number x == n) (change x) x) = (elim (number x == n) as (λ b. (number x == n) ≡ b → f x ≤ f (cond b (change x) x)) [
+        | true ↦ λ same. All-head (λ y. number y ≡ n → f y ≤ f (change y)) x xs each (eqb-true (number x) n same)
+        | false ↦ λ _. omega arith
+      ]) refl in
+      let rest = sum_by-change f n change xs (All-tail (λ y. number y ≡ n → f y ≤ f (change y)) x xs each) in
+      omega (arith, sum_by-cons f x xs, sum_by-cons f (cond (number x == n) (change x) x) (change_in number n change xs), here, rest)
+
+  -- the numbers stay
+  pub numbers_stay : (n : ℕ) (change : X → X) → ((x : X) → number (change x) ≡ number x) → (xs : List X) → map number (change_in number n change xs) ≡ map number xs
+  numbers_stay n change keeps [] = refl
+  numbers_stay n change keeps (x ∷ xs) =
+      let same : number (cond (number x == n) (change x) x) ≡ number x = elim (number x == n) as (λ b. number (cond b (change x) x) ≡ number x) [ true ↦ keeps x | false ↦ refl ] in
+      rw same (ap (λ ys. number x ∷ ys) (numbers_stay n change keeps xs))
+
+  -- a test that the member of a number fails
+  pub of_number : (test : X → Bool) (n : ℕ) (xs : List X) → Rises number xs → option_map_or test (with_number number n xs) false ≡ false → All (λ x. number x ≡ n → test x ≡ false) xs
+  of_number test n xs rises none = λ k d l same.
+      sym (ap (λ o. option_map_or test o false) (ap (λ i. with_number number i xs) (sym same) ∙ All-found number xs rises k d l)) ∙ none
+
+-- what is left of a sum is no more than all of it
+pub sum_by-filter : {X : Type 0} (f : X → ℕ) (keep : X → Bool) (xs : List X) → sum_by f (filter keep xs) ≤ sum_by f xs
+sum_by-filter f keep [] = omega arith
+sum_by-filter f keep (x ∷ xs) =
+    elim (keep x) as (λ b. sum_by f (cond b (x ∷ filter keep xs) (filter keep xs)) ≤ sum_by f (x ∷ xs)) [
+      | true ↦ omega (arith, sum_by-cons f x xs, sum_by-cons f x (filter keep xs), sum_by-filter f keep xs)
+      | false ↦ omega (arith, sum_by-cons f x xs, sum_by-filter f keep xs)
+    ]
+
+-- a test that no number below n passes
+pub none_below : (test : ℕ → Bool) (n d : ℕ) → d < n → list_any test (range_with_len 0 n) ≡ false → test d ≡ false
+none_below test n d l none =
+    elim (test d) as (λ b. test d ≡ b → b ≡ false) [
+      | true ↦ λ is.
+          let long : length (range_with_len 0 n) ≡ n = length-range_with_len 0 n in
+          let here : get_or (range_with_len 0 n) d 0 ≡ d = omega (arith, get_or-range_with_len 0 n d 0 l) in
+          absurd (false≢true (sym none ∙ list_any_at test (range_with_len 0 n) d 0 (omega (arith, l, long)) (ap test here ∙ is)))
+      | false ↦ λ _. refl
+    ] refl
+
+-- what passes the first test and not both that and the failing of the second passes the second
+pub then_old : (new old : Bool) → (new && not old) ≡ false → new ≡ true → old ≡ true
+then_old true true none is = refl
+then_old true false none is = absurd (false≢true (sym none))
+then_old false old none is = absurd (false≢true is)
+
+-- one number below n passes the test
+pub some_below : (test : ℕ → Bool) (n d : ℕ) → d < n → test d ≡ true → list_any test (range_with_len 0 n) ≡ true
+some_below test n d l is =
+    let long : length (range_with_len 0 n) ≡ n = length-range_with_len 0 n in
+    let here : get_or (range_with_len 0 n) d 0 ≡ d = omega (arith, get_or-range_with_len 0 n d 0 l) in
+    list_any_at test (range_with_len 0 n) d 0 (omega (arith, l, long)) (ap test here ∙ is)
+
+-- each of them fails it
+pub all_below_fail : (test : ℕ → Bool) (n : ℕ) → ((d : ℕ) → d < n → test d ≡ false) → list_any test (range_with_len 0 n) ≡ false
+all_below_fail test n each =
+    list_any_none test (range_with_len 0 n)
+    (λ k d l.
+    let long : length (range_with_len 0 n) ≡ n = length-range_with_len 0 n in
+    let m : k < n = omega (arith, l, long) in
+    let here : get_or (range_with_len 0 n) k d ≡ k = omega (arith, get_or-range_with_len 0 n k d m) in
+    ap test here ∙ each k m)
+
+-- one more fails it
+pub one_more_fails : (test : ℕ → Bool) (n : ℕ) → ((d : ℕ) → d < n → test d ≡ false) → test n ≡ false → (d : ℕ) → d < n + 1 → test d ≡ false
+one_more_fails test n each here d l =
+    elim (cases_lt d n) [
+      | inl less ↦ each d less
+      | inr least ↦ let same : d ≡ n = omega (arith, l, least) in ap test same ∙ here
+    ]

@@ -1,0 +1,67 @@
+-- Which accepted edits keep a known answer.
+use Rattle.std.specs.Prelude.{◌≡◌, ℕ, ◌<◌, ◌≤◌, ◌⊎◌, Bool, true, false, not, Option, Some, None, MatchOption, Ok}
+use Rattle.pesp_instance.specs.declared.edit.Edit.{Edit}
+use Rattle.pesp_instance.specs.declared.edit.Edit.TheVariants.{AddEvent, DropEvent, Fix, Unfix, AddActivity, DropActivity, SetSpan, SetWeight, SetEnds}
+use Rattle.pesp_instance.specs.Edited.{edited, effect}
+use Rattle.pesp_instance.specs.Network.{IsNetwork, Network, agrees_with, fixed_of}
+use Rattle.pesp_search.specs.declared.answer.Answer.{Answer}
+use Rattle.pesp_search.specs.declared.answer.Answer.TheVariants.{Optimal, Infeasible}
+use Rattle.pesp_search.specs.Optima.{IsAnswer, IsMember}
+use Rattle.pesp_tension.specs.Answers.{cost_of}
+use Rattle.pesp_bench.specs.Loosening.{admits_anew, is_lighter, is_looser, is_moved}
+
+-- whether an instance without members may have one after the edit
+abbrev pub opens : Network → Edit → Bool
+opens I (AddEvent e) = false
+opens I (AddActivity a) = false
+opens I (SetWeight n weight) = false
+opens I (Fix e t) = admits_anew I (effect I (Fix e t)) e
+opens I (Unfix e) = admits_anew I (effect I (Unfix e)) e
+opens I (SetSpan n span) = is_looser I n span
+opens I (DropEvent e) = true
+opens I (DropActivity n) = true
+opens I (SetEnds n from to) = true
+
+-- whether a timetable may be a member after the edit that was none, or cost less
+abbrev pub cheapens : Network → Edit → Bool
+cheapens I (AddActivity a) = false
+cheapens I (SetWeight n weight) = is_lighter I n weight
+cheapens I (Fix e t) = admits_anew I (effect I (Fix e t)) e
+cheapens I (Unfix e) = admits_anew I (effect I (Unfix e)) e
+cheapens I (SetSpan n span) = is_moved I n span
+cheapens I (AddEvent e) = true
+cheapens I (DropEvent e) = true
+cheapens I (DropActivity n) = true
+cheapens I (SetEnds n from to) = true
+
+-- whether the edit may bring what the answer does not know of
+abbrev pub brings : Network → Edit → Answer → Bool
+brings I edit Infeasible = opens I edit
+brings I edit (Optimal cost m) = cheapens I edit
+
+-- that no timetable meets everything says nothing of one; an optimum is still a member, at its cost
+abbrev pub Stays : Network → Answer → Type 0
+Stays I Infeasible = Unit {0}
+Stays I (Optimal cost m) = IsMember I m × (cost_of I m ≡ cost)
+
+-- the accepted edit keeps the answer
+pub record Keeps (I : Network) (edit : Edit) (answer : Answer) : Type 0 where
+  pub nothing_new : brings I edit answer ≡ false
+  pub stays : Stays (effect I edit) answer
+
+-- what is known after an accepted edit: what was known before, exactly where the edit keeps it
+abbrev pub IsKeptBy : Network → Edit → Option Answer → Option Answer → Type 0
+IsKeptBy I edit before after =
+    MatchOption before (after ≡ None) (λ answer. (Keeps I edit answer × (after ≡ Some answer)) ⊎ ((Keeps I edit answer → ⊥) × (after ≡ None)))
+
+-- ---- laws
+
+-- an answer that an accepted edit keeps is the answer of the edited instance
+abbrev pub EachKeptAnswerHolds : Type 0
+EachKeptAnswerHolds = (I J : Network) (edit : Edit) (answer : Answer) → IsNetwork I → edited I edit ≡ Ok J → Keeps I edit answer → IsAnswer I answer → IsAnswer J answer
+
+-- what the words say of fixed times: an accepted edit that fixes an event admits anew but for an event without a fixed time or at the time that it has, and one that unfixes it always
+abbrev pub FixedTimesThatAdmit : Type 0
+FixedTimesThatAdmit =
+    ((I : Network) (e t : ℕ) → t < I.period → admits_anew I (effect I (Fix e t)) e ≡ not (agrees_with I.period (fixed_of I e) t))
+    × ((I : Network) (e s : ℕ) → 2 ≤ I.period → fixed_of I e ≡ Some s → admits_anew I (effect I (Unfix e)) e ≡ true)
