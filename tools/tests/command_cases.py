@@ -76,8 +76,8 @@ CASES = [
         "a known optimum is told by every try until an edit",
         10,
         TWO,
-        "optimum / try 0 / time 1 0 / untime 1 / try 0 / weight 1 1 / try 0 / adopt / try 0",
-        f"{BEST} / {BEST} / ok / ok / {BEST} / ok / stopped none / ok / optimum 3 2 / 1 0 / 2 4",
+        "optimum / try 0 / time 1 0 / untime 1 / try 0 / fix 1 3 / try 0 / adopt / try 0",
+        f"{BEST} / {BEST} / ok / ok / {BEST} / ok / stopped none / ok / optimum 4 2 / 1 3 / 2 7",
     ),
     (
         "known to be infeasible",

@@ -22,6 +22,8 @@ pub struct Bench<K: Keeper> {
     keeper: K,
     times: Timetable,
     known: Option<Answer>,
+    // The timetable of an optimum that was forgotten; whether it still meets everything is asked where it is used.
+    candidate: Option<Timetable>,
     // Of the last search.
     nodes: u64,
 }
@@ -47,6 +49,7 @@ impl<K: Keeper> Bench<K> {
             keeper,
             times,
             known: None,
+            candidate: None,
             nodes: 0,
         }
     }

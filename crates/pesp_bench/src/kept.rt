@@ -9,6 +9,7 @@ ghost use Rattle.pesp_bench.specs.Kept.{IsKeptBy, Stays, brings, cheapens, opens
 use crate::loosening::{admits_anew, is_lighter, is_looser, is_moved};
 use pesp_instance::{Edit, Instance};
 use pesp_search::{Answer, member_cost};
+use pesp_tension::Timetable;
 
 /// Whether an instance in which nothing meets everything may be another such no more.
 fn opens(instance: &Instance, edit: &Edit) -> bool
@@ -61,8 +62,22 @@ fn stays(instance: &Instance, answer: &Answer) -> bool
     }
 }
 
+/// Forgets what is known, and makes an optimum's timetable the candidate.
+fn forget(known: &mut Option<Answer>, candidate: &mut Option<Timetable>)
+    ensures { known.new ≡ None }
+{
+    if let Some(Answer::Optimal { times, .. }) = known.take() {
+        *candidate = Some(times);
+    }
+}
+
 /// Forgets what is known, where the edit that made this instance may bring other things or the answer does not stay.
-pub(crate) fn retain(instance: &Instance, is_new: bool, known: &mut Option<Answer>)
+pub(crate) fn retain(
+    instance: &Instance,
+    is_new: bool,
+    known: &mut Option<Answer>,
+    candidate: &mut Option<Timetable>,
+)
     ensures { (I : Network) (edit : Edit) → instance.now ≡ effect I edit → IfSome known.old (λ answer. is_new ≡ brings I edit answer) → IsKeptBy I edit known.old known.new }
 {
     let is_kept = match known {
@@ -70,6 +85,6 @@ pub(crate) fn retain(instance: &Instance, is_new: bool, known: &mut Option<Answe
         None => true,
     };
     if !is_kept {
-        *known = None;
+        forget(known, candidate);
     }
 }

@@ -39,7 +39,12 @@ impl<K: Keeper> Bench<K> {
         let is_new = brings(self.keeper.instance(), edit, &self.known);
         self.keeper.apply(edit)?;
         clear_dropped(&mut self.times, edit);
-        retain(self.keeper.instance(), is_new, &mut self.known);
+        retain(
+            self.keeper.instance(),
+            is_new,
+            &mut self.known,
+            &mut self.candidate,
+        );
         Ok(())
     }
 

@@ -8,6 +8,7 @@ ghost use Rattle.pesp_search.specs.declared.answer.Answer.TheVariants as answers
 ghost use Rattle.pesp_search.specs.Optima.{IsAnswer};
 ghost use Rattle.pesp_bench.specs.Asked.{IsAdopted, IsAttempt, IsNoOptimum, IsNotAdopted, IsSearched, IsUnsearched};
 
+use crate::candidate::{candidate_cost, or_candidate};
 use crate::{Attempt, Bench};
 use pesp_base::{Memory, Refusal};
 use pesp_domains::Keeper;
@@ -55,10 +56,12 @@ impl<K: Keeper> Bench<K> {
         if self.known.is_some() {
             return Ok(());
         }
-        let Ok((answer, nodes)) = best(alloc, &mut self.keeper, None) else {
+        let bound = candidate_cost(self.keeper.instance(), &self.candidate);
+        let Ok((answer, nodes)) = best(alloc, &mut self.keeper, bound) else {
             return Err(Refusal::Memory);
         };
         self.known = Some(answer);
+        self.candidate = None;
         self.nodes = nodes;
         Ok(())
     }
@@ -88,16 +91,21 @@ impl<K: Keeper> Bench<K> {
         if self.known.is_some() {
             return Ok(Attempt::Done);
         }
-        let Ok((tried, nodes)) = best_within(alloc, &mut self.keeper, None, limit) else {
+        let bound = candidate_cost(self.keeper.instance(), &self.candidate);
+        let Ok((tried, nodes)) = best_within(alloc, &mut self.keeper, bound, limit) else {
             return Err(Refusal::Memory);
         };
         self.nodes = nodes;
         match tried {
             Tried::Done(answer) => {
                 self.known = Some(answer);
+                self.candidate = None;
                 Ok(Attempt::Done)
             }
-            Tried::Stopped { best } => Ok(Attempt::Stopped(best)),
+            Tried::Stopped { best } => {
+                let best = or_candidate(best, bound, &mut self.candidate);
+                Ok(Attempt::Stopped(best))
+            }
         }
     }
 

@@ -1,7 +1,10 @@
--- A search that is done knows the optimum, and one that stopped knows none, since it looks only where none is known.
-use Rattle.std.proofs.Common.{◌≡◌, None, subst, sym, rules}
+-- What a search under the candidate's cost stops with, or else the candidate, is what one without a bound may stop with.
+use Rattle.std.proofs.Common.{◌≡◌, None, rules, subst, sym}
+use Rattle.pesp_instance.specs.Network.{Network}
+use Rattle.pesp_bench.specs.Candidate.{IsCandidate}
 use Rattle.pesp_search.specs.Optima.{IsAnswer}
-use Rattle.pesp_search.specs.Tried.{MayStop}
+use Rattle.pesp_search.specs.Tried.{MayStop, MayTry}
+use Rattle.pesp_search.specs.declared.answer.Tried.TheVariants.{Stopped}
 use Rattle.pesp_bench.proofs.bench.Bench.try_optimum.Goals as goal
 
 pub returns-in-Done-clause-ok : goal.returns-in-Done-clause-ok
@@ -11,6 +14,8 @@ returns-in-Done-clause-ok g c =
 
 pub returns-in-Stopped-clause-ok : goal.returns-in-Stopped-clause-ok
 returns-in-Stopped-clause-ok g c =
-    let tried = rw c.in-Stopped.is at c.in-Ok.ensures.tried in
-    let none : c.self.inside.known ≡ None = search rules in
-    (none, tried.1, subst (λ I. MayStop I None c.args.limit c.in-Stopped.best) (sym c.in-Ok.ensures.network) tried.0)
+    let I : Network = g.K.Keeper.network c.self.inside.keeper in
+    let unknown : c.self.inside.known ≡ None = search rules in
+    let tried : MayTry I c.candidate_cost-bound.result c.args.limit (Stopped c.in-Stopped.best) c.in-Ok.nodes = rw c.in-Stopped.is at c.in-Ok.ensures.tried in
+    let candidate : IsCandidate I c.candidate_cost-bound.result c.self.inside.candidate = subst (λ J. IsCandidate J c.candidate_cost-bound.result c.self.inside.candidate) c.instance.ensures c.candidate_cost-bound.ensures.cost in
+    (unknown, tried.1, subst (λ J. MayStop J None c.args.limit c.or_candidate-best.result) (sym c.best_within.ensures.network) (c.or_candidate-best.ensures I c.args.limit candidate tried.0))

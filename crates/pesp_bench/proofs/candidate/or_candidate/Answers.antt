@@ -1,0 +1,6 @@
+-- Found by search, and named so that a wrong body is refused here at once.
+use Rattle.std.proofs.Common.{rules}
+use Rattle.pesp_bench.proofs.candidate.or_candidate.Goals as goal
+
+pub returns-in-Some-Some : goal.returns-in-Some-Some
+returns-in-Some-Some c = search rules

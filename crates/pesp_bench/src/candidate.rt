@@ -1,0 +1,39 @@
+//! The timetable of a forgotten optimum: where it still meets everything, it bounds the next search.
+
+ghost use Rattle.std.specs.Prelude.{◌≡◌, ℕ, IfNone, IfSome, None};
+ghost use Rattle.pesp_instance.specs.Network.{Network};
+ghost use Rattle.pesp_search.specs.Optima.{IsMember};
+ghost use Rattle.pesp_search.specs.Tried.{MayStop};
+ghost use Rattle.pesp_bench.specs.Candidate.{IsCandidate};
+
+use pesp_instance::Instance;
+use pesp_search::{Best, member_cost};
+use pesp_tension::Timetable;
+
+/// What the candidate costs, where it meets everything.
+pub(crate) fn candidate_cost(instance: &Instance, candidate: &Option<Timetable>) -> Option<u64>
+    ensures cost { IsCandidate instance.now result candidate.now }
+    ensures none { IfNone result (IfSome candidate.now (λ m. IsMember instance.now m → ⊥)) }
+{
+    match candidate {
+        Some(times) => member_cost(instance, times),
+        None => None,
+    }
+}
+
+/// What a search under the candidate's cost stopped with, or else the candidate, which is then handed out.
+pub(crate) fn or_candidate(
+    best: Option<Best>,
+    bound: Option<u64>,
+    candidate: &mut Option<Timetable>,
+) -> Option<Best>
+    ensures { (I : Network) (limit : ℕ) → IsCandidate I bound candidate.old → MayStop I bound limit best → MayStop I None limit result }
+{
+    if best.is_some() {
+        return best;
+    }
+    match (bound, candidate.take()) {
+        (Some(cost), Some(times)) => Some(Best { cost, times }),
+        _ => None,
+    }
+}
