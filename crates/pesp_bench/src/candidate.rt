@@ -32,8 +32,7 @@ pub(crate) fn or_candidate(
     if best.is_some() {
         return best;
     }
-    match (bound, candidate.take()) {
-        (Some(cost), Some(times)) => Some(Best { cost, times }),
-        _ => None,
-    }
+    let cost = bound?;
+    let times = candidate.take()?;
+    Some(Best { cost, times })
 }

@@ -2,5 +2,5 @@
 use Rattle.std.proofs.Common.{rules}
 use Rattle.pesp_bench.proofs.candidate.or_candidate.Goals as goal
 
-pub returns-in-Some-Some : goal.returns-in-Some-Some
-returns-in-Some-Some c = search rules
+pub returns : goal.returns
+returns c = search rules
