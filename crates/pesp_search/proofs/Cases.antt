@@ -1,10 +1,11 @@
 -- The tree and the optimum of small instances, by computation.
-use Rattle.std.proofs.Common.{ℕ, refl, List, [], ◌∷◌, Some, inl, arith}
+use Rattle.std.proofs.Common.{◌≡◌, ℕ, ◌==◌, true, refl, List, [], ◌∷◌, Some, inl, arith}
 use Rattle.pesp_base.specs.declared.activity.Activity.{Activity}
 use Rattle.pesp_instance.specs.declared.event.Event.{Event}
 use Rattle.pesp_instance.specs.Network.{Network, new_event}
 use Rattle.pesp_search.specs.declared.answer.Answer.TheVariants.{Infeasible}
 use Rattle.pesp_search.specs.Optima.{IsAnswer, IsOptimum}
+use Rattle.pesp_search.specs.Parts.{turned_in}
 use Rattle.pesp_search.specs.Places.{timetable_of}
 use Rattle.pesp_search.specs.Tree.{IsPlaceOf, IsTreeSize}
 use Rattle.pesp_search.proofs.Counted.{place_of_is, tree_size_is}
@@ -69,6 +70,16 @@ empty = record { period = 10; events = at_zero 1 ∷ free 2 ∷ []; activities =
 
 empty_size : IsTreeSize empty 0
 empty_size = tree_size_is empty 3 0 refl
+
+-- ---- turned times
+
+-- three more for both events: 4 to 9 is as far as 7 to 2
+both_turned : turned_in 10 (λ e. true) 3 (1 ∷ 2 ∷ []) (4 ∷ 9 ∷ []) ≡ 7 ∷ 2 ∷ []
+both_turned = refl
+
+-- and for the events of the part alone
+one_turned : turned_in 10 (λ e. e == 2) 6 (1 ∷ 2 ∷ []) (4 ∷ 9 ∷ []) ≡ 4 ∷ 5 ∷ []
+one_turned = refl
 
 -- ---- one activity, which every residue meets
 

@@ -83,7 +83,7 @@ time_kept (i ∷ ids) (t ∷ times) (x ∷ path) e extends known =
     ] known
 
 -- where the path has all events, each event has a time
-all_timed : (es : List Event) (path : List ℕ) (f : ℕ) → length path ≡ length (map (λ x. x.id) es) → IsTrue (is_some (with_number (λ x. x.id) f es)) → IsTrue (is_some (time_in (map (λ x. x.id) es) path f))
+pub all_timed : (es : List Event) (path : List ℕ) (f : ℕ) → length path ≡ length (map (λ x. x.id) es) → IsTrue (is_some (with_number (λ x. x.id) f es)) → IsTrue (is_some (time_in (map (λ x. x.id) es) path f))
 all_timed [] path f full has = absurd (false≢true has)
 all_timed (x ∷ es) [] f full has = absurd (omega (arith, full))
 all_timed (x ∷ es) (t ∷ path) f full has =

@@ -124,7 +124,8 @@ over_first I bound network is_bound (inl cut) = absurd (not_spent (under_bound b
     not_spent None cut above = cut
     not_spent (Some limit) spent (times, full, less) = let high = spent.passes times full tt (λ _. omega arith) in omega (arith, high, less)
 over_first I bound network is_bound (inr (inl full)) = rw (← full) refl
-over_first I bound network is_bound (inr (inr stuck)) = by (length (event_ids I)) refl stuck
+over_first I bound network is_bound (inr (inr (inr later))) = absurd (omega (arith, later))
+over_first I bound network is_bound (inr (inr (inl stuck))) = by (length (event_ids I)) refl stuck
   where
     by : (n : ℕ) → length (event_ids I) ≡ n → IsStuck I [] 0 → IsTreeSize I 0
     by zero none stuck = rw none refl

@@ -9,6 +9,7 @@ pub mod Ends
 pub mod Enumerated
 pub mod Events
 pub mod Fronts
+pub mod Labels
 pub mod Members
 pub mod Order
 pub mod Placed
@@ -17,3 +18,4 @@ pub mod Rest
 pub mod Sizes
 pub mod Stations
 pub mod Timed
+pub mod Turns

@@ -23,7 +23,7 @@ use Rattle.pesp_search.proofs.Timed.{at_place, event_of_pair, events_ascend, ext
 use Rattle.pesp_instance.proofs.Tables.{length-values-keys as length-values_of}
 
 -- both ends of an activity of the instance are events
-ends_of : (I : Network) → IsNetwork I → (a : Activity) → Contains I.activities a → HasEnds I.events a
+pub ends_of : (I : Network) → IsNetwork I → (a : Activity) → Contains I.activities a → HasEnds I.events a
 ends_of I ok a is = All-contains (HasEnds I.events) I.activities a ok.ends is
 
 -- ---- full lists of times and the domains

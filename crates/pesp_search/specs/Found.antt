@@ -59,7 +59,7 @@ pub record IsFirstOfUse (I : Network) (limit : Option ℕ) (path : List ℕ) (fr
 abbrev pub IsNextOfUse : Network → Option ℕ → List ℕ → ℕ → Option ℕ → Type 0
 IsNextOfUse I limit path from next = MatchOption next (AreCut I limit path from I.period) (IsFirstOfUse I limit path from)
 
--- why a place is left: what is left there costs at least the limit, each event has its time, or nothing is left to try
+-- why a place is left: what is left there costs at least the limit, each event has its time, nothing is left to try, or residues were tried before
 abbrev pub IsOver : Network → Option ℕ → List ℕ → ℕ → Type 0
 IsOver I limit path from =
-    IsSomeAnd limit (λ l. IsSpent (AtLeast I (Some l)) I path from) ⊎ (length path ≡ length (event_ids I)) ⊎ IsStuck I path from
+    IsSomeAnd limit (λ l. IsSpent (AtLeast I (Some l)) I path from) ⊎ (length path ≡ length (event_ids I)) ⊎ IsStuck I path from ⊎ (0 < from)

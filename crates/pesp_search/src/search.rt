@@ -9,6 +9,7 @@ ghost use Rattle.pesp_search.specs.declared.answer.Tried.TheVariants as attempts
 ghost use Rattle.pesp_search.specs.Branch.{IsBranch, IsFront};
 ghost use Rattle.pesp_search.specs.Found.{AtLeast, IsOver, IsTold, StaysBest};
 ghost use Rattle.pesp_search.specs.Optima.{IsAnswer, IsBound};
+ghost use Rattle.pesp_search.specs.Parts.{AreLeast};
 ghost use Rattle.pesp_search.specs.Places.{IsDead, timetable_of};
 ghost use Rattle.pesp_search.specs.Walk.{IsAt, IsStep};
 ghost use Rattle.pesp_search.specs.Tree.{AreNodes};
@@ -16,7 +17,8 @@ ghost use Rattle.pesp_search.specs.Tried.{IsEnd, IsOutcome, MayTry};
 
 use crate::branch::{Branch, put_time};
 use crate::incumbent::Incumbent;
-use crate::steps::{Choice, choose, next_of_use};
+use crate::parts::least_of_parts;
+use crate::steps::{Choice, choose, is_behind_first, next_of_use};
 use crate::{Answer, Best, Tried};
 use pesp_base::{EventId, Memory};
 use pesp_domains::Keeper;
@@ -55,12 +57,14 @@ fn events_of(alloc: Global, instance: &Instance) -> Result<Vec<EventId>, Memory>
 fn visit<K: Keeper>(
     keeper: &K,
     events: &[EventId],
+    least: &[bool],
     branch: &mut Branch,
     from: u16,
     incumbent: &mut Incumbent,
 ) -> Option<u16>
     requires network { IsNetwork (K.network keeper.now) }
     requires events { events.now ≡ event_ids (K.network keeper.now) }
+    requires least { AreLeast (K.network keeper.now) least.now }
     requires at { IsAt (AtLeast (K.network keeper.now) incumbent.old.limit) (K.network keeper.now) (K.pushes keeper.now) branch.old.times.items from }
     requires branch { IsBranch (K.network keeper.now) branch.old.times.items branch.old.cost branch.old.timetable (vec_capacity branch.old.times) }
     requires times { length incumbent.old.times.items ≡ length (event_ids (K.network keeper.now)) }
@@ -82,8 +86,11 @@ fn visit<K: Keeper>(
             None
         }
         Choice::Take(residue) => {
-            let event = events[branch.times.len()];
-            next_of_use(keeper, event, branch, residue, incumbent)
+            let place = branch.times.len();
+            if is_behind_first(least, place, from) {
+                return None;
+            }
+            next_of_use(keeper, events[place], branch, residue, incumbent)
         }
         Choice::Back => None,
     }
@@ -186,12 +193,14 @@ fn search<K: Keeper>(
     let mut branch = Branch::new(alloc, keeper.instance())?;
     // The best times so far, which no times before the place where the search stands undercut.
     let mut incumbent = Incumbent::new(alloc, events.len(), bound)?;
+    // The events at which residue 0 alone is tried.
+    let least = least_of_parts(alloc, keeper.instance(), &events)?;
     // The least residue that is yet to be tried at the event behind the branch.
     let mut from = 0;
     // One for each push, those that were popped included.
     let mut nodes = 0;
     'places: loop {
-        match visit(keeper, &events, &mut branch, from, &mut incumbent) {
+        match visit(keeper, &events, &least, &mut branch, from, &mut incumbent) {
             Some(residue) => {
                 if is_spent(limit, nodes) {
                     unwind(keeper, branch.times.len());

@@ -33,13 +33,16 @@ pub visit-requires-clause-network : goal.visit-requires-clause-network
 visit-requires-clause-network g c = rw c.places.invariant.network c.places.invariant.is_network
 
 pub visit-requires-clause-events : goal.visit-requires-clause-events
-visit-requires-clause-events g c = c.deref.ensures.value ∙ c.places.invariant.events ∙ ap event_ids (sym c.places.invariant.network)
+visit-requires-clause-events g c = c.deref-in-places.ensures.value ∙ c.places.invariant.events ∙ ap event_ids (sym c.places.invariant.network)
 
 pub visit-requires-clause-at : goal.visit-requires-clause-at
 visit-requires-clause-at g c = rw c.places.invariant.network c.places.invariant.at
 
 pub visit-requires-clause-branch : goal.visit-requires-clause-branch
 visit-requires-clause-branch g c = rw c.places.invariant.network c.places.invariant.branch
+
+pub visit-requires-clause-least : goal.visit-requires-clause-least
+visit-requires-clause-least g c k is = rw c.places.invariant.network (rw c.instance-3.ensures at (c.in_ok-least.ensures k (rw c.deref-in-places-2.ensures.value at is)))
 
 pub visit-requires-clause-times : goal.visit-requires-clause-times
 visit-requires-clause-times g c = rw c.places.invariant.network c.places.invariant.times

@@ -1,10 +1,11 @@
 -- What a visit leaves.
-use Rattle.std.proofs.Common.{◌≡◌, sym, ◌∙◌, inl, inr}
+use Rattle.std.proofs.Common.{◌≡◌, length, arith, sym, ◌∙◌, inl, inr}
 use Rattle.std.proofs.lemmas.Bool.{MatchBool-at_true, MatchBool-at_false}
 use Rattle.pesp_search.specs.Walk.{IsFull, IsNext, Nothing, full_cost}
 use Rattle.pesp_search.proofs.BestSoFar.{below_under, best_found, cut_spent, found_spent, kept_best}
 use Rattle.pesp_search.proofs.Costs.{known_is_cost}
 use Rattle.pesp_search.proofs.Cuts.{next_told, over_of_known, over_told}
+use Rattle.pesp_search.proofs.Turns.{spent_turned}
 use Rattle.pesp_search.proofs.search.visit.Goals as goal
 
 pub returns-then-cuts-clause-next : goal.returns-then-cuts-clause-next
@@ -25,23 +26,35 @@ pub returns-in-Full-clause-next : goal.returns-in-Full-clause-next
 returns-in-Full-clause-next g c =
     found_spent (g.K.Keeper.network c.args.keeper.now) _ _ c.args.branch.now.times.items c.args.from c.keep.ensures.limit c.requires.branch.costs
 
-pub returns-in-Take-clause-next : goal.returns-in-Take-clause-next
-returns-in-Take-clause-next g c =
+pub returns-then-is_behind_first-clause-next : goal.returns-then-is_behind_first-clause-next
+returns-then-is_behind_first-clause-next g c =
+    let I = g.K.Keeper.network c.args.keeper.now in
+    let path = c.args.branch.now.times.items in
+    let next : IsNext Nothing I path c.args.from c.in-Take.residue = rw c.deref.ensures.value at c.in-Take.ensures in
+    let told = c.is_behind_first.ensures c.if-is_behind_first.true in
+    let place : c.len-place.result ≡ length path = omega arith in
+    spent_turned I c.args.incumbent.now.limit (g.K.Keeper.pushes c.args.keeper.now) path c.args.from c.requires.network next.room (c.requires.least (length path) (rw place at told.0)) told.1 c.requires.at
+
+pub returns-then-is_behind_first-clause-over : goal.returns-then-is_behind_first-clause-over
+returns-then-is_behind_first-clause-over g c = inr (inr (inr (c.is_behind_first.ensures c.if-is_behind_first.true).1))
+
+pub returns-else-is_behind_first-clause-next : goal.returns-else-is_behind_first-clause-next
+returns-else-is_behind_first-clause-next g c =
     let I = g.K.Keeper.network c.args.keeper.now in
     let next : IsNext Nothing I c.args.branch.now.times.items c.args.from c.in-Take.residue = rw c.deref.ensures.value at c.in-Take.ensures in
     rw c.next_of_use.ensures.times (next_told I c.args.incumbent.now.limit c.args.branch.now.times.items c.args.from c.in-Take.residue c.next_of_use.result c.requires.network next c.next_of_use.ensures.next)
 
-pub returns-in-Take-clause-over : goal.returns-in-Take-clause-over
-returns-in-Take-clause-over g c =
+pub returns-else-is_behind_first-clause-over : goal.returns-else-is_behind_first-clause-over
+returns-else-is_behind_first-clause-over g c =
     let I = g.K.Keeper.network c.args.keeper.now in
     let next : IsNext Nothing I c.args.branch.now.times.items c.args.from c.in-Take.residue = rw c.deref.ensures.value at c.in-Take.ensures in
     rw c.next_of_use.ensures.times (over_told I c.args.incumbent.now.limit c.args.branch.now.times.items c.args.from c.in-Take.residue c.next_of_use.result c.requires.network next c.next_of_use.ensures.next)
 
-pub returns-in-Take-clause-at : goal.returns-in-Take-clause-at
-returns-in-Take-clause-at g c = rw c.next_of_use.ensures.times c.requires.at
+pub returns-else-is_behind_first-clause-at : goal.returns-else-is_behind_first-clause-at
+returns-else-is_behind_first-clause-at g c = rw c.next_of_use.ensures.times c.requires.at
 
 pub returns-then-cuts-clause-over : goal.returns-then-cuts-clause-over
 returns-then-cuts-clause-over g c = inl (over_of_known (g.K.Keeper.network c.args.keeper.now) c.args.incumbent.now.limit c.args.branch.now.cost c.args.branch.now.times.items c.args.from (MatchBool-at_true _ _ c.if-cuts.true c.cuts.ensures) c.requires.branch.costs)
 
 pub returns-in-Back-clause-over : goal.returns-in-Back-clause-over
-returns-in-Back-clause-over g c = inr (inr (rw c.deref.ensures.value at c.in-Back.ensures.1))
+returns-in-Back-clause-over g c = inr (inr (inl (rw c.deref.ensures.value at c.in-Back.ensures.1)))

@@ -1,0 +1,203 @@
+//! The connected parts of an instance, and the first event of each one without a fixed time.
+//!
+//! Labels are found by going along the activities; nothing is proved of how. What is told rests on labels that
+//! were checked: one for both ends of each activity.
+
+ghost use Rattle.std.specs.Prelude.{◌≡◌, ◌<◌, ◌≤◌, ℕ, false, true, IfOk, IfSome, IsTrue, length, slice_index, slice_index_or};
+ghost use Rattle.pesp_instance.specs.Network.{IsNetwork, Network, event_ids};
+ghost use Rattle.pesp_search.specs.Parts.{AreAgreed, AreLeast, IsFirst, IsMarked, IsTakenOff};
+ghost use Rattle.pesp_search.specs.Places.{at};
+
+use pesp_base::{Activity, EventId, Memory};
+use pesp_instance::Instance;
+use std::alloc::Global;
+
+/// The place of an event among ascending ones.
+fn place_of(events: &[EventId], event: EventId) -> Option<usize>
+    ensures { IfSome result (λ k. (k < length events.now) × (slice_index events.now k ≡ event)) }
+{
+    match events.binary_search(&event) {
+        Ok(place) => Some(place),
+        Err(_) => None,
+    }
+}
+
+/// Gives an event the label where it has none yet, and puts it behind those that wait.
+fn label_event(
+    events: &[EventId],
+    event: EventId,
+    label: usize,
+    labels: &mut [usize],
+    waiting: &mut Vec<EventId>,
+) -> Result<(), Memory>
+    requires { length labels.old ≡ length events.now }
+    ensures { length labels.new ≡ length labels.old }
+{
+    if let Some(place) = place_of(events, event) {
+        if labels[place] == events.len() {
+            labels[place] = label;
+            if waiting.push(event).is_err() {
+                return Err(Memory);
+            }
+        }
+    }
+    Ok(())
+}
+
+/// Gives the label to the events that activities join to this one.
+fn label_around(
+    instance: &Instance,
+    events: &[EventId],
+    event: EventId,
+    label: usize,
+    labels: &mut [usize],
+    waiting: &mut Vec<EventId>,
+) -> Result<(), Memory>
+    requires { length labels.old ≡ length events.now }
+    ensures { length labels.new ≡ length labels.old }
+{
+    for activity in instance.around(event) {
+        label_event(events, activity.from, label, labels, waiting)?;
+        label_event(events, activity.to, label, labels, waiting)?;
+    }
+    Ok(())
+}
+
+/// Gives the label to the event and to all of its part.
+fn label_part(
+    instance: &Instance,
+    events: &[EventId],
+    event: EventId,
+    label: usize,
+    labels: &mut [usize],
+    waiting: &mut Vec<EventId>,
+) -> Result<(), Memory>
+    requires { length labels.old ≡ length events.now }
+    ensures { length labels.new ≡ length labels.old }
+{
+    waiting.clear();
+    label_event(events, event, label, labels, waiting)?;
+    for step in 0..events.len() {
+        let Some(next) = waiting.get(step) else {
+            return Ok(());
+        };
+        let next = *next;
+        label_around(instance, events, next, label, labels, waiting)?;
+    }
+    Ok(())
+}
+
+/// A label for each event: the place of the first event of its part.
+fn labels_of(alloc: Global, instance: &Instance, events: &[EventId]) -> Result<Vec<usize>, Memory>
+    ensures { IfOk result (λ labels. length labels.items ≡ length events.now) }
+{
+    // As many as there are events stands for none.
+    let Ok(mut labels) = vec![in alloc; events.len(); events.len()] else {
+        return Err(Memory);
+    };
+    let Ok(mut waiting) = Vec::with_capacity(alloc, events.len()) else {
+        return Err(Memory);
+    };
+    for place in 0..events.len() {
+        if labels[place] == events.len() {
+            label_part(
+                instance,
+                events,
+                events[place],
+                place,
+                &mut labels,
+                &mut waiting,
+            )?;
+        }
+    }
+    Ok(labels)
+}
+
+/// Whether both ends of an activity have one label.
+fn has_one_label(activity: &Activity, events: &[EventId], labels: &[usize]) -> bool
+    requires { length labels.now ≡ length events.now }
+    ensures { (I : Network) → IsNetwork I → events.now ≡ event_ids I → result ≡ true → at I labels.now activity.now.from ≡ at I labels.now activity.now.to }
+{
+    match (
+        place_of(events, activity.from),
+        place_of(events, activity.to),
+    ) {
+        (Some(from), Some(to)) => labels[from] == labels[to],
+        _ => false,
+    }
+}
+
+/// Whether both ends of each activity have one label.
+fn are_agreed(instance: &Instance, events: &[EventId], labels: &[usize]) -> bool
+    requires events { events.now ≡ event_ids instance.now }
+    requires long { length labels.now ≡ length events.now }
+    ensures { result ≡ true → AreAgreed instance.now labels.now }
+{
+    for activity in instance.activities() {
+        if !has_one_label(activity, events, labels) {
+            return false;
+        }
+    }
+    true
+}
+
+/// Takes the mark of a place away, if there is such a place.
+fn take_off(marks: &mut [bool], place: usize)
+    ensures long { length marks.new ≡ length marks.old }
+    ensures off { IsTakenOff place marks.old marks.new }
+{
+    if place < marks.len() {
+        marks[place] = false;
+    }
+}
+
+/// Takes marks away by the label of the event at a place.
+fn mark(marks: &mut [bool], place: usize, label: usize, is_fixed: bool)
+    ensures long { length marks.new ≡ length marks.old }
+    ensures marked { IsMarked place label is_fixed marks.old marks.new }
+{
+    if label != place {
+        take_off(marks, place);
+    }
+    if is_fixed || place < label {
+        take_off(marks, label);
+    }
+}
+
+/// Marks the places whose event is the first of its label, where no event of that label has a fixed time.
+fn first_of_labels(
+    alloc: Global,
+    instance: &Instance,
+    events: &[EventId],
+    labels: &[usize],
+    are_agreed: bool,
+) -> Result<Vec<bool>, Memory>
+    requires events { events.now ≡ event_ids instance.now }
+    requires long { length labels.now ≡ length events.now }
+    ensures long { IfOk result (λ marks. length marks.items ≡ length events.now) }
+    ensures first { IfOk result (λ marks. (k : ℕ) → IsTrue (slice_index_or marks.items k false) → (are_agreed ≡ true) × IsFirst instance.now labels.now (length events.now) k) }
+{
+    let Ok(mut marks) = vec![in alloc; are_agreed; events.len()] else {
+        return Err(Memory);
+    };
+    for place in 0..events.len() {
+        let is_fixed = instance.fixed(events[place]).is_some();
+        mark(&mut marks, place, labels[place], is_fixed);
+    }
+    Ok(marks)
+}
+
+/// Marks the places whose event is the first of a connected part without a fixed time.
+pub(crate) fn least_of_parts(
+    alloc: Global,
+    instance: &Instance,
+    events: &[EventId],
+) -> Result<Vec<bool>, Memory>
+    requires network { IsNetwork instance.now }
+    requires events { events.now ≡ event_ids instance.now }
+    ensures { IfOk result (λ marks. AreLeast instance.now marks.items) }
+{
+    let labels = labels_of(alloc, instance, events)?;
+    let are_agreed = are_agreed(instance, events, &labels);
+    first_of_labels(alloc, instance, events, &labels, are_agreed)
+}
