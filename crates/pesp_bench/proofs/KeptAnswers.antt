@@ -30,7 +30,8 @@ use Rattle.pesp_search.specs.Optima.{IsAnswer, IsMember, IsOptimum}
 use Rattle.pesp_tension.specs.Answers.{agrees, cost_in, cost_of, meets, time_at}
 use Rattle.pesp_tension.specs.Timetables.{Times, without_time}
 use Rattle.pesp_bench.specs.Kept.{Keeps, cheapens, opens}
-use Rattle.pesp_bench.specs.Loosening.{admits_anew, admits_more, is_lighter, is_looser, is_moved}
+use Rattle.pesp_domains.specs.Loosening.{admits_anew, admits_more, is_looser}
+use Rattle.pesp_bench.specs.Loosening.{is_lighter, is_moved}
 use Rattle.pesp_bench.proofs.Changed.{All-before_change, none_below, numbers_stay, of_number, sum_by-change, sum_by-filter, taken_out_again, then_old}
 
 -- each member of the second instance is one of the first, which costs no more there

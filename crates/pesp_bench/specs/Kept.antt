@@ -8,7 +8,8 @@ use Rattle.pesp_search.specs.declared.answer.Answer.{Answer}
 use Rattle.pesp_search.specs.declared.answer.Answer.TheVariants.{Optimal, Infeasible}
 use Rattle.pesp_search.specs.Optima.{IsAnswer, IsMember}
 use Rattle.pesp_tension.specs.Answers.{cost_of}
-use Rattle.pesp_bench.specs.Loosening.{admits_anew, is_lighter, is_looser, is_moved}
+use Rattle.pesp_domains.specs.Loosening.{admits_anew, is_looser}
+use Rattle.pesp_bench.specs.Loosening.{is_lighter, is_moved}
 
 -- whether an instance without members may have one after the edit
 abbrev pub opens : Network → Edit → Bool

@@ -6,7 +6,8 @@ ghost use Rattle.pesp_instance.specs.declared.edit.Edit.{Edit};
 ghost use Rattle.pesp_instance.specs.Network.{IsNetwork, Network};
 ghost use Rattle.pesp_bench.specs.Kept.{IsKeptBy, Stays, brings, cheapens, opens};
 
-use crate::loosening::{admits_anew, is_lighter, is_looser, is_moved};
+use crate::loosening::{is_lighter, is_looser, is_moved};
+use pesp_domains::admits_anew;
 use pesp_instance::{Edit, Instance};
 use pesp_search::{Answer, member_cost};
 use pesp_tension::Timetable;

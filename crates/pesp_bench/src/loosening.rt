@@ -1,24 +1,11 @@
-//! Whether a change of a fixed time, of a span or of a weight lets in what was not let in before.
+//! Whether a change of a span or of a weight lets in what was not let in before, or may make it cheaper.
 
 ghost use Rattle.std.specs.Prelude.{◌≡◌};
-ghost use Rattle.pesp_instance.specs.Edited.{refixed};
-ghost use Rattle.pesp_bench.specs.Loosening.{admits_anew, admits_more, is_lighter, is_looser, is_moved};
+ghost use Rattle.pesp_domains.specs.Loosening.{admits_more, is_looser};
+ghost use Rattle.pesp_bench.specs.Loosening.{is_lighter, is_moved};
 
-use pesp_base::{ActivityId, EventId, Period, Span, Weight, allows};
-use pesp_instance::{Event, Instance};
-
-/// Whether the event may stand at a residue with this fixed time, or with none, at which it may not now.
-pub(crate) fn admits_anew(instance: &Instance, event: EventId, fixed: Option<u16>) -> bool
-    ensures { result ≡ admits_anew instance.now (refixed instance.now event fixed) event }
-{
-    let period = instance.period();
-    let old = Event {
-        id: event,
-        fixed: instance.fixed(event),
-    };
-    let new = Event { id: event, fixed };
-    (0..period.get()).any(|residue| new.admits(period, residue) && !old.admits(period, residue))
-}
+use pesp_base::{ActivityId, Period, Span, Weight, allows};
+use pesp_instance::Instance;
 
 /// Whether the second span admits a pair of residues that the first one does not.
 fn admits_more(period: Period, old: Span, new: Span) -> bool

@@ -24,8 +24,9 @@ use Rattle.pesp_domains.specs.declared.side.Side.TheVariants.{Tail, Head}
 use Rattle.pesp_domains.specs.Domains.{Joins, other, own}
 use Rattle.pesp_domains.proofs.Families.{here, in_range, none_passes, there}
 use Rattle.pesp_counts.specs.Loosened.{AsksAgain, HasHeir}
-use Rattle.pesp_counts.specs.Reached.{admits_anew, admits_more, ends_of, is_edited, is_looser}
-use Rattle.pesp_counts.proofs.Anew.{anew_at}
+use Rattle.pesp_domains.specs.Loosening.{admits_anew, admits_more, is_looser}
+use Rattle.pesp_counts.specs.Reached.{ends_of, is_edited}
+use Rattle.pesp_domains.proofs.Anew.{anew_at}
 
 abbrev id_of : Activity → ℕ
 id_of a = a.id

@@ -13,7 +13,8 @@ use Rattle.pesp_domains.proofs.Sweeps.{swept}
 use Rattle.pesp_links.specs.declared.end.End.{End}
 use Rattle.pesp_links.specs.Ends.{passes}
 use Rattle.pesp_counts.specs.Counts.{supporters}
-use Rattle.pesp_counts.specs.Reached.{Reached, admits_more, starts}
+use Rattle.pesp_domains.specs.Loosening.{admits_more}
+use Rattle.pesp_counts.specs.Reached.{Reached, starts}
 use Rattle.pesp_counts.specs.Reached.Reached.{begins, follows}
 
 abbrev span : ℤ → ℤ → Bounds

@@ -16,7 +16,8 @@ use Rattle.pesp_domains.proofs.Families.{here, here_or_there, not_in_none, there
 use Rattle.pesp_links.specs.Links.{Links, end_number}
 use Rattle.pesp_counts.specs.Loosening.{AreSpared, AreStarts}
 use Rattle.pesp_links.specs.Places.{ArePlaces, place_of}
-use Rattle.pesp_counts.specs.Reached.{admits_anew, ends_of, is_edited, is_looser, starts}
+use Rattle.pesp_domains.specs.Loosening.{admits_anew, is_looser}
+use Rattle.pesp_counts.specs.Reached.{ends_of, is_edited, starts}
 use Rattle.pesp_counts.specs.Restoring.{is_spared}
 use Rattle.pesp_counts.proofs.Bridge.{the_same}
 use Rattle.pesp_links.proofs.StandAround.{apart_places}

@@ -1,6 +1,5 @@
 mod Cases
 pub mod AlongEnds
-pub mod Anew
 pub mod Applied
 pub mod Asks
 pub mod Bridge

@@ -19,9 +19,10 @@ use Rattle.pesp_counts.specs.Counts.{KeepsClosed, has_at}
 use Rattle.pesp_counts.specs.Keeping.{AreAtRest, AreFor, AreSettled, IsNarrowed, adds, rows_of}
 use Rattle.pesp_links.specs.Links.{Links, StandFor}
 use Rattle.pesp_links.specs.Places.{Places, numbered, place_of}
-use Rattle.pesp_counts.specs.Reached.{admits_anew, ends_of, starts}
+use Rattle.pesp_domains.specs.Loosening.{admits_anew}
+use Rattle.pesp_counts.specs.Reached.{ends_of, starts}
 use Rattle.pesp_counts.specs.Supports.{Supports}
-use Rattle.pesp_counts.proofs.Anew.{unfixed_anew}
+use Rattle.pesp_domains.proofs.Anew.{unfixed_anew}
 use Rattle.pesp_counts.proofs.Asks.{first_fails, refixed_elsewhere, refixed_here}
 use Rattle.pesp_counts.proofs.Bridge.{counts_settle, numbered_at, place_is, test_of}
 use Rattle.pesp_counts.proofs.Carried.{places_dropped, same_period}

@@ -7,7 +7,7 @@ use Rattle.pesp_base.specs.Tensions.{IsMet, is_met}
 use Rattle.pesp_base.proofs.Laws.{met_is}
 use Rattle.pesp_links.specs.declared.end.End.{End}
 use Rattle.pesp_links.specs.Ends.{passes, passes_more}
-use Rattle.pesp_counts.specs.Reached.{admits_more}
+use Rattle.pesp_domains.specs.Loosening.{admits_more}
 
 any_same : (f g : ℕ → Bool) → ((s : ℕ) → f s ≡ g s) → (ss : List ℕ) → list_any f ss ≡ list_any g ss
 any_same f g same [] = refl

@@ -1,33 +1,19 @@
 -- The pairs that an edit may bring back into the domains.
-use Rattle.std.specs.Prelude.{◌≡◌, ℕ, Bool, false, ◌==◌, ◌&&◌, not, if◌then◌else◌, List, [], ◌∷◌, Option, Some, None}
-use Rattle.std.specs.List.{Contains, list_any, range_with_len}
-use Rattle.std.specs.Option.{option_map_or}
+use Rattle.std.specs.Prelude.{◌≡◌, ℕ, Bool, false, ◌==◌, if◌then◌else◌, List, [], ◌∷◌, Option, Some, None}
+use Rattle.std.specs.List.{Contains}
 use Rattle.pesp_base.specs.declared.activity.Activity.{Activity}
-use Rattle.pesp_base.specs.Bounds.{Bounds}
-use Rattle.pesp_base.specs.Tensions.{is_met}
 use Rattle.pesp_instance.specs.declared.edit.Edit.{Edit}
 use Rattle.pesp_instance.specs.declared.edit.Edit.TheVariants.{AddEvent, DropEvent, Fix, Unfix, AddActivity, DropActivity, SetSpan, SetWeight, SetEnds}
 use Rattle.pesp_instance.specs.Edited.{effect}
-use Rattle.pesp_instance.specs.Network.{Network, activity_of, admits}
+use Rattle.pesp_instance.specs.Network.{Network, activity_of}
 use Rattle.pesp_domains.specs.declared.side.Side.{Side}
 use Rattle.pesp_domains.specs.Domains.{InDomains, IsAdmitted, Joins, other, own}
-
--- whether the second instance admits a residue at the event that the first one does not
-abbrev pub admits_anew : Network → Network → ℕ → Bool
-admits_anew I J e = list_any (λ r. admits J e r && not (admits I e r)) (range_with_len 0 I.period)
+use Rattle.pesp_domains.specs.Loosening.{admits_anew, is_looser}
 
 -- both ends of the activity, if there is one
 abbrev pub ends_of : Option Activity → List ℕ
 ends_of None = []
 ends_of (Some a) = a.from ∷ a.to ∷ []
-
--- whether the second span admits a pair of residues that the first one does not. What a span admits depends on how far the second residue is ahead of the first alone
-abbrev pub admits_more : ℕ → Bounds → Bounds → Bool
-admits_more period old new = list_any (λ d. is_met period new 0 d && not (is_met period old 0 d)) (range_with_len 0 period)
-
--- whether the activity has another span, which admits more
-abbrev pub is_looser : Network → ℕ → Bounds → Bool
-is_looser I n span = option_map_or (λ a. admits_more I.period a.span span) (activity_of I n) false
 
 -- the events at which chains of pairs begin; an edit that has none restores nothing
 abbrev pub starts : Network → Edit → List ℕ

@@ -1,3 +1,4 @@
+pub mod Anew
 mod Cases
 pub mod Edits
 pub mod Families

@@ -4,6 +4,7 @@
 #![tactic(auto)]
 
 mod keeper;
+mod loosening;
 mod pair;
 mod plain;
 pub mod removal;
@@ -13,6 +14,7 @@ mod side;
 mod sweep;
 
 pub use keeper::{Keeper, NoRoom};
+pub use loosening::admits_anew;
 pub use pair::Pair;
 pub use plain::PlainKeeper;
 pub use row::Row;

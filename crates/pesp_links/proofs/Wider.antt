@@ -2,18 +2,11 @@
 use Rattle.std.proofs.Common.{◌≡◌, ℕ, ◌+◌, ◌-◌, ◌%◌, ◌<◌, ◌≤◌, ◌⊎◌, ◌&&◌, not, nat_lt, Bool, true, false, IsTrue, refl, sym, ap, ◌∙◌, inl, inr, arith}
 use Rattle.std.specs.List.{list_any, range_with_len}
 use Rattle.std.proofs.lemmas.Bool.{and_from, cases_Bool, cases_lt, false≢true}
-use Rattle.pesp_domains.proofs.Families.{and_left, and_right, in_range, none_passes, of_range, passing}
+use Rattle.pesp_domains.proofs.Anew.{some_below}
+use Rattle.pesp_domains.proofs.Families.{and_left, and_right, of_range, passing}
 use Rattle.pesp_links.specs.declared.end.End.{End}
 use Rattle.pesp_links.specs.Ends.{passes, passes_more}
 use Rattle.pesp_links.proofs.Windows.{far_above, far_below, mod_below}
-
--- one number below that passes
-pub some_below : (test : ℕ → Bool) (n r : ℕ) → r < n → test r ≡ true → list_any test (range_with_len 0 n) ≡ true
-some_below test n r below is =
-    elim (cases_Bool (list_any test (range_with_len 0 n))) [
-      | inl some ↦ some
-      | inr none ↦ absurd (none_passes test (range_with_len 0 n) none r (in_range 0 n r (omega arith) (omega (arith, below))) is)
-    ]
 
 -- how far a residue is behind the first one of a window
 abbrev behind : ℕ → ℕ → ℕ → ℕ

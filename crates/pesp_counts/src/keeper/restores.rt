@@ -1,25 +1,13 @@
 //! Which edits may bring pairs back.
 
 ghost use Rattle.std.specs.Prelude.{◌≡◌, nat_lt, length};
-ghost use Rattle.pesp_instance.specs.Edited.{refixed};
-ghost use Rattle.pesp_counts.specs.Reached.{admits_anew, admits_more, starts};
+ghost use Rattle.pesp_domains.specs.Loosening.{admits_more};
+ghost use Rattle.pesp_counts.specs.Reached.{starts};
 
-use pesp_base::{EventId, Period, Span};
-use pesp_instance::{Edit, Event, Instance};
+use pesp_base::{Period, Span};
+use pesp_domains::admits_anew;
+use pesp_instance::{Edit, Instance};
 use pesp_links::End;
-
-/// Whether the event may stand at a residue with this fixed time, or with none, at which it may not now.
-fn admits_anew(instance: &Instance, event: EventId, fixed: Option<u16>) -> bool
-    ensures { result ≡ admits_anew instance.now (refixed instance.now event fixed) event }
-{
-    let period = instance.period();
-    let old = Event {
-        id: event,
-        fixed: instance.fixed(event),
-    };
-    let new = Event { id: event, fixed };
-    (0..period.get()).any(|residue| new.admits(period, residue) && !old.admits(period, residue))
-}
 
 /// Whether the second span admits a pair of residues that the first one does not.
 fn admits_more(period: Period, old: Span, new: Span) -> bool

@@ -3,16 +3,16 @@ use Rattle.std.proofs.Common.{◌≡◌, ℕ, ◌<◌, ◌≤◌, ◌==◌, ◌&
 use Rattle.std.specs.List.{list_any, range_with_len}
 use Rattle.std.specs.Option.{option_and_then}
 use Rattle.std.specs.Result.{is_ok}
-use Rattle.std.proofs.lemmas.Bool.{and_from, cases_Bool, cases_eq, eq-eqb, false≢true, ne_eqb}
+use Rattle.std.proofs.lemmas.Bool.{and_from, cases_Bool, cases_eq, eq-eqb, eqb-true, false≢true, ne_eqb}
 use Rattle.pesp_base.specs.declared.refusal.Refusal.{Refusal}
 use Rattle.pesp_base.specs.Refusals.{unless_refused, when}
-use Rattle.pesp_instance.specs.declared.edit.Edit.TheVariants.{Unfix}
+use Rattle.pesp_instance.specs.declared.edit.Edit.TheVariants.{Fix, Unfix}
 use Rattle.pesp_instance.specs.declared.event.Event.{Event}
 use Rattle.pesp_instance.specs.Edited.{edited, effect, refixed}
 use Rattle.pesp_instance.specs.Network.{IsNetwork, Network, admits, agrees_with, event_of, fixed_of}
 use Rattle.pesp_instance.proofs.Rising.{number-with_number, with_number-change_in}
-use Rattle.pesp_links.proofs.Wider.{some_below}
-use Rattle.pesp_counts.specs.Reached.{admits_anew}
+use Rattle.pesp_domains.proofs.Families.{in_range, none_passes}
+use Rattle.pesp_domains.specs.Loosening.{admits_anew}
 
 abbrev number : Event → ℕ
 number e = e.id
@@ -20,6 +20,14 @@ number e = e.id
 -- whether a residue agrees with the second fixed time and not with the first one
 abbrev pub agrees_anew : ℕ → Option ℕ → Option ℕ → ℕ → Bool
 agrees_anew period old new r = agrees_with period new r && not (agrees_with period old r)
+
+-- one number below that passes
+pub some_below : (test : ℕ → Bool) (n r : ℕ) → r < n → test r ≡ true → list_any test (range_with_len 0 n) ≡ true
+some_below test n r below is =
+    elim (cases_Bool (list_any test (range_with_len 0 n))) [
+      | inl some ↦ some
+      | inr none ↦ absurd (none_passes test (range_with_len 0 n) none r (in_range 0 n r (omega arith) (omega (arith, below))) is)
+    ]
 
 none_of : (test : ℕ → Bool) (rs : List ℕ) → ((r : ℕ) → test r ≡ false) → list_any test rs ≡ false
 none_of test [] each = refl
@@ -49,9 +57,25 @@ anew_is I e fixed = by (event_of I e) refl
         ∙ rw (eq-eqb x.id e same) refl in
         rw after refl
 
+no_other : (period : ℕ) (old : Option ℕ) (t r : ℕ) → agrees_with period old t ≡ true → agrees_anew period old (Some t) r ≡ false
+no_other period old t r is =
+    elim (t == r) as (λ b. (t == r) ≡ b → (b && not (agrees_with period old r)) ≡ false) [
+      | true ↦ λ same. let at : agrees_with period old r ≡ true = ap (agrees_with period old) (sym (eqb-true t r same)) ∙ is in rw at refl
+      | false ↦ λ _. refl
+    ] refl
+
+-- a fixed time admits anew where it is not the one before, if there was one
+pub fix_is : (I : Network) (e t : ℕ) → t < I.period → admits_anew I (effect I (Fix e t)) e ≡ not (agrees_with I.period (fixed_of I e) t)
+fix_is I e t below =
+    anew_is I e (Some t)
+    ∙ elim (agrees_with I.period (fixed_of I e) t) as (λ b. agrees_with I.period (fixed_of I e) t ≡ b → list_any (agrees_anew I.period (fixed_of I e) (Some t)) (range_with_len 0 I.period) ≡ not b) [
+      | true ↦ λ is. none_of (agrees_anew I.period (fixed_of I e) (Some t)) (range_with_len 0 I.period) (λ d. no_other I.period (fixed_of I e) t d is)
+      | false ↦ λ is. some_below (agrees_anew I.period (fixed_of I e) (Some t)) I.period t below (rw (eq-eqb t t refl, is) refl)
+    ] refl
+
 -- a fixed time that goes leaves another residue
-free_anew : (I : Network) (e t : ℕ) → 2 ≤ I.period → fixed_of I e ≡ Some t → admits_anew I (effect I (Unfix e)) e ≡ true
-free_anew I e t long fixed =
+pub unfix_is : (I : Network) (e t : ℕ) → 2 ≤ I.period → fixed_of I e ≡ Some t → admits_anew I (effect I (Unfix e)) e ≡ true
+unfix_is I e t long fixed =
     anew_is I e None
     ∙ rw fixed
     (elim (cases_eq t 0) [
@@ -70,4 +94,4 @@ unfixed_anew I e K network made = by (fixed_of I e) refl (second_fails _ _ _ _ _
   where
     by : (o : Option ℕ) → fixed_of I e ≡ o → is_none (fixed_of I e) ≡ false → admits_anew I (effect I (Unfix e)) e ≡ true
     by None none some = absurd (false≢true (sym some ∙ ap is_none none))
-    by (Some t) fixed some = free_anew I e t network.period_low fixed
+    by (Some t) fixed some = unfix_is I e t network.period_low fixed
