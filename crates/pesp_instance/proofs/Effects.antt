@@ -1,5 +1,5 @@
 -- What an accepted edit makes of an instance is an instance.
-use Rattle.std.proofs.Common.{◌≡◌, ℕ, ◌<◌, ◌≤◌, true, false, cond, ◌==◌, List, [], ◌∷◌, length, map, filter, find, Option, Some, None, Result, Ok, Err, is_err, OnOk, OnErr, IfSome, IsTrue, is_some, option_map, slice_index_or, refl, ap, ◌∙◌, arith, All}
+use Rattle.std.proofs.Common.{◌≡◌, ℕ, ◌<◌, ◌≤◌, Bool, true, false, cond, not, ◌==◌, List, [], ◌∷◌, length, map, filter, find, Option, Some, None, Result, Ok, Err, is_err, OnOk, OnErr, IfSome, IsTrue, is_some, is_none, option_map, slice_index_or, refl, ap, ◌∙◌, arith, All}
 use Rattle.std.proofs.lemmas.Bool.{eqb-true, or_parts}
 use Rattle.std.proofs.lemmas.List.Elements.{All-nil, All-cons, All-weaker}
 use Rattle.std.specs.List.Sorted.{IsStrictlyIncreasing}
@@ -125,9 +125,21 @@ pub on_err : {E P : Type 0} (r : Result (Unit {0}) E) → true ≡ is_err r → 
 on_err (Ok x) is err = absurd (cc)
 on_err (Err e) is err = err
 
+pub when_err : {A E P : Type 0} (r : Result A E) → P → OnErr r P
+when_err (Ok x) p = tt
+when_err (Err e) p = p
+
 pub none_from : {X : Type 0} (o : Option X) → is_some o ≡ false → o ≡ None
 none_from None is = refl
 none_from (Some x) is = absurd (cc)
+
+pub none_before : {X Y : Type 0} (f : X → Y) (o : Option X) → option_map f o ≡ None → o ≡ None
+none_before f None is = refl
+none_before f (Some x) is = absurd (cc)
+
+pub is_none-from : {X : Type 0} (o : Option X) (b : Bool) → is_some o ≡ b → is_none o ≡ not b
+is_none-from None b is = ap not is
+is_none-from (Some x) b is = ap not is
 
 pub find-none : (e : ℕ) (activities : List Activity) → option_map id_of (find (is_end_of e) activities) ≡ None → filter (is_end_of e) activities ≡ []
 find-none e [] none = refl

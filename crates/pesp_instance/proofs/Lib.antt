@@ -3,6 +3,8 @@ pub mod Effects
 pub mod Links
 pub mod Listed
 pub mod Numbers
+pub mod Refused
 pub mod Relisted
 pub mod Rising
 pub mod Tables
+pub mod Vertices

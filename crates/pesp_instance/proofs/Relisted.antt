@@ -1,9 +1,10 @@
 -- After an edit each activity is listed at its ends, and nothing else is.
-use Rattle.std.proofs.Common.{◌≡◌, ℕ, Bool, true, false, cond, ◌==◌, ◌&&◌, ◌||◌, not, List, Option, Some, None, option_map, refl, sym, ap, ◌∙◌, inl, inr}
+use Rattle.std.proofs.Common.{◌≡◌, ℕ, Bool, true, false, cond, ◌==◌, ◌&&◌, ◌||◌, not, List, [], ◌∷◌, filter, Option, Some, None, option_map, refl, sym, ap, ◌∙◌, inl, inr}
 use Rattle.std.proofs.lemmas.Bool.{cases_eq, eq-eqb, ne_eqb}
 use Rattle.pesp_base.specs.declared.activity.Activity.{Activity}
 use Rattle.pesp_base.specs.Numbered.{with_number, put_in, take_out, change_in}
-use Rattle.pesp_instance.specs.Ends.{lists, is_end_in, AreListed}
+use Rattle.pesp_instance.specs.declared.vertex.Vertex.{Vertex}
+use Rattle.pesp_instance.specs.Ends.{vertex_number, lists_at, lists, is_end_in, AreListed, ListTheSame}
 use Rattle.pesp_instance.specs.Network.{is_end_of}
 use Rattle.pesp_instance.proofs.Numbers.{activity_number as id_of}
 use Rattle.pesp_instance.proofs.Rising.{with_number-put_in, with_number-take_out, with_number-change_in, number-with_number}
@@ -44,22 +45,33 @@ undone_elsewhere : (b l : Bool) → (not (b && false) && ((b && false) || l)) �
 undone_elsewhere true l = refl
 undone_elsewhere false l = refl
 
+not_an_end : (e n : ℕ) (activities : List Activity) → filter (is_end_of e) activities ≡ [] → is_end_in e (with_number id_of n activities) ≡ false
+not_an_end e n [] none = refl
+not_an_end e n (a ∷ activities) none =
+    elim (is_end_of e a) as (λ b. is_end_of e a ≡ b → cond b (a ∷ filter (is_end_of e) activities) (filter (is_end_of e) activities) ≡ [] → is_end_in e (cond (a.id == n) (Some a) (with_number id_of n activities)) ≡ false) [
+      | true ↦ λ is not. absurd (cc)
+      | false ↦ λ is later. elim (a.id == n) as (λ b. is_end_in e (cond b (Some a) (with_number id_of n activities)) ≡ false) [
+        | true ↦ is
+        | false ↦ not_an_end e n activities later
+      ]
+    ] refl none
+
 module _ (activities : List Activity) where
   abbrev stored : ℕ → Option Activity
   stored n = with_number id_of n activities
 
   -- what is listed of a number that no activity has
-  none_listed : (pairs : List (ℕ × ℕ)) (e m n : ℕ) → AreListed pairs activities → stored m ≡ None → m ≡ n → lists pairs e n ≡ false
-  none_listed pairs e m n listed absent same = listed e n ∙ ap (is_end_in e) (ap stored (sym same) ∙ absent)
+  none_listed : (vertices : List Vertex) (e m n : ℕ) → AreListed vertices activities → stored m ≡ None → m ≡ n → lists vertices e n ≡ false
+  none_listed vertices e m n listed absent same = listed e n ∙ ap (is_end_in e) (ap stored (sym same) ∙ absent)
 
-  pub AreListed-put_in : (old new : List (ℕ × ℕ)) (a : Activity) → AreListed old activities → stored a.id ≡ None → ((e n : ℕ) → lists new e n ≡ ((is_end_of e a && a.id == n) || lists old e n)) → AreListed new (put_in id_of a activities)
+  pub AreListed-put_in : (old new : List Vertex) (a : Activity) → AreListed old activities → stored a.id ≡ None → ((e n : ℕ) → lists new e n ≡ ((is_end_of e a && a.id == n) || lists old e n)) → AreListed new (put_in id_of a activities)
   AreListed-put_in old new a listed absent linked e n =
       rw (with_number-put_in id_of n a activities) (linked e n ∙ elim (cases_eq a.id n) [
         | inl same ↦ rw (eq-eqb a.id n same, none_listed old e a.id n listed absent same) (joined_here (is_end_of e a))
         | inr apart ↦ rw (ne_eqb a.id n apart) (joined_elsewhere (is_end_of e a) (lists old e n) ∙ listed e n)
       ])
 
-  pub AreListed-take_out : (old new : List (ℕ × ℕ)) (m : ℕ) (a : Activity) → AreListed old activities → stored m ≡ Some a → ((e n : ℕ) → lists new e n ≡ (not (is_end_of e a && a.id == n) && lists old e n)) → AreListed new (take_out id_of m activities)
+  pub AreListed-take_out : (old new : List Vertex) (m : ℕ) (a : Activity) → AreListed old activities → stored m ≡ Some a → ((e n : ℕ) → lists new e n ≡ (not (is_end_of e a && a.id == n) && lists old e n)) → AreListed new (take_out id_of m activities)
   AreListed-take_out old new m a listed is unlinked e n =
       let its : a.id ≡ m = number-with_number id_of m activities a is in
       rw (with_number-take_out id_of n m activities) (unlinked e n ∙ elim (cases_eq a.id n) [
@@ -70,15 +82,15 @@ module _ (activities : List Activity) where
       ])
 
   -- a change that leaves the ends
-  pub AreListed-change_in : (pairs : List (ℕ × ℕ)) (m : ℕ) (change : Activity → Activity) → ((a : Activity) → (change a).id ≡ a.id) → ((e : ℕ) (a : Activity) → is_end_of e (change a) ≡ is_end_of e a) → AreListed pairs activities → AreListed pairs (change_in id_of m change activities)
-  AreListed-change_in pairs m change keeps same listed e n =
+  pub AreListed-change_in : (vertices : List Vertex) (m : ℕ) (change : Activity → Activity) → ((a : Activity) → (change a).id ≡ a.id) → ((e : ℕ) (a : Activity) → is_end_of e (change a) ≡ is_end_of e a) → AreListed vertices activities → AreListed vertices (change_in id_of m change activities)
+  AreListed-change_in vertices m change keeps same listed e n =
       rw (with_number-change_in id_of n m change keeps activities) (listed e n ∙ elim (stored n) as (λ o. is_end_in e o ≡ is_end_in e (option_map (λ x. cond (x.id == m) (change x) x) o)) [
         | None ↦ refl
         | Some x ↦ elim (x.id == m) as (λ b. is_end_of e x ≡ is_end_of e (cond b (change x) x)) [ true ↦ sym (same e x) | false ↦ refl ]
       ])
 
   -- a change of the ends of one activity
-  pub AreListed-moved : (old mid new : List (ℕ × ℕ)) (m : ℕ) (change : Activity → Activity) (a : Activity) → ((x : Activity) → (change x).id ≡ x.id) → AreListed old activities → stored m ≡ Some a → ((e n : ℕ) → lists mid e n ≡ ((is_end_of e (change a) && (change a).id == n) || lists old e n)) → ((e n : ℕ) → lists new e n ≡ (not ((is_end_of e a && not (is_end_of e (change a))) && a.id == n) && lists mid e n)) → AreListed new (change_in id_of m change activities)
+  pub AreListed-moved : (old mid new : List Vertex) (m : ℕ) (change : Activity → Activity) (a : Activity) → ((x : Activity) → (change x).id ≡ x.id) → AreListed old activities → stored m ≡ Some a → ((e n : ℕ) → lists mid e n ≡ ((is_end_of e (change a) && (change a).id == n) || lists old e n)) → ((e n : ℕ) → lists new e n ≡ (not ((is_end_of e a && not (is_end_of e (change a))) && a.id == n) && lists mid e n)) → AreListed new (change_in id_of m change activities)
   AreListed-moved old mid new m change a keeps listed is linked unlinked e n =
       let its : a.id ≡ m = number-with_number id_of m activities a is in
       rw (with_number-change_in id_of n m change keeps activities) (unlinked e n ∙ rw (linked e n, keeps a) (elim (cases_eq a.id n) [
@@ -97,11 +109,32 @@ module _ (activities : List Activity) where
           rw other refl
 
   -- a new activity that is listed and taken away again leaves each activity listed at its ends
-  pub AreListed-undone : (old more new : List (ℕ × ℕ)) (a : Activity) → AreListed old activities → stored a.id ≡ None → ((e n : ℕ) → lists more e n ≡ ((is_end_of e a && a.id == n) || lists old e n)) → ((e n : ℕ) → lists new e n ≡ (not (is_end_of e a && a.id == n) && lists more e n)) → AreListed new activities
+  pub AreListed-undone : (old more new : List Vertex) (a : Activity) → AreListed old activities → stored a.id ≡ None → ((e n : ℕ) → lists more e n ≡ ((is_end_of e a && a.id == n) || lists old e n)) → ((e n : ℕ) → lists new e n ≡ (not (is_end_of e a && a.id == n) && lists more e n)) → AreListed new activities
   AreListed-undone old more new a listed absent linked unlinked e n =
       unlinked e n ∙ rw (linked e n) (elim (cases_eq a.id n) [
         | inl same ↦
             rw (eq-eqb a.id n same, none_listed old e a.id n listed absent same)
             (undone_here (is_end_of e a) ∙ sym (ap (is_end_in e) (ap stored (sym same) ∙ absent)))
         | inr apart ↦ rw (ne_eqb a.id n apart) (undone_elsewhere (is_end_of e a) (lists old e n) ∙ listed e n)
+      ])
+
+  -- vertices that list the same
+  pub AreListed-same : (old new : List Vertex) → ListTheSame old new → AreListed old activities → AreListed new activities
+  AreListed-same old new same listed e n = same e n ∙ listed e n
+
+  -- a new event, at which nothing is listed
+  pub AreListed-added : (x : Vertex) (vertices : List Vertex) → AreListed vertices activities → with_number vertex_number (vertex_number x) vertices ≡ None → x.activities.keys ≡ [] → AreListed (put_in vertex_number x vertices) activities
+  AreListed-added x vertices listed absent empty e n =
+      rw (with_number-put_in vertex_number e x vertices) (elim (cases_eq (vertex_number x) e) [
+        | inl same ↦
+            rw (eq-eqb (vertex_number x) e same, empty) (sym (sym (listed e n) ∙ ap (λ o. lists_at o n) (ap (λ m. with_number vertex_number m vertices) (sym same) ∙ absent)))
+        | inr apart ↦ rw (ne_eqb (vertex_number x) e apart) (listed e n)
+      ])
+
+  -- an event that is no end of an activity goes
+  pub AreListed-dropped : (d : ℕ) (vertices : List Vertex) → AreListed vertices activities → filter (is_end_of d) activities ≡ [] → AreListed (take_out vertex_number d vertices) activities
+  AreListed-dropped d vertices listed none e n =
+      rw (with_number-take_out vertex_number e d vertices) (elim (cases_eq e d) [
+        | inl same ↦ rw (eq-eqb e d same, same) (sym (not_an_end d n activities none))
+        | inr apart ↦ rw (ne_eqb e d apart) (listed e n)
       ])

@@ -170,6 +170,25 @@ module _ {X : Type 0} (number : X → ℕ) where
         | false ↦ with_number-change_in m n change keeps xs
       ])
 
+  -- a member y in the place of the one of its number
+  pub with_number-replaced : (y x : X) (xs : List X) → with_number number (number y) xs ≡ Some x → with_number number (number y) (change_in number (number y) (λ _. y) xs) ≡ Some y
+  with_number-replaced y x [] is = absurd (cc)
+  with_number-replaced y x (z ∷ xs) is =
+      elim (number z == number y) as (λ b. (number z == number y) ≡ b → cond b (Some z) (with_number number (number y) xs) ≡ Some x → with_number number (number y) (cond b y z ∷ change_in number (number y) (λ _. y) xs) ≡ Some y) [
+        | true ↦ λ same at. rw (eq-eqb (number y) (number y) refl) refl
+        | false ↦ λ apart later. rw apart (with_number-replaced y x xs later)
+      ] refl is
+
+  pub with_number-others : (m : ℕ) (y : X) (xs : List X) → (number y == m) ≡ false → with_number number m (change_in number (number y) (λ _. y) xs) ≡ with_number number m xs
+  with_number-others m y [] apart = refl
+  with_number-others m y (z ∷ xs) apart =
+      elim (number z == number y) as (λ b. (number z == number y) ≡ b → with_number number m (cond b y z ∷ change_in number (number y) (λ _. y) xs) ≡ cond (number z == m) (Some z) (with_number number m xs)) [
+        | true ↦ λ same.
+            let other : (number z == m) ≡ false = ap (λ n. n == m) (eqb-true (number z) (number y) same) ∙ apart in
+            rw (apart, other) (with_number-others m y xs apart)
+        | false ↦ λ differs. ap (cond (number z == m) (Some z)) (with_number-others m y xs apart)
+      ] refl
+
   -- ---- what holds of each member after a change
 
   pub All-put_in : (P : X → Type 0) (v : X) (xs : List X) → P v → All P xs → All P (put_in number v xs)

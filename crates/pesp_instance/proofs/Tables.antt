@@ -1,5 +1,5 @@
 -- A table's entries, and the values that they stand for.
-use Rattle.std.proofs.Common.{◌≡◌, ℕ, ◌≤◌, Bool, true, false, cond, ◌==◌, not, List, [], ◌∷◌, length, map, Option, Some, None, slice_index_or, slice_set, refl, sym, ap, ◌∙◌, inl, inr, arith}
+use Rattle.std.proofs.Common.{◌≡◌, ℕ, ◌≤◌, Bool, true, false, cond, ◌==◌, not, List, [], ◌∷◌, length, map, Option, Some, None, is_some, slice_index_or, slice_set, refl, sym, ap, ◌∙◌, inl, inr, arith}
 use Rattle.std.proofs.lemmas.Bool.{cases_order, lt-ltb, le-ltb, eq-eqb, ne_eqb, eqb-true}
 use Rattle.std.proofs.lemmas.Map.Keys.{IsStrictlyIncreasing-from_sorted}
 use Rattle.std.specs.List.Sorted.{IsStrictlySortedBy, IsStrictlyIncreasing}
@@ -9,7 +9,7 @@ use Rattle.std.specs.Ordering.{nat_cmp}
 use Rattle.pesp_base.specs.Numbered.{with_number, put_in, take_out, change_in}
 use Rattle.slab.specs.Slab.{Slab, get, Updates}
 use Rattle.pesp_instance.specs.Table.{AreNumbered, IsLinked, IsTable, resolved, values_in}
-use Rattle.pesp_instance.proofs.Links.{value_at, length-resolved, lookup-resolved, lookup-resolved-none, inserted, written, removed, remove_absent}
+use Rattle.pesp_instance.proofs.Links.{value_at, slot_is_used, length-resolved, lookup-resolved, lookup-resolved-none, inserted, written, removed, remove_absent}
 use Rattle.pesp_instance.proofs.Rising.{Rises, Rises-from_sorted, filter_below-above, filter_above-above, take_out-above, change_in-above}
 
 -- a look-up by comparison tests for the number itself
@@ -137,6 +137,14 @@ module _ {V : Type 0} (number : V → ℕ) (slots : List (Option V)) (es : List 
   pub missing : (n : ℕ) → lookup (is_at (nat_cmp n)) es ≡ None → with_number number n (values_in slots es) ≡ None
   missing n is =
       with_number-values_of number n (resolved slots es) table.numbered ∙ lookup-resolved-none slots es (is_at (nat_cmp n)) table.linked is
+
+  -- a number has a slot where it has a value
+  pub same_presence : (n : ℕ) → is_some (lookup (is_at (nat_cmp n)) es) ≡ is_some (with_number number n (values_in slots es))
+  same_presence n =
+      elim (lookup (is_at (nat_cmp n)) es) as (λ o. lookup (is_at (nat_cmp n)) es ≡ o → is_some o ≡ is_some (with_number number n (values_in slots es))) [
+        | None ↦ λ is. sym (ap is_some (missing n is))
+        | Some slot ↦ λ is. let v = value_at _ (slot_is_used slots es (is_at (nat_cmp n)) slot table.linked is) in sym (ap is_some (sym (found n slot is) ∙ v.1))
+      ] refl
 
   pub absent : (n : ℕ) → with_number number n (values_in slots es) ≡ None → lookup (is_at (nat_cmp n)) (resolved slots es) ≡ None
   absent n is = sym (with_number-values_of number n (resolved slots es) table.numbered) ∙ is

@@ -1,10 +1,11 @@
 //! The edits of an instance.
 
-ghost use Rattle.std.specs.Prelude.{◌≡◌, ◌<◌, OnOk, OnErr, IfErr, IfSome, IsTrue, find, is_some};
+ghost use Rattle.std.specs.Prelude.{◌≡◌, OnOk, OnErr, IfErr, find, is_some};
 ghost use Rattle.std.specs.Option.{option_map};
-ghost use Rattle.pesp_instance.specs.Edited.{edited, refixed, IsRefusal};
-ghost use Rattle.pesp_instance.specs.Network.{activity_of, has_event, is_end_of};
+ghost use Rattle.pesp_instance.specs.Edited.{edited, IsRefusal};
+ghost use Rattle.pesp_instance.specs.Network.{activity_of, is_end_of};
 
+use crate::vertex::Vertex;
 use crate::{Edit, Event, Instance};
 use pesp_base::{
     Activity, ActivityId, EventId, GREATEST_NUMBER, GREATEST_WEIGHT, Refusal, Span, Weight,
@@ -50,7 +51,7 @@ impl Instance {
             id: event,
             fixed: None,
         };
-        if self.events.insert(new).is_err() {
+        if self.vertices.insert(Vertex::new(self.alloc, new)).is_err() {
             return Err(Refusal::Memory);
         }
         Ok(())
@@ -74,17 +75,8 @@ impl Instance {
         if let Some(activity) = self.least_at(event) {
             return Err(Refusal::EventInUse(event, activity));
         }
-        self.events.remove(event.get());
+        self.vertices.remove(event.get());
         Ok(())
-    }
-
-    /// Gives an event another fixed time, or none.
-    fn refix(&mut self, event: EventId, fixed: Option<u16>)
-        requires event { IsTrue (has_event self.old event) }
-        requires time { IfSome fixed (λ t. t < self.old.period) }
-        ensures { self.new ≡ refixed self.old event fixed }
-    {
-        self.events.replace(Event { id: event, fixed });
     }
 
     fn fix(&mut self, event: EventId, time: u16) -> Result<(), Refusal>
@@ -92,13 +84,13 @@ impl Instance {
         ensures err { IfErr result (IsRefusal self.old (Edit.Fix event time)) }
         ensures unchanged { OnErr result (self.new ≡ self.old) }
     {
-        if !self.has_event(event) {
+        let Some(slot) = self.vertices.event_slot(event) else {
             return Err(Refusal::NoEvent(event));
-        }
+        };
         if time >= self.period.get() {
             return Err(Refusal::TimeOutOfRange(time));
         }
-        self.refix(event, Some(time));
+        self.vertices.refix(slot, Some(time));
         Ok(())
     }
 
@@ -107,13 +99,13 @@ impl Instance {
         ensures err { IfErr result (IsRefusal self.old (Edit.Unfix event)) }
         ensures unchanged { OnErr result (self.new ≡ self.old) }
     {
-        if !self.has_event(event) {
+        let Some(slot) = self.vertices.event_slot(event) else {
             return Err(Refusal::NoEvent(event));
-        }
-        if self.fixed(event).is_none() {
+        };
+        if self.vertices.at(slot).event.fixed.is_none() {
             return Err(Refusal::NotFixed(event));
         }
-        self.refix(event, None);
+        self.vertices.refix(slot, None);
         Ok(())
     }
 
@@ -136,21 +128,21 @@ impl Instance {
         if self.has_activity(activity.id) {
             return Err(Refusal::ActivityExists(activity.id));
         }
-        if !self.has_event(activity.from) {
+        let Some(from) = self.vertices.event_slot(activity.from) else {
             return Err(Refusal::NoEvent(activity.from));
-        }
-        if !self.has_event(activity.to) {
+        };
+        let Some(to) = self.vertices.event_slot(activity.to) else {
             return Err(Refusal::NoEvent(activity.to));
-        }
+        };
         if self.activity_count() >= max_activities(self.period) {
             return Err(Refusal::TooManyActivities);
         }
-        if self.ends.link(&activity).is_err() {
+        if self.vertices.link(&activity, from, to).is_err() {
             return Err(Refusal::Memory);
         }
         // The activity is stored last, and a map gives no room in advance: without it the activity is listed nowhere.
         if self.activities.insert(activity).is_err() {
-            self.ends.unlink(&activity);
+            self.vertices.unlink(&activity);
             return Err(Refusal::Memory);
         }
         Ok(())
@@ -164,7 +156,7 @@ impl Instance {
         let Some(&activity) = self.activity(id) else {
             return Err(Refusal::NoActivity(id));
         };
-        self.ends.unlink(&activity);
+        self.vertices.unlink(&activity);
         self.activities.remove(id.get());
         Ok(())
     }
@@ -205,17 +197,17 @@ impl Instance {
         let Some(&old) = self.activity(id) else {
             return Err(Refusal::NoActivity(id));
         };
-        if !self.has_event(from) {
+        let Some(from_slot) = self.vertices.event_slot(from) else {
             return Err(Refusal::NoEvent(from));
-        }
-        if !self.has_event(to) {
+        };
+        let Some(to_slot) = self.vertices.event_slot(to) else {
             return Err(Refusal::NoEvent(to));
-        }
+        };
         let new = Activity { from, to, ..old };
-        if self.ends.link(&new).is_err() {
+        if self.vertices.link(&new, from_slot, to_slot).is_err() {
             return Err(Refusal::Memory);
         }
-        self.ends.unlink_old(&old, &new);
+        self.vertices.unlink_old(&old, &new);
         self.activities.replace(new);
         Ok(())
     }

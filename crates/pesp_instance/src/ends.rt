@@ -1,29 +1,18 @@
 //! Which activities are at which event.
 
-ghost use Rattle.std.specs.Prelude.{◌≡◌, ℕ, ◌≤◌, [], true, false, IfOk, OnOk, OnErr, not, ◌==◌, ◌&&◌, ◌||◌, if◌then◌else◌};
+ghost use Rattle.std.specs.Prelude.{◌≡◌, ℕ, Some, IfOk, OnOk, OnErr, is_some, not, ◌==◌, ◌&&◌, ◌||◌};
 ghost use Rattle.std.specs.List.Sorted.{IsStrictlySortedBy};
-ghost use Rattle.pesp_base.specs.Limits.{greatest_number};
-ghost use Rattle.pesp_instance.specs.Ends.{pair_cmp, lists, pairs_at, ListTheSame, ListsMore, ListsLess, is_pair_of, is_old_pair_of};
+ghost use Rattle.std.specs.Ordering.{nat_cmp};
+ghost use Rattle.pesp_base.specs.Numbered.{with_number};
+ghost use Rattle.pesp_instance.specs.Ends.{vertex_number, numbers_at, numbers_left, events_of, with_fixed, lists, ListTheSame, ListsMore, ListsLess, KeepsEvents, is_pair_of, is_old_pair_of};
 ghost use Rattle.pesp_instance.specs.Network.{is_end_of};
+ghost use Rattle.pesp_instance.specs.Table.{slot_of, IsSlot};
 
+use crate::table::Table;
+use crate::vertex::Vertex;
 use pesp_base::{Activity, EventId};
-use std::alloc::{AllocError, Global};
-use std::collections::{BTreeSet, btree_set};
-use std::marker::Model;
-
-/// Pairs of an event and the number of an activity that has it as an end, in order. A loop has one pair.
-#[derive(Drop)]
-pub struct Ends {
-    pairs: BTreeSet<(u32, u32)>,
-}
-
-impl Model for Ends {
-    ghost use Rattle.std.specs.Prelude.{List, ℕ};
-
-    ghost Value = { List (ℕ × ℕ) };
-
-    ghost view = { λ a. a.pairs.keys };
-}
+use std::alloc::AllocError;
+use std::collections::btree_set;
 
 /// Whether the event is an end of the activity.
 fn is_end(activity: &Activity, event: EventId) -> bool
@@ -32,55 +21,81 @@ fn is_end(activity: &Activity, event: EventId) -> bool
     activity.from == event || activity.to == event
 }
 
-impl Ends {
-    /// No pairs, which take no memory.
-    pub fn new(alloc: Global) -> Self
-        ensures { result ≡ [] }
+impl Table<Vertex> {
+    /// The slot of an event.
+    pub fn event_slot(&self, event: EventId) -> Option<usize>
+        ensures slot { result ≡ slot_of self.now event }
+        ensures known { is_some result ≡ is_some (with_number (λ x. x.id) event (events_of self.now.values)) }
     {
-        Ends {
-            pairs: BTreeSet::new(alloc),
+        self.slot(event.get())
+    }
+
+    /// The numbers of the activities at an event, in order, and nothing where the event is not there.
+    pub fn numbers_at(&self, event: EventId) -> Option<btree_set::Iter<'_, u32>>
+        ensures value { numbers_left result ≡ numbers_at (with_number vertex_number event self.now.values) }
+        ensures ordered { IsStrictlySortedBy nat_cmp (numbers_left result) }
+    {
+        Some(self.get(event.get())?.activities.iter())
+    }
+
+    /// Lists a number at the event of a slot, and says whether it is new there.
+    ///
+    /// A number takes room in the set of its event alone. Without it, each event lists what it did.
+    fn list(&mut self, slot: usize, number: u32) -> Result<bool, AllocError>
+        requires slot { IsSlot self.old slot }
+        ensures added { IfOk result (λ added. (e : ℕ) → slot_of self.old e ≡ Some slot → added ≡ not (lists self.old.values e number)) }
+        ensures ok { OnOk result ((e : ℕ) → slot_of self.old e ≡ Some slot → ListsMore (λ x n. e == x && number == n) self.old.values self.new.values) }
+        ensures err { OnErr result (ListTheSame self.old.values self.new.values) }
+        ensures kept { KeepsEvents self.old self.new }
+    {
+        Ok(self.slots[slot].activities.insert(number)?)
+    }
+
+    /// Lists a number no longer at the event of a slot.
+    fn unlist(&mut self, slot: usize, number: u32)
+        requires slot { IsSlot self.old slot }
+        ensures listed { (e : ℕ) → slot_of self.old e ≡ Some slot → ListsLess (λ x n. e == x && number == n) self.old.values self.new.values }
+        ensures kept { KeepsEvents self.old self.new }
+    {
+        self.slots[slot].activities.remove(&number);
+    }
+
+    /// Lists a number no longer at an event.
+    fn unlist_at(&mut self, event: EventId, number: u32)
+        ensures listed { ListsLess (λ x n. event == x && number == n) self.old.values self.new.values }
+        ensures kept { KeepsEvents self.old self.new }
+    {
+        if let Some(slot) = self.slot(event.get()) {
+            self.unlist(slot, number);
         }
     }
 
-    /// The pairs of an event, by rising number.
-    pub fn at(&self, event: u32) -> btree_set::Range<'_, (u32, u32)>
-        requires { event ≤ greatest_number }
-        ensures value { result ≡ pairs_at event self.now }
-        ensures ordered { IsStrictlySortedBy pair_cmp self.now }
+    /// Gives the event of a slot another fixed time, or none.
+    pub fn refix(&mut self, slot: usize, fixed: Option<u16>)
+        requires slot { IsSlot self.old slot }
+        ensures events { (e : ℕ) → slot_of self.old e ≡ Some slot → events_of self.new.values ≡ with_fixed e fixed (events_of self.old.values) }
+        ensures listed { ListTheSame self.old.values self.new.values }
     {
-        self.pairs.range((event, 0)..(event + 1, 0))
+        self.slots[slot].event.fixed = fixed;
     }
 
-    /// Adds a pair, and says whether it is new. Without the memory for it, nothing changes.
-    fn insert(&mut self, event: u32, number: u32) -> Result<bool, AllocError>
-        ensures added { IfOk result (λ added. added ≡ not (lists self.old event number)) }
-        ensures ok { OnOk result (ListsMore (λ e n. event == e && number == n) self.old self.new) }
-        ensures err { OnErr result (self.new ≡ self.old) }
-    {
-        Ok(self.pairs.insert((event, number))?)
-    }
-
-    /// Takes a pair away.
-    fn remove(&mut self, event: u32, number: u32)
-        ensures { ListsLess (λ e n. event == e && number == n) self.old self.new }
-    {
-        self.pairs.remove(&(event, number));
-    }
-
-    /// Lists an activity at its ends. Without the memory for it, each event lists what it did.
+    /// Lists an activity at its ends, which have these slots. Without the memory for it, each event lists what it did.
     ///
-    /// A set gives no room in advance, so the first pair is taken away again where there is none for the second.
-    pub fn link(&mut self, activity: &Activity) -> Result<(), AllocError>
-        ensures ok { OnOk result (ListsMore (is_pair_of activity.now) self.old self.new) }
-        ensures err { OnErr result (ListTheSame self.old self.new) }
+    /// A set gives no room in advance, so the first end lists it no longer where there is none for the second.
+    pub fn link(&mut self, activity: &Activity, from: usize, to: usize) -> Result<(), AllocError>
+        requires from { slot_of self.old activity.now.from ≡ Some from }
+        requires to { slot_of self.old activity.now.to ≡ Some to }
+        ensures ok { OnOk result (ListsMore (is_pair_of activity.now) self.old.values self.new.values) }
+        ensures err { OnErr result (ListTheSame self.old.values self.new.values) }
+        ensures kept { KeepsEvents self.old self.new }
     {
         let number = activity.id.get();
-        let is_new = self.insert(activity.from.get(), number)?;
-        match self.insert(activity.to.get(), number) {
+        let is_new = self.list(from, number)?;
+        match self.list(to, number) {
             Ok(_) => Ok(()),
             Err(refused) => {
                 if is_new {
-                    self.remove(activity.from.get(), number);
+                    self.unlist(from, number);
                 }
                 Err(refused)
             }
@@ -89,23 +104,25 @@ impl Ends {
 
     /// Takes an activity away from its ends.
     pub fn unlink(&mut self, activity: &Activity)
-        ensures { ListsLess (is_pair_of activity.now) self.old self.new }
+        ensures listed { ListsLess (is_pair_of activity.now) self.old.values self.new.values }
+        ensures kept { KeepsEvents self.old self.new }
     {
         let number = activity.id.get();
-        self.remove(activity.from.get(), number);
-        self.remove(activity.to.get(), number);
+        self.unlist_at(activity.from, number);
+        self.unlist_at(activity.to, number);
     }
 
     /// Takes an activity away from those of its ends that it no longer has.
     pub fn unlink_old(&mut self, old: &Activity, new: &Activity)
-        ensures { ListsLess (is_old_pair_of old.now new.now) self.old self.new }
+        ensures listed { ListsLess (is_old_pair_of old.now new.now) self.old.values self.new.values }
+        ensures kept { KeepsEvents self.old self.new }
     {
         let number = old.id.get();
         if !is_end(new, old.from) {
-            self.remove(old.from.get(), number);
+            self.unlist_at(old.from, number);
         }
         if !is_end(new, old.to) {
-            self.remove(old.to.get(), number);
+            self.unlist_at(old.to, number);
         }
     }
 }

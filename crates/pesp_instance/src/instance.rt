@@ -4,9 +4,9 @@ ghost use Rattle.std.specs.Prelude.{◌≡◌, length, option_copied};
 ghost use Rattle.pesp_instance.specs.Edited.{empty_network};
 ghost use Rattle.pesp_instance.specs.Network.{IsNetwork, has_event, fixed_of, activity_of, around};
 
-use crate::ends::Ends;
 use crate::table::Table;
-use crate::{Around, Event, Walk};
+use crate::vertex::Vertex;
+use crate::{Around, Events, Walk};
 use pesp_base::{Activity, ActivityId, EventId, LEAST_PERIOD, Period};
 use std::alloc::Global;
 use std::marker::Model;
@@ -16,11 +16,11 @@ use std::marker::Model;
 /// Each number, time and count is within its limit, and activities lead between events.
 #[derive(Drop)]
 pub struct Instance {
+    pub(crate) alloc: Global,
     pub(crate) period: Period,
-    pub(crate) events: Table<Event>,
+    // The events, each with the numbers of the activities that have it as an end.
+    pub(crate) vertices: Table<Vertex>,
     pub(crate) activities: Table<Activity>,
-    // Each activity, listed at its ends.
-    pub(crate) ends: Ends,
 }
 
 impl Model for Instance {
@@ -44,10 +44,10 @@ impl Instance {
         // Known of the value by its type; the instance keeps it as a fact.
         prove!(period.get() >= LEAST_PERIOD);
         Instance {
+            alloc,
             period,
-            events: Table::new(alloc),
+            vertices: Table::new(alloc),
             activities: Table::new(alloc),
-            ends: Ends::new(alloc),
         }
     }
 
@@ -63,14 +63,14 @@ impl Instance {
         ensures value { result ≡ has_event self.now event }
         ensures network { IsNetwork self.now }
     {
-        self.events.contains(event.get())
+        self.vertices.contains(event.get())
     }
 
     pub fn event_count(&self) -> usize
         ensures value { result ≡ length self.now.events }
         ensures network { IsNetwork self.now }
     {
-        self.events.len()
+        self.vertices.len()
     }
 
     pub fn activity_count(&self) -> usize
@@ -93,15 +93,17 @@ impl Instance {
         ensures value { result ≡ fixed_of self.now event }
         ensures network { IsNetwork self.now }
     {
-        self.events.get(event.get())?.fixed
+        self.vertices.get(event.get())?.event.fixed
     }
 
     /// The events, by rising number.
-    pub fn events(&self) -> Walk<'_, Event>
+    pub fn events(&self) -> Events<'_>
         ensures value { result ≡ self.now.events }
         ensures network { IsNetwork self.now }
     {
-        self.events.iter()
+        Events {
+            vertices: self.vertices.iter(),
+        }
     }
 
     /// The activities, by rising number.
@@ -118,7 +120,7 @@ impl Instance {
         ensures network { IsNetwork self.now }
     {
         Around {
-            pairs: self.ends.at(event.get()),
+            numbers: self.vertices.numbers_at(event),
             activities: &self.activities,
         }
     }

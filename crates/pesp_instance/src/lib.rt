@@ -10,9 +10,10 @@ mod event;
 mod instance;
 mod numbered;
 mod table;
+mod vertex;
 mod walks;
 
 pub use edit::Edit;
 pub use event::Event;
 pub use instance::Instance;
-pub use walks::{Around, Walk};
+pub use walks::{Around, Events, Walk};

@@ -3,11 +3,11 @@
 ghost use Rattle.std.specs.Prelude.{◌≡◌, ◌≤◌};
 ghost use Rattle.pesp_base.specs.Limits.{greatest_number};
 
-use crate::Event;
+use crate::vertex::Vertex;
 use pesp_base::Activity;
 
 /// A value with a number of its own.
-pub trait Numbered: Copy {
+pub trait Numbered: Drop {
     ghost use Rattle.std.specs.Prelude.{ℕ};
 
     ghost number: { Self → ℕ };
@@ -17,11 +17,11 @@ pub trait Numbered: Copy {
         ensures limit { result ≤ greatest_number };
 }
 
-impl Numbered for Event {
-    ghost number = { λ e. e.id };
+impl Numbered for Vertex {
+    ghost number = { λ x. x.event.id };
 
     fn number(&self) -> u32 {
-        self.id.get()
+        self.event.id.get()
     }
 }
 

@@ -1,7 +1,8 @@
 //! A table of numbered values: the values stand in a slab, and an ordered map has the slot of each number.
 
-ghost use Rattle.std.specs.Prelude.{◌≡◌, [], None, IsSome, OnOk, OnErr, length, option_copied, is_some};
+ghost use Rattle.std.specs.Prelude.{◌≡◌, ℕ, [], Some, None, IsSome, OnOk, OnErr, length, option_copied, is_some};
 ghost use Rattle.pesp_base.specs.Numbered.{with_number, put_in, take_out, change_in};
+ghost use Rattle.pesp_instance.specs.Table.{slot_of, IsSlot};
 
 use crate::numbered::Numbered;
 use crate::walks::Walk;
@@ -10,24 +11,21 @@ use std::alloc::{AllocError, Global};
 use std::collections::BTreeMap;
 use std::marker::Model;
 
-/// Values by number, seen as the list of the values by rising number.
+/// Values by number, seen as the list of the values by rising number, and the slot of each number.
 #[derive(Drop)]
 pub struct Table<V: Numbered> {
     numbers: BTreeMap<u32, usize>,
-    slots: Slab<V>,
+    pub(crate) slots: Slab<V>,
 }
 
 impl<V: Numbered> Model for Table<V> {
-    ghost use Rattle.std.specs.Prelude.{List};
-    ghost use Rattle.std.specs.Coded.{coded_list};
+    ghost use Rattle.pesp_instance.specs.Table.{Table as Seen, table_code, table_in, IsTable};
 
-    ghost Value = { List V };
+    ghost Value = { Seen V };
 
-    ghost coded = { coded_list V.code };
+    ghost coded = { table_code V.code };
 
-    ghost use Rattle.pesp_instance.specs.Table.{values_in, IsTable};
-
-    ghost view = { λ t. values_in t.slots.slots t.numbers.entries };
+    ghost view = { λ t. table_in t.slots.slots t.numbers.entries };
 
     ghost invariant = { λ t. IsTable V.number t.slots.slots t.numbers.entries };
 }
@@ -35,7 +33,7 @@ impl<V: Numbered> Model for Table<V> {
 impl<V: Numbered> Table<V> {
     /// The empty table, which takes no memory.
     pub fn new(alloc: Global) -> Self
-        ensures { result ≡ [] }
+        ensures { result.values ≡ [] }
     {
         Table {
             numbers: BTreeMap::new(alloc),
@@ -45,7 +43,7 @@ impl<V: Numbered> Table<V> {
 
     /// The value of a number.
     pub fn get(&self, number: u32) -> Option<&V>
-        ensures { option_copied result ≡ with_number V.number number self.now }
+        ensures { option_copied result ≡ with_number V.number number self.now.values }
     {
         match self.numbers.get(&number) {
             Some(slot) => self.slots.get(*slot),
@@ -55,21 +53,37 @@ impl<V: Numbered> Table<V> {
 
     /// Whether the number has a value.
     pub fn contains(&self, number: u32) -> bool
-        ensures { result ≡ is_some (with_number V.number number self.now) }
+        ensures { result ≡ is_some (with_number V.number number self.now.values) }
     {
         self.get(number).is_some()
     }
 
+    /// The slot of a number, which stays as long as the number has a value.
+    pub fn slot(&self, number: u32) -> Option<usize>
+        ensures slot { result ≡ slot_of self.now number }
+        ensures present { is_some result ≡ is_some (with_number V.number number self.now.values) }
+    {
+        self.numbers.get(&number).copied()
+    }
+
+    /// The value of a slot.
+    pub fn at(&self, slot: usize) -> &V
+        requires slot { IsSlot self.now slot }
+        ensures { (n : ℕ) → slot_of self.now n ≡ Some slot → with_number V.number n self.now.values ≡ Some result.now }
+    {
+        &self.slots[slot]
+    }
+
     /// How many numbers have a value.
     pub fn len(&self) -> usize
-        ensures { result ≡ length self.now }
+        ensures { result ≡ length self.now.values }
     {
         self.numbers.len()
     }
 
     /// The values, by rising number.
     pub fn iter(&self) -> Walk<'_, V>
-        ensures { result ≡ self.now }
+        ensures { result ≡ self.now.values }
     {
         Walk {
             numbers: self.numbers.iter(),
@@ -79,8 +93,8 @@ impl<V: Numbered> Table<V> {
 
     /// Adds a value of a new number. Without the memory for it, nothing changes.
     pub fn insert(&mut self, value: V) -> Result<(), AllocError>
-        requires absent { with_number V.number (V.number value) self.old ≡ None }
-        ensures ok { OnOk result (self.new ≡ put_in V.number value self.old) }
+        requires absent { with_number V.number (V.number value) self.old.values ≡ None }
+        ensures ok { OnOk result (self.new.values ≡ put_in V.number value self.old.values) }
         ensures err { OnErr result (self.new ≡ self.old) }
     {
         self.slots.reserve(1)?;
@@ -92,8 +106,8 @@ impl<V: Numbered> Table<V> {
 
     /// Puts a value in the place of the one of its number.
     pub fn replace(&mut self, value: V)
-        requires present { IsSome (with_number V.number (V.number value) self.old) }
-        ensures { self.new ≡ change_in V.number (V.number value) (λ _. value) self.old }
+        requires present { IsSome (with_number V.number (V.number value) self.old.values) }
+        ensures { self.new.values ≡ change_in V.number (V.number value) (λ _. value) self.old.values }
     {
         if let Some(slot) = self.numbers.get(&value.number()) {
             self.slots[*slot] = value;
@@ -102,7 +116,7 @@ impl<V: Numbered> Table<V> {
 
     /// Takes the value of a number away.
     pub fn remove(&mut self, number: u32)
-        ensures { self.new ≡ take_out V.number number self.old }
+        ensures { self.new.values ≡ take_out V.number number self.old.values }
     {
         if let Some(slot) = self.numbers.remove(&number) {
             self.slots.remove(slot);

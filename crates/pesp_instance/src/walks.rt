@@ -2,7 +2,9 @@
 
 ghost use Rattle.std.specs.Iterator.{YieldsFirstRef, item_count};
 
+use crate::Event;
 use crate::table::Table;
+use crate::vertex::Vertex;
 use pesp_base::Activity;
 use slab::Slab;
 use std::collections::{btree_map, btree_set};
@@ -45,23 +47,52 @@ impl<'a, V> Iterator for Walk<'a, V> {
     }
 }
 
+/// The events that are left, by rising number.
+#[derive(Drop)]
+pub struct Events<'a> {
+    pub(crate) vertices: Walk<'a, Vertex>,
+}
+
+impl<'a> Model for Events<'a> {
+    ghost use Rattle.std.specs.Prelude.{List};
+    ghost use Rattle.pesp_instance.specs.declared.event.Event.{Event};
+    ghost use Rattle.pesp_instance.specs.Ends.{events_of};
+
+    ghost Value = { List Event };
+
+    ghost view = { λ w. events_of w.vertices };
+}
+
+impl<'a> Iterator for Events<'a> {
+    type Item = &'a Event;
+
+    ghost next_gives = { YieldsFirstRef (λ rest. rest) };
+
+    ghost remaining = { item_count (λ rest. rest) };
+
+    fn next(&mut self) -> Option<&'a Event> {
+        Some(&self.vertices.next()?.event)
+    }
+}
+
 /// The activities at an event that are left, by rising number.
 #[derive(Drop)]
 pub struct Around<'a> {
-    pub(crate) pairs: btree_set::Range<'a, (u32, u32)>,
+    // Nothing where the event is not in the instance.
+    pub(crate) numbers: Option<btree_set::Iter<'a, u32>>,
     pub(crate) activities: &'a Table<Activity>,
 }
 
 impl<'a> Model for Around<'a> {
     ghost use Rattle.std.specs.Prelude.{List};
     ghost use Rattle.pesp_base.specs.declared.activity.Activity.{Activity};
-    ghost use Rattle.pesp_instance.specs.Ends.{named_by, AreNames};
+    ghost use Rattle.pesp_instance.specs.Ends.{named_by, numbers_left, AreNames};
 
     ghost Value = { List Activity };
 
-    ghost view = { λ w. named_by w.activities.now w.pairs };
+    ghost view = { λ w. named_by w.activities.now.values (numbers_left w.numbers) };
 
-    ghost invariant = { λ w. AreNames w.activities.now w.pairs };
+    ghost invariant = { λ w. AreNames w.activities.now.values (numbers_left w.numbers) };
 }
 
 impl<'a> Iterator for Around<'a> {
@@ -72,7 +103,7 @@ impl<'a> Iterator for Around<'a> {
     ghost remaining = { item_count (λ rest. rest) };
 
     fn next(&mut self) -> Option<&'a Activity> {
-        let (_, number) = self.pairs.next()?;
+        let number = self.numbers.as_mut()?.next()?;
         self.activities.get(*number)
     }
 }

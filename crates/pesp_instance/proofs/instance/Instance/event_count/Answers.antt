@@ -1,6 +1,7 @@
--- Found by search, and named so that a wrong body is refused here at once.
-use Rattle.std.proofs.Common.{rules}
+-- There are as many events as vertices.
+use Rattle.std.proofs.Common.{sym, ◌∙◌}
+use Rattle.std.proofs.lemmas.List.{length-map}
 use Rattle.pesp_instance.proofs.instance.Instance.event_count.Goals as goal
 
 pub returns-clause-value : goal.returns-clause-value
-returns-clause-value c = search rules
+returns-clause-value c = rw (← c.self.view_is) (c.len.ensures ∙ sym (length-map c.self.inside.vertices.values (λ x. x.event)))

@@ -18,4 +18,4 @@ returns-in-Some g c =
 
 pub returns-in_default : goal.returns-in_default
 returns-in_default g c =
-    absurd (not_some (rw (c.number.ensures.value, c.self.view_is) at (missing g.V.Numbered.number _ _ c.self.invariant _ (sym c.in_default.ensures.value))) c.requires.present)
+    absurd (not_some (rw c.number.ensures.value at (missing g.V.Numbered.number _ _ c.self.invariant _ (sym c.in_default.ensures.value))) (rw (← c.self.view_is) at c.requires.present))
