@@ -133,9 +133,13 @@ pub none_from : {X : Type 0} (o : Option X) → is_some o ≡ false → o ≡ No
 none_from None is = refl
 none_from (Some x) is = absurd (cc)
 
-pub none_before : {X Y : Type 0} (f : X → Y) (o : Option X) → option_map f o ≡ None → o ≡ None
-none_before f None is = refl
-none_before f (Some x) is = absurd (cc)
+pub none_is : {X : Type 0} (o : Option X) → is_none o ≡ true → o ≡ None
+none_is None is = refl
+none_is (Some x) is = absurd (cc)
+
+pub some_is : {X : Type 0} (o : Option X) → is_none o ≡ false → is_some o ≡ true
+some_is None is = absurd (cc)
+some_is (Some x) is = refl
 
 pub is_none-from : {X : Type 0} (o : Option X) (b : Bool) → is_some o ≡ b → is_none o ≡ not b
 is_none-from None b is = ap not is
@@ -177,10 +181,6 @@ refixed-events e fixed (x ∷ events) =
 module _ (activities : List Activity) (m : ℕ) (a : Activity) (is : with_number id_of m activities ≡ Some a) where
   its : a.id ≡ m
   its = number-with_number id_of m activities a is
-
-  -- the number has an activity, which is one with the activity that it has
-  pub present : is_some (with_number id_of a.id activities) ≡ true
-  present = rw (its, is) refl
 
   -- an activity in the place of the one of its number is that one changed
   pub changed-activities : (change : Activity → Activity) → IsStrictlyIncreasing (map id_of activities) → change_in id_of a.id (λ _. change a) activities ≡ change_in id_of m change activities

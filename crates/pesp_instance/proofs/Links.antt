@@ -188,6 +188,3 @@ remove_absent test (e ∷ es) is =
       | true ↦ λ same. absurd (cc)
       | false ↦ λ later. rw (remove_absent test es later) refl
     ] is
-
-pub not_some : {V : Type 0} {o : Option V} → o ≡ None → IsSome o → ⊥
-not_some is has = absurd (cc)

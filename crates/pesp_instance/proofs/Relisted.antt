@@ -37,14 +37,6 @@ moved_elsewhere true false l = refl
 moved_elsewhere false true l = refl
 moved_elsewhere false false l = refl
 
-undone_here : (b : Bool) → (not (b && true) && ((b && true) || false)) ≡ false
-undone_here true = refl
-undone_here false = refl
-
-undone_elsewhere : (b l : Bool) → (not (b && false) && ((b && false) || l)) ≡ l
-undone_elsewhere true l = refl
-undone_elsewhere false l = refl
-
 not_an_end : (e n : ℕ) (activities : List Activity) → filter (is_end_of e) activities ≡ [] → is_end_in e (with_number id_of n activities) ≡ false
 not_an_end e n [] none = refl
 not_an_end e n (a ∷ activities) none =
@@ -107,16 +99,6 @@ module _ (activities : List Activity) where
       untouched (Some x) at apart =
           let other : (x.id == m) ≡ false = ne_eqb x.id m (λ same. apart (sym (number-with_number id_of n activities x at) ∙ same)) in
           rw other refl
-
-  -- a new activity that is listed and taken away again leaves each activity listed at its ends
-  pub AreListed-undone : (old more new : List Vertex) (a : Activity) → AreListed old activities → stored a.id ≡ None → ((e n : ℕ) → lists more e n ≡ ((is_end_of e a && a.id == n) || lists old e n)) → ((e n : ℕ) → lists new e n ≡ (not (is_end_of e a && a.id == n) && lists more e n)) → AreListed new activities
-  AreListed-undone old more new a listed absent linked unlinked e n =
-      unlinked e n ∙ rw (linked e n) (elim (cases_eq a.id n) [
-        | inl same ↦
-            rw (eq-eqb a.id n same, none_listed old e a.id n listed absent same)
-            (undone_here (is_end_of e a) ∙ sym (ap (is_end_in e) (ap stored (sym same) ∙ absent)))
-        | inr apart ↦ rw (ne_eqb a.id n apart) (undone_elsewhere (is_end_of e a) (lists old e n) ∙ listed e n)
-      ])
 
   -- vertices that list the same
   pub AreListed-same : (old new : List Vertex) → ListTheSame old new → AreListed old activities → AreListed new activities

@@ -286,6 +286,26 @@ module _ {X : Type 0} (number : X → ℕ) where
       let same : number (cond (number x == n) (change x) x) ≡ number x = elim (number x == n) as (λ b. number (cond b (change x) x) ≡ number x) [ true ↦ keeps x | false ↦ refl ] in
       (rw same (IsAbove-change_in (number x) n change keeps xs rises.0), Rises-change_in n change keeps xs rises.1)
 
+  -- a new member that is put in and taken out again
+  pub take_out-put_in : (v : X) (xs : List X) → Rises xs → with_number number (number v) xs ≡ None → take_out number (number v) (put_in number v xs) ≡ xs
+  take_out-put_in v [] rises none = rw (eq-eqb (number v) (number v) refl) refl
+  take_out-put_in v (x ∷ xs) rises none =
+      let n = number v in
+      elim (cases_order n (number x)) [
+        | inl same ↦ absurd (taken (rw (eq-eqb (number x) n (sym same)) at none))
+        | inr apart ↦ elim apart [
+          | inl below ↦
+              let high : n ≤ number x = omega arith in
+              rw (le-ltb (number x) n high, lt-ltb n (number x) below, filter_below-above n (number x) xs high rises.0, filter_above-above n (number x) xs high rises.0, eq-eqb n n refl, ne_eqb (number x) n (λ same. absurd (omega arith)), take_out-above n (number x) xs high rises.0) refl
+          | inr above ↦
+              let later : with_number number n xs ≡ None = rw (ne_eqb (number x) n (λ same. absurd (omega arith))) at none in
+              rw (lt-ltb (number x) n above, le-ltb n (number x) (omega arith), ne_eqb (number x) n (λ same. absurd (omega arith))) (ap (λ ys. x ∷ ys) (take_out-put_in v xs rises.1 later))
+        ]
+      ]
+    where
+      taken : {x : X} → Some x ≡ None → ⊥
+      taken same = cc
+
   -- ---- how many there are after a change
 
   parts : (n : ℕ) (xs : List X) → with_number number n xs ≡ None → length (filter (λ y. nat_lt (number y) n) xs) + length (filter (λ y. nat_lt n (number y)) xs) ≡ length xs

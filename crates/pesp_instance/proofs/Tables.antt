@@ -1,7 +1,10 @@
 -- A table's entries, and the values that they stand for.
-use Rattle.std.proofs.Common.{◌≡◌, ℕ, ◌≤◌, Bool, true, false, cond, ◌==◌, not, List, [], ◌∷◌, length, map, Option, Some, None, is_some, slice_index_or, slice_set, refl, sym, ap, ◌∙◌, inl, inr, arith}
+use Rattle.std.proofs.Common.{◌≡◌, ℕ, ◌<◌, ◌≤◌, Bool, true, false, cond, ◌==◌, not, List, [], ◌∷◌, length, map, Option, Some, None, is_some, slice_index_or, slice_set, refl, sym, ap, ◌∙◌, inl, inr, arith}
 use Rattle.std.proofs.lemmas.Bool.{cases_order, lt-ltb, le-ltb, eq-eqb, ne_eqb, eqb-true}
-use Rattle.std.proofs.lemmas.Map.Keys.{IsStrictlyIncreasing-from_sorted}
+use Rattle.std.proofs.lemmas.Bool.Decides.{nat_tests}
+use Rattle.std.proofs.lemmas.Map.Keys.{sorted_head, sorted_tail, IsStrictlyIncreasing-from_sorted}
+use Rattle.std.specs.declared.cmp.Ordering.TheVariants.{Less}
+use Rattle.std.specs.List.{AllByRecursion}
 use Rattle.std.specs.List.Sorted.{IsStrictlySortedBy, IsStrictlyIncreasing}
 use Rattle.std.specs.BTreeMap.{insert_entry, is_at}
 use Rattle.std.specs.Map.{keys_of, values_of, lookup, set_value, remove_entry}
@@ -100,6 +103,35 @@ module _ {V : Type 0} (number : V → ℕ) where
         | true ↦ λ same. (sym (eqb-true p.0 (number v) same), numbered.1)
         | false ↦ λ apart. (numbered.0, AreNumbered-set_value v ps numbered.1)
       ] refl)
+
+-- ---- a number that is written over and then back
+
+lookup_above : (n m : ℕ) (es : List (ℕ × ℕ)) → n ≤ m → AllByRecursion (λ k. nat_cmp m k ≡ Less) (keys_of es) → lookup (is_at (nat_cmp n)) es ≡ None
+lookup_above n m [] le above = refl
+lookup_above n m (e ∷ es) le above =
+    let less : m < e.0 = (let h = above.0 in grind (arith, nat_tests)) in
+    rw (same_test n e.0, ne_eqb e.0 n (λ same. absurd (omega (arith, less, le, same)))) (lookup_above n m es le above.1)
+
+pub written_back : (n slot other : ℕ) (es : List (ℕ × ℕ)) → IsStrictlySortedBy nat_cmp (keys_of es) → lookup (is_at (nat_cmp n)) es ≡ Some slot → insert_entry nat_cmp (insert_entry nat_cmp es n other) n slot ≡ es
+written_back n slot other [] sorted is = absurd (cc)
+written_back n slot other (e ∷ es) sorted is =
+    elim (cases_order n e.0) [
+      | inl same ↦
+          let at : Some e.1 ≡ Some slot = rw (same_test n e.0, eq-eqb e.0 n (sym same)) at is in
+          let its : slot ≡ e.1 = cc in
+          let put : (s t : ℕ) → insert_entry nat_cmp ((e.0, t) ∷ es) n s ≡ (e.0, s) ∷ es = λ s t. rw (le-ltb n e.0 (omega arith), eq-eqb n e.0 same) refl in
+          ap (λ zs. insert_entry nat_cmp zs n slot) (put other e.1) ∙ put slot other ∙ ap (λ s. (e.0, s) ∷ es) its
+      | inr apart ↦ elim apart [
+        | inl below ↦
+            let later : lookup (is_at (nat_cmp n)) es ≡ Some slot = rw (same_test n e.0, ne_eqb e.0 n (λ same. absurd (omega arith))) at is in
+            let none = lookup_above n e.0 es (omega arith) (sorted_head nat_cmp e.0 (keys_of es) sorted) in
+            absurd (cc)
+        | inr above ↦
+            let later : lookup (is_at (nat_cmp n)) es ≡ Some slot = rw (same_test n e.0, ne_eqb e.0 n (λ same. absurd (omega arith))) at is in
+            let past : (s : ℕ) (zs : List (ℕ × ℕ)) → insert_entry nat_cmp (e ∷ zs) n s ≡ e ∷ insert_entry nat_cmp zs n s = λ s zs. rw (le-ltb n e.0 (omega arith), ne_eqb n e.0 (λ same. absurd (omega arith))) refl in
+            ap (λ zs. insert_entry nat_cmp zs n slot) (past other es) ∙ past slot (insert_entry nat_cmp es n other) ∙ (ap (λ zs. e ∷ zs) (written_back n slot other es (sorted_tail nat_cmp e.0 (keys_of es) sorted) later))
+      ]
+    ]
 
 keys-resolved : {V : Type 0} (slots : List (Option V)) (es : List (ℕ × ℕ)) → IsLinked slots es → keys_of (resolved slots es) ≡ keys_of es
 keys-resolved slots [] linked = refl

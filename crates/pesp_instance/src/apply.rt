@@ -1,12 +1,12 @@
 //! The edits of an instance.
 
-ghost use Rattle.std.specs.Prelude.{◌≡◌, OnOk, OnErr, IfErr, find, is_some};
-ghost use Rattle.std.specs.Option.{option_map};
+ghost use Rattle.std.specs.Prelude.{◌≡◌, if◌then◌else◌, OnOk, OnErr, IfErr, is_some};
+ghost use Rattle.pesp_base.specs.declared.refusal.Refusal.TheVariants as no;
 ghost use Rattle.pesp_instance.specs.Edited.{edited, IsRefusal};
-ghost use Rattle.pesp_instance.specs.Network.{activity_of, is_end_of};
+ghost use Rattle.pesp_instance.specs.Network.{activity_of, has_event};
 
 use crate::vertex::Vertex;
-use crate::{Edit, Event, Instance};
+use crate::{Around, Edit, Event, Instance};
 use pesp_base::{
     Activity, ActivityId, EventId, GREATEST_NUMBER, GREATEST_WEIGHT, Refusal, Span, Weight,
     max_activities, max_events,
@@ -34,6 +34,17 @@ impl Instance {
         }
     }
 
+    /// `EventExists` where the number is an event, since that comes first, and else the other refusal.
+    fn event_exists_or(&self, event: EventId, other: Refusal) -> Refusal
+        ensures { result ≡ (if has_event self.now event then no.EventExists event else other) }
+    {
+        if self.has_event(event) {
+            Refusal::EventExists(event)
+        } else {
+            other
+        }
+    }
+
     fn add_event(&mut self, event: EventId) -> Result<(), Refusal>
         ensures ok { OnOk result (edited self.old (Edit.AddEvent event) ≡ Ok self.new) }
         ensures err { IfErr result (IsRefusal self.old (Edit.AddEvent event)) }
@@ -41,27 +52,18 @@ impl Instance {
     {
         // Known of the value by its type; the instance keeps it as a fact.
         prove!(event.get() <= GREATEST_NUMBER);
-        if self.has_event(event) {
-            return Err(Refusal::EventExists(event));
-        }
         if self.event_count() >= max_events(self.period) {
-            return Err(Refusal::TooManyEvents);
+            return Err(self.event_exists_or(event, Refusal::TooManyEvents));
         }
         let new = Event {
             id: event,
             fixed: None,
         };
-        if self.vertices.insert(Vertex::new(self.alloc, new)).is_err() {
-            return Err(Refusal::Memory);
+        match self.vertices.insert(Vertex::new(self.alloc, new)) {
+            Ok(true) => Ok(()),
+            Ok(false) => Err(Refusal::EventExists(event)),
+            Err(_) => Err(self.event_exists_or(event, Refusal::Memory)),
         }
-        Ok(())
-    }
-
-    /// The least activity that has the event as an end.
-    fn least_at(&self, event: EventId) -> Option<ActivityId>
-        ensures { result ≡ option_map (λ a. a.id) (find (is_end_of event) self.now.activities) }
-    {
-        Some(self.around(event).next()?.id)
     }
 
     fn drop_event(&mut self, event: EventId) -> Result<(), Refusal>
@@ -69,11 +71,15 @@ impl Instance {
         ensures err { IfErr result (IsRefusal self.old (Edit.DropEvent event)) }
         ensures unchanged { OnErr result (self.new ≡ self.old) }
     {
-        if !self.has_event(event) {
+        let Some(numbers) = self.vertices.numbers_at(event) else {
             return Err(Refusal::NoEvent(event));
-        }
-        if let Some(activity) = self.least_at(event) {
-            return Err(Refusal::EventInUse(event, activity));
+        };
+        let mut around = Around {
+            numbers: Some(numbers),
+            activities: &self.activities,
+        };
+        if let Some(activity) = around.next() {
+            return Err(Refusal::EventInUse(event, activity.id));
         }
         self.vertices.remove(event.get());
         Ok(())
@@ -109,11 +115,15 @@ impl Instance {
         Ok(())
     }
 
-    /// Whether the number is an activity.
-    fn has_activity(&self, id: ActivityId) -> bool
-        ensures { result ≡ is_some (activity_of self.now id) }
+    /// `ActivityExists` where the number is an activity, since that comes first, and else the other refusal.
+    fn activity_exists_or(&self, id: ActivityId, other: Refusal) -> Refusal
+        ensures { result ≡ (if is_some (activity_of self.now id) then no.ActivityExists id else other) }
     {
-        self.activities.contains(id.get())
+        if self.activities.contains(id.get()) {
+            Refusal::ActivityExists(id)
+        } else {
+            other
+        }
     }
 
     fn add_activity(&mut self, activity: Activity) -> Result<(), Refusal>
@@ -125,24 +135,23 @@ impl Instance {
         prove!(activity.id.get() <= GREATEST_NUMBER);
         prove!(activity.span.lower() <= activity.span.upper());
         prove!(activity.weight.get() <= GREATEST_WEIGHT);
-        if self.has_activity(activity.id) {
-            return Err(Refusal::ActivityExists(activity.id));
-        }
         let Some(from) = self.vertices.event_slot(activity.from) else {
-            return Err(Refusal::NoEvent(activity.from));
+            return Err(self.activity_exists_or(activity.id, Refusal::NoEvent(activity.from)));
         };
         let Some(to) = self.vertices.event_slot(activity.to) else {
-            return Err(Refusal::NoEvent(activity.to));
+            return Err(self.activity_exists_or(activity.id, Refusal::NoEvent(activity.to)));
         };
         if self.activity_count() >= max_activities(self.period) {
-            return Err(Refusal::TooManyActivities);
+            return Err(self.activity_exists_or(activity.id, Refusal::TooManyActivities));
         }
+        match self.activities.insert(activity) {
+            Ok(true) => (),
+            Ok(false) => return Err(Refusal::ActivityExists(activity.id)),
+            Err(_) => return Err(self.activity_exists_or(activity.id, Refusal::Memory)),
+        }
+        // An event's set gives no room in advance: without it the activity is stored no longer.
         if self.vertices.link(&activity, from, to).is_err() {
-            return Err(Refusal::Memory);
-        }
-        // The activity is stored last, and a map gives no room in advance: without it the activity is listed nowhere.
-        if self.activities.insert(activity).is_err() {
-            self.vertices.unlink(&activity);
+            self.activities.remove(activity.id.get());
             return Err(Refusal::Memory);
         }
         Ok(())
@@ -153,11 +162,10 @@ impl Instance {
         ensures err { IfErr result (IsRefusal self.old (Edit.DropActivity id)) }
         ensures unchanged { OnErr result (self.new ≡ self.old) }
     {
-        let Some(&activity) = self.activity(id) else {
+        let Some(activity) = self.activities.remove(id.get()) else {
             return Err(Refusal::NoActivity(id));
         };
         self.vertices.unlink(&activity);
-        self.activities.remove(id.get());
         Ok(())
     }
 
@@ -168,10 +176,11 @@ impl Instance {
     {
         // Known of the value by its type; the instance keeps it as a fact.
         prove!(span.lower() <= span.upper());
-        let Some(&activity) = self.activity(id) else {
+        let Some(slot) = self.activities.slot(id.get()) else {
             return Err(Refusal::NoActivity(id));
         };
-        self.activities.replace(Activity { span, ..activity });
+        let activity = *self.activities.at(slot);
+        self.activities.set(slot, Activity { span, ..activity });
         Ok(())
     }
 
@@ -182,10 +191,11 @@ impl Instance {
     {
         // Known of the value by its type; the instance keeps it as a fact.
         prove!(weight.get() <= GREATEST_WEIGHT);
-        let Some(&activity) = self.activity(id) else {
+        let Some(slot) = self.activities.slot(id.get()) else {
             return Err(Refusal::NoActivity(id));
         };
-        self.activities.replace(Activity { weight, ..activity });
+        let activity = *self.activities.at(slot);
+        self.activities.set(slot, Activity { weight, ..activity });
         Ok(())
     }
 
@@ -194,7 +204,7 @@ impl Instance {
         ensures err { IfErr result (IsRefusal self.old (Edit.SetEnds id from to)) }
         ensures unchanged { OnErr result (self.new ≡ self.old) }
     {
-        let Some(&old) = self.activity(id) else {
+        let Some(slot) = self.activities.slot(id.get()) else {
             return Err(Refusal::NoActivity(id));
         };
         let Some(from_slot) = self.vertices.event_slot(from) else {
@@ -203,12 +213,13 @@ impl Instance {
         let Some(to_slot) = self.vertices.event_slot(to) else {
             return Err(Refusal::NoEvent(to));
         };
+        let old = *self.activities.at(slot);
         let new = Activity { from, to, ..old };
         if self.vertices.link(&new, from_slot, to_slot).is_err() {
             return Err(Refusal::Memory);
         }
         self.vertices.unlink_old(&old, &new);
-        self.activities.replace(new);
+        self.activities.set(slot, new);
         Ok(())
     }
 }

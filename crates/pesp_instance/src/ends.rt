@@ -32,6 +32,7 @@ impl Table<Vertex> {
 
     /// The numbers of the activities at an event, in order, and nothing where the event is not there.
     pub fn numbers_at(&self, event: EventId) -> Option<btree_set::Iter<'_, u32>>
+        ensures known { is_some result ≡ is_some (with_number (λ x. x.id) event (events_of self.now.values)) }
         ensures value { numbers_left result ≡ numbers_at (with_number vertex_number event self.now.values) }
         ensures ordered { IsStrictlySortedBy nat_cmp (numbers_left result) }
     {

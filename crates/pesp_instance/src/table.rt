@@ -1,6 +1,6 @@
 //! A table of numbered values: the values stand in a slab, and an ordered map has the slot of each number.
 
-ghost use Rattle.std.specs.Prelude.{◌≡◌, ℕ, [], Some, None, IsSome, OnOk, OnErr, length, option_copied, is_some};
+ghost use Rattle.std.specs.Prelude.{◌≡◌, ℕ, true, false, [], Some, None, IfNone, IfOk, OnErr, length, option_copied, is_some, is_none};
 ghost use Rattle.pesp_base.specs.Numbered.{with_number, put_in, take_out, change_in};
 ghost use Rattle.pesp_instance.specs.Table.{slot_of, IsSlot};
 
@@ -91,35 +91,40 @@ impl<V: Numbered> Table<V> {
         }
     }
 
-    /// Adds a value of a new number. Without the memory for it, nothing changes.
-    pub fn insert(&mut self, value: V) -> Result<(), AllocError>
-        requires absent { with_number V.number (V.number value) self.old.values ≡ None }
-        ensures ok { OnOk result (self.new.values ≡ put_in V.number value self.old.values) }
+    /// Adds a value, and says whether its number is new. Where it is not, and where there is no memory for it, nothing
+    /// changes.
+    pub fn insert(&mut self, value: V) -> Result<bool, AllocError>
+        ensures added { IfOk result (λ added. added ≡ is_none (with_number V.number (V.number value) self.old.values)) }
+        ensures put { IfOk result (λ added. added ≡ true → self.new.values ≡ put_in V.number value self.old.values) }
+        ensures known { IfOk result (λ added. added ≡ false → self.new ≡ self.old) }
         ensures err { OnErr result (self.new ≡ self.old) }
     {
+        let number = value.number();
         self.slots.reserve(1)?;
-        self.numbers
-            .insert(value.number(), self.slots.vacant_key())?;
-        self.slots.insert_reserved(value);
-        Ok(())
+        let Some(slot) = self.numbers.insert(number, self.slots.vacant_key())? else {
+            self.slots.insert_reserved(value);
+            return Ok(true);
+        };
+        // The number has a value, which stays in its slot. An entry that is there takes no room.
+        self.numbers.insert(number, slot)?;
+        Ok(false)
     }
 
-    /// Puts a value in the place of the one of its number.
-    pub fn replace(&mut self, value: V)
-        requires present { IsSome (with_number V.number (V.number value) self.old.values) }
+    /// Puts a value in the slot of its number.
+    pub fn set(&mut self, slot: usize, value: V)
+        requires slot { slot_of self.old (V.number value) ≡ Some slot }
         ensures { self.new.values ≡ change_in V.number (V.number value) (λ _. value) self.old.values }
     {
-        if let Some(slot) = self.numbers.get(&value.number()) {
-            self.slots[*slot] = value;
-        }
+        self.slots[slot] = value;
     }
 
-    /// Takes the value of a number away.
-    pub fn remove(&mut self, number: u32)
-        ensures { self.new.values ≡ take_out V.number number self.old.values }
+    /// Takes the value of a number away, and hands it out.
+    pub fn remove(&mut self, number: u32) -> Option<V>
+        ensures value { result ≡ with_number V.number number self.old.values }
+        ensures removed { self.new.values ≡ take_out V.number number self.old.values }
+        ensures missing { IfNone result (self.new ≡ self.old) }
     {
-        if let Some(slot) = self.numbers.remove(&number) {
-            self.slots.remove(slot);
-        }
+        let slot = self.numbers.remove(&number)?;
+        Some(self.slots.remove(slot))
     }
 }
