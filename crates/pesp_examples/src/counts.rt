@@ -2,33 +2,40 @@
 
 ghost use Rattle.std.specs.Prelude.{◌≡◌, []};
 
-use crate::made::{event, four_events, id, push, two_activities};
+use crate::made::{event, four_events, id, push};
+use crate::unpushed::Unpushed;
 use pesp_base::EventId;
 use pesp_counts::CountKeeper;
 use pesp_domains::{Keeper, PlainKeeper, Side};
 use std::process::Abort;
 
-fn assert_support(
-    rt: &impl Abort,
-    keeper: &CountKeeper,
-    side: Side,
-    residue: u16,
-    wanted: Option<u16>,
-    message: &str,
-) {
-    let count = keeper.support(id(rt, 1), side, residue);
-    assert_eq!(rt; count, wanted, "{message}: residue {residue}");
+/// A count of the first activity at an end and a residue.
+type Count = (Side, u16, Option<u16>);
+
+fn assert_supports(rt: &impl Abort, keeper: &CountKeeper, counts: &[Count], message: &str) {
+    for (side, residue, wanted) in counts {
+        let count = keeper.support(id(rt, 1), *side, *residue);
+        assert_eq!(rt; count, *wanted, "{message}: residue {residue}");
+    }
+}
+
+/// The counts while the first event is pushed to 0, and behind that.
+fn assert_pushed(rt: &impl Abort, kept: &mut Unpushed, pushed: &[Count], popped: &[Count]) {
+    push(rt, &mut kept.keeper, event(rt, 1), 0);
+    assert_supports(rt, &kept.keeper, pushed, "event 1 at 0");
+    kept.keeper.pop_fix();
+    assert_supports(rt, &kept.keeper, popped, "nothing is pushed");
 }
 
 #[test]
 fn counts_are_read_by_support(rt: HostRuntime) {
-    let mut keeper: CountKeeper = two_activities(&rt);
-    push(&rt, &mut keeper, event(&rt, 1), 0);
-    assert_support(&rt, &keeper, Side::Tail, 0, Some(2), "event 1 at 0");
-    assert_support(&rt, &keeper, Side::Head, 4, Some(1), "event 1 at 0");
-    assert_support(&rt, &keeper, Side::Tail, 1, None, "event 1 at 0");
-    keeper.pop_fix();
-    assert_support(&rt, &keeper, Side::Tail, 0, Some(3), "nothing is pushed");
+    let mut kept = Unpushed::two_activities(&rt);
+    let pushed: &[Count] = &[
+        (Side::Tail, 0, Some(2)),
+        (Side::Head, 4, Some(1)),
+        (Side::Tail, 1, None),
+    ];
+    assert_pushed(&rt, &mut kept, pushed, &[(Side::Tail, 0, Some(3))]);
 }
 
 /// The rows of the four events, which are the same by either keeper.

@@ -9,11 +9,15 @@ mod base;
 #[cfg(test)]
 mod bench;
 #[cfg(test)]
+mod changes;
+#[cfg(test)]
 mod counts;
 #[cfg(test)]
 mod domains;
 #[cfg(test)]
 mod edits;
+#[cfg(test)]
+mod kept;
 #[cfg(test)]
 mod made;
 #[cfg(test)]
@@ -22,5 +26,7 @@ mod restored;
 mod search;
 #[cfg(test)]
 mod timetables;
+#[cfg(test)]
+mod unpushed;
 #[cfg(test)]
 mod works;

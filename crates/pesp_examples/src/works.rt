@@ -1,122 +1,136 @@
 //! What an edit takes, as the keeper by counts tells it.
 
-ghost use Rattle.std.specs.Prelude.{◌≡◌, []};
-
-use crate::made::{activity, edit, event, fix, id, keeper, push, set_span, two_activities};
-use pesp_base::Period;
+use crate::changes::Change;
+use crate::made::{activity, event, keeper, push};
+use crate::unpushed::Unpushed;
+use pesp_base::{Activity, Period};
 use pesp_counts::{CountKeeper, Work};
 use pesp_domains::Keeper;
 use pesp_instance::{Edit, Instance};
 use std::process::Abort;
 
-/// The last edit put so many pairs back and took so many out.
-fn assert_moved(rt: &impl Abort, keeper: &CountKeeper, restored: u64, removed: u64, message: &str) {
+/// So many pairs that an edit put back and took out, and so many probes at most, where it is said.
+type Taken = (u64, u64, Option<u64>);
+
+fn assert_taken(rt: &impl Abort, keeper: &CountKeeper, taken: Taken, message: &str) {
+    let (restored, removed, most) = taken;
     let work = keeper.last_work();
     assert_eq!(rt;
         (work.restored, work.removed),
         (restored, removed),
         "{message}"
     );
+    let probes = work.probes;
+    assert!(rt;
+        probes <= most.unwrap_or(probes),
+        "{message}: {probes} probes"
+    );
 }
 
-/// The last edit made no more probes than these.
-fn assert_probes(rt: &impl Abort, keeper: &CountKeeper, most: u64, message: &str) {
-    let probes = keeper.last_work().probes;
-    assert!(rt; probes <= most, "{message}: {probes} probes");
+/// The two activities after these edits, each of which takes what stands beside it.
+fn edited(rt: &(impl Abort + AllocGlobal), edits: &[(Change, Taken, &str)]) -> Unpushed {
+    let mut kept = Unpushed::two_activities(rt);
+    for (change, taken, message) in edits {
+        kept.change(rt, *change);
+        assert_taken(rt, &kept.keeper, *taken, message);
+    }
+    kept
 }
 
-/// Two activities, of which the first event has a fixed time.
-fn first_fixed(rt: &(impl Abort + AllocGlobal)) -> CountKeeper
-    ensures { result.pushes ≡ [] }
-{
-    let mut keeper: CountKeeper = two_activities(rt);
-    fix(rt, &mut keeper, 1, 0);
-    assert_moved(rt, &keeper, 0, 17, "a first time");
-    keeper
+#[test]
+fn both_rows_are_filled_again(rt: HostRuntime) {
+    edited(
+        &rt,
+        &[
+            (Change::Fix(1, 0), (0, 17, None), "a first time"),
+            (Change::SetSpan(1, 3, 4), (0, 1, None), "a narrower span"),
+            (Change::Unfix(1), (18, 0, None), "no time"),
+        ],
+    );
 }
 
-/// Events 1001 to 3000 one after another beside events 1 and 2, with activities of the numbers 1 and 1001 to 2999.
+#[test]
+fn a_fixed_time_is_moved(rt: HostRuntime) {
+    edited(
+        &rt,
+        &[
+            (Change::Fix(1, 0), (0, 17, None), "a first time"),
+            (Change::Fix(1, 1), (3, 3, None), "another time"),
+        ],
+    );
+}
+
+#[test]
+fn the_same_time_is_given_again(rt: HostRuntime) {
+    edited(
+        &rt,
+        &[
+            (Change::Fix(1, 0), (0, 17, None), "a first time"),
+            (Change::Fix(1, 0), (0, 0, Some(400)), "the same time"),
+        ],
+    );
+}
+
+#[test]
+fn an_activity_is_dropped(rt: HostRuntime) {
+    edited(
+        &rt,
+        &[
+            (Change::Fix(1, 0), (0, 17, None), "a first time"),
+            (
+                Change::DropActivity(2),
+                (8, 7, Some(1300)),
+                "no activity back",
+            ),
+        ],
+    );
+}
+
+#[test]
+fn the_same_ends_are_given_again(rt: HostRuntime) {
+    edited(
+        &rt,
+        &[
+            (Change::Fix(1, 0), (0, 17, None), "a first time"),
+            (Change::SetEnds(2, 2, 1), (8, 8, None), "the same ends"),
+        ],
+    );
+}
+
+fn accept(rt: &impl Abort, instance: &mut Instance, edit: Edit) {
+    assert_eq!(rt; instance.apply(&edit), Ok(()));
+}
+
+fn join(rt: &impl Abort, instance: &mut Instance, activity: Activity) {
+    accept(rt, instance, Edit::AddActivity(activity));
+}
+
+/// Events 1001 to 3000 one after another beside events 1 and 2, with activities of the numbers 1, 2 and 1001 to 2999.
 fn chain(rt: &(impl Abort + AllocGlobal)) -> Instance {
     let period = Period::new(10).expect(rt, "a period");
     let mut instance = Instance::new(rt.alloc(), period);
-    for number in [1, 2] {
-        assert_eq!(rt; instance.apply(&Edit::AddEvent(event(rt, number))), Ok(()));
+    for number in (1..3).chain(1001..3001) {
+        accept(rt, &mut instance, Edit::AddEvent(event(rt, number)));
     }
-    for number in 1001..3001 {
-        assert_eq!(rt; instance.apply(&Edit::AddEvent(event(rt, number))), Ok(()));
-    }
-    let first = activity(rt, 1, (1, 2), (3, 5), 2);
-    assert_eq!(rt; instance.apply(&Edit::AddActivity(first)), Ok(()));
-    let second = activity(rt, 2, (2, 1), (4, 6), 1);
-    assert_eq!(rt; instance.apply(&Edit::AddActivity(second)), Ok(()));
+    join(rt, &mut instance, activity(rt, 1, (1, 2), (3, 5), 2));
+    join(rt, &mut instance, activity(rt, 2, (2, 1), (4, 6), 1));
     for number in 1001..3000 {
         let next = activity(rt, number, (number, number + 1), (2, 4), 1);
-        assert_eq!(rt; instance.apply(&Edit::AddActivity(next)), Ok(()));
+        join(rt, &mut instance, next);
     }
     instance
 }
 
 #[test]
 fn a_long_chain(rt: HostRuntime) {
-    let kept = CountKeeper::from_instance(rt.alloc(), chain(&rt));
-    let mut keeper = kept.ok().expect(&rt, "memory");
-    set_span(&rt, &mut keeper, 1, 3, 6);
-    assert_moved(&rt, &keeper, 0, 0, "a wider span");
-    assert_probes(&rt, &keeper, 400, "a wider span");
-}
-
-#[test]
-fn both_rows_are_filled_again(rt: HostRuntime) {
-    let mut keeper = first_fixed(&rt);
-    set_span(&rt, &mut keeper, 1, 3, 4);
-    assert_moved(&rt, &keeper, 0, 1, "a narrower span");
-    edit(&rt, &mut keeper, Edit::Unfix(event(&rt, 1)));
-    assert_moved(&rt, &keeper, 18, 0, "no time");
-}
-
-#[test]
-fn a_fixed_time_is_moved(rt: HostRuntime) {
-    let mut keeper = first_fixed(&rt);
-    fix(&rt, &mut keeper, 1, 1);
-    assert_moved(&rt, &keeper, 3, 3, "another time");
-}
-
-#[test]
-fn the_same_time_is_given_again(rt: HostRuntime) {
-    let mut keeper = first_fixed(&rt);
-    fix(&rt, &mut keeper, 1, 0);
-    assert_moved(&rt, &keeper, 0, 0, "the same time");
-    assert_probes(&rt, &keeper, 400, "the same time");
-}
-
-#[test]
-fn an_activity_is_dropped(rt: HostRuntime) {
-    let mut keeper = first_fixed(&rt);
-    edit(&rt, &mut keeper, Edit::DropActivity(id(&rt, 2)));
-    assert_moved(&rt, &keeper, 8, 7, "no activity back");
-    assert_probes(&rt, &keeper, 1300, "no activity back");
-}
-
-#[test]
-fn the_same_ends_are_given_again(rt: HostRuntime) {
-    let mut keeper = first_fixed(&rt);
-    let change = Edit::SetEnds(id(&rt, 2), event(&rt, 2), event(&rt, 1));
-    edit(&rt, &mut keeper, change);
-    assert_moved(&rt, &keeper, 8, 8, "the same ends");
+    let mut kept = Unpushed::of(&rt, chain(&rt));
+    kept.change(&rt, Change::SetSpan(1, 3, 6));
+    assert_taken(&rt, &kept.keeper, (0, 0, Some(400)), "a wider span");
 }
 
 /// The work of the last edit is this one.
 fn assert_work(rt: &impl Abort, keeper: &CountKeeper, work: Work, message: &str) {
     assert_eq!(rt; keeper.last_work(), work, "{message}");
-}
-
-/// A time beyond the period is refused.
-fn refuse_time(rt: &impl Abort, keeper: &mut CountKeeper)
-    requires { (keeper.old).pushes ≡ [] }
-    ensures { (keeper.new).pushes ≡ [] }
-{
-    let refused = keeper.apply(&Edit::Fix(event(rt, 1), 12));
-    assert!(rt; refused.is_err(), "a time beyond the period");
 }
 
 #[test]
@@ -130,14 +144,24 @@ fn no_edit_takes_nothing(rt: HostRuntime) {
     assert_work(&rt, &keeper, none, "no edit");
 }
 
+/// A push and a pop leave the work as it was.
+fn assert_pushed(rt: &impl Abort, kept: &mut Unpushed, work: Work) {
+    push(rt, &mut kept.keeper, event(rt, 2), 5);
+    assert_work(rt, &kept.keeper, work, "a push");
+    kept.keeper.pop_fix();
+    assert_work(rt, &kept.keeper, work, "a pop");
+}
+
+/// A refused edit, a push and a pop leave the work as it was.
+fn assert_kept(rt: &impl Abort, mut kept: Unpushed) {
+    let work = kept.keeper.last_work();
+    kept.refuse_a_time(rt);
+    assert_work(rt, &kept.keeper, work, "a refused edit");
+    assert_pushed(rt, &mut kept, work);
+}
+
 #[test]
 fn nothing_but_an_accepted_edit_changes_the_work(rt: HostRuntime) {
-    let mut keeper = first_fixed(&rt);
-    let work = keeper.last_work();
-    refuse_time(&rt, &mut keeper);
-    assert_work(&rt, &keeper, work, "a refused edit");
-    push(&rt, &mut keeper, event(&rt, 2), 5);
-    assert_work(&rt, &keeper, work, "a push");
-    keeper.pop_fix();
-    assert_work(&rt, &keeper, work, "a pop");
+    let kept = edited(&rt, &[(Change::Fix(1, 0), (0, 17, None), "a first time")]);
+    assert_kept(&rt, kept);
 }

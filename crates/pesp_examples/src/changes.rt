@@ -1,0 +1,40 @@
+//! Edits as plain values, so that tables can have them.
+
+use crate::made::{activity, event, id, span, weight};
+use pesp_instance::Edit;
+use std::process::Abort;
+
+/// An edit, by the numbers of events and activities.
+#[derive(Clone, Copy)]
+pub(crate) enum Change {
+    AddEvent(u32),
+    DropEvent(u32),
+    Fix(u32, u16),
+    Unfix(u32),
+    /// Its number, ends, bounds and weight.
+    AddActivity(u32, (u32, u32), (i32, i32), u32),
+    DropActivity(u32),
+    SetSpan(u32, i32, i32),
+    SetWeight(u32, u32),
+    SetEnds(u32, u32, u32),
+}
+
+pub(crate) fn edit_of(rt: &impl Abort, change: Change) -> Edit {
+    match change {
+        Change::AddEvent(number) => Edit::AddEvent(event(rt, number)),
+        Change::DropEvent(number) => Edit::DropEvent(event(rt, number)),
+        Change::Fix(number, time) => Edit::Fix(event(rt, number), time),
+        Change::Unfix(number) => Edit::Unfix(event(rt, number)),
+        Change::AddActivity(number, ends, bounds, weighs) => {
+            Edit::AddActivity(activity(rt, number, ends, bounds, weighs))
+        }
+        Change::DropActivity(number) => Edit::DropActivity(id(rt, number)),
+        Change::SetSpan(number, lower, upper) => {
+            Edit::SetSpan(id(rt, number), span(rt, lower, upper))
+        }
+        Change::SetWeight(number, weighs) => Edit::SetWeight(id(rt, number), weight(rt, weighs)),
+        Change::SetEnds(number, from, to) => {
+            Edit::SetEnds(id(rt, number), event(rt, from), event(rt, to))
+        }
+    }
+}

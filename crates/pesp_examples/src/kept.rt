@@ -1,0 +1,325 @@
+//! Known answers that edits keep or forget, and timetables that meet everything or not.
+
+use crate::bench::{
+    Known, Step, assert_times, assert_unknown, bench, change, find, take_steps, try_steps,
+};
+use crate::changes::Change;
+use crate::made::{add_activity, add_event, event, fix, keeper, set_span, two_activities};
+use pesp_bench::{Attempt, Bench};
+use pesp_counts::CountKeeper;
+use pesp_domains::{Keeper, PlainKeeper};
+use pesp_instance::Instance;
+use pesp_search::{Best, member_cost};
+use pesp_tension::Timetable;
+use std::process::Abort;
+
+#[test]
+fn edits_that_keep_the_answer(rt: HostRuntime) {
+    let first = Known::Optimal(4, &[(1, 0), (2, 4)]);
+    let met = Change::AddActivity(3, (1, 2), (4, 9), 7);
+    try_steps(
+        &rt,
+        &[
+            (Step::Find, first, "the optimum"),
+            (
+                Step::Edit(Change::SetSpan(1, 3, 4)),
+                first,
+                "a narrower span",
+            ),
+            (Step::Edit(Change::Fix(1, 0)), first, "fixed at its time"),
+            (Step::Edit(met), first, "met without slack"),
+            (Step::FindAgain, first, "the kept one serves"),
+        ],
+    );
+}
+
+#[test]
+fn smaller_weight_forgets(rt: HostRuntime) {
+    try_steps(
+        &rt,
+        &[
+            (
+                Step::Find,
+                Known::Optimal(4, &[(1, 0), (2, 4)]),
+                "the optimum",
+            ),
+            (
+                Step::Edit(Change::SetWeight(1, 1)),
+                Known::Nothing,
+                "a smaller weight",
+            ),
+            (
+                Step::Find,
+                Known::Optimal(3, &[(1, 0), (2, 4)]),
+                "a smaller weight",
+            ),
+        ],
+    );
+}
+
+#[test]
+fn larger_weight_forgets(rt: HostRuntime) {
+    try_steps(
+        &rt,
+        &[
+            (
+                Step::Find,
+                Known::Optimal(4, &[(1, 0), (2, 4)]),
+                "the optimum",
+            ),
+            (
+                Step::Edit(Change::SetWeight(1, 3)),
+                Known::Nothing,
+                "a larger weight",
+            ),
+            (
+                Step::Find,
+                Known::Optimal(5, &[(1, 0), (2, 4)]),
+                "a larger weight",
+            ),
+        ],
+    );
+}
+
+#[test]
+fn fixed_elsewhere_forgets(rt: HostRuntime) {
+    try_steps(
+        &rt,
+        &[
+            (
+                Step::Find,
+                Known::Optimal(4, &[(1, 0), (2, 4)]),
+                "the optimum",
+            ),
+            (
+                Step::Edit(Change::Fix(1, 3)),
+                Known::Nothing,
+                "fixed elsewhere",
+            ),
+            (
+                Step::Find,
+                Known::Optimal(4, &[(1, 3), (2, 7)]),
+                "fixed elsewhere",
+            ),
+            (
+                Step::Edit(Change::SetSpan(1, 3, 6)),
+                Known::Nothing,
+                "a wider span with the same lower bound",
+            ),
+        ],
+    );
+}
+
+#[test]
+fn infeasible_is_kept(rt: HostRuntime) {
+    try_steps(
+        &rt,
+        &[
+            (
+                Step::Edit(Change::SetSpan(1, 3, 3)),
+                Known::Nothing,
+                "3 to 3",
+            ),
+            (Step::Find, Known::Infeasible, "3 to 3"),
+            (
+                Step::Edit(Change::SetWeight(1, 9)),
+                Known::Infeasible,
+                "another weight",
+            ),
+            (
+                Step::Edit(Change::AddEvent(3)),
+                Known::Infeasible,
+                "one event more",
+            ),
+            (
+                Step::Edit(Change::Fix(1, 0)),
+                Known::Infeasible,
+                "a first time",
+            ),
+            (Step::FindAgain, Known::Infeasible, "the kept one serves"),
+            (Step::Edit(Change::Unfix(1)), Known::Nothing, "unfixed"),
+            (Step::Find, Known::Infeasible, "found again"),
+        ],
+    );
+}
+
+/// A workbench of one activity of number 2 between these events.
+fn one_activity<K: Keeper>(
+    rt: &(impl Abort + AllocGlobal),
+    period: u16,
+    ends: (u32, u32),
+    bounds: (i32, i32),
+    weight: u32,
+) -> Bench<K> {
+    let mut keeper: K = keeper(rt, period);
+    add_event(rt, &mut keeper, ends.0);
+    add_event(rt, &mut keeper, ends.1);
+    add_activity(rt, &mut keeper, 2, ends, bounds, weight);
+    Bench::new(rt.alloc(), keeper)
+}
+
+fn weight_without_slack_forgets_by<K: Keeper, R: Abort + AllocGlobal>(rt: &R) {
+    let mut bench: Bench<K> = one_activity(rt, 2, (0, 1), (1, 2), 1);
+    let steps: &[(Step, Known<'_>, &str)] = &[
+        (
+            Step::Find,
+            Known::Optimal(0, &[(0, 0), (1, 1)]),
+            "with weight",
+        ),
+        (
+            Step::Edit(Change::SetWeight(2, 0)),
+            Known::Nothing,
+            "no weight",
+        ),
+        (
+            Step::Find,
+            Known::Optimal(0, &[(0, 0), (1, 0)]),
+            "no weight",
+        ),
+    ];
+    take_steps(rt, &mut bench, steps);
+}
+
+#[test]
+fn weight_without_slack_forgets(rt: HostRuntime) {
+    weight_without_slack_forgets_by::<PlainKeeper, _>(&rt);
+    weight_without_slack_forgets_by::<CountKeeper, _>(&rt);
+}
+
+fn old_optimum_is_no_longer_first_by<K: Keeper, R: Abort + AllocGlobal>(rt: &R) {
+    let mut bench: Bench<K> = one_activity(rt, 10, (1, 2), (3, 5), 0);
+    let steps: &[(Step, Known<'_>, &str)] = &[
+        (Step::Edit(Change::Fix(1, 5)), Known::Nothing, "fixed"),
+        (Step::Find, Known::Optimal(0, &[(1, 5), (2, 0)]), "fixed"),
+        (Step::Edit(Change::Unfix(1)), Known::Nothing, "unfixed"),
+        (
+            Step::Find,
+            Known::Optimal(0, &[(1, 0), (2, 3)]),
+            "an earlier one",
+        ),
+    ];
+    take_steps(rt, &mut bench, steps);
+}
+
+#[test]
+fn old_optimum_is_no_longer_first(rt: HostRuntime) {
+    old_optimum_is_no_longer_first_by::<PlainKeeper, _>(&rt);
+    old_optimum_is_no_longer_first_by::<CountKeeper, _>(&rt);
+}
+
+/// What a search that may visit no node stops with; none also where it ends.
+fn stopped_with<K: Keeper>(rt: &(impl Abort + AllocGlobal), bench: &mut Bench<K>) -> Option<Best> {
+    match bench.try_optimum(rt.alloc(), 0) {
+        Ok(Attempt::Stopped(best)) => best,
+        _ => None,
+    }
+}
+
+/// A search that may visit no node stops with the old optimum's timetable, at this cost.
+fn assert_handed_out<K: Keeper>(rt: &(impl Abort + AllocGlobal), bench: &mut Bench<K>, cost: u64) {
+    let best = stopped_with(rt, bench).expect(rt, "the candidate");
+    assert_eq!(rt; best.cost, cost, "the candidate");
+    assert_times(rt, &best.times, &[(1, 0), (2, 4)], "the candidate");
+}
+
+fn assert_no_candidate<K: Keeper>(
+    rt: &(impl Abort + AllocGlobal),
+    bench: &mut Bench<K>,
+    message: &str,
+) {
+    assert!(rt; stopped_with(rt, bench).is_none(), "{message}");
+    assert_unknown(rt, bench, message);
+}
+
+/// A workbench of the two activities of which the optimum was found before this edit.
+fn found_before<K: Keeper>(rt: &(impl Abort + AllocGlobal), edit: Change) -> Bench<K> {
+    let mut bench: Bench<K> = bench(rt);
+    assert_eq!(rt; find(rt, &mut bench), Ok(()));
+    change(rt, &mut bench, edit);
+    bench
+}
+
+fn candidate_is_handed_out_by<K: Keeper, R: Abort + AllocGlobal>(rt: &R) {
+    let mut bench: Bench<K> = found_before(rt, Change::SetWeight(1, 3));
+    assert_handed_out(rt, &mut bench, 5);
+    assert_no_candidate(rt, &mut bench, "it was handed out");
+}
+
+#[test]
+fn candidate_is_handed_out(rt: HostRuntime) {
+    candidate_is_handed_out_by::<PlainKeeper, _>(&rt);
+    candidate_is_handed_out_by::<CountKeeper, _>(&rt);
+}
+
+fn candidate_that_is_no_member_by<K: Keeper, R: Abort + AllocGlobal>(rt: &R) {
+    let mut bench: Bench<K> = found_before(rt, Change::Fix(1, 3));
+    assert_no_candidate(rt, &mut bench, "fixed elsewhere");
+    change(rt, &mut bench, Change::Unfix(1));
+    assert_handed_out(rt, &mut bench, 4);
+}
+
+#[test]
+fn candidate_that_is_no_member(rt: HostRuntime) {
+    candidate_that_is_no_member_by::<PlainKeeper, _>(&rt);
+    candidate_that_is_no_member_by::<CountKeeper, _>(&rt);
+}
+
+/// A timetable of the instance's period with these times.
+fn timetable(
+    rt: &(impl Abort + AllocGlobal),
+    instance: &Instance,
+    times: &[(u32, u16)],
+) -> Timetable {
+    let mut timetable = Timetable::new(rt.alloc(), instance.period());
+    for (number, time) in times {
+        assert_eq!(rt; timetable.set(event(rt, *number), *time), Ok(()));
+    }
+    timetable
+}
+
+/// Times, and what they cost where they are of a timetable that meets everything.
+type Costed<'a> = (&'a [(u32, u16)], Option<u64>, &'a str);
+
+fn assert_costs(rt: &(impl Abort + AllocGlobal), instance: &Instance, cases: &[Costed<'_>]) {
+    for (times, cost, message) in cases {
+        let timetable = timetable(rt, instance, times);
+        assert_eq!(rt; member_cost(instance, &timetable), *cost, "{message}");
+    }
+}
+
+#[test]
+fn cost_of_a_member(rt: HostRuntime) {
+    let keeper: PlainKeeper = two_activities(&rt);
+    assert_costs(
+        &rt,
+        keeper.instance(),
+        &[
+            (&[(1, 0), (2, 4)], Some(4), "the optimum"),
+            (&[(1, 5), (2, 9)], Some(4), "the optimum, five later"),
+            (&[(1, 0), (2, 5)], Some(5), "another one"),
+            (&[(1, 0), (2, 3)], None, "activity 2 is not met"),
+            (&[(1, 0)], None, "event 2 has no time"),
+            (&[(1, 0), (2, 4), (3, 0)], None, "event 3 is none"),
+        ],
+    );
+}
+
+#[test]
+fn cost_of_a_member_with_a_fixed_time(rt: HostRuntime) {
+    let mut keeper: PlainKeeper = two_activities(&rt);
+    fix(&rt, &mut keeper, 1, 0);
+    assert_costs(
+        &rt,
+        keeper.instance(),
+        &[
+            (&[(1, 0), (2, 4)], Some(4), "fixed there"),
+            (&[(1, 5), (2, 9)], None, "fixed elsewhere"),
+        ],
+    );
+    set_span(&rt, &mut keeper, 1, 3, 3);
+    assert_costs(
+        &rt,
+        keeper.instance(),
+        &[(&[(1, 0), (2, 4)], None, "infeasible")],
+    );
+}
