@@ -48,18 +48,18 @@ optimum_stays I J m cost t o member costs = record {
   first = λ n is before. let l = o.first n (t.members n is) before in let c = t.costs n is in omega (arith, l, c);
 }
 
-activities_rise : (I : Network) → IsNetwork I → Rises id_of I.activities
+pub activities_rise : (I : Network) → IsNetwork I → Rises id_of I.activities
 activities_rise I ok = Rises-from_increasing id_of I.activities ok.activities_rise
 
-events_rise : (I : Network) → IsNetwork I → Rises number I.events
+pub events_rise : (I : Network) → IsNetwork I → Rises number I.events
 events_rise I ok = Rises-from_increasing number I.events ok.events_rise
 
 -- a refusal whose condition does not hold
-not_refused : {X : Type 0} (b : Bool) (refusal : Refusal) (rest : List (Option Refusal)) (x y : X) → unless_refused (when b refusal ∷ rest) x ≡ Ok y → b ≡ false
+pub not_refused : {X : Type 0} (b : Bool) (refusal : Refusal) (rest : List (Option Refusal)) (x y : X) → unless_refused (when b refusal ∷ rest) x ≡ Ok y → b ≡ false
 not_refused true refusal rest x y ok = absurd (false≢true (ap is_ok ok))
 not_refused false refusal rest x y ok = refl
 
-nothing_of : {X : Type 0} (o : Option X) → is_some o ≡ false → o ≡ None
+pub nothing_of : {X : Type 0} (o : Option X) → is_some o ≡ false → o ≡ None
 nothing_of None is = refl
 nothing_of (Some x) is = absurd (false≢true (sym is))
 
@@ -85,7 +85,7 @@ added_activity I J a ok is = record {
 
 -- ---- another weight
 
-not_lighter : (old new : ℕ) → nat_lt new old ≡ false → old ≤ new
+pub not_lighter : (old new : ℕ) → nat_lt new old ≡ false → old ≤ new
 not_lighter old new is =
     elim (cases_lt new old) [
       | inl less ↦ absurd (false≢true (sym is ∙ lt-ltb new old less))
@@ -160,23 +160,25 @@ both true true is = (refl, refl)
 both true false is = absurd (false≢true (sym is))
 both false c is = absurd (false≢true (sym is))
 
+-- the lower bound stays, and the upper one is no larger
+pub kept_bounds : (I : Network) (n : ℕ) (span : Bounds) → IsNetwork I → is_moved I n span ≡ false → (k : ℕ) (d : Activity) → k < length I.activities → (get_or I.activities k d).id ≡ n
+    → (span.lower ≡ (get_or I.activities k d).span.lower) × (int_le span.upper (get_or I.activities k d).span.upper ≡ true)
+kept_bounds I n span ok none k d l same =
+    let a : Activity = get_or I.activities k d in
+    let w = both (int_eq span.lower a.span.lower) (int_le span.upper a.span.upper) (of_number id_of (λ b. not (int_eq span.lower b.span.lower && int_le span.upper b.span.upper)) n I.activities (activities_rise I ok) none k d l same) in
+    (same_lower span.lower a.span.lower w.0, w.1)
+
 moved : (I : Network) (n : ℕ) (span : Bounds) → IsNetwork I → is_moved I n span ≡ false → Tightens I (effect I (SetSpan n span))
 moved I n span ok none = record {
   members = λ m member. spanned_members I n span m
       (λ k d l same is.
       let a : Activity = get_or I.activities k d in
-      let w = kept k d l same in
+      let w = kept_bounds I n span ok none k d l same in
       rw (← w.0) (le_through (tension_of m.period span (time_at m a.from) (time_at m a.to)) span.upper a.span.upper is w.1))
       member;
   costs = λ m member. sum_by-change id_of (cost_in m) n (λ a. record a { span = span }) I.activities
-      (λ k d l same. let w = kept k d l same in rw w.0 (omega arith));
+      (λ k d l same. let w = kept_bounds I n span ok none k d l same in rw w.0 (omega arith));
 }
-  where
-    kept : (k : ℕ) (d : Activity) → k < length I.activities → (get_or I.activities k d).id ≡ n → (span.lower ≡ (get_or I.activities k d).span.lower) × (int_le span.upper (get_or I.activities k d).span.upper ≡ true)
-    kept k d l same =
-        let a : Activity = get_or I.activities k d in
-        let w = both (int_eq span.lower a.span.lower) (int_le span.upper a.span.upper) (of_number id_of (λ b. not (int_eq span.lower b.span.lower && int_le span.upper b.span.upper)) n I.activities (activities_rise I ok) none k d l same) in
-        (same_lower span.lower a.span.lower w.0, w.1)
 
 -- ---- another fixed time, or none
 
@@ -189,7 +191,7 @@ time_below T (x ∷ es) e some below =
       | false ↦ time_below T es e some (All-tail (λ t. t < T) x.1 (values_of es) below)
     ]
 
-abbrev refix : Option ℕ → Event → Event
+abbrev pub refix : Option ℕ → Event → Event
 refix fixed x = record x { fixed = fixed }
 
 -- the fixed times before and after

@@ -1,5 +1,5 @@
 -- Which accepted edits keep a known answer.
-use Rattle.std.specs.Prelude.{◌≡◌, ℕ, ◌<◌, ◌≤◌, ◌⊎◌, Bool, true, false, not, Option, Some, None, MatchOption, Ok}
+use Rattle.std.specs.Prelude.{◌≡◌, ℕ, ◌<◌, ◌≤◌, ◌⊎◌, ◌↔◌, IsTrue, Bool, true, false, not, Option, Some, None, MatchOption, Ok}
 use Rattle.pesp_instance.specs.declared.edit.Edit.{Edit}
 use Rattle.pesp_instance.specs.declared.edit.Edit.TheVariants.{AddEvent, DropEvent, Fix, Unfix, AddActivity, DropActivity, SetSpan, SetWeight, SetEnds}
 use Rattle.pesp_instance.specs.Edited.{edited, effect}
@@ -8,6 +8,7 @@ use Rattle.pesp_search.specs.declared.answer.Answer.{Answer}
 use Rattle.pesp_search.specs.declared.answer.Answer.TheVariants.{Optimal, Infeasible}
 use Rattle.pesp_search.specs.Optima.{IsAnswer, IsMember}
 use Rattle.pesp_tension.specs.Answers.{cost_of}
+use Rattle.pesp_tension.specs.Timetables.{Times}
 use Rattle.pesp_domains.specs.Loosening.{admits_anew, is_looser}
 use Rattle.pesp_bench.specs.Loosening.{is_lighter, is_moved}
 
@@ -44,6 +45,11 @@ brings I edit (Optimal cost m) = cheapens I edit
 abbrev pub Stays : Network → Answer → Type 0
 Stays I Infeasible = Unit {0}
 Stays I (Optimal cost m) = IsMember I m × (cost_of I m ≡ cost)
+
+-- whether an optimum's timetable stays, told of an accepted edit that cheapens nothing
+abbrev pub TellsStay : Network → Edit → Times → Bool → Type 0
+TellsStay I edit m stays =
+    (J : Network) (cost : ℕ) → IsNetwork I → edited I edit ≡ Ok J → cheapens I edit ≡ false → IsMember I m → cost_of I m ≡ cost → IsTrue stays ↔ Stays (effect I edit) (Optimal cost m)
 
 -- the accepted edit keeps the answer
 pub record Keeps (I : Network) (edit : Edit) (answer : Answer) : Type 0 where

@@ -1,16 +1,18 @@
 //! What of a known answer outlasts an edit.
 
-ghost use Rattle.std.specs.Prelude.{◌≡◌, ◌↔◌, IfSome, IsTrue, None};
-ghost use Rattle.pesp_instance.specs.Edited.{effect};
-ghost use Rattle.pesp_instance.specs.declared.edit.Edit.{Edit};
+ghost use Rattle.std.specs.Prelude.{◌≡◌, ◌↔◌, true, false, IfSome, IsTrue, None, Ok};
+ghost use Rattle.pesp_instance.specs.Edited.{edited};
 ghost use Rattle.pesp_instance.specs.Network.{IsNetwork, Network};
-ghost use Rattle.pesp_bench.specs.Kept.{IsKeptBy, Stays, brings, cheapens, opens};
+ghost use Rattle.pesp_search.specs.Optima.{IsAnswer, IsMember};
+ghost use Rattle.pesp_tension.specs.Answers.{IsTimed, cost_in, meets};
+ghost use Rattle.pesp_bench.specs.Kept.{Keeps, TellsStay, cheapens, opens};
 
 use crate::loosening::{is_lighter, is_looser, is_moved};
+use pesp_base::Activity;
 use pesp_domains::admits_anew;
 use pesp_instance::{Edit, Instance};
-use pesp_search::{Answer, member_cost};
-use pesp_tension::Timetable;
+use pesp_search::Answer;
+use pesp_tension::{Timetable, cost_of_activity, is_met};
 
 /// Whether an instance in which nothing meets everything may be another such no more.
 fn opens(instance: &Instance, edit: &Edit) -> bool
@@ -39,53 +41,74 @@ fn cheapens(instance: &Instance, edit: &Edit) -> bool
     }
 }
 
-/// Whether the edit may bring what a known answer does not know of, by the instance before it.
-pub(crate) fn brings(instance: &Instance, edit: &Edit, known: &Option<Answer>) -> bool
-    ensures value { IfSome known.now (λ answer. result ≡ brings instance.now edit.now answer) }
+/// Whether an activity has times at both ends, is met and costs nothing.
+fn adds_nothing(activity: &Activity, times: &Timetable) -> bool
+    ensures yes { result ≡ true → (meets times.now activity.now ≡ true) × (cost_in times.now activity.now ≡ 0) }
+    ensures no { result ≡ false → IsTimed times.now activity.now → meets times.now activity.now ≡ true → cost_in times.now activity.now ≡ 0 → ⊥ }
+{
+    if times.get(activity.from).is_none() || times.get(activity.to).is_none() {
+        return false;
+    }
+    is_met(activity, times) && cost_of_activity(activity, times) == 0
+}
+
+/// Whether an optimum's timetable still meets everything at its cost, by what is edited alone: nothing else changes.
+///
+/// The edit is one that makes nothing cheaper, by the instance before it.
+fn stands(instance: &Instance, edit: &Edit, times: &Timetable) -> bool
+    requires { IsMember instance.now times.now }
+    ensures { TellsStay instance.now edit.now times.now result }
+{
+    match *edit {
+        Edit::AddActivity(activity) => adds_nothing(&activity, times),
+        Edit::SetWeight(id, weight) => match instance.activity(id) {
+            Some(activity) => {
+                let changed = Activity {
+                    weight,
+                    ..*activity
+                };
+                cost_of_activity(&changed, times) == cost_of_activity(activity, times)
+            }
+            None => false,
+        },
+        Edit::SetSpan(id, span) => match instance.activity(id) {
+            Some(activity) => {
+                let changed = Activity { span, ..*activity };
+                is_met(&changed, times)
+            }
+            None => false,
+        },
+        Edit::Fix(event, time) => match times.get(event) {
+            Some(known) => known == time,
+            None => false,
+        },
+        Edit::Unfix(_) => true,
+        Edit::AddEvent(_) | Edit::DropEvent(_) | Edit::DropActivity(_) | Edit::SetEnds(..) => false,
+    }
+}
+
+/// Whether an edit, where it is accepted, keeps what is known, by the instance before it.
+pub(crate) fn keeps(instance: &Instance, edit: &Edit, known: &Option<Answer>) -> bool
+    requires { IfSome known.now (IsAnswer instance.now) }
+    ensures value { (J : Network) → edited instance.now edit.now ≡ Ok J → IfSome known.now (λ answer. IsTrue result ↔ Keeps instance.now edit.now answer) }
     ensures network { IsNetwork instance.now }
 {
     // Each call of an instance tells that it is one.
     let _period = instance.period();
     match known {
-        Some(Answer::Infeasible) => opens(instance, edit),
-        Some(Answer::Optimal { .. }) => cheapens(instance, edit),
+        Some(Answer::Infeasible) => !opens(instance, edit),
+        Some(Answer::Optimal { times, .. }) => {
+            !cheapens(instance, edit) && stands(instance, edit, times)
+        }
         None => false,
     }
 }
 
-/// Whether an optimum's timetable still meets everything at its cost, by the instance after an edit.
-fn stays(instance: &Instance, answer: &Answer) -> bool
-    ensures { IsTrue result ↔ Stays instance.now answer.now }
-{
-    match answer {
-        Answer::Infeasible => true,
-        Answer::Optimal { cost, times } => member_cost(instance, times) == Some(*cost),
-    }
-}
-
 /// Forgets what is known, and makes an optimum's timetable the candidate.
-fn forget(known: &mut Option<Answer>, candidate: &mut Option<Timetable>)
+pub(crate) fn forget(known: &mut Option<Answer>, candidate: &mut Option<Timetable>)
     ensures { known.new ≡ None }
 {
     if let Some(Answer::Optimal { times, .. }) = known.take() {
         *candidate = Some(times);
-    }
-}
-
-/// Forgets what is known, where the edit that made this instance may bring other things or the answer does not stay.
-pub(crate) fn retain(
-    instance: &Instance,
-    is_new: bool,
-    known: &mut Option<Answer>,
-    candidate: &mut Option<Timetable>,
-)
-    ensures { (I : Network) (edit : Edit) → instance.now ≡ effect I edit → IfSome known.old (λ answer. is_new ≡ brings I edit answer) → IsKeptBy I edit known.old known.new }
-{
-    let is_kept = match known {
-        Some(answer) => !is_new && stays(instance, answer),
-        None => true,
-    };
-    if !is_kept {
-        forget(known, candidate);
     }
 }

@@ -16,7 +16,7 @@ rest_timed None e rest none = absurd (cc)
 rest_timed (Some t) e rest none = none
 
 -- an event that is found among events that all have times has one
-found_timed : (m : Times) (es : List Event) (e : ℕ) → find (λ n. is_none (time_of m n)) (map (λ x. x.id) es) ≡ None
+pub found_timed : (m : Times) (es : List Event) (e : ℕ) → find (λ n. is_none (time_of m n)) (map (λ x. x.id) es) ≡ None
     → IsTrue (is_some (with_number (λ x. x.id) e es)) → IsSome (time_of m e)
 found_timed m [] e none has = absurd (cc has)
 found_timed m (x ∷ es) e none has =

@@ -90,8 +90,8 @@ fn tension_of(activity: &Activity, timetable: &Timetable) -> ActivityTension
     tension_at(activity, timetable, times_of_ends(activity, timetable))
 }
 
-/// Whether an activity is met.
-pub(crate) fn is_met(activity: &Activity, timetable: &Timetable) -> bool
+/// Whether an activity is met, whose ends have times.
+pub fn is_met(activity: &Activity, timetable: &Timetable) -> bool
     requires { IsTimed timetable.now activity.now }
     ensures { result ≡ meets timetable.now activity.now }
 {

@@ -9,7 +9,7 @@ mod timetable;
 mod walk;
 
 pub use agreement::{agrees_with_all, meets_all};
-pub use answers::{cost, cost_of_activity, tensions, violations};
+pub use answers::{cost, cost_of_activity, is_met, tensions, violations};
 pub use assessment::{Assessment, assess};
 pub use lists::{ActivityTension, Tensions, Violation, Violations};
 pub use timetable::Timetable;

@@ -7,7 +7,7 @@ ghost use Rattle.pesp_bench.specs.Kept.{IsKeptBy};
 ghost use Rattle.pesp_bench.specs.State.{IsTimeRefusal, edited_state, timed_state, times_after, untimed_state};
 
 use crate::Bench;
-use crate::kept::{brings, retain};
+use crate::kept::{forget, keeps};
 use pesp_base::{EventId, Refusal};
 use pesp_domains::Keeper;
 use pesp_instance::Edit;
@@ -36,15 +36,12 @@ impl<K: Keeper> Bench<K> {
         ensures refused { IfErr result (IsRefusal self.old.instance edit.now) }
         ensures unchanged { OnErr result (self.new ≡ self.old) }
     {
-        let is_new = brings(self.keeper.instance(), edit, &self.known);
+        let is_kept = keeps(self.keeper.instance(), edit, &self.known);
         self.keeper.apply(edit)?;
         clear_dropped(&mut self.times, edit);
-        retain(
-            self.keeper.instance(),
-            is_new,
-            &mut self.known,
-            &mut self.candidate,
-        );
+        if !is_kept {
+            forget(&mut self.known, &mut self.candidate);
+        }
         Ok(())
     }
 

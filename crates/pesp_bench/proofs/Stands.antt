@@ -1,0 +1,224 @@
+-- Whether an optimum's timetable stays is told by what was edited alone: an activity's test and its share of the cost, or the time of an event.
+use Rattle.std.proofs.Common.{◌≡◌, ℕ, ◌+◌, ◌*◌, ◌≤◌, ◌==◌, ◌↔◌, Bool, true, false, not, nat_lt, nat_le, is_some, is_none, IfSome, List, [], ◌∷◌, inl, inr, length, get_or, Option, Some, None, unwrap_or, Ok, IsTrue, refl, sym, ap, subst, ◌∙◌, arith, All, mul-le-mul_right}
+use Rattle.std.specs.Result.{is_ok}
+use Rattle.std.proofs.lemmas.Bool.{cases_Bool, eq-eqb, eqb-true, false≢true}
+use Rattle.pesp_base.specs.declared.activity.Activity.{Activity}
+use Rattle.pesp_base.specs.declared.refusal.Refusal.{Refusal}
+use Rattle.pesp_base.specs.declared.refusal.Refusal.TheVariants as no
+use Rattle.pesp_base.specs.Bounds.{Bounds}
+use Rattle.pesp_base.specs.Limits.{max_activities}
+use Rattle.pesp_base.specs.Numbered.{with_number}
+use Rattle.pesp_base.specs.Refusals.{unless_refused, when}
+use Rattle.pesp_base.specs.Tensions.{slack_of}
+use Rattle.pesp_instance.specs.declared.edit.Edit.TheVariants.{Fix, Unfix, AddActivity, SetSpan, SetWeight}
+use Rattle.pesp_instance.specs.declared.event.Event.{Event}
+use Rattle.pesp_instance.specs.Edited.{edited, effect, refixed}
+use Rattle.pesp_instance.specs.Network.{IsNetwork, Network, activity_of, agrees_with, has_event}
+use Rattle.pesp_instance.proofs.Numbers.{activity_number as id_of, event_number as number}
+use Rattle.pesp_instance.proofs.Rising.{IfSome-with_number, number-with_number}
+use Rattle.pesp_search.specs.Optima.{IsMember, IsOptimum}
+use Rattle.pesp_search.proofs.Costed.{none_missing}
+use Rattle.pesp_tension.specs.Answers.{IsTimed, agrees, cost_in, cost_of, meets, time_at}
+use Rattle.pesp_tension.specs.Timetables.{Times, time_of}
+use Rattle.pesp_tension.proofs.Timed.{ends_timed, found_timed}
+use Rattle.pesp_bench.specs.Kept.{IsKeptBy, Keeps, TellsStay, cheapens, opens}
+use Rattle.pesp_search.specs.declared.answer.Answer.{Answer}
+use Rattle.pesp_search.specs.declared.answer.Answer.TheVariants.{Optimal, Infeasible}
+use Rattle.pesp_instance.specs.declared.edit.Edit.{Edit}
+use Rattle.pesp_bench.proofs.Changed.{All-after_change, All-by_number, All-of_change, All-of_put_in, All-put_in, numbers_stay, of_All-by_number, of_number, share-stays, sum_by-change_same, sum_by-put_in}
+use Rattle.pesp_bench.proofs.KeptAnswers.{activities_rise, kept_bounds, not_lighter, not_refused, nothing_of, refix}
+
+-- a refusal whose condition holds is answered
+refused_so : {X : Type 0} (b : Bool) (refusal : Refusal) (rest : List (Option Refusal)) (x y : X) → b ≡ true → unless_refused (when b refusal ∷ rest) x ≡ Ok y → ⊥
+refused_so b refusal rest x y is ok = false≢true (sym (not_refused b refusal rest x y ok) ∙ is)
+
+-- the refusals behind one whose condition does not hold
+rest_of : {X : Type 0} (b : Bool) (refusal : Refusal) (rest : List (Option Refusal)) (x y : X) → unless_refused (when b refusal ∷ rest) x ≡ Ok y → unless_refused rest x ≡ Ok y
+rest_of true refusal rest x y ok = absurd (false≢true (ap is_ok ok))
+rest_of false refusal rest x y ok = ok
+
+there_is : (b : Bool) → not b ≡ false → b ≡ true
+there_is true is = refl
+there_is false is = absurd (false≢true (sym is))
+
+-- a member has times at both ends of each activity
+pub member_timed_at : (I : Network) (m : Times) (n : ℕ) (x : Activity) → IsNetwork I → IsMember I m → activity_of I n ≡ Some x → IsTimed m x
+member_timed_at I m n x ok member found = IfSome-with_number id_of (IsTimed m) n I.activities x (ends_timed I m ok (none_missing I m member.events)) found
+
+-- ---- an activity more
+
+pub added_tells : (I : Network) (a : Activity) (m : Times) (b : Bool) → (b ≡ true → (meets m a ≡ true) × (cost_in m a ≡ 0)) → (b ≡ false → IsTimed m a → meets m a ≡ true → cost_in m a ≡ 0 → ⊥) → TellsStay I (AddActivity a) m b
+added_tells I a m b told untold K cost ok is none member costs = (
+  λ now. let w = told now in stays w.0 w.1,
+  λ stay. elim (cases_Bool b) [
+    | inl now ↦ now
+    | inr out ↦ absurd (untold out timed (All-of_put_in id_of (λ c. IsTrue (meets m c)) a I.activities stay.0.met) (let all = stay.1 in omega (arith, all, sum, costs)))
+  ],
+)
+  where
+    absent : with_number id_of a.id I.activities ≡ None
+    absent = nothing_of (activity_of I a.id) (not_refused (is_some (activity_of I a.id)) _ _ (effect I (AddActivity a)) K is)
+
+    sum : cost_of (effect I (AddActivity a)) m ≡ cost_of I m + cost_in m a
+    sum = sum_by-put_in id_of (cost_in m) a I.activities (activities_rise I ok) absent
+
+    behind_number : unless_refused (when (not (has_event I a.from)) (no.NoEvent a.from) ∷ when (not (has_event I a.to)) (no.NoEvent a.to) ∷ when (nat_le (max_activities I.period) (length I.activities)) no.TooManyActivities ∷ []) (effect I (AddActivity a)) ≡ Ok K
+    behind_number = rest_of (is_some (activity_of I a.id)) _ _ (effect I (AddActivity a)) K is
+
+    timed : IsTimed m a
+    timed =
+        let missing = none_missing I m member.events in
+        record {
+          from = found_timed m I.events a.from missing (there_is (has_event I a.from) (not_refused (not (has_event I a.from)) _ _ (effect I (AddActivity a)) K behind_number));
+          to = found_timed m I.events a.to missing (there_is (has_event I a.to) (not_refused (not (has_event I a.to)) _ _ (effect I (AddActivity a)) K (rest_of (not (has_event I a.from)) _ _ (effect I (AddActivity a)) K behind_number)));
+        }
+
+    stays : meets m a ≡ true → cost_in m a ≡ 0 → IsMember (effect I (AddActivity a)) m × (cost_of (effect I (AddActivity a)) m ≡ cost)
+    stays met free = (
+      record { period = member.period; events = member.events; below = member.below; met = All-put_in id_of (λ c. IsTrue (meets m c)) a I.activities member.met met; fixed = member.fixed },
+      omega (arith, sum, free, costs),
+    )
+
+-- ---- another weight
+
+module _ (I : Network) (n weight : ℕ) (m : Times) (x : Activity) (found : activity_of I n ≡ Some x) where
+  abbrev heavier : Activity → Activity
+  heavier a = record a { weight = weight }
+
+  pub weighted_tells : (b : Bool) → b ≡ (cost_in m (record x { weight = weight }) == cost_in m x) → TellsStay I (SetWeight n weight) m b
+  weighted_tells b told K cost ok is none member costs = (
+    λ now. (
+      record { period = member.period; events = member.events; below = member.below; met = All-after_change id_of (λ a. IsTrue (meets m a)) n heavier I.activities member.met (λ k d l same. member.met k d l); fixed = member.fixed },
+      sum_by-change_same id_of (cost_in m) n heavier I.activities (All-by_number id_of (λ a. cost_in m (heavier a) ≡ cost_in m a) n I.activities x (activities_rise I ok) found (eqb-true (cost_in m (heavier x)) (cost_in m x) (sym told ∙ now))) ∙ costs,
+    ),
+    λ stay.
+        let same : cost_of (effect I (SetWeight n weight)) m ≡ cost_of I m = stay.1 ∙ sym costs in
+        let shares = share-stays id_of (cost_in m) n heavier I.activities rising same in
+        told ∙ eq-eqb (cost_in m (heavier x)) (cost_in m x) (of_All-by_number id_of (λ a. cost_in m (heavier a) ≡ cost_in m a) n I.activities x shares found),
+  )
+    where
+      rising : All (λ a. a.id ≡ n → cost_in m a ≤ cost_in m (heavier a)) I.activities
+      rising = λ k d l same. mul-le-mul_right (slack_of m.period (get_or I.activities k d).span (time_at m (get_or I.activities k d).from) (time_at m (get_or I.activities k d).to))
+          (not_lighter (get_or I.activities k d).weight weight (of_number id_of (λ a. nat_lt weight a.weight) n I.activities (activities_rise I ok) none k d l same))
+
+-- ---- another span
+
+module _ (I : Network) (n : ℕ) (span : Bounds) (m : Times) (x : Activity) (found : activity_of I n ≡ Some x) where
+  abbrev spanned : Activity → Activity
+  spanned a = record a { span = span }
+
+  pub spanned_tells : (b : Bool) → b ≡ meets m (record x { span = span }) → TellsStay I (SetSpan n span) m b
+  spanned_tells b told K cost ok is none member costs = (
+    λ now. (
+      record {
+        period = member.period;
+        events = member.events;
+        below = member.below;
+        met = All-after_change id_of (λ a. IsTrue (meets m a)) n spanned I.activities member.met (All-by_number id_of (λ a. IsTrue (meets m (spanned a))) n I.activities x (activities_rise I ok) found (sym told ∙ now));
+        fixed = member.fixed;
+      },
+      sum_by-change_same id_of (cost_in m) n spanned I.activities
+          (λ k d l same. ap (λ z. (get_or I.activities k d).weight * slack_of m.period (record { lower = z; upper = span.upper }) (time_at m (get_or I.activities k d).from) (time_at m (get_or I.activities k d).to)) (kept_bounds I n span ok none k d l same).0)
+          ∙ costs,
+    ),
+    λ stay. told ∙ of_All-by_number id_of (λ a. IsTrue (meets m (spanned a))) n I.activities x (All-of_change id_of (λ a. IsTrue (meets m a)) n spanned I.activities stay.0.met) found,
+  )
+
+-- there is no such activity, and the edit is refused
+pub no_span_tells : (I : Network) (n : ℕ) (span : Bounds) (m : Times) (b : Bool) → activity_of I n ≡ None → TellsStay I (SetSpan n span) m b
+no_span_tells I n span m b none K cost ok is nothing member costs = absurd (refused_so (is_none (activity_of I n)) (no.NoActivity n) _ (effect I (SetSpan n span)) K (ap is_none none) is)
+
+pub no_weight_tells : (I : Network) (n weight : ℕ) (m : Times) (b : Bool) → activity_of I n ≡ None → TellsStay I (SetWeight n weight) m b
+no_weight_tells I n weight m b none K cost ok is nothing member costs = absurd (refused_so (is_none (activity_of I n)) (no.NoActivity n) _ (effect I (SetWeight n weight)) K (ap is_none none) is)
+
+-- ---- another fixed time, or none
+
+-- a member stays one where its time agrees
+refixed_member : (I : Network) (e : ℕ) (fixed : Option ℕ) (m : Times) → IsMember I m → agrees_with m.period fixed (time_at m e) ≡ true → IsMember (refixed I e fixed) m
+refixed_member I e fixed m member agreed = record {
+  period = member.period;
+  events = member.events ∙ sym (numbers_stay number e (refix fixed) (λ x. refl) I.events);
+  below = member.below;
+  met = member.met;
+  fixed = All-after_change number (λ x. IsTrue (agrees m x)) e (refix fixed) I.events member.fixed (λ k d l same. subst (λ i. agrees_with m.period fixed (time_at m i) ≡ true) (sym same) agreed);
+}
+
+pub unfixed_tells : (I : Network) (e : ℕ) (m : Times) → TellsStay I (Unfix e) m true
+unfixed_tells I e m K cost ok is none member costs = (λ _. (refixed_member I e None m member refl, costs), λ _. refl)
+
+pub fixed_tells : (I : Network) (e t : ℕ) (m : Times) (b : Bool) → (b ≡ true → time_of m e ≡ Some t) → (b ≡ false → time_of m e ≡ Some t → ⊥) → TellsStay I (Fix e t) m b
+fixed_tells I e t m b told untold K cost ok is none member costs = (
+  λ now. (refixed_member I e (Some t) m member (eq-eqb t (time_at m e) (ap (λ o. unwrap_or o 0) (sym (told now)))), costs),
+  λ stay. elim (cases_Bool b) [
+    | inl now ↦ now
+    | inr out ↦ absurd (untold out (timed_so (time_of m e) timed (eqb-true t (time_at m e) (agreed stay.0))))
+  ],
+)
+  where
+    timed : IsTrue (is_some (time_of m e))
+    timed = found_timed m I.events e (none_missing I m member.events) (there_is (has_event I e) (not_refused (not (has_event I e)) _ _ (effect I (Fix e t)) K is))
+
+    timed_so : (o : Option ℕ) → IsTrue (is_some o) → t ≡ unwrap_or o 0 → o ≡ Some t
+    timed_so None some same = absurd (false≢true some)
+    timed_so (Some s) some same = ap Some (sym same)
+
+    agreed : IsMember (refixed I e (Some t)) m → agrees_with m.period (Some t) (time_at m e) ≡ true
+    agreed new = there (has_at (there_is (has_event I e) (not_refused (not (has_event I e)) _ _ (effect I (Fix e t)) K is)))
+      where
+        some_of : (o : Option Event) → IsTrue (is_some o) → (x : Event) × (o ≡ Some x)
+        some_of None some = absurd (false≢true some)
+        some_of (Some x) some = (x, refl)
+
+        has_at : IsTrue (has_event I e) → (x : Event) × (with_number number e I.events ≡ Some x)
+        has_at has = some_of (with_number number e I.events) has
+
+        there : (x : Event) × (with_number number e I.events ≡ Some x) → agrees_with m.period (Some t) (time_at m e) ≡ true
+        there w =
+            subst (λ i. agrees_with m.period (Some t) (time_at m i) ≡ true) (number-with_number number e I.events w.0 w.1)
+            (of_All-by_number number (λ x. agrees_with m.period (Some t) (time_at m x.id) ≡ true) e I.events w.0 (All-of_change number (λ x. IsTrue (agrees m x)) e (refix (Some t)) I.events new.fixed) w.1)
+
+-- by the time that the event has
+pub fixed_told : (I : Network) (e t : ℕ) (m : Times) (known : ℕ) → Some known ≡ time_of m e → TellsStay I (Fix e t) m (known == t)
+fixed_told I e t m known is =
+    fixed_tells I e t m (known == t) (λ now. sym is ∙ ap Some (eqb-true known t now))
+    (λ out at. false≢true (sym out ∙ eq-eqb known t (let same : Some known ≡ Some t = is ∙ at in cc)))
+
+pub fixed_without : (I : Network) (e t : ℕ) (m : Times) → None ≡ time_of m e → TellsStay I (Fix e t) m false
+fixed_without I e t m is = fixed_tells I e t m false (λ no. absurd (false≢true no)) (λ _ at. false≢true (ap is_some (is ∙ at)))
+
+-- ---- what is kept
+
+not_so : (b : Bool) → not b ≡ true → b ≡ false
+not_so true is = absurd (false≢true is)
+not_so false is = refl
+
+so_not : (b : Bool) → b ≡ false → not b ≡ true
+so_not true is = absurd (false≢true (sym is))
+so_not false is = refl
+
+-- that nothing meets everything
+pub keeps_infeasible : (I : Network) (edit : Edit) (b opened : Bool) → b ≡ not opened → opened ≡ opens I edit → IsTrue b ↔ Keeps I edit Infeasible
+keeps_infeasible I edit b opened told is = (
+  λ now. record { nothing_new = sym is ∙ not_so opened (sym told ∙ now); stays = tt },
+  λ keeps. told ∙ so_not opened (is ∙ keeps.nothing_new),
+)
+
+-- an optimum, where the edit cheapens something, and where it does not
+pub keeps_cheaper : (I : Network) (edit : Edit) (cost : ℕ) (m : Times) → cheapens I edit ≡ true → IsTrue false ↔ Keeps I edit (Optimal cost m)
+keeps_cheaper I edit cost m is = (λ no. absurd (false≢true no), λ keeps. absurd (false≢true (sym keeps.nothing_new ∙ is)))
+
+pub keeps_standing : (I J : Network) (edit : Edit) (cost : ℕ) (m : Times) (b : Bool) → IsNetwork I → edited I edit ≡ Ok J → cheapens I edit ≡ false → IsOptimum I m cost → TellsStay I edit m b → IsTrue b ↔ Keeps I edit (Optimal cost m)
+keeps_standing I J edit cost m b ok is none optimum tells =
+    let w = tells J cost ok is none optimum.member optimum.costs in
+    (λ now. record { nothing_new = none; stays = w.0 now }, λ keeps. w.1 keeps.stays)
+
+-- what is known after the edit
+pub kept_by : (I : Network) (edit : Edit) (known after : Option Answer) (b : Bool) → IfSome known (λ answer. IsTrue b ↔ Keeps I edit answer) → (b ≡ true → after ≡ known) → (b ≡ false → after ≡ None) → IsKeptBy I edit known after
+kept_by I edit None after b told stays goes = elim (cases_Bool b) [
+  | inl is ↦ stays is
+  | inr is ↦ goes is
+]
+kept_by I edit (Some answer) after b told stays goes = elim (cases_Bool b) [
+  | inl is ↦ inl (told.0 is, stays is)
+  | inr is ↦ inr ((λ keeps. false≢true (sym is ∙ told.1 keeps)), goes is)
+]
