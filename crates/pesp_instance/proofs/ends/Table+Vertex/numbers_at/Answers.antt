@@ -1,5 +1,5 @@
 -- An event is there where its vertex is; no numbers are in order.
-use Rattle.std.proofs.Common.{is_some, sym, ap, ◌∙◌}
+use Rattle.std.proofs.Common.{rules, is_some, sym, ap, ◌∙◌}
 use Rattle.std.specs.List.Sorted.{IsStrictlySortedBy}
 use Rattle.pesp_base.specs.Numbered.{with_number}
 use Rattle.pesp_instance.specs.Ends.{vertex_number}
@@ -17,3 +17,7 @@ returns-in_err-get-clause-ordered c = rw c.from_residual.ensures tt
 pub returns-clause-known : goal.returns-clause-known
 returns-clause-known c =
     ap is_some (c.in_ok-get.ensures ∙ ap (λ n. with_number vertex_number n c.args.self.now.values) c.get.ensures.value) ∙ sym (is_event c.args.event c.args.self.now.values)
+
+-- by search, and named so that a wrong body is refused here at once
+pub returns-clause-value : goal.returns-clause-value
+returns-clause-value c = search rules

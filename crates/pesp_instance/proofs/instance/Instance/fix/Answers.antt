@@ -1,5 +1,5 @@
 -- An event with another fixed time below the period leaves an instance.
-use Rattle.std.proofs.Common.{◌≡◌, ◌<◌, true, false, nat_le, Some, refl, sym, arith}
+use Rattle.std.proofs.Common.{rules, ◌≡◌, ◌<◌, true, false, nat_le, Some, refl, sym, arith}
 use Rattle.std.proofs.lemmas.Bool.{lt-leb}
 use Rattle.pesp_instance.specs.Ends.{events_of, with_fixed}
 use Rattle.pesp_instance.specs.Network.{has_event}
@@ -27,3 +27,7 @@ returns-clause-ok c =
     let time : nat_le c.self.inside.period c.args.time ≡ false = lt-leb c.self.inside.period c.args.time below in
     let events : events_of c.refix.new.self.values ≡ with_fixed c.args.event (Some c.args.time) (events_of c.self.inside.vertices.values) = c.refix.ensures.events c.args.event (sym c.in-Some.ensures.slot) in
     rw (← c.self.view_is, has, time, events) refl
+
+-- by search, and named so that a wrong body is refused here at once
+pub returns-then-time-get-clause-unchanged : goal.returns-then-time-get-clause-unchanged
+returns-then-time-get-clause-unchanged c = search rules

@@ -1,5 +1,5 @@
 -- An activity with other ends, listed there and no longer at the old ones, leaves an instance.
-use Rattle.std.proofs.Common.{◌≡◌, true, Some, sym, refl, ◌∙◌}
+use Rattle.std.proofs.Common.{rules, ◌≡◌, true, Some, sym, refl, ◌∙◌}
 use Rattle.pesp_base.specs.declared.activity.Activity.{Activity}
 use Rattle.pesp_base.specs.Numbered.{with_number, change_in}
 use Rattle.pesp_instance.specs.Network.{has_event}
@@ -38,3 +38,7 @@ returns-clause-ok c =
     let from : has_event (network_in c.self.inside) c.args.from ≡ true = sym c.in-Some-event_slot.ensures.known in
     let to : has_event (network_in c.self.inside) c.args.to ≡ true = sym c.in-Some-event_slot-2.ensures.known in
     rw (← c.self.view_is, is, from, to, same, c.unlink_old.ensures.kept.events, c.link.ensures.kept.events) refl
+
+-- by search, and named so that a wrong body is refused here at once
+pub returns-in_default-event_slot-2-clause-err : goal.returns-in_default-event_slot-2-clause-err
+returns-in_default-event_slot-2-clause-err c = search rules
