@@ -1,5 +1,6 @@
 -- Each event is looked at.
 use Rattle.std.proofs.Common.{◌≡◌, IsSome, IsTrue, ◌∙◌, true, rules}
+use Rattle.std.proofs.lemmas.List.Elements.{All-head}
 use Rattle.pesp_tension.specs.Answers.{agrees}
 use Rattle.pesp_tension.specs.Timetables.{time_of}
 use Rattle.pesp_tension.proofs.Timed.{events_timed, tail_of}
@@ -15,6 +16,10 @@ loop-event-init c =
       left = walk_begins (λ x. IsTrue (agrees c.args.timetable.now x)) (c.args.instance.now).events _ all;
       timed = rw all (events_timed c.args.timetable.now (c.args.instance.now).events c.requires);
     }
+
+pub is_at_fixed-requires : goal.is_at_fixed-requires
+is_at_fixed-requires c =
+    All-head (λ e. IsSome (time_of c.args.timetable.now e.id)) c.in-Some.event.now c.next.new.self (rw c.in-Some.ensures.steps at c.loop-event.invariant.timed)
 
 pub loop-event-preserved : goal.loop-event-preserved
 loop-event-preserved c =
