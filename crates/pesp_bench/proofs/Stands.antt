@@ -214,11 +214,15 @@ keeps_standing I J edit cost m b ok is none optimum tells =
 
 -- what is known after the edit
 pub kept_by : (I : Network) (edit : Edit) (known after : Option Answer) (b : Bool) → IfSome known (λ answer. IsTrue b ↔ Keeps I edit answer) → (b ≡ true → after ≡ known) → (b ≡ false → after ≡ None) → IsKeptBy I edit known after
-kept_by I edit None after b told stays goes = elim (cases_Bool b) [
-  | inl is ↦ stays is
-  | inr is ↦ goes is
-]
-kept_by I edit (Some answer) after b told stays goes = elim (cases_Bool b) [
-  | inl is ↦ inl (told.0 is, stays is)
-  | inr is ↦ inr ((λ keeps. false≢true (sym is ∙ told.1 keeps)), goes is)
-]
+kept_by I edit known after b told stays goes =
+    record {
+      stays = λ answer is keeps. stays ((subst tells is told).1 keeps) ∙ is;
+      only = λ answer is.
+          elim (cases_Bool b) [
+            | inl now ↦ let was : known ≡ Some answer = sym (stays now) ∙ is in (was, (subst tells was told).0 now)
+            | inr out ↦ absurd (false≢true (ap is_some (sym (goes out) ∙ is)))
+          ];
+    }
+  where
+    tells : Option Answer → Type 0
+    tells o = IfSome o (λ answer. IsTrue b ↔ Keeps I edit answer)

@@ -87,10 +87,11 @@ times_period (SetWeight n weight) m = refl
 times_period (SetEnds n from to) m = refl
 
 -- what is known after an accepted edit is the optimum
-known_after : (I J : Network) (edit : Edit) (known kept : Option Answer) → IsNetwork I → edited I edit ≡ Ok J → IsKeptBy I edit known kept → IfSome known (IsAnswer I) → IfSome kept (IsAnswer J)
-known_after I J edit None kept network is stays answer = rw stays tt
-known_after I J edit (Some known) kept network is (inl (keeps, same)) answer = rw same (kept_answer I J edit known network is keeps answer)
-known_after I J edit (Some known) kept network is (inr (_, none)) answer = rw none tt
+known_after : (I J : Network) (edit : Edit) (known after : Option Answer) → IsNetwork I → edited I edit ≡ Ok J → IsKeptBy I edit known after → IfSome known (IsAnswer I) → IfSome after (IsAnswer J)
+known_after I J edit known None network is kept answer = tt
+known_after I J edit known (Some after) network is kept answer =
+    let w = kept.only after refl in
+    kept_answer I J edit after network is w.1 (subst (λ o. IfSome o (IsAnswer I)) w.0 answer)
 
 -- after an accepted edit
 pub after_edit : (I J : Network) (edit : Edit) (before after : List Pair) (m : Times) (known kept : Option Answer)

@@ -1,5 +1,5 @@
 -- Which accepted edits keep a known answer.
-use Rattle.std.specs.Prelude.{◌≡◌, ℕ, ◌<◌, ◌≤◌, ◌⊎◌, ◌↔◌, IsTrue, Bool, true, false, not, Option, Some, None, MatchOption, Ok}
+use Rattle.std.specs.Prelude.{◌≡◌, ℕ, ◌<◌, ◌≤◌, ◌↔◌, IsTrue, Bool, true, false, not, Option, Some, Ok}
 use Rattle.pesp_instance.specs.declared.edit.Edit.{Edit}
 use Rattle.pesp_instance.specs.declared.edit.Edit.TheVariants.{AddEvent, DropEvent, Fix, Unfix, AddActivity, DropActivity, SetSpan, SetWeight, SetEnds}
 use Rattle.pesp_instance.specs.Edited.{edited, effect}
@@ -56,10 +56,10 @@ pub record Keeps (I : Network) (edit : Edit) (answer : Answer) : Type 0 where
   pub nothing_new : brings I edit answer ≡ false
   pub stays : Stays (effect I edit) answer
 
--- what is known after an accepted edit: what was known before, exactly where the edit keeps it
-abbrev pub IsKeptBy : Network → Edit → Option Answer → Option Answer → Type 0
-IsKeptBy I edit before after =
-    MatchOption before (after ≡ None) (λ answer. (Keeps I edit answer × (after ≡ Some answer)) ⊎ ((Keeps I edit answer → ⊥) × (after ≡ None)))
+-- what is known after an accepted edit: what the edit keeps stays known, and nothing else is
+pub record IsKeptBy (I : Network) (edit : Edit) (before after : Option Answer) : Type 0 where
+  pub stays : (answer : Answer) → before ≡ Some answer → Keeps I edit answer → after ≡ Some answer
+  pub only : (answer : Answer) → after ≡ Some answer → (before ≡ Some answer) × Keeps I edit answer
 
 -- ---- laws
 
