@@ -27,7 +27,7 @@ import sys
 sys.path.insert(0, "examples")
 from session import Refused, Session
 session = Session("--period", "10", "examples/two-trains/activities", program=sys.argv[1])
-text = "optimum/fix 1 0/domains/domain 2/drop activity 1/drop activity 2/dump/try 0/cost/time 2 12/cots//# x/adopt/cost"
+text = "try 0/optimum/fix 1 0/domains/domain 2/drop activity 1/drop activity 2/dump/cost/time 2 12/cots//# x/adopt/cost"
 for command in text.split("/"):
     try:
         print(session.ask(command))
@@ -35,14 +35,14 @@ for command in text.split("/"):
         print(type(why).__name__, why)
 print(session.end())
 """
-    output = """(['optimum', 4, 2], [[1, 0], [2, 4]])
+    output = """(['stopped', 'none'], [])
+(['optimum', 4, 2], [[1, 0], [2, 4]])
 (['ok'], [])
 (['domains', 2], [[1, 0], [2, 4, 5]])
 ([2, 4, 5], [])
 (['ok'], [])
 (['ok'], [])
 (['#', 'period', 10, 'lines', 3], [['add', 'event', 1], ['add', 'event', 2], ['fix', 1, 0]])
-(['stopped', 'none'], [])
 Refused refused 11 event 1 has no time
 Refused refused 4 time 12 is out of range
 Refused fault unknown command
