@@ -1,4 +1,4 @@
-"""What it takes to build the domains, to keep them through edits, and to search for an optimum."""
+"""What it takes to build the domains, to keep them through edits, and to visit a node of a search."""
 
 import sys
 
@@ -14,10 +14,10 @@ NODES = 2_000
 class Network:
     """A network of which all activities are met at its times, in files, and the words that open it."""
 
-    def __init__(self, program, folder, rows, events, fixed):
-        numbers = Numbers(rows)
+    def __init__(self, program, folder, rows, events, fixed, seed=None, widths=(8, 20)):
+        numbers = Numbers(seed or rows)
         self.times = [numbers.below(PERIOD) for _ in range(events)]
-        self.rows = list(activity_rows(numbers, rows, self.times, are_met=True))
+        self.rows = list(activity_rows(numbers, rows, self.times, True, widths))
         self.fixed = [event for event in range(events) if fixed(event)]
         self.lines = folder / "lines"
         self.profile = folder / "callgrind.network"

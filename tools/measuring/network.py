@@ -30,8 +30,11 @@ def events_of(rows):
     return max(2, min(MOST_EVENTS, rows // ACTIVITIES_OF_AN_EVENT))
 
 
-def activity_rows(numbers, rows, times, are_met=False):
-    """Activities in no order of their numbers, which name each event; about a tenth of them are violated, or none."""
+def activity_rows(numbers, rows, times, are_met=False, widths=(8, 20)):
+    """Activities in no order of their numbers, which name each event; about a tenth of them are violated, or none.
+
+    A span has the first of the widths at least, and less than both of them together.
+    """
     events = len(times)
     order = numbers.shuffled(events)
     for place in range(rows):
@@ -39,8 +42,8 @@ def activity_rows(numbers, rows, times, are_met=False):
         name = (place * 7_919 + 17) % 1_000_003
         first, last = order[place % events], numbers.below(events)
         off = 0 if numbers.below(10) or are_met else 1
-        lower = (times[last] - times[first]) % PERIOD - numbers.below(8) + off * 20
-        yield name, first, last, lower, lower + 8 + numbers.below(20), numbers.below(1_000)
+        lower = (times[last] - times[first]) % PERIOD - numbers.below(widths[0]) + off * 20
+        yield name, first, last, lower, lower + widths[0] + numbers.below(widths[1]), numbers.below(1_000)
 
 
 def fixed_rows(numbers, times):
