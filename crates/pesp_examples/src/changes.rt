@@ -1,4 +1,4 @@
-//! Edits as plain values, so that tables can have them.
+//! Edits as plain values, so that tables can have them, and those that make the worked examples.
 
 use crate::made::{activity, event, id, span, weight};
 use pesp_instance::Edit;
@@ -38,3 +38,25 @@ pub(crate) fn edit_of(rt: &impl Abort, change: Change) -> Edit {
         }
     }
 }
+
+/// Two events and an activity each way between them, at period ten.
+pub(crate) const TWO_ACTIVITIES: &[Change] = &[
+    Change::AddEvent(1),
+    Change::AddEvent(2),
+    Change::AddActivity(1, (1, 2), (3, 5), 2),
+    Change::AddActivity(2, (2, 1), (4, 6), 1),
+];
+
+/// Four events and an activity between any two, at period three.
+pub(crate) const FOUR_EVENTS: &[Change] = &[
+    Change::AddEvent(1),
+    Change::AddEvent(2),
+    Change::AddEvent(3),
+    Change::AddEvent(4),
+    Change::AddActivity(1, (1, 2), (1, 2), 1),
+    Change::AddActivity(2, (1, 3), (1, 2), 1),
+    Change::AddActivity(3, (2, 3), (1, 2), 1),
+    Change::AddActivity(4, (1, 4), (1, 2), 1),
+    Change::AddActivity(5, (2, 4), (1, 2), 1),
+    Change::AddActivity(6, (3, 4), (1, 2), 1),
+];

@@ -2,8 +2,9 @@
 
 ghost use Rattle.std.specs.Prelude.{◌≡◌, []};
 
-use crate::made::{event, four_events, id, push};
-use crate::unpushed::Unpushed;
+use crate::changes::FOUR_EVENTS;
+use crate::made::{event, id, push};
+use crate::unpushed::{Counted, Unpushed};
 use pesp_base::EventId;
 use pesp_counts::CountKeeper;
 use pesp_domains::{Keeper, PlainKeeper, Side};
@@ -20,7 +21,7 @@ fn assert_supports(rt: &impl Abort, keeper: &CountKeeper, counts: &[Count], mess
 }
 
 /// The counts while the first event is pushed to 0, and behind that.
-fn assert_pushed(rt: &impl Abort, kept: &mut Unpushed, pushed: &[Count], popped: &[Count]) {
+fn assert_pushed(rt: &impl Abort, kept: &mut Counted, pushed: &[Count], popped: &[Count]) {
     push(rt, &mut kept.keeper, event(rt, 1), 0);
     assert_supports(rt, &kept.keeper, pushed, "event 1 at 0");
     kept.keeper.pop_fix();
@@ -29,7 +30,7 @@ fn assert_pushed(rt: &impl Abort, kept: &mut Unpushed, pushed: &[Count], popped:
 
 #[test]
 fn counts_are_read_by_support(rt: HostRuntime) {
-    let mut kept = Unpushed::two_activities(&rt);
+    let mut kept = Counted::two_activities(&rt);
     let pushed: &[Count] = &[
         (Side::Tail, 0, Some(2)),
         (Side::Head, 4, Some(1)),
@@ -91,13 +92,13 @@ fn try_both_orders<P: Keeper, C: Keeper, R: Abort + AllocGlobal>(
     two: EventId,
     at_two: u16,
 ) {
-    let mut plain: P = four_events(rt);
-    let mut counted: C = four_events(rt);
-    assert_same(rt, &plain, &counted, "nothing is pushed");
+    let mut plain: Unpushed<P> = Unpushed::made(rt, 3, FOUR_EVENTS);
+    let mut counted: Unpushed<C> = Unpushed::made(rt, 3, FOUR_EVENTS);
+    assert_same(rt, &plain.keeper, &counted.keeper, "nothing is pushed");
     let (first, second) = ((one, at_one), (two, at_two));
-    try_order(rt, &mut plain, &mut counted, first, second);
+    try_order(rt, &mut plain.keeper, &mut counted.keeper, first, second);
     let (first, second) = ((two, at_two), (one, at_one));
-    try_order(rt, &mut plain, &mut counted, first, second);
+    try_order(rt, &mut plain.keeper, &mut counted.keeper, first, second);
 }
 
 #[test]

@@ -1,15 +1,20 @@
 //! The rows of the worked examples, by edits, pushes and pops.
 
-use crate::made::{
-    add_activity, add_event, edit, event, fix, four_events, keeper, push, set_span, two_activities,
-};
+use crate::changes::{Change, FOUR_EVENTS, TWO_ACTIVITIES};
+use crate::made::{event, push};
+use crate::unpushed::Unpushed;
 use pesp_counts::CountKeeper;
 use pesp_domains::{Keeper, PlainKeeper};
-use pesp_instance::Edit;
 use std::process::Abort;
 
+/// Events and the residues in their rows.
+type Rows<'a> = &'a [(u32, &'a [u16])];
+
 /// The residues at period 10.
-const ALL: [u16; 10] = [0, 1, 2, 3, 4, 5, 6, 7, 8, 9];
+const ALL: &[u16] = &[0, 1, 2, 3, 4, 5, 6, 7, 8, 9];
+
+/// Both rows of the two activities.
+const BOTH: Rows<'_> = &[(1, ALL), (2, ALL)];
 
 fn assert_row<K: Keeper>(rt: &impl Abort, keeper: &K, number: u32, wanted: &[u16], message: &str) {
     let event = event(rt, number);
@@ -27,53 +32,96 @@ fn assert_row<K: Keeper>(rt: &impl Abort, keeper: &K, number: u32, wanted: &[u16
     assert_eq!(rt; row.next_from(next), None, "{message}");
 }
 
-fn assert_rows<K: Keeper>(rt: &impl Abort, keeper: &K, rows: &[(u32, &[u16])], message: &str) {
+fn assert_rows<K: Keeper>(rt: &impl Abort, keeper: &K, rows: Rows<'_>, message: &str) {
     for (number, wanted) in rows {
         assert_row(rt, keeper, *number, wanted, message);
     }
 }
 
-fn fixed_event_narrows_domains_by<K: Keeper, R: Abort + AllocGlobal>(rt: &R) {
-    let mut keeper: K = two_activities(rt);
-    assert_rows(rt, &keeper, &[(1, &ALL), (2, &ALL)], "nothing is fixed");
-    fix(rt, &mut keeper, 1, 0);
-    assert_rows(rt, &keeper, &[(1, &[0]), (2, &[4, 5])], "event 1 at 0");
-    fix(rt, &mut keeper, 1, 1);
-    assert_rows(rt, &keeper, &[(1, &[1]), (2, &[5, 6])], "event 1 at 1");
+fn edited_by<K: Keeper>(
+    rt: &(impl Abort + AllocGlobal),
+    made: &[Change],
+    first: Rows<'_>,
+    edits: &[(Change, Rows<'_>, &str)],
+) -> Unpushed<K> {
+    let mut kept: Unpushed<K> = Unpushed::made(rt, 10, made);
+    assert_rows(rt, &kept.keeper, first, "before the edits");
+    for (change, rows, message) in edits {
+        kept.change(rt, *change);
+        assert_rows(rt, &kept.keeper, rows, message);
+    }
+    kept
+}
+
+/// A keeper of either kind of what the first edits make has the first rows, and behind each of the others these.
+fn try_edits(
+    rt: &(impl Abort + AllocGlobal),
+    made: &[Change],
+    first: Rows<'_>,
+    edits: &[(Change, Rows<'_>, &str)],
+) {
+    edited_by::<PlainKeeper>(rt, made, first, edits);
+    edited_by::<CountKeeper>(rt, made, first, edits);
 }
 
 #[test]
 fn fixed_event_narrows_domains(rt: HostRuntime) {
-    fixed_event_narrows_domains_by::<PlainKeeper, _>(&rt);
-    fixed_event_narrows_domains_by::<CountKeeper, _>(&rt);
-}
-
-fn unfix_refills_both_rows_by<K: Keeper, R: Abort + AllocGlobal>(rt: &R) {
-    let mut keeper: K = two_activities(rt);
-    fix(rt, &mut keeper, 1, 0);
-    set_span(rt, &mut keeper, 1, 3, 4);
-    assert_rows(rt, &keeper, &[(1, &[0]), (2, &[4])], "event 1 at 0");
-    edit(rt, &mut keeper, Edit::Unfix(event(rt, 1)));
-    assert_rows(rt, &keeper, &[(1, &ALL), (2, &ALL)], "event 1 is free");
+    try_edits(
+        &rt,
+        TWO_ACTIVITIES,
+        BOTH,
+        &[
+            (
+                Change::Fix(1, 0),
+                &[(1, &[0]), (2, &[4, 5])],
+                "event 1 at 0",
+            ),
+            (
+                Change::Fix(1, 1),
+                &[(1, &[1]), (2, &[5, 6])],
+                "event 1 at 1",
+            ),
+        ],
+    );
 }
 
 #[test]
 fn unfix_refills_both_rows(rt: HostRuntime) {
-    unfix_refills_both_rows_by::<PlainKeeper, _>(&rt);
-    unfix_refills_both_rows_by::<CountKeeper, _>(&rt);
+    try_edits(
+        &rt,
+        TWO_ACTIVITIES,
+        BOTH,
+        &[
+            (Change::Fix(1, 0), &[(1, &[0]), (2, &[4, 5])], "fixed"),
+            (
+                Change::SetSpan(1, 3, 4),
+                &[(1, &[0]), (2, &[4])],
+                "a narrower span",
+            ),
+            (Change::Unfix(1), BOTH, "event 1 is free"),
+        ],
+    );
 }
 
 fn infeasible_instances_by<K: Keeper, R: Abort + AllocGlobal>(rt: &R) {
-    let mut keeper: K = two_activities(rt);
-    set_span(rt, &mut keeper, 1, 3, 3);
-    assert_rows(rt, &keeper, &[(1, &ALL), (2, &ALL)], "full domains");
-    fix(rt, &mut keeper, 1, 0);
-    assert_rows(rt, &keeper, &[(1, &[]), (2, &[])], "empty domains");
-    add_event(rt, &mut keeper, 3);
-    assert_rows(rt, &keeper, &[(1, &[]), (2, &[]), (3, &ALL)], "a new event");
-    edit(rt, &mut keeper, Edit::DropEvent(event(rt, 3)));
-    assert!(rt; keeper.row(event(rt, 3)).is_none(), "no event, no row");
-    assert!(rt; !keeper.holds(event(rt, 3), 0), "no event, no residue");
+    let kept: Unpushed<K> = edited_by(
+        rt,
+        TWO_ACTIVITIES,
+        BOTH,
+        &[
+            (Change::SetSpan(1, 3, 3), BOTH, "full domains"),
+            (Change::Fix(1, 0), &[(1, &[]), (2, &[])], "empty domains"),
+            (
+                Change::AddEvent(3),
+                &[(1, &[]), (2, &[]), (3, ALL)],
+                "a new event",
+            ),
+            (Change::DropEvent(3), &[(1, &[]), (2, &[])], "it goes"),
+        ],
+    );
+    let three = event(rt, 3);
+    assert!(rt; kept.keeper.row(three).is_none(), "no event, no row");
+    assert!(rt; !kept.keeper.holds(three, 0), "no event, no residue");
 }
 
 #[test]
@@ -83,14 +131,10 @@ fn infeasible_instances(rt: HostRuntime) {
 }
 
 fn four_events_at_period_three_by<K: Keeper, R: Abort + AllocGlobal>(rt: &R) {
-    let keeper: K = four_events(rt);
+    let kept: Unpushed<K> = Unpushed::made(rt, 3, FOUR_EVENTS);
     let row: &[u16] = &[0, 1, 2];
-    assert_rows(
-        rt,
-        &keeper,
-        &[(1, row), (2, row), (3, row), (4, row)],
-        "full domains",
-    );
+    let rows: Rows<'_> = &[(1, row), (2, row), (3, row), (4, row)];
+    assert_rows(rt, &kept.keeper, rows, "full domains");
 }
 
 #[test]
@@ -99,37 +143,64 @@ fn four_events_at_period_three(rt: HostRuntime) {
     four_events_at_period_three_by::<CountKeeper, _>(&rt);
 }
 
-fn loops_and_spans_by<K: Keeper, R: Abort + AllocGlobal>(rt: &R) {
-    let mut keeper: K = keeper(rt, 10);
-    add_event(rt, &mut keeper, 1);
-    add_activity(rt, &mut keeper, 3, (1, 1), (1, 2), 1);
-    assert_rows(rt, &keeper, &[(1, &ALL)], "a partner in its own row");
-    set_span(rt, &mut keeper, 3, 0, 0);
-    assert_rows(rt, &keeper, &[(1, &ALL)], "itself as its partner");
-    add_event(rt, &mut keeper, 2);
-    add_activity(rt, &mut keeper, 1, (1, 2), (-2, 1), 1);
-    fix(rt, &mut keeper, 1, 0);
-    assert_rows(rt, &keeper, &[(2, &[0, 1, 8, 9])], "a negative bound");
-    set_span(rt, &mut keeper, 1, 7, 16);
-    assert_rows(rt, &keeper, &[(2, &ALL)], "a span as wide as the period");
-}
-
 #[test]
 fn loops_and_spans(rt: HostRuntime) {
-    loops_and_spans_by::<PlainKeeper, _>(&rt);
-    loops_and_spans_by::<CountKeeper, _>(&rt);
+    let around: Rows<'_> = &[(2, &[0, 1, 8, 9])];
+    try_edits(
+        &rt,
+        &[Change::AddEvent(1)],
+        &[(1, ALL)],
+        &[
+            (
+                Change::AddActivity(3, (1, 1), (1, 2), 1),
+                &[(1, ALL)],
+                "a partner in its own row",
+            ),
+            (
+                Change::SetSpan(3, 0, 0),
+                &[(1, ALL)],
+                "itself as its partner",
+            ),
+            (Change::AddEvent(2), BOTH, "one event more"),
+            (
+                Change::AddActivity(1, (1, 2), (-2, 1), 1),
+                BOTH,
+                "full rows",
+            ),
+            (Change::Fix(1, 0), around, "a negative bound"),
+            (
+                Change::SetSpan(1, 7, 16),
+                &[(2, ALL)],
+                "a span as wide as the period",
+            ),
+        ],
+    );
+}
+
+/// Pushes a pair, and behind it a second one where there is one; pops leave the rows that were there before.
+fn assert_pushed<K: Keeper>(
+    rt: &impl Abort,
+    kept: &mut Unpushed<K>,
+    first: (u16, Rows<'_>),
+    second: Option<(u16, Rows<'_>)>,
+) {
+    push(rt, &mut kept.keeper, event(rt, 1), first.0);
+    assert_rows(rt, &kept.keeper, first.1, "event 1 is pushed");
+    if let Some((residue, rows)) = second {
+        push(rt, &mut kept.keeper, event(rt, 2), residue);
+        assert_rows(rt, &kept.keeper, rows, "event 2 is pushed");
+        kept.keeper.pop_fix();
+        assert_rows(rt, &kept.keeper, first.1, "event 2 is popped");
+    }
+    kept.keeper.pop_fix();
+    assert_rows(rt, &kept.keeper, BOTH, "nothing is pushed");
 }
 
 fn two_pushes_and_two_pops_by<K: Keeper, R: Abort + AllocGlobal>(rt: &R) {
-    let mut keeper: K = two_activities(rt);
-    push(rt, &mut keeper, event(rt, 1), 0);
-    assert_rows(rt, &keeper, &[(1, &[0]), (2, &[4, 5])], "1 at 0");
-    push(rt, &mut keeper, event(rt, 2), 4);
-    assert_rows(rt, &keeper, &[(1, &[0]), (2, &[4])], "2 at 4");
-    keeper.pop_fix();
-    assert_rows(rt, &keeper, &[(1, &[0]), (2, &[4, 5])], "1 at 0 again");
-    keeper.pop_fix();
-    assert_rows(rt, &keeper, &[(1, &ALL), (2, &ALL)], "nothing is pushed");
+    let mut kept: Unpushed<K> = Unpushed::two_activities(rt);
+    let one: Rows<'_> = &[(1, &[0]), (2, &[4, 5])];
+    let two: Rows<'_> = &[(1, &[0]), (2, &[4])];
+    assert_pushed(rt, &mut kept, (0, one), Some((4, two)));
 }
 
 #[test]
@@ -139,12 +210,9 @@ fn two_pushes_and_two_pops(rt: HostRuntime) {
 }
 
 fn push_empties_both_rows_by<K: Keeper, R: Abort + AllocGlobal>(rt: &R) {
-    let mut keeper: K = two_activities(rt);
-    set_span(rt, &mut keeper, 1, 3, 3);
-    push(rt, &mut keeper, event(rt, 1), 0);
-    assert_rows(rt, &keeper, &[(1, &[]), (2, &[])], "1 at 0");
-    keeper.pop_fix();
-    assert_rows(rt, &keeper, &[(1, &ALL), (2, &ALL)], "nothing is pushed");
+    let mut kept: Unpushed<K> = Unpushed::two_activities(rt);
+    kept.change(rt, Change::SetSpan(1, 3, 3));
+    assert_pushed(rt, &mut kept, (0, &[(1, &[]), (2, &[])]), None);
 }
 
 #[test]

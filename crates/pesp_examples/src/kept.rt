@@ -1,10 +1,11 @@
 //! Known answers that edits keep or forget, and timetables that meet everything or not.
 
-use crate::bench::{
-    Known, Step, assert_times, assert_unknown, bench, change, find, take_steps, try_steps,
-};
 use crate::changes::Change;
-use crate::made::{add_activity, add_event, event, fix, keeper, set_span, two_activities};
+use crate::made::event;
+use crate::unpushed::Unpushed;
+use crate::workbench::{
+    Known, Step, assert_times, assert_unknown, bench, bench_of, change, find, take_steps, try_steps,
+};
 use pesp_bench::{Attempt, Bench};
 use pesp_counts::CountKeeper;
 use pesp_domains::{Keeper, PlainKeeper};
@@ -151,11 +152,12 @@ fn one_activity<K: Keeper>(
     bounds: (i32, i32),
     weight: u32,
 ) -> Bench<K> {
-    let mut keeper: K = keeper(rt, period);
-    add_event(rt, &mut keeper, ends.0);
-    add_event(rt, &mut keeper, ends.1);
-    add_activity(rt, &mut keeper, 2, ends, bounds, weight);
-    Bench::new(rt.alloc(), keeper)
+    let edits = &[
+        Change::AddEvent(ends.0),
+        Change::AddEvent(ends.1),
+        Change::AddActivity(2, ends, bounds, weight),
+    ];
+    bench_of(rt, Unpushed::made(rt, period, edits))
 }
 
 fn weight_without_slack_forgets_by<K: Keeper, R: Abort + AllocGlobal>(rt: &R) {
@@ -289,10 +291,10 @@ fn assert_costs(rt: &(impl Abort + AllocGlobal), instance: &Instance, cases: &[C
 
 #[test]
 fn cost_of_a_member(rt: HostRuntime) {
-    let keeper: PlainKeeper = two_activities(&rt);
+    let kept: Unpushed<PlainKeeper> = Unpushed::two_activities(&rt);
     assert_costs(
         &rt,
-        keeper.instance(),
+        kept.keeper.instance(),
         &[
             (&[(1, 0), (2, 4)], Some(4), "the optimum"),
             (&[(1, 5), (2, 9)], Some(4), "the optimum, five later"),
@@ -306,20 +308,20 @@ fn cost_of_a_member(rt: HostRuntime) {
 
 #[test]
 fn cost_of_a_member_with_a_fixed_time(rt: HostRuntime) {
-    let mut keeper: PlainKeeper = two_activities(&rt);
-    fix(&rt, &mut keeper, 1, 0);
+    let mut kept: Unpushed<PlainKeeper> = Unpushed::two_activities(&rt);
+    kept.change(&rt, Change::Fix(1, 0));
     assert_costs(
         &rt,
-        keeper.instance(),
+        kept.keeper.instance(),
         &[
             (&[(1, 0), (2, 4)], Some(4), "fixed there"),
             (&[(1, 5), (2, 9)], None, "fixed elsewhere"),
         ],
     );
-    set_span(&rt, &mut keeper, 1, 3, 3);
+    kept.change(&rt, Change::SetSpan(1, 3, 3));
     assert_costs(
         &rt,
-        keeper.instance(),
+        kept.keeper.instance(),
         &[(&[(1, 0), (2, 4)], None, "infeasible")],
     );
 }

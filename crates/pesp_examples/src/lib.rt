@@ -5,6 +5,8 @@
 #![tactic(auto)]
 
 #[cfg(test)]
+mod asked;
+#[cfg(test)]
 mod base;
 #[cfg(test)]
 mod bench;
@@ -21,6 +23,8 @@ mod kept;
 #[cfg(test)]
 mod made;
 #[cfg(test)]
+mod parts;
+#[cfg(test)]
 mod restored;
 #[cfg(test)]
 mod search;
@@ -28,5 +32,9 @@ mod search;
 mod timetables;
 #[cfg(test)]
 mod unpushed;
+#[cfg(test)]
+mod workbench;
+#[cfg(test)]
+mod working;
 #[cfg(test)]
 mod works;

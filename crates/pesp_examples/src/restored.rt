@@ -2,7 +2,7 @@
 
 use crate::changes::Change;
 use crate::made::{event, push};
-use crate::unpushed::Unpushed;
+use crate::unpushed::Counted;
 use pesp_counts::CountKeeper;
 use pesp_domains::{Keeper, Pair};
 use std::process::Abort;
@@ -35,8 +35,8 @@ fn assert_restored(
 
 /// The two activities after these edits, each of which puts back the residues of both events that
 /// stand beside it.
-fn edited(rt: &(impl Abort + AllocGlobal), edits: &[(Change, &[u16], &[u16], &str)]) -> Unpushed {
-    let mut kept = Unpushed::two_activities(rt);
+fn edited(rt: &(impl Abort + AllocGlobal), edits: &[(Change, &[u16], &[u16], &str)]) -> Counted {
+    let mut kept = Counted::two_activities(rt);
     for (change, first, second, message) in edits {
         kept.change(rt, *change);
         assert_restored(rt, &kept.keeper, first, second, message);
@@ -115,7 +115,7 @@ fn no_edit_puts_nothing_back(rt: HostRuntime) {
 }
 
 /// A push and a pop leave the list as it was.
-fn assert_pushed(rt: &impl Abort, kept: &mut Unpushed, first: &[u16], second: &[u16]) {
+fn assert_pushed(rt: &impl Abort, kept: &mut Counted, first: &[u16], second: &[u16]) {
     push(rt, &mut kept.keeper, event(rt, 2), 5);
     assert_restored(rt, &kept.keeper, first, second, "a push");
     kept.keeper.pop_fix();
@@ -123,7 +123,7 @@ fn assert_pushed(rt: &impl Abort, kept: &mut Unpushed, first: &[u16], second: &[
 }
 
 /// A refused edit, a push and a pop leave the list as it was.
-fn assert_kept(rt: &impl Abort, mut kept: Unpushed, first: &[u16], second: &[u16]) {
+fn assert_kept(rt: &impl Abort, mut kept: Counted, first: &[u16], second: &[u16]) {
     kept.refuse_a_time(rt);
     assert_restored(rt, &kept.keeper, first, second, "a refused edit");
     assert_pushed(rt, &mut kept, first, second);

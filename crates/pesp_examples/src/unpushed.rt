@@ -1,50 +1,112 @@
-//! A keeper by counts on which nothing is pushed, to try tables of edits on.
+//! Keepers on which nothing is pushed, to try tables of edits on.
 
-use crate::changes::{Change, edit_of};
-use crate::made::{edit, event, two_activities};
+use crate::changes::{Change, TWO_ACTIVITIES, edit_of};
+use crate::made::event;
+use pesp_base::Period;
 use pesp_counts::CountKeeper;
 use pesp_domains::Keeper;
 use pesp_instance::{Edit, Instance};
+use pesp_search::{Answer, Tried, best, best_within};
 use std::marker::Model;
 use std::process::Abort;
 
-/// A keeper by counts on which nothing is pushed.
+/// A keeper on which nothing is pushed.
+///
+/// Its functions have no contracts, so that what an edit makes of the keeper is not worked out again
+/// behind each one while the tests are proved.
 #[derive(Drop)]
-pub(crate) struct Unpushed {
-    pub(crate) keeper: CountKeeper,
+pub(crate) struct Unpushed<K: Keeper> {
+    pub(crate) keeper: K,
 }
 
-impl Model for Unpushed {
+/// One that keeps domains by counts.
+pub(crate) type Counted = Unpushed<CountKeeper>;
+
+impl<K: Keeper> Model for Unpushed<K> {
     ghost use Rattle.std.specs.Prelude.{◌≡◌, []};
-    ghost use Rattle.pesp_counts.specs.Restores.{Seen};
+    ghost use Rattle.pesp_instance.specs.Network.{Network};
 
-    ghost Value = { Seen };
+    ghost Value = { Network };
 
-    ghost view = { λ u. u.keeper };
+    ghost view = { λ u. K.network u.keeper };
 
-    ghost invariant = { λ u. u.keeper.pushes ≡ [] };
+    ghost invariant = { λ u. K.pushes u.keeper ≡ [] };
 }
 
-impl Unpushed {
-    pub(crate) fn of(rt: &(impl Abort + AllocGlobal), instance: Instance) -> Unpushed {
-        let keeper = CountKeeper::from_instance(rt.alloc(), instance);
+impl<K: Keeper> Unpushed<K> {
+    pub(crate) fn of(rt: &(impl Abort + AllocGlobal), instance: Instance) -> Unpushed<K> {
+        let keeper = K::from_instance(rt.alloc(), instance);
         let keeper = keeper.ok().expect(rt, "memory");
         Unpushed { keeper }
     }
 
-    pub(crate) fn two_activities(rt: &(impl Abort + AllocGlobal)) -> Unpushed {
-        let keeper: CountKeeper = two_activities(rt);
-        Unpushed { keeper }
+    /// A keeper of what these edits make of the empty instance.
+    pub(crate) fn made(
+        rt: &(impl Abort + AllocGlobal),
+        period: u16,
+        edits: &[Change],
+    ) -> Unpushed<K> {
+        let period = Period::new(period).expect(rt, "a period");
+        let mut kept: Unpushed<K> = Unpushed::of(rt, Instance::new(rt.alloc(), period));
+        for edit in edits {
+            kept.change(rt, *edit);
+        }
+        kept
+    }
+
+    /// Two events and an activity each way between them.
+    pub(crate) fn two_activities(rt: &(impl Abort + AllocGlobal)) -> Unpushed<K> {
+        Unpushed::made(rt, 10, TWO_ACTIVITIES)
     }
 
     /// The edit is accepted.
     pub(crate) fn change(&mut self, rt: &impl Abort, change: Change) {
-        edit(rt, &mut self.keeper, edit_of(rt, change));
+        let accepted = self.keeper.apply(&edit_of(rt, change));
+        assert_eq!(rt; accepted, Ok(()));
     }
 
     /// A time beyond the period is refused.
     pub(crate) fn refuse_a_time(&mut self, rt: &impl Abort) {
         let refused = self.keeper.apply(&Edit::Fix(event(rt, 1), 12));
         assert!(rt; refused.is_err(), "a time beyond the period");
+    }
+
+    /// The optimum, and the nodes of the search.
+    pub(crate) fn best(&mut self, rt: &(impl Abort + AllocGlobal)) -> (Answer, u64) {
+        let found = best(rt.alloc(), &mut self.keeper, None);
+        found.ok().expect(rt, "memory")
+    }
+
+    /// The optimum, found with its own cost as the bound.
+    pub(crate) fn best_at_its_cost(&mut self, rt: &(impl Abort + AllocGlobal)) -> Answer {
+        let found = best(rt.alloc(), &mut self.keeper, None);
+        let (answer, _) = found.ok().expect(rt, "memory");
+        let Answer::Optimal { cost, .. } = answer else {
+            panic!(rt; "infeasible");
+        };
+        let again = best(rt.alloc(), &mut self.keeper, Some(cost));
+        let (answer, _) = again.ok().expect(rt, "memory");
+        answer
+    }
+
+    /// What a search within a limit answers, and its nodes.
+    pub(crate) fn tried(&mut self, rt: &(impl Abort + AllocGlobal), limit: u64) -> (Tried, u64) {
+        let tried = best_within(rt.alloc(), &mut self.keeper, None, limit);
+        tried.ok().expect(rt, "memory")
+    }
+
+    /// The same, with the optimum's own cost as the bound.
+    pub(crate) fn tried_at_its_cost(
+        &mut self,
+        rt: &(impl Abort + AllocGlobal),
+        limit: u64,
+    ) -> (Tried, u64) {
+        let found = best(rt.alloc(), &mut self.keeper, None);
+        let (answer, _) = found.ok().expect(rt, "memory");
+        let Answer::Optimal { cost, .. } = answer else {
+            panic!(rt; "infeasible");
+        };
+        let tried = best_within(rt.alloc(), &mut self.keeper, Some(cost), limit);
+        tried.ok().expect(rt, "memory")
     }
 }

@@ -1,8 +1,8 @@
 //! What an edit takes, as the keeper by counts tells it.
 
 use crate::changes::Change;
-use crate::made::{activity, event, keeper, push};
-use crate::unpushed::Unpushed;
+use crate::made::{activity, event, push};
+use crate::unpushed::Counted;
 use pesp_base::{Activity, Period};
 use pesp_counts::{CountKeeper, Work};
 use pesp_domains::Keeper;
@@ -28,8 +28,8 @@ fn assert_taken(rt: &impl Abort, keeper: &CountKeeper, taken: Taken, message: &s
 }
 
 /// The two activities after these edits, each of which takes what stands beside it.
-fn edited(rt: &(impl Abort + AllocGlobal), edits: &[(Change, Taken, &str)]) -> Unpushed {
-    let mut kept = Unpushed::two_activities(rt);
+fn edited(rt: &(impl Abort + AllocGlobal), edits: &[(Change, Taken, &str)]) -> Counted {
+    let mut kept = Counted::two_activities(rt);
     for (change, taken, message) in edits {
         kept.change(rt, *change);
         assert_taken(rt, &kept.keeper, *taken, message);
@@ -123,7 +123,7 @@ fn chain(rt: &(impl Abort + AllocGlobal)) -> Instance {
 
 #[test]
 fn a_long_chain(rt: HostRuntime) {
-    let mut kept = Unpushed::of(&rt, chain(&rt));
+    let mut kept = Counted::of(&rt, chain(&rt));
     kept.change(&rt, Change::SetSpan(1, 3, 6));
     assert_taken(&rt, &kept.keeper, (0, 0, Some(400)), "a wider span");
 }
@@ -135,17 +135,17 @@ fn assert_work(rt: &impl Abort, keeper: &CountKeeper, work: Work, message: &str)
 
 #[test]
 fn no_edit_takes_nothing(rt: HostRuntime) {
-    let keeper: CountKeeper = keeper(&rt, 10);
+    let kept = Counted::made(&rt, 10, &[]);
     let none = Work {
         restored: 0,
         removed: 0,
         probes: 0,
     };
-    assert_work(&rt, &keeper, none, "no edit");
+    assert_work(&rt, &kept.keeper, none, "no edit");
 }
 
 /// A push and a pop leave the work as it was.
-fn assert_pushed(rt: &impl Abort, kept: &mut Unpushed, work: Work) {
+fn assert_pushed(rt: &impl Abort, kept: &mut Counted, work: Work) {
     push(rt, &mut kept.keeper, event(rt, 2), 5);
     assert_work(rt, &kept.keeper, work, "a push");
     kept.keeper.pop_fix();
@@ -153,7 +153,7 @@ fn assert_pushed(rt: &impl Abort, kept: &mut Unpushed, work: Work) {
 }
 
 /// A refused edit, a push and a pop leave the work as it was.
-fn assert_kept(rt: &impl Abort, mut kept: Unpushed) {
+fn assert_kept(rt: &impl Abort, mut kept: Counted) {
     let work = kept.keeper.last_work();
     kept.refuse_a_time(rt);
     assert_work(rt, &kept.keeper, work, "a refused edit");

@@ -1,0 +1,170 @@
+//! What tests of searches ask of a keeper, step by step.
+
+use crate::changes::Change;
+use crate::made::event;
+use crate::unpushed::Unpushed;
+use pesp_counts::CountKeeper;
+use pesp_domains::{Keeper, PlainKeeper};
+use pesp_search::{Answer, Tried};
+use pesp_tension::Timetable;
+use std::process::Abort;
+
+/// The time of each event.
+pub(crate) type Times<'a> = &'a [(u32, u16)];
+
+/// What a test asks of a keeper.
+#[derive(Clone, Copy)]
+pub(crate) enum Step<'a> {
+    /// The edit is accepted.
+    Edit(Change),
+    /// The optimum, and the optimum again with its own cost as the bound.
+    Best(u64, Times<'a>),
+    /// Nothing meets everything, with so many nodes where it is said.
+    Infeasible(Option<u64>),
+    /// A search within a limit ends with the optimum.
+    Done(u64, u64, Times<'a>),
+    /// A search within a limit finds this, whether it ends there or stops.
+    Found(u64, u64, Times<'a>),
+    /// A search within limit 0 tells without a node that nothing meets everything.
+    DoneInfeasible,
+    /// A search within limit 0 stops with nothing.
+    Stopped,
+}
+
+fn assert_times(rt: &impl Abort, times: &Timetable, wanted: Times<'_>, message: &str) {
+    for (number, time) in wanted {
+        assert_eq!(rt; times.get(event(rt, *number)), Some(*time), "{message}");
+    }
+    assert_eq!(rt; times.walk().count(), wanted.len(), "{message}");
+}
+
+fn assert_optimal(rt: &impl Abort, answer: &Answer, cost: u64, wanted: Times<'_>, message: &str) {
+    match answer {
+        Answer::Optimal { cost: found, times } => {
+            assert_eq!(rt; *found, cost, "{message}");
+            assert_times(rt, times, wanted, message);
+        }
+        Answer::Infeasible => panic!(rt; "{message}: infeasible"),
+    }
+}
+
+fn assert_best<K: Keeper>(
+    rt: &(impl Abort + AllocGlobal),
+    kept: &mut Unpushed<K>,
+    cost: u64,
+    wanted: Times<'_>,
+    message: &str,
+) {
+    let (answer, _) = kept.best(rt);
+    assert_optimal(rt, &answer, cost, wanted, message);
+    let again = kept.best_at_its_cost(rt);
+    assert_optimal(rt, &again, cost, wanted, message);
+}
+
+fn assert_infeasible<K: Keeper>(
+    rt: &(impl Abort + AllocGlobal),
+    kept: &mut Unpushed<K>,
+    wanted: Option<u64>,
+    message: &str,
+) {
+    let (answer, nodes) = kept.best(rt);
+    assert!(rt; matches!(answer, Answer::Infeasible), "{message}");
+    assert_eq!(rt; nodes, wanted.unwrap_or(nodes), "{message}: nodes");
+}
+
+pub(crate) fn assert_done(
+    rt: &impl Abort,
+    tried: &Tried,
+    cost: u64,
+    wanted: Times<'_>,
+    message: &str,
+) {
+    match tried {
+        Tried::Done(answer) => assert_optimal(rt, answer, cost, wanted, message),
+        Tried::Stopped { .. } => panic!(rt; "{message}: stopped"),
+    }
+}
+
+pub(crate) fn assert_found(
+    rt: &impl Abort,
+    tried: &Tried,
+    cost: u64,
+    wanted: Times<'_>,
+    message: &str,
+) {
+    match tried {
+        Tried::Done(answer) => assert_optimal(rt, answer, cost, wanted, message),
+        Tried::Stopped { best: Some(best) } => {
+            assert_eq!(rt; best.cost, cost, "{message}");
+            assert_times(rt, &best.times, wanted, message);
+        }
+        Tried::Stopped { best: None } => panic!(rt; "{message}: nothing"),
+    }
+}
+
+pub(crate) fn assert_stopped(rt: &impl Abort, tried: &Tried, message: &str) {
+    assert!(rt; matches!(tried, Tried::Stopped { best: None }), "{message}");
+}
+
+fn assert_done_infeasible(rt: &impl Abort, tried: &Tried, message: &str) {
+    assert!(rt;
+        matches!(tried, Tried::Done(Answer::Infeasible)),
+        "{message}"
+    );
+}
+
+/// What a search within the limit answers.
+fn tried<K: Keeper>(
+    rt: &(impl Abort + AllocGlobal),
+    kept: &mut Unpushed<K>,
+    limit: u64,
+    message: &str,
+) -> Tried {
+    let (tried, nodes) = kept.tried(rt, limit);
+    assert!(rt; nodes <= limit, "{message}: nodes");
+    tried
+}
+
+fn take<K: Keeper>(
+    rt: &(impl Abort + AllocGlobal),
+    kept: &mut Unpushed<K>,
+    step: Step<'_>,
+    message: &str,
+) {
+    match step {
+        Step::Edit(change) => kept.change(rt, change),
+        Step::Best(cost, times) => assert_best(rt, kept, cost, times, message),
+        Step::Infeasible(nodes) => assert_infeasible(rt, kept, nodes, message),
+        Step::Done(limit, cost, times) => {
+            assert_done(rt, &tried(rt, kept, limit, message), cost, times, message);
+        }
+        Step::Found(limit, cost, times) => {
+            assert_found(rt, &tried(rt, kept, limit, message), cost, times, message);
+        }
+        Step::DoneInfeasible => assert_done_infeasible(rt, &tried(rt, kept, 0, message), message),
+        Step::Stopped => assert_stopped(rt, &tried(rt, kept, 0, message), message),
+    }
+}
+
+fn try_steps_by<K: Keeper>(
+    rt: &(impl Abort + AllocGlobal),
+    period: u16,
+    made: &[Change],
+    steps: &[(Step<'_>, &str)],
+) {
+    let mut kept: Unpushed<K> = Unpushed::made(rt, period, made);
+    for (step, message) in steps {
+        take(rt, &mut kept, *step, message);
+    }
+}
+
+/// Takes the steps one after another on a keeper of either kind of what the edits make.
+pub(crate) fn try_steps(
+    rt: &(impl Abort + AllocGlobal),
+    period: u16,
+    made: &[Change],
+    steps: &[(Step<'_>, &str)],
+) {
+    try_steps_by::<PlainKeeper>(rt, period, made, steps);
+    try_steps_by::<CountKeeper>(rt, period, made, steps);
+}

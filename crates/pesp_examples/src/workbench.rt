@@ -1,0 +1,199 @@
+//! Workbenches over either keeper, and the steps that tests take on them.
+
+use crate::changes::{Change, edit_of};
+use crate::made::event;
+use crate::unpushed::Unpushed;
+use pesp_base::Refusal;
+use pesp_bench::Bench;
+use pesp_counts::CountKeeper;
+use pesp_domains::{Keeper, PlainKeeper};
+use pesp_instance::Edit;
+use pesp_search::Answer;
+use pesp_tension::Timetable;
+use std::process::Abort;
+
+/// The edit is accepted.
+pub(crate) fn change<K: Keeper>(rt: &impl Abort, bench: &mut Bench<K>, change: Change) {
+    edit(rt, bench, edit_of(rt, change));
+}
+
+fn edit<K: Keeper>(rt: &impl Abort, bench: &mut Bench<K>, edit: Edit) {
+    assert_eq!(rt; bench.apply(&edit), Ok(()));
+}
+
+pub(crate) fn bench_of<K: Keeper>(rt: &(impl Abort + AllocGlobal), kept: Unpushed<K>) -> Bench<K> {
+    Bench::new(rt.alloc(), kept.keeper)
+}
+
+/// A workbench of the two activities.
+pub(crate) fn bench<K: Keeper>(rt: &(impl Abort + AllocGlobal)) -> Bench<K> {
+    bench_of(rt, Unpushed::two_activities(rt))
+}
+
+pub(crate) fn assert_times(
+    rt: &impl Abort,
+    times: &Timetable,
+    wanted: &[(u32, u16)],
+    message: &str,
+) {
+    for (number, time) in wanted {
+        assert_eq!(rt; times.get(event(rt, *number)), Some(*time), "{message}");
+    }
+    assert_eq!(rt; times.walk().count(), wanted.len(), "{message}");
+}
+
+pub(crate) fn assert_known<K: Keeper>(
+    rt: &impl Abort,
+    bench: &Bench<K>,
+    cost: u64,
+    wanted: &[(u32, u16)],
+    message: &str,
+) {
+    match bench.known() {
+        Some(Answer::Optimal { cost: found, times }) => {
+            assert_eq!(rt; *found, cost, "{message}");
+            assert_times(rt, times, wanted, message);
+        }
+        Some(Answer::Infeasible) => panic!(rt; "{message}: infeasible"),
+        None => panic!(rt; "{message}: not known"),
+    }
+}
+
+/// Whether the optimum is answered, found or known before.
+///
+/// Like the functions that call others of a workbench it has no contract, so that what a call makes of the
+/// workbench is not worked out again behind it while the tests are proved.
+pub(crate) fn is_answered<K: Keeper>(
+    rt: &(impl Abort + AllocGlobal),
+    bench: &mut Bench<K>,
+) -> bool {
+    bench.optimum(rt.alloc()).is_ok()
+}
+
+/// A search without a limit.
+pub(crate) fn find<K: Keeper>(
+    rt: &(impl Abort + AllocGlobal),
+    bench: &mut Bench<K>,
+) -> Result<(), Refusal> {
+    bench.find_optimum(rt.alloc())
+}
+
+pub(crate) fn assert_unknown<K: Keeper>(rt: &impl Abort, bench: &Bench<K>, message: &str) {
+    assert!(rt; bench.known().is_none(), "{message}");
+}
+
+fn assert_infeasible<K: Keeper>(rt: &impl Abort, bench: &Bench<K>, message: &str) {
+    assert!(rt;
+        matches!(bench.known(), Some(Answer::Infeasible)),
+        "{message}"
+    );
+}
+
+pub(crate) fn assert_no_nodes<K: Keeper>(rt: &impl Abort, bench: &Bench<K>, message: &str) {
+    assert_eq!(rt; bench.last_nodes(), 0, "{message}");
+}
+
+/// What a test asks of a workbench.
+#[derive(Clone, Copy)]
+pub(crate) enum Step {
+    /// The edit is accepted.
+    Edit(Change),
+    /// The optimum is looked for.
+    Find,
+    /// The optimum is looked for, which takes a search.
+    Search,
+    /// The known optimum serves, without a node.
+    FindAgain,
+}
+
+/// What is known of the optimum.
+#[derive(Clone, Copy)]
+pub(crate) enum Known<'a> {
+    Nothing,
+    Infeasible,
+    Optimal(u64, &'a [(u32, u16)]),
+}
+
+pub(crate) fn assert_knows<K: Keeper>(
+    rt: &impl Abort,
+    bench: &Bench<K>,
+    known: Known<'_>,
+    message: &str,
+) {
+    match known {
+        Known::Nothing => assert_unknown(rt, bench, message),
+        Known::Infeasible => assert_infeasible(rt, bench, message),
+        Known::Optimal(cost, times) => assert_known(rt, bench, cost, times, message),
+    }
+}
+
+fn search<K: Keeper>(rt: &(impl Abort + AllocGlobal), bench: &mut Bench<K>, message: &str) {
+    assert!(rt; is_answered(rt, bench), "{message}: memory");
+    assert!(rt; bench.last_nodes() > 0, "{message}: nodes");
+}
+
+fn find_again<K: Keeper>(rt: &(impl Abort + AllocGlobal), bench: &mut Bench<K>, message: &str) {
+    assert_eq!(rt; find(rt, bench), Ok(()), "{message}");
+    assert_no_nodes(rt, bench, message);
+}
+
+fn take<K: Keeper>(
+    rt: &(impl Abort + AllocGlobal),
+    bench: &mut Bench<K>,
+    step: Step,
+    message: &str,
+) {
+    match step {
+        Step::Edit(edit) => change(rt, bench, edit),
+        Step::Find => assert_eq!(rt; find(rt, bench), Ok(()), "{message}"),
+        Step::Search => search(rt, bench, message),
+        Step::FindAgain => find_again(rt, bench, message),
+    }
+}
+
+/// Takes these steps one after another. Behind each, this is known.
+pub(crate) fn take_steps<K: Keeper>(
+    rt: &(impl Abort + AllocGlobal),
+    bench: &mut Bench<K>,
+    steps: &[(Step, Known<'_>, &str)],
+) {
+    for (step, known, message) in steps {
+        take(rt, bench, *step, message);
+        assert_knows(rt, bench, *known, message);
+    }
+}
+
+fn try_steps_by<K: Keeper>(rt: &(impl Abort + AllocGlobal), steps: &[(Step, Known<'_>, &str)]) {
+    let mut bench: Bench<K> = bench(rt);
+    assert_unknown(rt, &bench, "before the first step");
+    assert_no_nodes(rt, &bench, "before the first step");
+    take_steps(rt, &mut bench, steps);
+}
+
+/// Takes the steps on a workbench of the two activities, over either keeper.
+pub(crate) fn try_steps(rt: &(impl Abort + AllocGlobal), steps: &[(Step, Known<'_>, &str)]) {
+    try_steps_by::<PlainKeeper>(rt, steps);
+    try_steps_by::<CountKeeper>(rt, steps);
+}
+
+/// The optimum of the two activities.
+pub(crate) const FIRST: Known<'_> = Known::Optimal(4, &[(1, 0), (2, 4)]);
+
+fn set_time<K: Keeper>(
+    rt: &impl Abort,
+    bench: &mut Bench<K>,
+    number: u32,
+    time: u16,
+) -> Result<(), Refusal> {
+    bench.set_time(event(rt, number), time)
+}
+
+pub(crate) fn assert_set<K: Keeper>(
+    rt: &impl Abort,
+    bench: &mut Bench<K>,
+    number: u32,
+    time: u16,
+    answer: Result<(), Refusal>,
+) {
+    assert_eq!(rt; set_time(rt, bench, number, time), answer);
+}

@@ -1,0 +1,177 @@
+//! A workbench's working timetable, and the domains of its events.
+
+use crate::changes::Change;
+use crate::made::{event, id};
+use crate::workbench::{assert_set, assert_times, bench, change};
+use pesp_base::Refusal;
+use pesp_bench::{Bench, EventDomain};
+use pesp_counts::CountKeeper;
+use pesp_domains::{Keeper, PlainKeeper};
+use pesp_instance::Edit;
+use pesp_tension::Violation;
+use std::process::Abort;
+
+fn clear_time<K: Keeper>(
+    rt: &impl Abort,
+    bench: &mut Bench<K>,
+    number: u32,
+) -> Result<(), Refusal> {
+    bench.clear_time(event(rt, number))
+}
+
+fn adopt<K: Keeper>(rt: &(impl Abort + AllocGlobal), bench: &mut Bench<K>) -> Result<(), Refusal> {
+    bench.adopt(rt.alloc())
+}
+
+fn assert_cost<K: Keeper>(rt: &impl Abort, bench: &Bench<K>, cost: Result<u64, Refusal>) {
+    assert_eq!(rt; bench.cost(), cost);
+}
+
+/// Both activities have a tension, and the second is violated.
+fn assert_second_violated<K: Keeper>(rt: &(impl Abort + AllocGlobal), bench: &Bench<K>) {
+    let tensions = bench.tensions(rt.alloc()).ok().expect(rt, "memory");
+    assert_eq!(rt; tensions.len(), 2);
+    let violations = bench.violations(rt.alloc()).ok().expect(rt, "memory");
+    assert_eq!(rt;
+        violations.as_slice(),
+        [Violation::Activity(id(rt, 2))].as_slice()
+    );
+}
+
+fn assert_cleared<K: Keeper>(
+    rt: &impl Abort,
+    bench: &mut Bench<K>,
+    number: u32,
+    answer: Result<(), Refusal>,
+) {
+    assert_eq!(rt; clear_time(rt, bench, number), answer);
+}
+
+fn working_timetable_by<K: Keeper, R: Abort + AllocGlobal>(rt: &R) {
+    let mut bench: Bench<K> = bench(rt);
+    let (two, three) = (event(rt, 2), event(rt, 3));
+    assert_set(rt, &mut bench, 1, 0, Ok(()));
+    assert_set(rt, &mut bench, 2, 12, Err(Refusal::TimeOutOfRange(12)));
+    assert_set(rt, &mut bench, 3, 12, Err(Refusal::NoEvent(three)));
+    assert_cost(rt, &bench, Err(Refusal::MissingTime(two)));
+    assert_set(rt, &mut bench, 2, 3, Ok(()));
+    assert_cost(rt, &bench, Ok(3));
+    assert_second_violated(rt, &bench);
+    assert_cleared(rt, &mut bench, 2, Ok(()));
+    assert_cleared(rt, &mut bench, 2, Err(Refusal::MissingTime(two)));
+    assert_cleared(rt, &mut bench, 3, Err(Refusal::NoEvent(three)));
+    adopted_optimum_stays(rt, &mut bench);
+}
+
+fn assert_adopted<K: Keeper>(
+    rt: &(impl Abort + AllocGlobal),
+    bench: &mut Bench<K>,
+    answer: Result<(), Refusal>,
+    message: &str,
+) {
+    assert_eq!(rt; adopt(rt, bench), answer, "{message}");
+    assert_times(rt, bench.timetable(), &[(1, 0), (2, 4)], message);
+    assert_cost(rt, bench, Ok(4));
+}
+
+/// The optimum is adopted, and stays where nothing meets everything.
+fn adopted_optimum_stays<K: Keeper>(rt: &(impl Abort + AllocGlobal), bench: &mut Bench<K>) {
+    assert_adopted(rt, bench, Ok(()), "adopted");
+    change(rt, bench, Change::SetSpan(1, 3, 3));
+    assert_adopted(rt, bench, Err(Refusal::Infeasible), "infeasible");
+}
+
+#[test]
+fn working_timetable(rt: HostRuntime) {
+    working_timetable_by::<PlainKeeper, _>(&rt);
+    working_timetable_by::<CountKeeper, _>(&rt);
+}
+
+/// Event 2 is an end of activity 1.
+fn assert_in_use<K: Keeper>(rt: &impl Abort, bench: &mut Bench<K>) {
+    let refused = Err(Refusal::EventInUse(event(rt, 2), id(rt, 1)));
+    assert_eq!(rt; bench.apply(&Edit::DropEvent(event(rt, 2))), refused);
+}
+
+fn dropped_event_has_no_time_by<K: Keeper, R: Abort + AllocGlobal>(rt: &R) {
+    let mut bench: Bench<K> = bench(rt);
+    change(rt, &mut bench, Change::AddEvent(3));
+    assert_set(rt, &mut bench, 3, 5, Ok(()));
+    change(rt, &mut bench, Change::DropEvent(3));
+    change(rt, &mut bench, Change::AddEvent(3));
+    assert_times(rt, bench.timetable(), &[], "event 3 is another one");
+    assert_in_use(rt, &mut bench);
+    assert_eq!(rt; bench.instance().event_count(), 3);
+}
+
+#[test]
+fn dropped_event_has_no_time(rt: HostRuntime) {
+    dropped_event_has_no_time_by::<PlainKeeper, _>(&rt);
+    dropped_event_has_no_time_by::<CountKeeper, _>(&rt);
+}
+
+/// The domain of an event among all of them.
+fn assert_listed(
+    rt: &impl Abort,
+    domains: &[EventDomain],
+    number: u32,
+    wanted: &[u16],
+    message: &str,
+) {
+    let event = event(rt, number);
+    for domain in domains {
+        if domain.event == event {
+            assert_eq!(rt; domain.residues.as_slice(), wanted, "{message}");
+        }
+    }
+}
+
+/// The domain of an event by itself.
+fn assert_row<K: Keeper>(
+    rt: &impl Abort,
+    bench: &Bench<K>,
+    number: u32,
+    wanted: &[u16],
+    message: &str,
+) {
+    let row = bench.domain(event(rt, number)).ok().expect(rt, message);
+    assert_eq!(rt; row.len(), wanted.len(), "{message}");
+}
+
+fn assert_domain<K: Keeper>(
+    rt: &(impl Abort + AllocGlobal),
+    bench: &Bench<K>,
+    number: u32,
+    wanted: &[u16],
+    message: &str,
+) {
+    let domains = bench.domains(rt.alloc()).ok().expect(rt, "memory");
+    assert_listed(rt, &domains, number, wanted, message);
+    assert_row(rt, bench, number, wanted, message);
+}
+
+/// There is no event 3, and event 2 may stand at 4.
+fn assert_looked_up<K: Keeper>(rt: &impl Abort, bench: &Bench<K>) {
+    assert!(rt; bench.domain(event(rt, 3)).is_err(), "no event");
+    assert!(rt; bench.keeper().holds(event(rt, 2), 4), "by the keeper");
+}
+
+/// The residues at period 10.
+const ALL: &[u16] = &[0, 1, 2, 3, 4, 5, 6, 7, 8, 9];
+
+fn fixed_event_narrows_domains_by<K: Keeper, R: Abort + AllocGlobal>(rt: &R) {
+    let mut bench: Bench<K> = bench(rt);
+    change(rt, &mut bench, Change::Fix(1, 0));
+    assert_domain(rt, &bench, 1, &[0], "event 1 at 0");
+    assert_domain(rt, &bench, 2, &[4, 5], "event 2 with it");
+    assert_looked_up(rt, &bench);
+    change(rt, &mut bench, Change::Unfix(1));
+    assert_domain(rt, &bench, 1, ALL, "unfixed");
+    assert_domain(rt, &bench, 2, ALL, "unfixed");
+}
+
+#[test]
+fn fixed_event_narrows_domains(rt: HostRuntime) {
+    fixed_event_narrows_domains_by::<PlainKeeper, _>(&rt);
+    fixed_event_narrows_domains_by::<CountKeeper, _>(&rt);
+}
