@@ -158,5 +158,6 @@ PARTS = [small_pieces, interrupted, failing_reads, failing_writes, failing_files
 def devices(suite, given):
     with Served(suite.library, [suite.program, *given.words], given.folder, given.given) as served:
         trial = Trial(suite, given, served)
+        suite.holds(f"{given.name}: writes are seen", trial.plain.calls[WRITE] + trial.plain.calls[WRITE_FAULT])
         for part in PARTS:
             part(trial)

@@ -46,6 +46,8 @@ def refuse_each(suite, given, served, name, last_of):
     plain = served.run()
     step = step_of(suite, plain.requests)
     ends = ends_of_replies(given.given, plain.output)
+    is_refused = AT_A_LINE.fullmatch(plain.error) or IN_A_FILE.fullmatch(plain.error)
+    suite.holds(f"{given.name}: no want of memory where none is refused", not is_refused)
     wrong, tried, whole, before, request = [], 0, 0, (0, 0, 0), 1
     while True:
         came = served.run(Order(refuse_from=request, refuse_to=last_of(request)))
@@ -55,6 +57,7 @@ def refuse_each(suite, given, served, name, last_of):
         wrong += [(request, fault, came)] if fault else []
         tried, whole, request = tried + 1, whole + (came.told() == plain.told()), request + step
     suite.found(f"{given.name}: each request for memory refused, {name}", tried, wrong)
+    suite.holds(f"{given.name}: requests for memory are seen", tried)
     suite.note(f"{whole} of those {name} done without")
     suite.holds(f"{given.name}: the same without a refusal at the end", came.told() == plain.told())
 

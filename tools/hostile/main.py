@@ -10,13 +10,19 @@ import time
 from hostile.damage import damage
 from hostile.failing import devices
 from hostile.growths import growths
-from hostile.inputs import example, inputs
+from hostile.inputs import Input, example, inputs
+from hostile.judged import judges
 from hostile.served import build_library
 from tests.examples import folders
 from tests.harness import PROGRAM, short
 
-PARTS = {"growths": growths, "devices": devices, "damage": damage}
-TRIED = {"growths": "refused requests", "devices": "runs with faulty devices", "damage": "damaged texts, each twice"}
+PARTS = {"judges": judges, "growths": growths, "devices": devices, "damage": damage}
+TRIED = {
+    "judges": "programs",
+    "growths": "refused requests",
+    "devices": "runs with faulty devices",
+    "damage": "damaged texts, each twice",
+}
 SHOWN = 5
 
 
@@ -62,7 +68,7 @@ def tasks(parts, folder):
     """Each part with each of its inputs."""
     given = list(inputs(folder))
     for part in parts:
-        named = [example(path) for path in folders()] if part == "damage" else given
+        named = {"judges": [Input("wrong runs", [], folder)], "damage": map(example, folders())}.get(part, given)
         yield from ((part, each) for each in named)
 
 
@@ -77,7 +83,7 @@ def run_all(words, folder):
             print("\n".join([*suite.faults, line_of(part, each, suite, seconds)]), flush=True)
             passed, failed = passed + suite.passed, failed + suite.failed()
             totals[part] += suite.runs
-    print("tried: " + ", ".join(f"{totals[part]} {TRIED[part]}" for part in chosen))
+    print("tried: " + ", ".join(f"{totals[part]} {TRIED[part]}" for part in chosen if totals[part]))
     print(f"{passed} passed, {failed} failed")
     return failed > 0
 
