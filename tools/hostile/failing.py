@@ -20,7 +20,7 @@ MOVING = [READ, READ_FILE, WRITE, WRITE_FAULT]
 PIECES = [1, 2, 3, 7]
 # Where there are more calls, some of them are tried, spread over all: so many, and more where all are asked for.
 MOST_CALLS = 1_000
-TRIED_CALLS = {False: 10, True: 200}
+TRIED_CALLS = {False: 10, True: 40}
 EARLY = b"pespbench: out of memory at line 0\n"
 
 
