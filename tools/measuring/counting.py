@@ -19,7 +19,7 @@ def count(words, profile, status=0, given=None):
     return int(re.search(r"Collected : (\d+)", counted.stderr).group(1))
 
 
-def peak(words, path):
+def peak(words, path, status=0, given=None):
     """The kB of memory of one run, at their most."""
-    run(["/usr/bin/time", "-f", "%M", "-o", path, *words])
+    run(["/usr/bin/time", "-q", "-f", "%M", "-o", path, *words], status, given)
     return int(path.read_text())

@@ -1,0 +1,1 @@
+"""What the built program does where memory, devices and files fail it."""

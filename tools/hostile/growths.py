@@ -1,0 +1,68 @@
+"""Each request for memory refused in turn: alone, and with all later ones."""
+
+import re
+
+from hostile.inputs import ends_of_replies
+from hostile.served import ALWAYS, Order, Served
+
+AT_A_LINE = re.compile(rb"pespbench: out of memory at line (\d+)\n")
+IN_A_FILE = re.compile(rb"pespbench: (activities|fixed|times) file, record (\d+): out of memory\n")
+FILES = [b"activities", b"fixed", b"times"]
+# Where there are more requests, some of them are tried, spread over all, but where all are asked for.
+MOST_REQUESTS = 1_000
+TRIED_REQUESTS = 100
+
+
+def place_of(came, plain, ends):
+    """Where a run says that memory was wanted, as numbers that grow with the work; None where it says it wrongly."""
+    line, record = AT_A_LINE.fullmatch(came.error), IN_A_FILE.fullmatch(came.error)
+    if came.status != 1 or not (line or record):
+        return None
+    if record:
+        return (0, 1 + FILES.index(record[1]), int(record[2])) if came.output == b"" else None
+    number = int(line[1])
+    wanted = plain.output[: ends[max(number - 1, 0)]] if number < len(ends) else None
+    return (number, 0, 0) if came.output == wanted else None
+
+
+def judge(came, plain, ends, before):
+    """What is wrong with a run, if anything, and how far its work came."""
+    if came.told() == plain.told():
+        return None, before
+    place = place_of(came, plain, ends)
+    if place is None:
+        return "neither the whole output nor want of memory after just the replies before its line", before
+    if place[0] < before[0]:
+        return f"line {place[0]} after line {before[0]} was answered", before
+    return None, place
+
+
+def step_of(suite, requests):
+    return 1 if suite.is_whole or requests <= MOST_REQUESTS else requests // TRIED_REQUESTS
+
+
+def refuse_each(suite, given, served, name, last_of):
+    """Refuses one request after the other until none is refused any more."""
+    plain = served.run()
+    step = step_of(suite, plain.requests)
+    ends = ends_of_replies(given.given, plain.output)
+    is_refused = AT_A_LINE.fullmatch(plain.error) or IN_A_FILE.fullmatch(plain.error)
+    suite.holds(f"{given.name}: no want of memory where none is refused", not is_refused)
+    wrong, tried, whole, before, request = [], 0, 0, (0, 0, 0), 1
+    while True:
+        came = served.run(Order(refuse_from=request, refuse_to=last_of(request)))
+        if came.refused == 0:
+            break
+        fault, before = judge(came, plain, ends, before)
+        wrong += [(request, fault, came)] if fault else []
+        tried, whole, request = tried + 1, whole + (came.told() == plain.told()), request + step
+    suite.found(f"{given.name}: each request for memory refused, {name}", tried, wrong)
+    suite.holds(f"{given.name}: requests for memory are seen", tried)
+    suite.note(f"{whole} of those {name} done without")
+    suite.holds(f"{given.name}: the same without a refusal at the end", came.told() == plain.told())
+
+
+def growths(suite, given):
+    with Served(suite.library, [suite.program, *given.words], given.folder, given.given) as served:
+        refuse_each(suite, given, served, "alone", lambda request: request)
+        refuse_each(suite, given, served, "with all later ones", lambda request: ALWAYS)

@@ -1,0 +1,148 @@
+"""What the program is run on: a command line, its files and its commands."""
+
+import dataclasses
+import re
+
+from measuring.checks import write_files
+from measuring.network import PERIOD, Numbers, activity_rows
+from measuring.scripts import write_script
+from tests.examples import content, folders, words_of
+from tests.file_cases import TWO, TWO_FIXED, TWO_TIMES
+from tests.harness import NAMES, TOP
+from tests.streams import followed
+
+BLANKS = b" \t\r"
+
+# Each command of the table with its refusals, on the two trains with a fixed time and a timetable.
+ALL_COMMANDS = b"""# each command
+tensions
+violations
+cost
+domain 1
+domains
+dump
+
+untime 2
+tensions
+unfix 1
+fix 1 0
+fix 1 12
+domains
+optimum
+adopt
+cost
+weight 1 5
+try 2
+try 1000
+add event 3
+add event 3
+add activity 3 2 3 1 4 1
+add activity 4 1 3 2 5 1
+ends 2 3 1
+drop event 2
+time 3 1
+time 9 1
+optimum
+span 1 3 3
+adopt
+drop activity 2
+drop activity 4
+drop activity 3
+drop event 3
+violations
+quit
+weight 1 x
+span 1 5 3
+fix 1 70000
+span 1 4 4
+fix 2 9
+optimum
+adopt
+unfix 2
+optimum
+adopt
+dump"""
+
+
+@dataclasses.dataclass
+class Input:
+    """A run to be disturbed: its name, the words behind the program's name, the folder, and the commands."""
+
+    name: str
+    words: list
+    folder: object
+    given: bytes = b""
+
+    def is_check(self):
+        return "--check" in self.words
+
+
+def stored_run(folder):
+    return Input("the stored run", [], folder, (TOP / "crates/pespbench/stdin").read_bytes())
+
+
+def example(folder):
+    return Input(f"examples/{folder.name}", words_of(folder), folder, content(folder / "commands"))
+
+
+def words_of_two(folder):
+    """The words for the two trains, whose files are written into the folder."""
+    for name, text in zip(NAMES, [TWO, TWO_FIXED, TWO_TIMES]):
+        (folder / name).write_bytes(text)
+    return ["--period", "10", "--fixed", "fixed", "--times", "times", "activities"]
+
+
+def drawn_search(folder, events):
+    """A network whose search has some hundred nodes, asked by a try, for the optimum, and after edits."""
+    numbers = Numbers(events)
+    times = [numbers.below(PERIOD) for _ in range(events)]
+    rows = list(activity_rows(numbers, 2 * events, times, True, (2, 4)))
+    (folder / "searched").write_text("".join("; ".join(map(str, row)) + "\n" for row in rows))
+    name, first, last, lower, upper, _ = rows[0]
+    lines = ["try 5", "optimum", f"span {name} {lower} {upper + 1}", "try 3", "adopt", f"fix {first} 7", "optimum"]
+    return Input("a search", ["searched"], folder, "".join(f"{line}\n" for line in lines).encode())
+
+
+def script(folder, rows):
+    path, _ = write_script(folder, rows)
+    return Input(f"a script of {rows} activities", [], folder, path.read_bytes() + b"dump\n")
+
+
+def large_check(folder, rows):
+    words, _ = write_files(folder, rows)
+    return Input(f"a check of {rows} activities", [str(word) for word in words["check"]], folder)
+
+
+def inputs(folder):
+    """All that the program is run on, those first that take longest."""
+    words = words_of_two(folder)
+    yield Input("too many lines", [], folder, b"\n" * 999_999 + b"cost\ncost")
+    yield large_check(folder, 10_000)
+    yield script(folder, 200)
+    yield Input("each command", words, folder, ALL_COMMANDS)
+    yield drawn_search(folder, 8)
+    yield Input("a line that is too long", words, folder, b"cost\n" + b"x" * 5_000)
+    yield Input("help", ["--help"], folder)
+    yield Input("refused words", ["--bogus", "a", "b"], folder)
+    yield Input("a check", ["--check", *words], folder)
+    yield Input("a faulty file", ["--check", "--times", "activities"], folder)
+    yield stored_run(folder)
+    yield from map(example, folders())
+
+
+def has_reply(line):
+    """Whether a line of commands has a reply: a blank one and a comment have none."""
+    bare = line.strip(BLANKS)
+    return bool(bare) and not bare.startswith(b"#")
+
+
+def ends_of_replies(given, output):
+    """How many bytes are out once the first lines are answered, for each number of lines that are answered whole."""
+    ends, place = [0], 0
+    for line in re.split(b"\n", given):
+        if place < len(output) and has_reply(line):
+            first = output[place : output.index(b"\n", place)].decode("latin-1")
+            for _ in range(1 + followed(first)):
+                place = output.index(b"\n", place) + 1
+        ends.append(place)
+    return ends

@@ -1,0 +1,60 @@
+"""Wrong programs as the tests would see them: each way to go wrong has to be found."""
+
+from hostile.damage import fault_of_commands
+from hostile.growths import judge
+from hostile.inputs import ends_of_replies
+from hostile.served import Came
+
+GIVEN = b"add event 1\n\ndomains\ncost"
+OUTPUT = b"ok\ndomains 1\n1: 0 1\ncost 0\n"
+AT = b"pespbench: out of memory at line %d\n"
+
+# What a run wrote with a request refused, and whether that is right.
+REFUSED = {
+    "the whole output": (0, OUTPUT, b"", True),
+    "before the first line": (1, b"", AT % 0, True),
+    "at the first line": (1, b"", AT % 1, True),
+    "behind a reply and a blank line": (1, b"ok\n", AT % 3, True),
+    "in a file": (1, b"", b"pespbench: times file, record 7: out of memory\n", True),
+    "half a reply": (1, b"ok\ndomains 1\n", AT % 3, False),
+    "half a line": (1, b"o", AT % 1, False),
+    "a reply too many": (1, b"ok\ndomains 1\n1: 0 1\n", AT % 3, False),
+    "a reply too few": (1, b"", AT % 3, False),
+    "a line that is not there": (1, OUTPUT, AT % 9, False),
+    "a reply before a file": (1, b"ok\n", b"pespbench: times file, record 7: out of memory\n", False),
+    "another fault": (1, b"", b"pespbench: commands cannot be read\n", False),
+    "no text": (1, b"ok\n", b"", False),
+    "two texts": (1, b"", AT % 1 + AT % 1, False),
+    "half the output as if it were whole": (0, b"ok\n", b"", False),
+    "the whole output with another status": (1, OUTPUT, b"", False),
+    "a signal": (-11, b"", b"", False),
+    "another reply": (0, b"ok\ninfeasible\ncost 0\n", b"", False),
+}
+# What a run wrote over damaged commands, and whether that is right.
+DAMAGED = {
+    "the whole output": (0, OUTPUT, b"", True),
+    "a fault of a file": (1, b"", b"pespbench: activities file, record 2: wrong number of fields\n", True),
+    "a fault of a file behind a reply": (1, b"ok\n", b"pespbench: times file, record 2: event is repeated\n", False),
+    "a reply too few": (0, b"ok\ndomains 1\n1: 0 1\n", b"", False),
+    "half a reply": (0, b"ok\ndomains 2\n1: 0 1\ncost 0\n", b"", False),
+    "no line end": (0, OUTPUT[:-1], b"", False),
+    "bytes of a file": (1, b"", b"pespbench: activities file, record 2: '1; 2' wrong number of fields\n", False),
+    "an escape sequence": (0, b"ok\ndomains 1\n1: 0 1\n\x1b[31m\n", b"", False),
+    "a signal": (-6, b"", b"", False),
+}
+
+
+def came(status, output, error):
+    return Came(status, output, error, 1, 1, 0, {})
+
+
+def judges(suite, _):
+    plain, ends = came(0, OUTPUT, b""), ends_of_replies(GIVEN, OUTPUT)
+    for name, (status, output, error, is_right) in REFUSED.items():
+        fault, _ = judge(came(status, output, error), plain, ends, (0, 0, 0))
+        suite.holds(f"refused requests: {name} is {'right' if is_right else 'found'}", (fault is None) == is_right)
+    fault, _ = judge(came(1, b"ok\n", AT % 2), plain, ends, (3, 0, 0))
+    suite.holds("refused requests: a line that was answered before is found", fault)
+    for name, (status, output, error, is_right) in DAMAGED.items():
+        fault = fault_of_commands(GIVEN, came(status, output, error))
+        suite.holds(f"damage: {name} is {'right' if is_right else 'found'}", (fault is None) == is_right)
