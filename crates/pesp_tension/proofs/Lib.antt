@@ -1,3 +1,5 @@
 mod Cases
+pub mod Kept
+pub mod Places
 pub mod Timed
 pub mod Walks

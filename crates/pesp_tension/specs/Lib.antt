@@ -1,3 +1,4 @@
 pub mod Answers
 pub mod Assessed
+pub mod Places
 pub mod Timetables

@@ -2,13 +2,13 @@
 //!
 //! Each answer first looks for an event without a time, and so each look-up behind that finds one.
 
-ghost use Rattle.std.specs.Prelude.{◌≡◌, ◌≤◌, ◌*◌, ◌-◌, ◌++◌, All, Ok, IfOk, IfErr, OnOk, None, IsSome};
+ghost use Rattle.std.specs.Prelude.{◌≡◌, ◌<◌, ◌≤◌, ◌*◌, ◌-◌, ◌++◌, int_le, All, Ok, IfOk, IfErr, OnOk, None, IsSome};
 ghost use Rattle.pesp_base.specs.Limits.{greatest_period, greatest_weight};
 ghost use Rattle.pesp_tension.specs.Timetables.{time_of};
 ghost use Rattle.pesp_tension.specs.Answers.{AreTimes, IsRefusalOf, IsTimed, agrees, cost_in, cost_of, first_missing, meets, moved_among, tension_in, tensions_of, time_at, unmet_among, violations_of, where_timed};
 
 use crate::{ActivityTension, Tensions, Timetable, Violation, Violations};
-use pesp_base::{Activity, EventId, Refusal, allows, slack, tension};
+use pesp_base::{Activity, EventId, Refusal, allows, slack};
 use pesp_instance::{Event, Instance};
 use std::alloc::{AllocError, Global};
 
@@ -35,7 +35,7 @@ pub(crate) fn require_times(instance: &Instance, timetable: &Timetable) -> Resul
 }
 
 /// The times of an activity's ends.
-pub(crate) fn times_of_ends(activity: &Activity, timetable: &Timetable) -> (u16, u16)
+fn times_of_ends(activity: &Activity, timetable: &Timetable) -> (u16, u16)
     requires { IsTimed timetable.now activity.now }
     ensures { AreTimes timetable.now activity.now result }
 {
@@ -44,50 +44,35 @@ pub(crate) fn times_of_ends(activity: &Activity, timetable: &Timetable) -> (u16,
     (from, to)
 }
 
-/// The tension and the slack of an activity, whose ends have these times.
-pub(crate) fn tension_at(
-    activity: &Activity,
-    timetable: &Timetable,
-    times: (u16, u16),
-) -> ActivityTension
-    requires { AreTimes timetable.now activity.now times }
-    ensures { result ≡ tension_in timetable.now activity.now }
+/// The tension and the slack of an activity.
+pub(crate) fn tension_of(activity: &Activity, timetable: &Timetable) -> ActivityTension
+    requires { IsTimed timetable.now activity.now }
+    ensures value { result ≡ tension_in timetable.now activity.now }
+    ensures small { result.slack < greatest_period }
 {
-    let period = timetable.period();
-    let (from, to) = times;
+    let (from, to) = times_of_ends(activity, timetable);
+    let slack = slack(timetable.period(), activity.span, from, to);
     ActivityTension {
         id: activity.id,
-        tension: tension(period, activity.span, from, to),
-        slack: slack(period, activity.span, from, to),
+        tension: activity.span.lower() + i32::from(slack),
+        slack,
     }
 }
 
-/// Whether an activity is met, whose ends have these times.
-pub(crate) fn is_met_at(activity: &Activity, timetable: &Timetable, times: (u16, u16)) -> bool
-    requires { AreTimes timetable.now activity.now times }
-    ensures { result ≡ meets timetable.now activity.now }
+/// Whether an activity is met at a tension that is not below its lower bound.
+pub(crate) fn is_met_at(activity: &Activity, tension: i32) -> bool
+    ensures { result ≡ int_le tension (activity.now).span.upper }
 {
-    let (from, to) = times;
-    allows(timetable.period(), activity.span, from, to)
+    tension <= activity.span.upper()
 }
 
-/// Weight times slack of an activity, whose ends have these times.
-pub(crate) fn cost_at(activity: &Activity, timetable: &Timetable, times: (u16, u16)) -> u64
-    requires { AreTimes timetable.now activity.now times }
-    ensures value { result ≡ cost_in timetable.now activity.now }
+/// Weight times slack.
+pub(crate) fn cost_at(activity: &Activity, slack: u16) -> u64
+    requires { slack < greatest_period }
+    ensures value { result ≡ (activity.now).weight * slack }
     ensures small { result ≤ greatest_weight * (greatest_period - 1) }
 {
-    let (from, to) = times;
-    let slack = slack(timetable.period(), activity.span, from, to);
     u64::from(activity.weight.get()) * u64::from(slack)
-}
-
-/// The tension and the slack of an activity.
-fn tension_of(activity: &Activity, timetable: &Timetable) -> ActivityTension
-    requires { IsTimed timetable.now activity.now }
-    ensures { result ≡ tension_in timetable.now activity.now }
-{
-    tension_at(activity, timetable, times_of_ends(activity, timetable))
 }
 
 /// Whether an activity is met, whose ends have times.
@@ -95,7 +80,8 @@ pub fn is_met(activity: &Activity, timetable: &Timetable) -> bool
     requires { IsTimed timetable.now activity.now }
     ensures { result ≡ meets timetable.now activity.now }
 {
-    is_met_at(activity, timetable, times_of_ends(activity, timetable))
+    let (from, to) = times_of_ends(activity, timetable);
+    allows(timetable.period(), activity.span, from, to)
 }
 
 /// Weight times slack of an activity.
@@ -104,7 +90,7 @@ pub fn cost_of_activity(activity: &Activity, timetable: &Timetable) -> u64
     ensures value { result ≡ cost_in timetable.now activity.now }
     ensures small { result ≤ greatest_weight * (greatest_period - 1) }
 {
-    cost_at(activity, timetable, times_of_ends(activity, timetable))
+    cost_at(activity, tension_of(activity, timetable).slack)
 }
 
 /// Whether an event stands at its fixed time, if it has one.

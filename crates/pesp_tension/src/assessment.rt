@@ -5,8 +5,8 @@ ghost use Rattle.pesp_base.specs.Limits.{greatest_period, greatest_weight};
 ghost use Rattle.pesp_tension.specs.Answers.{IsRefusalOf, IsTimed, cost_in, first_missing, tension_in, tensions_of, unmet_among, where_timed};
 ghost use Rattle.pesp_tension.specs.Assessed.{IsAssessment, IsBehind};
 
-use crate::answers::{cost_at, is_met_at, list_moved, require_times, tension_at, times_of_ends};
-use crate::{Tensions, Timetable, Violation, Violations};
+use crate::answers::{cost_at, is_met_at, list_moved, require_times, tension_of};
+use crate::{ActivityTension, Tensions, Timetable, Violation, Violations};
 use pesp_base::{Activity, Refusal};
 use pesp_instance::Instance;
 use std::alloc::{AllocError, Global};
@@ -32,16 +32,15 @@ fn add_activity(
     ensures cost { OnOk result (assessment.new.cost ≡ assessment.old.cost + cost_in timetable.now activity.now) }
     ensures small { OnOk result (assessment.new.cost ≤ assessment.old.cost + greatest_weight * (greatest_period - 1)) }
 {
-    let times = times_of_ends(activity, timetable);
-    assessment
-        .tensions
-        .push(tension_at(activity, timetable, times))?;
-    if !is_met_at(activity, timetable, times) {
+    let answer = tension_of(activity, timetable);
+    let ActivityTension { tension, slack, .. } = answer;
+    assessment.tensions.push(answer)?;
+    if !is_met_at(activity, tension) {
         assessment
             .violations
             .push(Violation::Activity(activity.id))?;
     }
-    assessment.cost += cost_at(activity, timetable, times);
+    assessment.cost += cost_at(activity, slack);
     Ok(())
 }
 
@@ -79,8 +78,8 @@ fn assess_timed(
     Ok(assessment)
 }
 
-/// Tensions, violations and cost at once: the times of each activity's ends are looked up once for
-/// the three.
+/// Tensions, violations and cost at once: the times of each activity's ends are looked up once, and its
+/// slack is found once, for the three.
 ///
 /// Refusals in order: 11 with the least event of the instance that has no time; 10.
 pub fn assess(

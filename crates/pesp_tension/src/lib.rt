@@ -5,6 +5,7 @@ mod agreement;
 mod answers;
 mod assessment;
 mod lists;
+mod look_up;
 mod timetable;
 mod walk;
 

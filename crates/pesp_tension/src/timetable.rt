@@ -1,33 +1,35 @@
 //! Timetables.
 
-ghost use Rattle.std.specs.Prelude.{◌≡◌, ◌<◌, ◌≤◌, Ok, IfSome, IfErr, OnOk, OnErr, is_some, length, None};
+ghost use Rattle.std.specs.Prelude.{◌≡◌, ◌<◌, ◌≤◌, Ok, IfOk, IfSome, IfErr, OnOk, OnErr, is_ok, is_some, length};
 ghost use Rattle.std.specs.List.Sorted.{IsStrictlyIncreasing};
 ghost use Rattle.pesp_base.specs.Limits.{max_events};
 ghost use Rattle.pesp_base.specs.declared.refusal.Refusal.TheVariants as no;
+ghost use Rattle.pesp_tension.specs.Places.{IsAt, IsGap};
 ghost use Rattle.pesp_tension.specs.Timetables.{no_times, time_of, timed_events, set_time, with_time, without_time, IsSetRefusal, IsTimetable};
 
 use crate::Walk;
+use crate::look_up::{place, place_from_end};
 use pesp_base::{EventId, Period, Refusal, max_events};
 use std::alloc::Global;
-use std::collections::BTreeMap;
 use std::marker::Model;
 
 /// Times of events, each below the period; an event need not have one.
 #[derive(Drop)]
 pub struct Timetable {
     period: Period,
-    // From the number of an event to its time.
-    times: BTreeMap<u32, u16>,
+    // The number and the time of each event that has one, by rising numbers.
+    times: Vec<(u32, u16)>,
 }
 
 impl Model for Timetable {
-    ghost use Rattle.pesp_tension.specs.Timetables.{Times, IsTimetable};
+    ghost use Rattle.pesp_tension.specs.Timetables.{Times};
+    ghost use Rattle.pesp_tension.specs.Places.{IsKept};
 
     ghost Value = { Times };
 
-    ghost view = { λ a. record { period = a.period; entries = a.times.entries } };
+    ghost view = { λ a. record { period = a.period; entries = a.times.items } };
 
-    ghost invariant = { λ a. IsTimetable (record { period = a.period; entries = a.times.entries }) };
+    ghost invariant = { λ a. IsKept (record { period = a.period; entries = a.times.items }) };
 }
 
 impl Timetable {
@@ -37,7 +39,7 @@ impl Timetable {
     {
         Timetable {
             period,
-            times: BTreeMap::new(alloc),
+            times: Vec::new(alloc),
         }
     }
 
@@ -52,7 +54,10 @@ impl Timetable {
         ensures time { result ≡ time_of self.now event }
         ensures below { IfSome result (λ t. t < self.now.period) }
     {
-        self.times.get(&event.get()).copied()
+        match place(&self.times, event) {
+            Ok(place) => Some(self.times[place].1),
+            Err(_) => None,
+        }
     }
 
     /// The events that have times, in ascending order.
@@ -79,22 +84,45 @@ impl Timetable {
         if time >= self.period.get() {
             return Err(Refusal::TimeOutOfRange(time));
         }
-        if !self.times.contains_key(&event.get()) && self.times.len() >= max_events(self.period) {
-            return Err(Refusal::TooManyEvents);
+        match self.place_to_set(event) {
+            Ok(place) => {
+                self.replace(place, event, time);
+                Ok(())
+            }
+            Err(_) if self.times.len() >= max_events(self.period) => Err(Refusal::TooManyEvents),
+            Err(place) => self.insert(place, event, time),
         }
-        self.put(event, time)
     }
 
-    /// Gives the event a time that it may have.
-    fn put(&mut self, event: EventId, time: u16) -> Result<(), Refusal>
+    /// Where the event stands, or would stand.
+    fn place_to_set(&self, event: EventId) -> Result<usize, usize>
+        ensures known { is_ok result ≡ is_some (time_of self.now event) }
+        ensures found { IfOk result (IsAt self.now.entries event) }
+        ensures absent { IfErr result (IsGap self.now.entries event) }
+    {
+        place_from_end(&self.times, event)
+    }
+
+    /// Gives an event that stands at the place another time.
+    fn replace(&mut self, place: usize, event: EventId, time: u16)
         requires below { time < self.old.period }
-        requires room { time_of self.old event ≡ None → length self.old.entries < max_events self.old.period }
+        requires at { IsAt self.old.entries event place }
+        ensures { self.new ≡ with_time self.old event time }
+    {
+        self.times[place] = (event.get(), time);
+    }
+
+    /// Gives an event that would stand at the place a time.
+    fn insert(&mut self, place: usize, event: EventId, time: u16) -> Result<(), Refusal>
+        requires below { time < self.old.period }
+        requires gap { IsGap self.old.entries event place }
+        requires room { length self.old.entries < max_events self.old.period }
         ensures ok { OnOk result (self.new ≡ with_time self.old event time) }
-        ensures refused { IfErr result (λ r. (r ≡ no.Memory) × (time_of self.old event ≡ None)) }
+        ensures refused { IfErr result (λ r. r ≡ no.Memory) }
         ensures unchanged { OnErr result (self.new ≡ self.old) }
     {
-        match self.times.insert(event.get(), time) {
-            Ok(_) => Ok(()),
+        match self.times.insert(place, (event.get(), time)) {
+            Ok(()) => Ok(()),
             Err(_) => Err(Refusal::Memory),
         }
     }
@@ -104,6 +132,12 @@ impl Timetable {
         ensures had { result ≡ is_some (time_of self.old event) }
         ensures without { self.new ≡ without_time self.old event }
     {
-        self.times.remove(&event.get()).is_some()
+        match place(&self.times, event) {
+            Ok(place) => {
+                self.times.remove(place);
+                true
+            }
+            Err(_) => false,
+        }
     }
 }

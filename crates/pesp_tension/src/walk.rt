@@ -3,8 +3,8 @@
 ghost use Rattle.std.specs.Iterator.{YieldsFirstBy, item_count};
 
 use pesp_base::EventId;
-use std::collections::btree_map;
 use std::marker::Model;
+use std::slice;
 
 /// The time of an event, below the timetable's period.
 #[derive(Clone, Copy, Debug, PartialEq, Eq)]
@@ -16,19 +16,20 @@ pub struct EventTime {
 /// The events of a timetable that are left, in ascending order, each with its time.
 #[derive(Drop)]
 pub struct Walk<'a> {
-    pub(crate) entries: btree_map::Iter<'a, u32, u16>,
+    pub(crate) entries: slice::Iter<'a, (u32, u16)>,
 }
 
 impl<'a> Model for Walk<'a> {
     ghost use Rattle.std.specs.Prelude.{ℕ, List, ◌≤◌, All};
     ghost use Rattle.std.specs.Map.{keys_of};
+    ghost use Rattle.std.specs.Slice.Iter.{iter_rest};
     ghost use Rattle.pesp_base.specs.Limits.{greatest_number};
 
     ghost Value = { List (ℕ × ℕ) };
 
-    ghost view = { λ w. w.entries };
+    ghost view = { λ w. iter_rest w.entries };
 
-    ghost invariant = { λ w. All (λ e. e ≤ greatest_number) (keys_of w.entries) };
+    ghost invariant = { λ w. All (λ e. e ≤ greatest_number) (keys_of (iter_rest w.entries)) };
 }
 
 impl<'a> Iterator for Walk<'a> {
@@ -39,8 +40,8 @@ impl<'a> Iterator for Walk<'a> {
     ghost remaining = { item_count (λ rest. rest) };
 
     fn next(&mut self) -> Option<EventTime> {
-        let (event, time) = self.entries.next()?;
-        let event = EventId::new(*event).unwrap();
-        Some(EventTime { event, time: *time })
+        let (event, time) = *self.entries.next()?;
+        let event = EventId::new(event).unwrap();
+        Some(EventTime { event, time })
     }
 }

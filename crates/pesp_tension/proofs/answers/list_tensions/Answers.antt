@@ -18,7 +18,7 @@ pub loop-activity-preserved : goal.loop-activity-preserved
 loop-activity-preserved c = record {
   can_next = tt;
   is_finite = tt;
-  left = rw (c.in_ok-push.ensures.items, c.tension_of.ensures, append_assoc) (rw c.in-Some.ensures.steps at c.loop-activity.invariant.left);
+  left = rw (c.in_ok-push.ensures.items, c.tension_of.ensures.value, append_assoc) (rw c.in-Some.ensures.steps at c.loop-activity.invariant.left);
   timed = tail_of (IsTimed c.args.timetable.now) c.in-Some.activity.now c.next.new.self (rw c.in-Some.ensures.steps at c.loop-activity.invariant.timed);
 }
 
