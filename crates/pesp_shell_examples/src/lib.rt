@@ -6,6 +6,10 @@
 #[cfg(test)]
 mod checks;
 #[cfg(test)]
+mod devices;
+#[cfg(test)]
 mod options;
 #[cfg(test)]
 mod sessions;
+#[cfg(test)]
+mod streams;

@@ -8,21 +8,21 @@ use std::alloc::{AllocError, Global};
 use std::process::Abort;
 use std::test::Fail;
 
-const TWO: &str = "1; 1; 2; 3; 5; 2\n2; 2; 1; 4; 6; 1\n";
+pub(crate) const TWO: &str = "1; 1; 2; 3; 5; 2\n2; 2; 1; 4; 6; 1\n";
 
 const THREE: &str = "1; 1; 2; 1; 2; 0\n2; 1; 3; 1; 2; 0\n3; 2; 3; 1; 2; 0\n";
 
 /// A period, and the texts of the three files.
 #[derive(Clone, Copy)]
-struct Given {
-    period: u16,
-    activities: &'static str,
-    fixed: &'static str,
-    times: &'static str,
+pub(crate) struct Given {
+    pub(crate) period: u16,
+    pub(crate) activities: &'static str,
+    pub(crate) fixed: &'static str,
+    pub(crate) times: &'static str,
 }
 
 /// Files of activities alone.
-fn alone(period: u16, activities: &'static str) -> Given {
+pub(crate) fn alone(period: u16, activities: &'static str) -> Given {
     Given {
         period,
         activities,

@@ -1,0 +1,164 @@
+//! Devices that give or take small pieces, and that break at one of their calls; and runs over them.
+
+use crate::sessions::Given;
+use pesp_base::Period;
+use pesp_domains::Keeper;
+use pesp_shell::{Noted, RunFault, run};
+use std::io::{self, Read, Write};
+use std::process::Abort;
+
+/// What a device does at a call.
+#[derive(Clone, Copy)]
+pub(crate) enum Manner {
+    /// It gives or takes some bytes.
+    Works,
+    /// It answers an error.
+    Fails,
+    /// It answers that there were no bytes.
+    Idles,
+}
+
+/// How many bytes a device gives or takes at a call, and what it does from which call on.
+#[derive(Clone, Copy)]
+pub(crate) struct Habit {
+    pub(crate) size: usize,
+    // How many calls come before it breaks.
+    pub(crate) calls: usize,
+    pub(crate) broken: Manner,
+}
+
+/// A device that never breaks.
+pub(crate) fn sound(size: usize) -> Habit {
+    Habit {
+        size,
+        calls: 0,
+        broken: Manner::Works,
+    }
+}
+
+/// Counts the calls that a device broke, and says what it does at this one.
+fn next_manner(habit: &mut Habit, broken_calls: &mut usize) -> Manner {
+    if habit.calls > 0 {
+        habit.calls -= 1;
+        return Manner::Works;
+    }
+    if !matches!(habit.broken, Manner::Works) {
+        *broken_calls = broken_calls.saturating_add(1);
+    }
+    habit.broken
+}
+
+/// Gives some bytes.
+#[derive(Drop)]
+struct Pieces<'a> {
+    bytes: &'a [u8],
+    habit: Habit,
+    broken_calls: &'a mut usize,
+}
+
+impl Read for Pieces<'_> {
+    fn read(&mut self, room: &mut [u8]) -> io::Result<usize> {
+        match next_manner(&mut self.habit, self.broken_calls) {
+            Manner::Fails => return Err(io::Error::other("a broken device")),
+            Manner::Idles => return Ok(0),
+            Manner::Works => {}
+        }
+        let count = self.habit.size.min(room.len()).min(self.bytes.len());
+        room[..count].copy_from_slice(&self.bytes[..count]);
+        self.bytes = &self.bytes[count..];
+        Ok(count)
+    }
+}
+
+/// Takes bytes, and flushes them where it does so.
+#[derive(Drop)]
+struct Narrow<'a> {
+    taken: &'a mut Vec<u8>,
+    habit: Habit,
+    flushes: bool,
+    broken_calls: &'a mut usize,
+}
+
+impl Write for Narrow<'_> {
+    fn write(&mut self, bytes: &[u8]) -> io::Result<usize> {
+        match next_manner(&mut self.habit, self.broken_calls) {
+            Manner::Fails => return Err(io::Error::other("a broken device")),
+            Manner::Idles => return Ok(0),
+            Manner::Works => {}
+        }
+        let count = self.habit.size.min(bytes.len());
+        self.taken.extend_from_slice(&bytes[..count])?;
+        Ok(count)
+    }
+
+    fn flush(&mut self) -> io::Result<()> {
+        if self.flushes {
+            return Ok(());
+        }
+        *self.broken_calls = self.broken_calls.saturating_add(1);
+        Err(io::Error::other("a broken device"))
+    }
+}
+
+/// The devices of a run.
+#[derive(Clone, Copy)]
+pub(crate) struct Devices {
+    pub(crate) source: Habit,
+    pub(crate) sink: Habit,
+    pub(crate) flushes: bool,
+}
+
+/// Devices that work, with pieces of this size.
+pub(crate) fn pieces_of(size: usize) -> Devices {
+    Devices {
+        source: sound(size),
+        sink: sound(size),
+        flushes: true,
+    }
+}
+
+/// What a run ends with, its output, and how many calls of broken devices it made.
+#[derive(Drop)]
+pub(crate) struct Ending {
+    pub(crate) fault: Option<RunFault>,
+    pub(crate) output: Vec<u8>,
+    pub(crate) broken_calls: usize,
+}
+
+/// A run over such devices.
+pub(crate) fn ending_of<K: Keeper, R: Abort + AllocGlobal>(
+    rt: &R,
+    given: Given,
+    input: &[u8],
+    devices: Devices,
+) -> Ending {
+    let period = Period::new(given.period).expect(rt, "a period");
+    let mut output = Vec::new(rt.alloc());
+    let (mut unread, mut unwritten) = (0, 0);
+    let mut reader = Noted::new(Pieces {
+        bytes: input,
+        habit: devices.source,
+        broken_calls: &mut unread,
+    });
+    let mut writer = Noted::new(Narrow {
+        taken: &mut output,
+        habit: devices.sink,
+        flushes: devices.flushes,
+        broken_calls: &mut unwritten,
+    });
+    let activities = given.activities.as_bytes();
+    let ended = run::<K, _, _>(
+        rt.alloc(),
+        period,
+        activities,
+        None,
+        None,
+        &mut reader,
+        &mut writer,
+    );
+    Ending {
+        fault: ended.err(),
+        output,
+        broken_calls: unread.saturating_add(unwritten),
+    }
+}
