@@ -1,4 +1,6 @@
-"""How many nodes a search for the optimum has, on a set of small networks that is the same in each run."""
+"""What a search for the optimum takes, on a set of small networks that is the same in each run."""
+
+import time
 
 from measuring.keeper import Network
 
@@ -29,22 +31,42 @@ def nodes_of(network):
     return high
 
 
+def seconds_of(network, limit):
+    began = time.perf_counter()
+    network.answers([f"try {limit}"])
+    return time.perf_counter() - began
+
+
 def measure_search(program, folder, events, seed):
-    """The nodes of the search and the instructions of a node, on one network of the set."""
+    """The nodes of the search, the instructions of a node and the seconds of all of it, on one network of the set.
+
+    Where it has many nodes, the instructions are those of its first ones. What comes before the first node counts.
+    """
     rows = events * ACTIVITIES_OF_AN_EVENT
     network = Network(program, folder, rows, events, lambda event: False, seed, WIDTHS)
     nodes = nodes_of(network)
     counted = min(nodes or COUNTED_NODES, COUNTED_NODES)
-    return nodes, (network.takes([f"try {counted}"]) - network.takes([])) / counted
+    instructions = network.takes([f"try {counted}"]) - network.takes([])
+    return nodes, instructions / counted, seconds_of(network, nodes or MOST_NODES)
 
 
-def print_searches(program, folder):
-    print("\nnodes of a search, and instructions of a node")
-    print(f"{'events':>7} {'seed':>5} {'nodes':>9} {'a node':>9}")
-    ended, total = 0, 0
+def columns(nodes, figure, seconds):
+    return f"{nodes or f'> {MOST_NODES}':>9} {figure:>9.0f} {seconds:>9.3f}"
+
+
+def print_searches(programs, folder):
+    """The figures of each program beside each other."""
+    print("\nnodes of a search, instructions of a node, and seconds of the search" + (", before and now" if programs[1:] else ""))
+    print(f"{'events':>7} {'seed':>5}" + f" {'nodes':>9} {'a node':>9} {'seconds':>9}" * len(programs))
+    ended = [[] for _ in programs]
     for events in EVENTS:
         for seed in SEEDS:
-            nodes, figure = measure_search(program, folder, events, seed)
-            print(f"{events:>7} {seed:>5} {nodes or f'> {MOST_NODES}':>9} {figure:>9.0f}", flush=True)
-            ended, total = ended + bool(nodes), total + (nodes or 0)
-    print(f"{ended} end, with {total} nodes in sum")
+            figures = [measure_search(program, folder, events, seed) for program in programs]
+            print(f"{events:>7} {seed:>5} " + " ".join(columns(*each) for each in figures), flush=True)
+            for nodes, (found, _, _) in zip(ended, figures):
+                nodes.append(found)
+    for nodes in ended:
+        print(f"{sum(map(bool, nodes))} end, with {sum(filter(None, nodes))} nodes in sum")
+    if programs[1:]:
+        shared = [(first, last) for first, last in zip(ended[0], ended[-1]) if first]
+        print(f"of those that ended before: {sum(first for first, _ in shared)} nodes, now {sum(last or 0 for _, last in shared)}")
