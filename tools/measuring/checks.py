@@ -1,5 +1,6 @@
 """What a check takes, and reading alone."""
 
+import dataclasses
 import sys
 
 from measuring.counting import count, peak, run
@@ -9,15 +10,37 @@ SHOWN_FUNCTIONS = 25
 COUNTED = ["check", "reading"]
 
 
-def write_files(folder, rows):
+@dataclasses.dataclass(frozen=True)
+class Form:
+    """How the files of a check are made."""
+
+    name: str
+    activities_ascend: bool = False
+    times_ascend: bool = True
+    end: int | None = None
+
+
+UNSORTED = Form("activities in no order")
+FORMS = [
+    UNSORTED,
+    Form("activities ascending", activities_ascend=True),
+    Form("all activities to one event", end=0),
+    Form("times in no order too", times_ascend=False),
+]
+
+
+def write_files(folder, rows, form=UNSORTED):
     """The words of a check and of a run that reads alone, and the number of events."""
     numbers = Numbers(rows)
     events = events_of(rows)
     times = [numbers.below(PERIOD) for _ in range(events)]
+    activities = list(activity_rows(numbers, rows, times, end=form.end))
+    fixed = text_of(fixed_rows(numbers, times))
+    order = range(events) if form.times_ascend else numbers.shuffled(events)
     texts = {
-        "activities": text_of(activity_rows(numbers, rows, times)),
-        "fixed": text_of(fixed_rows(numbers, times)),
-        "times": text_of(enumerate(times)),
+        "activities": text_of(sorted(activities) if form.activities_ascend else activities),
+        "fixed": fixed,
+        "times": text_of((event, times[event]) for event in order),
     }
     texts["reading"] = texts["times"] + "0\n"
     paths = {name: folder / f"{name}.{rows}" for name in texts}
@@ -27,12 +50,18 @@ def write_files(folder, rows):
     return {"check": [*given, "--times", paths["times"]], "reading": [*given, "--times", paths["reading"]]}, events
 
 
-def measure(program, folder, rows):
-    """What one number of activities takes."""
-    words, events = write_files(folder, rows)
+def check_of(program, folder, rows, form):
+    """The words of a check that is not refused, of a run that reads alone, and the number of events."""
+    words, events = write_files(folder, rows, form)
     check, reading = ([program, *words[name]] for name in COUNTED)
     if run(check).stdout.startswith("refused"):
-        sys.exit(f"tools/measure: the check of {rows} rows is refused")
+        sys.exit(f"tools/measure: the check of {rows} rows, {form.name}, is refused")
+    return check, reading, events
+
+
+def measure(program, folder, rows):
+    """What one number of activities takes."""
+    check, reading, events = check_of(program, folder, rows, UNSORTED)
     wanted = f"pespbench: times file, record {events + 1}: wrong number of fields\n"
     if run(reading, 1).stderr != wanted:
         sys.exit(f"tools/measure: the run that reads {rows} rows alone did not end behind the last of the times")
@@ -65,6 +94,23 @@ def print_table(start, table):
         print(f"instructions per activity of {title} grow {overall:.2f} times {ends}")
 
 
+def measure_form(program, folder, sizes, form):
+    """The instructions of checks of one form, and the peak memory of the greatest."""
+    counts = []
+    for rows in sizes:
+        check, _, _ = check_of(program, folder, rows, form)
+        counts.append(count(check, folder / "callgrind.form"))
+    return counts, peak(check, folder / "memory")
+
+
+def print_forms(start, sizes, table):
+    print("\ninstructions per activity of a whole check, by the order of the rows")
+    print(f"{'rows':>29} {''.join(f'{rows:>9}' for rows in sizes)} {'peak kB':>9}")
+    for form, (counts, memory) in table:
+        each = "".join(f"{(found - start) / rows:>9.1f}" for rows, found in zip(sizes, counts))
+        print(f"{form.name:>29} {each} {memory:>9}")
+
+
 def print_profile(rows, profile):
     print(f"\nat {rows} rows:")
     lines = run(["callgrind_annotate", profile]).stdout.splitlines()
@@ -76,5 +122,6 @@ def measure_checks(words, folder):
     start = count([words.program, "--check"], folder / "callgrind.empty")
     table = [measure(words.program, folder, rows) for rows in words.rows]
     print_table(start, table)
+    print_forms(start, words.rows, [(form, measure_form(words.program, folder, words.rows, form)) for form in FORMS])
     for row in table if words.profile else []:
         print_profile(row["rows"], row["profile"])

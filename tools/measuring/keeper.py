@@ -62,16 +62,22 @@ def measure_edits(program, folder, rows):
     weights = [f"weight {name} {weight}" for name, *_, weight in some_of(network.rows)]
     free = some_of([event for event in range(len(network.times)) if event not in set(network.fixed)])
     fix, unfix = [f"fix {event} {network.times[event]}" for event in free], [f"unfix {event}" for event in free]
-    for lines in [spans, weights, fix + unfix]:
+    # The greatest network has no room for an activity, so some are dropped and added again.
+    drops = [f"drop activity {name}" for name, *_ in some_of(network.rows)]
+    adds = [f"add activity {' '.join(map(str, row))}" for row in some_of(network.rows)]
+    for lines in [spans, weights, fix + unfix, drops + adds]:
         if network.answers(lines) != "ok\n" * len(lines):
             sys.exit(f"tools/measure: an edit of the network of {rows} rows is refused")
     fixed, pairs = network.takes(fix), network.pairs([]) - network.pairs(fix)
+    dropped = network.takes(drops)
     return {
         "rows": rows,
         "events": len(network.times),
         "building": (built - network.reading()) / rows,
         "span": (network.takes(spans) - built) / len(spans),
         "weight": (network.takes(weights) - built) / len(weights),
+        "drop": (dropped - built) / len(drops),
+        "add": (network.takes(drops + adds) - dropped) / len(adds),
         "pairs": pairs / len(free),
         "fix": (fixed - built) / len(free),
         "unfix": (network.takes(fix + unfix) - fixed) / len(free),
@@ -89,9 +95,12 @@ def measure_search(program, folder, events):
 
 def print_edits(table):
     print("\ninstructions of a building for each activity, and of each edit")
-    print(f"{'rows':>7} {'events':>7} {'building':>9} {'span':>9} {'weight':>9} {'fix':>9} {'unfix':>11} {'residues moved':>15} {'peak kB':>9}")
+    print(
+        f"{'rows':>7} {'events':>7} {'building':>9} {'span':>9} {'weight':>9} {'drop':>9} {'add':>9} {'fix':>9} {'unfix':>11} {'residues moved':>15} {'peak kB':>9}"
+    )
     for row in table:
-        figures = f"{row['building']:>9.0f} {row['span']:>9.0f} {row['weight']:>9.0f} {row['fix']:>9.0f} {row['unfix']:>11.0f}"
+        edits = "".join(f" {row[name]:>9.0f}" for name in ["span", "weight", "drop", "add", "fix"])
+        figures = f"{row['building']:>9.0f}{edits} {row['unfix']:>11.0f}"
         print(f"{row['rows']:>7} {row['events']:>7} {figures} {row['pairs']:>15.1f} {row['memory']:>9}")
 
 

@@ -30,10 +30,10 @@ def events_of(rows):
     return max(2, min(MOST_EVENTS, rows // ACTIVITIES_OF_AN_EVENT))
 
 
-def activity_rows(numbers, rows, times, are_met=False, widths=(8, 20)):
+def activity_rows(numbers, rows, times, are_met=False, widths=(8, 20), end=None):
     """Activities in no order of their numbers, which name each event; about a tenth of them are violated, or none.
 
-    A span has the first of the widths at least, and less than both of them together.
+    A span has the first of the widths at least, and less than both of them together. All lead to the end, where one is given.
     """
     events = len(times)
     order = numbers.shuffled(events)
@@ -41,6 +41,7 @@ def activity_rows(numbers, rows, times, are_met=False, widths=(8, 20)):
         # The step has no factor in common with the modulus, a prime, so no number comes twice.
         name = (place * 7_919 + 17) % 1_000_003
         first, last = order[place % events], numbers.below(events)
+        last = last if end is None else end
         off = 0 if numbers.below(10) or are_met else 1
         lower = (times[last] - times[first]) % PERIOD - numbers.below(widths[0]) + off * 20
         yield name, first, last, lower, lower + widths[0] + numbers.below(widths[1]), numbers.below(1_000)

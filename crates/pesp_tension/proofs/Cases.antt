@@ -1,11 +1,12 @@
 -- Small cases of the definitions, by computation.
-use Rattle.std.proofs.Common.{◌≡◌, refl, pos, [], ◌∷◌, Some, Err, ℕ}
+use Rattle.std.proofs.Common.{◌≡◌, ◌<◌, zero, suc, refl, pos, [], ◌∷◌, Some, Err, ℕ, arith}
 use Rattle.pesp_base.specs.declared.refusal.Refusal.TheVariants as no
 use Rattle.pesp_instance.specs.declared.edit.Edit.TheVariants as do_
 use Rattle.pesp_instance.specs.Network.{Network, new_event}
 use Rattle.pesp_instance.specs.Edited.{after}
 use Rattle.pesp_tension.specs.declared.lists.Violation.TheVariants as of_
 use Rattle.pesp_tension.specs.Timetables.{Times, no_times, set_time, with_time, without_time}
+use Rattle.pesp_tension.specs.Places.{event_at, IsAt, IsGap}
 use Rattle.pesp_tension.specs.Answers.{cost_of, first_missing, tensions_of, violations_of, where_timed}
 
 -- two events, and an activity from each to the other
@@ -24,6 +25,18 @@ times = with_time (with_time (no_times 10) 2 3) 1 0
 
 times_rise : times.entries ≡ (1, 0) ∷ (2, 3) ∷ []
 times_rise = refl
+
+-- event 2 stands at place 1, and event 3 would stand behind it
+second_place : IsAt times.entries 2 1
+second_place = record { within = omega arith; event = refl }
+
+gap_behind : IsGap times.entries 3 2
+gap_behind = record { within = omega arith; smaller = below_three; greater = λ i h k. absurd (omega (arith, h, k)) }
+  where
+    below_three : (i : ℕ) → i < 2 → event_at times.entries i < 3
+    below_three zero h = omega arith
+    below_three (suc zero) h = omega arith
+    below_three (suc (suc i)) h = absurd (omega (arith, h))
 
 two_tensions : tensions_of two times ≡ record { id = 1; tension = pos 3; slack = 0 } ∷ record { id = 2; tension = pos 7; slack = 3 } ∷ []
 two_tensions = refl
