@@ -1,0 +1,44 @@
+-- What timetables within rows cost at least.
+use Rattle.std.specs.Prelude.{◌≡◌, ℕ, ◌+◌, ◌*◌, ◌≤◌, ◌<◌, IsTrue, List, All, length, slice_index, slice_index_or, sum_by}
+use Rattle.std.specs.List.{Contains}
+use Rattle.pesp_base.specs.declared.activity.Activity.{Activity}
+use Rattle.pesp_base.specs.Tensions.{IsMet, slack_of}
+use Rattle.pesp_instance.specs.Network.{Network, event_ids, has_event}
+use Rattle.pesp_ahead.specs.declared.arc.Arc.{Arc}
+use Rattle.pesp_ahead.specs.Rows.{InRows}
+
+-- times of events, of each event one within its row, with which each activity is met
+pub record AreTimes (I : Network) (S : ℕ → ℕ → Type 0) (times : ℕ → ℕ) : Type 0 where
+  pub inside : (e : ℕ) → IsTrue (has_event I e) → S e (times e)
+  pub met : (a : Activity) → Contains I.activities a → IsMet I.period a.span (times a.from) (times a.to)
+
+-- what they cost: the sum of weight times slack
+abbrev pub cost_at : Network → (ℕ → ℕ) → ℕ
+cost_at I times = sum_by (λ a. a.weight * slack_of I.period a.span (times a.from) (times a.to)) I.activities
+
+-- times within the rows cost at least what is told of the residue that the event takes
+abbrev pub IsSound : Network → (ℕ → ℕ → Type 0) → ℕ → (ℕ → ℕ) → Type 0
+IsSound I S e bound = (times : ℕ → ℕ) → AreTimes I S times → bound (times e) ≤ cost_at I times
+
+-- a period, how many events, the activities that are no loops, what loops cost, and for each place the bounds of its residues
+pub record Sight : Type 0 where
+  pub period : ℕ
+  pub places : ℕ
+  pub arcs : List Arc
+  pub loops : ℕ
+  pub bounds : List ℕ
+
+-- what is told of the residue of the event at the place
+abbrev pub bound_at : Sight → ℕ → ℕ → ℕ
+bound_at sight place r = slice_index_or sight.bounds (place * sight.period + r) 0
+
+-- both ends of the arc are places
+pub record IsBetween (places : ℕ) (arc : Arc) : Type 0 where
+  pub tail : arc.tail < places
+  pub head : arc.head < places
+
+-- it is of this instance
+pub record IsSightOf (I : Network) (sight : Sight) : Type 0 where
+  pub period : sight.period ≡ I.period
+  pub places : sight.places ≡ length (event_ids I)
+  pub between : All (IsBetween sight.places) sight.arcs
