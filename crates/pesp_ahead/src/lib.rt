@@ -1,9 +1,17 @@
-//! Bounds on what timetables cost that are still possible: stub.
+//! Bounds on what timetables cost that are still possible: tables that see ahead in a search.
 #![tactic(auto)]
 
 mod ahead;
 mod arc;
+mod arcs;
+mod bounds;
+mod entry;
+mod lower;
 mod rows;
+mod size;
+mod step;
+mod sums;
+mod tables;
 
 pub use ahead::Ahead;
 pub use arc::Arc;
