@@ -11,6 +11,7 @@ mod rows;
 mod size;
 mod step;
 mod sums;
+mod sweep;
 mod tables;
 
 pub use ahead::Ahead;

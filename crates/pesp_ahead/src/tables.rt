@@ -1,9 +1,9 @@
 //! The tables of an instance, and what they tell.
 
-ghost use Rattle.std.specs.Prelude.{◌≡◌, ◌≢◌, ℕ, ◌*◌, ◌<◌, ◌≤◌, IfOk, IfSome, length, slice_index};
+ghost use Rattle.std.specs.Prelude.{◌≡◌, ◌≢◌, ℕ, ◌*◌, ◌<◌, ◌≤◌, All, IfOk, IfSome, length, slice_index};
 ghost use Rattle.pesp_instance.specs.Network.{event_ids};
 ghost use Rattle.pesp_ahead.specs.Rows.{InRows};
-ghost use Rattle.pesp_ahead.specs.Sights.{IsSightOf, IsSound, bound_at};
+ghost use Rattle.pesp_ahead.specs.Sights.{IsBetween, IsSightOf, IsSound, bound_at};
 
 use crate::Arc;
 use crate::arcs::arcs_of;
@@ -11,6 +11,7 @@ use crate::bounds::tell_bounds;
 use crate::entry::{Entry, PAIR};
 use crate::size::size_of;
 use crate::sums::renew_all;
+use crate::sweep::sweep;
 use pesp_base::{EventId, Period};
 use pesp_instance::Instance;
 use std::alloc::{AllocError, Global};
@@ -90,6 +91,25 @@ impl Tables {
         }
     }
 
+    /// Sweeps over the tables of the place.
+    fn settle(&mut self, tests: &[bool], place: usize)
+        requires place { place < self.old.places }
+        requires tests { length tests.now ≡ self.old.places * self.old.period }
+        requires between { All (IsBetween self.old.places) self.old.arcs }
+        ensures { self.new ≡ self.old }
+    {
+        let size = self.arcs.len() * (2 * usize::from(self.period.get()));
+        let from = place * size;
+        sweep(
+            self.period,
+            &self.arcs,
+            tests,
+            self.places,
+            &mut self.entries[from..from + size],
+            &mut self.sums,
+        );
+    }
+
     /// Looks ahead within these rows from the event at the place.
     pub fn look(&mut self, instance: &Instance, tests: &[bool], place: usize)
         requires of { IsSightOf instance.now self.old }
@@ -101,6 +121,7 @@ impl Tables {
         ensures others { (k r : ℕ) → k ≢ place → r < instance.now.period → bound_at self.new k r ≡ bound_at self.old k r }
     {
         self.descend(place);
+        self.settle(tests, place);
         let size = self.arcs.len() * (2 * usize::from(self.period.get()));
         let from = place * size;
         let sums: &mut [u64] = &mut self.sums;
