@@ -1,0 +1,7 @@
+-- What the residues before this one leave.
+use Rattle.std.proofs.Common.{ℕ, ◌+◌, ◌*◌, ◌<◌, ◌≤◌, IsTrue, false, slice_index, slice_index_or}
+use Rattle.pesp_ahead.specs.Tables.{IsMetFrom, pair, slack_at}
+use Rattle.pesp_ahead.proofs.lower.lower.Given as goal
+
+abbrev pub invariant-loop-there : goal.invariant-loop-there
+invariant-loop-there l = (here there : ℕ) → here < l.period → there < l.there → IsTrue (slice_index_or l.row there false) → IsMetFrom l.side l.period l.arc.span here there → slice_index l.own here + slice_index l.other there ≤ pair + slack_at l.side l.period l.arc.span here there * l.arc.weight

@@ -1,0 +1,4 @@
+pub mod Arcs
+pub mod Rows
+pub mod Sights
+pub mod Tables
