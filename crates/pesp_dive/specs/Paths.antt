@@ -1,6 +1,6 @@
 -- What a dive keeps of the choices that it tried.
 use Rattle.std.specs.Prelude.{◌≡◌, ◌<◌, ℕ, Option, Some}
-use Rattle.pesp_dive.specs.declared.path.Choice.{Choice}
+use Rattle.pesp_dive.specs.declared.choice.Choice.{Choice}
 
 -- its residue, if there is one, is below the period
 abbrev pub IsBelow : ℕ → Option Choice → Type 0

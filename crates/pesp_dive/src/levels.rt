@@ -10,7 +10,7 @@ use pesp_base::{EventId, Memory, Period};
 use pesp_domains::Keeper;
 use std::alloc::Global;
 
-/// A dive whose rows would have more tests than this is not made.
+/// A dive whose rows would have more tests than this is not made. A test is a byte.
 const MOST_TESTS: usize = 64_000_000;
 
 /// For each depth the rows of all events. At the depth of a place the places before it are settled.

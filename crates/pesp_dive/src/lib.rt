@@ -4,6 +4,7 @@
 //! Nothing is promised of the times that are found: who calls it checks them.
 #![tactic(auto)]
 
+mod choice;
 mod dives;
 mod levels;
 mod neighbour;

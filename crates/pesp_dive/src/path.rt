@@ -3,17 +3,11 @@
 ghost use Rattle.std.specs.Prelude.{◌≡◌, ◌+◌, ◌<◌, ◌≤◌, false, All, IfOk, IfSome, length};
 ghost use Rattle.pesp_dive.specs.Paths.{IsBelow};
 
+use crate::choice::Choice;
 use crate::levels::Levels;
 use pesp_ahead::Ahead;
 use pesp_base::{Memory, Period};
 use std::alloc::Global;
-
-/// A residue of an event, with what timetables with it cost at least. Choices are tried in ascending order.
-#[derive(Clone, Copy, PartialEq, Eq, PartialOrd, Ord)]
-pub(crate) struct Choice {
-    pub(crate) bound: u64,
-    pub(crate) residue: u16,
-}
 
 /// The choices tried last at each depth, and the least cost that was found.
 #[derive(Drop)]
@@ -75,8 +69,8 @@ impl Path {
         self.best.is_some()
     }
 
-    /// The least choice of the row at a depth that is behind the last one there and costs less than what was found.
-    /// The row is that of the event there, and the residues below `among` are asked for.
+    /// The first choice at a depth that is behind the last one there and may cost less than what was found.
+    /// The row is that of the event there; its residues below `among` are asked for.
     fn next_at(&self, ahead: &Ahead, row: &[bool], depth: usize, among: u16) -> Option<Choice>
         requires depth { depth < length self.now.last.items }
         requires period { self.now.period ≡ ahead.now.period }
@@ -92,9 +86,8 @@ impl Path {
                 residue,
             };
             if row[usize::from(residue)]
-                && self.best.is_none_or(|best| choice.bound < best)
-                && last < Some(choice)
-                && next.is_none_or(|first| choice < first)
+                && choice.may_cost_less(self.best)
+                && choice.is_between(last, next)
             {
                 next = Some(choice);
             }
