@@ -1,6 +1,6 @@
 //! The dive.
 
-ghost use Rattle.std.specs.Prelude.{◌≡◌, ◌≤◌, ◌<◌, All, length, IfOk};
+ghost use Rattle.std.specs.Prelude.{◌≡◌, ◌<◌, All, length};
 ghost use Rattle.pesp_instance.specs.Network.{event_ids};
 ghost use Rattle.pesp_ahead.specs.Sights.{IsSightOf};
 
