@@ -1,0 +1,20 @@
+//! Choices of a residue.
+
+/// A residue of an event, with what timetables with it cost at least. Choices are tried in ascending order.
+#[derive(Clone, Copy, PartialEq, Eq, PartialOrd, Ord)]
+pub(crate) struct Choice {
+    pub(crate) bound: u64,
+    pub(crate) residue: u16,
+}
+
+impl Choice {
+    /// Whether timetables with it may cost less than the best one, if there is one.
+    pub(crate) fn may_cost_less(&self, best: Option<u64>) -> bool {
+        best.is_none_or(|best| self.bound < best)
+    }
+
+    /// Whether it is behind the last choice, if there is one, and before another, if there is one.
+    pub(crate) fn is_between(&self, last: Option<Choice>, other: Option<Choice>) -> bool {
+        last.is_none_or(|last| last < *self) && other.is_none_or(|other| *self < other)
+    }
+}
