@@ -1,13 +1,14 @@
--- Residues that are left out before they are pushed: what is known with them has come to the limit.
-use Rattle.std.proofs.Common.{◌≡◌, ℕ, ◌+◌, ◌<◌, ◌≤◌, ◌↔◌, Bool, IsTrue, List, [], ◌∷◌, ◌++◌, length, get_or, slice_index, Option, Some, None, IsSomeAnd, IfNone, MatchOption, vec_capacity, refl, sym, ◌∙◌, subst, inl, inr, arith}
+-- Residues that are left out before they are pushed: what is told of them, or what is known with them, has come to the limit.
+use Rattle.std.proofs.Common.{◌≡◌, ℕ, ◌+◌, ◌<◌, ◌≤◌, ◌↔◌, Bool, IsTrue, List, [], ◌∷◌, ◌++◌, length, get_or, slice_index, Option, Some, None, IsSomeAnd, IfNone, IfSome, MatchOption, vec_capacity, refl, sym, ◌∙◌, subst, inl, inr, arith}
 use Rattle.std.proofs.lemmas.Bool.{cases_eq, cases_lt}
 use Rattle.pesp_instance.specs.Network.{IsNetwork, Network, event_ids}
 use Rattle.pesp_domains.specs.declared.pair.Pair.{Pair}
 use Rattle.pesp_domains.specs.Domains.{InDomains, IsDomain, holds}
 use Rattle.pesp_search.specs.declared.branch.Branch.{Branch}
 use Rattle.pesp_search.specs.Branch.{IsBranch, IsFront}
-use Rattle.pesp_search.specs.Found.{AreCut, AtLeast, IsCut, IsFirstOfUse, IsNextOfUse, IsOver}
+use Rattle.pesp_search.specs.Found.{AreCut, AtLeast, IsCut, IsFirstOfUse, IsNextOfUse, IsOfNoUse, IsOver}
 use Rattle.pesp_search.specs.Places.{InNext, pairs_of}
+use Rattle.pesp_search.specs.Seen.{IsSeen}
 use Rattle.pesp_search.specs.Walk.{Extends, IsFull, IsNext, IsSpent, IsStep, Nothing, known_cost}
 use Rattle.pesp_search.proofs.BestSoFar.{spent_cut}
 use Rattle.pesp_search.proofs.Costs.{known_le_cost}
@@ -20,27 +21,29 @@ extends_next (t ∷ times) [] x l = (refl, tt)
 extends_next (t ∷ times) (y ∷ path) x l = (x.0, extends_next times path x.1 (omega (arith, l)))
 
 -- full times that take such a residue cost at least the limit
-cut_at_least : (I : Network) (limit : Option ℕ) (path times : List ℕ) → IsFull I times → Extends times path → length path < length times → IsCut limit (known_cost I (path ++ get_or times (length path) 0 ∷ [])) → AtLeast I limit times
-cut_at_least I None path times full x l cut = cut
-cut_at_least I (Some limit) path times full x l cut = let known = known_le_cost I times (path ++ get_or times (length path) 0 ∷ []) (extends_next times path x l) in omega (arith, cut, known)
+cut_at_least : (I : Network) (limit : Option ℕ) (bound : ℕ → ℕ) (path times : List ℕ) → IsSeen I path bound → IsFull I times → Extends times path → length path < length times → IsOfNoUse I limit bound path (get_or times (length path) 0) → AtLeast I limit times
+cut_at_least I None bound path times seen full x l (inl cut) = cut
+cut_at_least I None bound path times seen full x l (inr cut) = cut
+cut_at_least I (Some limit) bound path times seen full x l (inl cut) = let least = seen times full x in omega (arith, cut, least)
+cut_at_least I (Some limit) bound path times seen full x l (inr cut) = let known = known_le_cost I times (path ++ get_or times (length path) 0 ∷ []) (extends_next times path x l) in omega (arith, cut, known)
 
-module _ (I : Network) (limit : Option ℕ) (path : List ℕ) (from first : ℕ) (ok : IsNetwork I) (next : IsNext Nothing I path from first) where
-  passed : (to : ℕ) → AreCut I limit path first to → (times : List ℕ) → IsFull I times → Extends times path → from ≤ get_or times (length path) 0 → get_or times (length path) 0 < to → AtLeast I limit times
+module _ (I : Network) (limit : Option ℕ) (bound : ℕ → ℕ) (path : List ℕ) (from first : ℕ) (ok : IsNetwork I) (seen : IsSeen I path bound) (next : IsNext Nothing I path from first) where
+  passed : (to : ℕ) → AreCut I limit bound path first to → (times : List ℕ) → IsFull I times → Extends times path → from ≤ get_or times (length path) 0 → get_or times (length path) 0 < to → AtLeast I limit times
   passed to cut times full x low high =
       let room = next.room in
       let within : length path < length times = omega (arith, room, full.events) in
       elim (cases_lt (get_or times (length path) 0) first) [
         | inl below ↦ absurd (next.skips times full x low below)
-        | inr above ↦ cut_at_least I limit path times full x within (cut _ above high (next_in_domains I (pairs_of (event_ids I) path) path times ok refl room full x))
+        | inr above ↦ cut_at_least I limit bound path times seen full x within (cut _ above high (next_in_domains I (pairs_of (event_ids I) path) path times ok refl room full x))
       ]
 
   -- the first residue that is of use is the next one
-  pub next_of_cut : (r : ℕ) → IsFirstOfUse I limit path first r → IsNext (AtLeast I limit) I path from r
+  pub next_of_cut : (r : ℕ) → IsFirstOfUse I limit bound path first r → IsNext (AtLeast I limit) I path from r
   next_of_cut r is =
       record { room = next.room; above = omega (arith, next.above, is.above); below = is.below; inside = is.inside; alive = next.alive; skips = passed r is.before }
 
   -- where none is of use the place is spent
-  pub spent_of_cut : AreCut I limit path first I.period → IsSpent (AtLeast I limit) I path from
+  pub spent_of_cut : AreCut I limit bound path first I.period → IsSpent (AtLeast I limit) I path from
   spent_of_cut cut =
       record {
         passes = λ times full x later.
@@ -50,9 +53,9 @@ module _ (I : Network) (limit : Option ℕ) (path : List ℕ) (from first : ℕ)
       }
 
 -- and there is a limit that it is spent for
-pub over_of_cut : (I : Network) (limit : Option ℕ) (path : List ℕ) (from first : ℕ) → IsNetwork I → IsNext Nothing I path from first → AreCut I limit path first I.period → IsSomeAnd limit (λ l. IsSpent (AtLeast I (Some l)) I path from)
-over_of_cut I None path from first ok next cut = cut first (omega arith) next.below next.inside
-over_of_cut I (Some l) path from first ok next cut = spent_of_cut I (Some l) path from first ok next cut
+pub over_of_cut : (I : Network) (limit : Option ℕ) (bound : ℕ → ℕ) (path : List ℕ) (from first : ℕ) → IsNetwork I → IsSeen I path bound → IsNext Nothing I path from first → AreCut I limit bound path first I.period → IsSomeAnd limit (λ l. IsSpent (AtLeast I (Some l)) I path from)
+over_of_cut I None bound path from first ok seen next cut = elim (cut first (omega arith) next.below next.inside) [ inl told ↦ told | inr known ↦ known ]
+over_of_cut I (Some l) bound path from first ok seen next cut = spent_of_cut I (Some l) bound path from first ok seen next cut
 
 -- ---- one residue after another
 
@@ -66,24 +69,34 @@ cut_is None cost h = h
 cut_is (Some l) cost h = h
 
 -- none is before the first
-pub no_cut : (I : Network) (limit : Option ℕ) (path : List ℕ) (from : ℕ) → AreCut I limit path from from
-no_cut I limit path from s low high inside = absurd (omega (arith, low, high))
+pub no_cut : (I : Network) (limit : Option ℕ) (bound : ℕ → ℕ) (path : List ℕ) (from : ℕ) → AreCut I limit bound path from from
+no_cut I limit bound path from s low high inside = absurd (omega (arith, low, high))
 
--- one residue more, that is in the domain and cut
-pub cut_more : (I : Network) (limit : Option ℕ) (path : List ℕ) (from r cost : ℕ) → cost ≡ known_cost I (path ++ r ∷ []) → MatchOption limit ⊥ (λ l. l ≤ cost) → AreCut I limit path from r → AreCut I limit path from (r + 1)
-cut_more I limit path from r cost is cut before s low high inside =
-    elim (cases_eq s r) [
-      | inl same ↦ subst (λ t. IsCut limit (known_cost I (path ++ t ∷ []))) (sym same) (subst (IsCut limit) is (cut_is limit cost cut))
-      | inr apart ↦ before s low (omega (arith, high, apart)) inside
-    ]
+module _ (I : Network) (limit : Option ℕ) (bound : ℕ → ℕ) (path : List ℕ) (from r : ℕ) (before : AreCut I limit bound path from r) where
+  -- one residue more that is of no use, or not in the domain
+  one_more : (InNext I path r → IsOfNoUse I limit bound path r) → AreCut I limit bound path from (r + 1)
+  one_more here s low high inside =
+      elim (cases_eq s r) [
+        | inl same ↦ subst (IsOfNoUse I limit bound path) (sym same) (here (subst (InNext I path) same inside))
+        | inr apart ↦ before s low (omega (arith, high, apart)) inside
+      ]
 
--- or that is not in the domain
-pub cut_over : (I : Network) (limit : Option ℕ) (path : List ℕ) (from r : ℕ) → (InNext I path r → ⊥) → AreCut I limit path from r → AreCut I limit path from (r + 1)
-cut_over I limit path from r out before s low high inside =
-    elim (cases_eq s r) [
-      | inl same ↦ absurd (out (subst (InNext I path) same inside))
-      | inr apart ↦ before s low (omega (arith, high, apart)) inside
-    ]
+  -- by what is told of it
+  pub cut_told : (told : ℕ) → told ≡ bound r → MatchOption limit ⊥ (λ l. l ≤ told) → AreCut I limit bound path from (r + 1)
+  cut_told told is cut = one_more (λ _. inl (subst (IsCut limit) is (cut_is limit told cut)))
+
+  -- by what is known with it
+  pub cut_more : (cost : ℕ) → cost ≡ known_cost I (path ++ r ∷ []) → MatchOption limit ⊥ (λ l. l ≤ cost) → AreCut I limit bound path from (r + 1)
+  cut_more cost is cut = one_more (λ _. inr (subst (IsCut limit) is (cut_is limit cost cut)))
+
+  -- or as it is not in the domain
+  pub cut_over : (InNext I path r → ⊥) → AreCut I limit bound path from (r + 1)
+  cut_over out = one_more (λ inside. absurd (out inside))
+
+-- below the limit by both
+pub of_use_is : (limit : Option ℕ) (told cost bound known : ℕ) → told ≡ bound → cost ≡ known → IfSome limit (λ l. told < l) → IfSome limit (λ l. cost < l) → IfSome limit (λ l. (bound < l) × (known < l))
+of_use_is None told cost bound known is same low less = tt
+of_use_is (Some l) told cost bound known is same low less = (omega (arith, is, low), omega (arith, same, less))
 
 -- another time behind the path leaves the branch one
 pub branch_again : (I : Network) (old new : Branch) → new.times ≡ old.times → new.cost ≡ old.cost → IsFront I old.times.items new.timetable → IsBranch I old.times.items old.cost old.timetable (vec_capacity old.times) → IsBranch I new.times.items new.cost new.timetable (vec_capacity new.times)
@@ -97,13 +110,13 @@ over_of_known I None known path from h is = h
 over_of_known I (Some l) known path from h is = spent_cut I l path from (omega (arith, h, is))
 
 -- what a visit says of the residues that are left
-pub next_told : (I : Network) (limit : Option ℕ) (path : List ℕ) (from first : ℕ) (found : Option ℕ) → IsNetwork I → IsNext Nothing I path from first
-    → IsNextOfUse I limit path first found → IsStep (AtLeast I limit) I path from found
-next_told I limit path from first None ok next cut = spent_of_cut I limit path from first ok next cut
-next_told I limit path from first (Some r) ok next is = next_of_cut I limit path from first ok next r is
+pub next_told : (I : Network) (limit : Option ℕ) (bound : ℕ → ℕ) (path : List ℕ) (from first : ℕ) (found : Option ℕ) → IsNetwork I → IsSeen I path bound → IsNext Nothing I path from first
+    → IsNextOfUse I limit bound path first found → IsStep (AtLeast I limit) I path from found
+next_told I limit bound path from first None ok seen next cut = spent_of_cut I limit bound path from first ok seen next cut
+next_told I limit bound path from first (Some r) ok seen next is = next_of_cut I limit bound path from first ok seen next r is
 
 -- and why the place is left where none is
-pub over_told : (I : Network) (limit : Option ℕ) (path : List ℕ) (from first : ℕ) (found : Option ℕ) → IsNetwork I → IsNext Nothing I path from first
-    → IsNextOfUse I limit path first found → IfNone found (IsOver I limit path from)
-over_told I limit path from first None ok next cut = inl (over_of_cut I limit path from first ok next cut)
-over_told I limit path from first (Some r) ok next is = tt
+pub over_told : (I : Network) (limit : Option ℕ) (bound : ℕ → ℕ) (path : List ℕ) (from first : ℕ) (found : Option ℕ) → IsNetwork I → IsSeen I path bound → IsNext Nothing I path from first
+    → IsNextOfUse I limit bound path first found → IfNone found (IsOver I limit path from)
+over_told I limit bound path from first None ok seen next cut = inl (over_of_cut I limit bound path from first ok seen next cut)
+over_told I limit bound path from first (Some r) ok seen next is = tt

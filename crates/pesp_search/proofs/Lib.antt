@@ -1,4 +1,5 @@
 pub mod BestSoFar
+pub mod Beforehand
 mod Cases
 pub mod Counted
 pub mod Costed
@@ -15,6 +16,7 @@ pub mod Order
 pub mod Placed
 pub mod Residues
 pub mod Rest
+pub mod Seen
 pub mod Sizes
 pub mod Stations
 pub mod Timed

@@ -43,21 +43,25 @@ under_bound (Some bound) = if nat_lt bound (2 ^ 64 - 1) then Some (bound + 1) el
 abbrev pub IsCut : Option ℕ → ℕ → Type 0
 IsCut limit cost = IsSomeAnd limit (λ l. l ≤ cost)
 
+-- a residue is of no use: what is told of it, or what is known with it, has come to the limit
+abbrev pub IsOfNoUse : Network → Option ℕ → (ℕ → ℕ) → List ℕ → ℕ → Type 0
+IsOfNoUse I limit bound path s = IsCut limit (bound s) ⊎ IsCut limit (known_cost I (path ++ s ∷ []))
+
 -- each residue of the next event's domain from one on and below another is of no use
-abbrev pub AreCut : Network → Option ℕ → List ℕ → ℕ → ℕ → Type 0
-AreCut I limit path from to = (s : ℕ) → from ≤ s → s < to → InNext I path s → IsCut limit (known_cost I (path ++ s ∷ []))
+abbrev pub AreCut : Network → Option ℕ → (ℕ → ℕ) → List ℕ → ℕ → ℕ → Type 0
+AreCut I limit bound path from to = (s : ℕ) → from ≤ s → s < to → InNext I path s → IsOfNoUse I limit bound path s
 
 -- r is the first one from there on that is of use
-pub record IsFirstOfUse (I : Network) (limit : Option ℕ) (path : List ℕ) (from r : ℕ) : Type 0 where
+pub record IsFirstOfUse (I : Network) (limit : Option ℕ) (bound : ℕ → ℕ) (path : List ℕ) (from r : ℕ) : Type 0 where
   pub above : from ≤ r
   pub below : r < I.period
   pub inside : InNext I path r
-  pub of_use : IfSome limit (λ l. known_cost I (path ++ r ∷ []) < l)
-  pub before : AreCut I limit path from r
+  pub of_use : IfSome limit (λ l. (bound r < l) × (known_cost I (path ++ r ∷ []) < l))
+  pub before : AreCut I limit bound path from r
 
 -- that residue, or none where none is of use
-abbrev pub IsNextOfUse : Network → Option ℕ → List ℕ → ℕ → Option ℕ → Type 0
-IsNextOfUse I limit path from next = MatchOption next (AreCut I limit path from I.period) (IsFirstOfUse I limit path from)
+abbrev pub IsNextOfUse : Network → Option ℕ → (ℕ → ℕ) → List ℕ → ℕ → Option ℕ → Type 0
+IsNextOfUse I limit bound path from next = MatchOption next (AreCut I limit bound path from I.period) (IsFirstOfUse I limit bound path from)
 
 -- why a place is left: what is left there costs at least the limit, each event has its time, nothing is left to try, or residues were tried before
 abbrev pub IsOver : Network → Option ℕ → List ℕ → ℕ → Type 0

@@ -1,8 +1,10 @@
 pub mod Branch
+pub mod Dived
 pub mod Found
 pub mod Optima
 pub mod Parts
 pub mod Places
+pub mod Seen
 pub mod Tree
 pub mod Tried
 pub mod Walk

@@ -56,7 +56,7 @@ pub(crate) fn put_time(timetable: &mut Timetable, event: EventId, time: u16)
 }
 
 /// Each event at time 0.
-fn all_at_zero(alloc: Global, instance: &Instance) -> Result<Timetable, Memory>
+pub(crate) fn all_at_zero(alloc: Global, instance: &Instance) -> Result<Timetable, Memory>
     ensures { IfOk result (IsFront instance.now []) }
 {
     let mut timetable = Timetable::new(alloc, instance.period());

@@ -1,12 +1,13 @@
 -- What a visit leaves.
 use Rattle.std.proofs.Common.{◌≡◌, length, arith, sym, ◌∙◌, inl, inr}
 use Rattle.std.proofs.lemmas.Bool.{MatchBool-at_true, MatchBool-at_false}
+use Rattle.pesp_search.specs.Seen.{IsSeen, told_at}
 use Rattle.pesp_search.specs.Walk.{IsFull, IsNext, Nothing, full_cost}
 use Rattle.pesp_search.proofs.BestSoFar.{below_under, best_found, cut_spent, found_spent, kept_best}
 use Rattle.pesp_search.proofs.Costs.{known_is_cost}
 use Rattle.pesp_search.proofs.Cuts.{next_told, over_of_known, over_told}
 use Rattle.pesp_search.proofs.Turns.{spent_turned}
-use Rattle.pesp_search.proofs.search.visit.Goals as goal
+use Rattle.pesp_search.proofs.walk.visit.Goals as goal
 
 pub returns-then-cuts-clause-next : goal.returns-then-cuts-clause-next
 returns-then-cuts-clause-next g c =
@@ -42,13 +43,15 @@ pub returns-else-is_behind_first-clause-next : goal.returns-else-is_behind_first
 returns-else-is_behind_first-clause-next g c =
     let I = g.K.Keeper.network c.args.keeper.now in
     let next : IsNext Nothing I c.args.branch.now.times.items c.args.from c.in-Take.residue = rw c.deref.ensures.value at c.in-Take.ensures in
-    rw c.next_of_use.ensures.times (next_told I c.args.incumbent.now.limit c.args.branch.now.times.items c.args.from c.in-Take.residue c.next_of_use.result c.requires.network next c.next_of_use.ensures.next)
+    let seen : IsSeen I c.args.branch.now.times.items (told_at c.arrive.new.self.ahead (length c.args.branch.now.times.items)) = rw c.deref-in-Take.ensures.value at c.arrive.ensures.seen in
+    rw c.next_of_use.ensures.times (next_told I c.args.incumbent.now.limit (told_at c.arrive.new.self.ahead (length c.args.branch.now.times.items)) c.args.branch.now.times.items c.args.from c.in-Take.residue c.next_of_use.result c.requires.network seen next c.next_of_use.ensures.next)
 
 pub returns-else-is_behind_first-clause-over : goal.returns-else-is_behind_first-clause-over
 returns-else-is_behind_first-clause-over g c =
     let I = g.K.Keeper.network c.args.keeper.now in
     let next : IsNext Nothing I c.args.branch.now.times.items c.args.from c.in-Take.residue = rw c.deref.ensures.value at c.in-Take.ensures in
-    rw c.next_of_use.ensures.times (over_told I c.args.incumbent.now.limit c.args.branch.now.times.items c.args.from c.in-Take.residue c.next_of_use.result c.requires.network next c.next_of_use.ensures.next)
+    let seen : IsSeen I c.args.branch.now.times.items (told_at c.arrive.new.self.ahead (length c.args.branch.now.times.items)) = rw c.deref-in-Take.ensures.value at c.arrive.ensures.seen in
+    rw c.next_of_use.ensures.times (over_told I c.args.incumbent.now.limit (told_at c.arrive.new.self.ahead (length c.args.branch.now.times.items)) c.args.branch.now.times.items c.args.from c.in-Take.residue c.next_of_use.result c.requires.network seen next c.next_of_use.ensures.next)
 
 pub returns-else-is_behind_first-clause-at : goal.returns-else-is_behind_first-clause-at
 returns-else-is_behind_first-clause-at g c = rw c.next_of_use.ensures.times c.requires.at

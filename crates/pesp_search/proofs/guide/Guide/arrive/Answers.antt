@@ -1,0 +1,11 @@
+-- What is told at the end of the path is told anew, and nowhere else.
+use Rattle.std.proofs.Common.{◌≡◌, length, refl, ap, ◌∙◌, arith}
+use Rattle.pesp_ahead.specs.Sights.{bound_at}
+use Rattle.pesp_search.proofs.Seen.{seen_none, seen_of_sound, sees_again}
+use Rattle.pesp_search.proofs.guide.Guide.arrive.Goals as goal
+
+pub returns-in-Some-clause-seen : goal.returns-in-Some-clause-seen
+returns-in-Some-clause-seen g c =
+    let I = g.K.Keeper.network c.args.keeper.now in
+    let path = c.args.path.now in
+    seen_of_sound I (g.K.Keeper.pushes c.args.keeper.now) path (bound_at c.arrive.new.self (length path)) c.requires.network c.requires.pushes c.requires.room (rw c.requires.events at c.arrive.ensures.sound)

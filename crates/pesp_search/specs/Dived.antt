@@ -1,0 +1,14 @@
+-- A timetable that was found before the search.
+use Rattle.std.specs.Prelude.{ℕ, Bool, true, false, Option, Some, None}
+use Rattle.pesp_search.specs.declared.answer.Best.{Best}
+
+-- the bound for the search: the cost of that timetable, or what was given
+abbrev pub least_bound : Option ℕ → Option Best → Option ℕ
+least_bound bound None = bound
+least_bound bound (Some before) = Some before.cost
+
+-- what is told of the search: what it found, or that timetable where a stop found nothing
+abbrev pub told_best : Bool → Option Best → Option Best → Option Best
+told_best false found before = found
+told_best true None before = before
+told_best true (Some best) before = Some best
