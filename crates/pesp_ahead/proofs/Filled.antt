@@ -5,7 +5,7 @@ use Rattle.pesp_instance.specs.Network.{Network, event_ids}
 use Rattle.pesp_domains.specs.declared.pair.Pair.{Pair}
 use Rattle.pesp_domains.specs.Domains.{InDomains, holds}
 use Rattle.pesp_domains.proofs.Laws.{InDomains-admitted}
-use Rattle.pesp_ahead.specs.Rows.{AreDomains, InRows, holds_at}
+use Rattle.pesp_ahead.specs.Rows.{AreDomains, InRows}
 use Rattle.pesp_ahead.specs.Sights.{AreTimes}
 use Rattle.pesp_ahead.proofs.Renewed.{held}
 use Rattle.pesp_ahead.proofs.Totals.{block}

@@ -5,7 +5,6 @@ use Rattle.pesp_base.specs.declared.activity.Activity.{Activity}
 use Rattle.pesp_base.specs.Tensions.{IsMet, slack_of}
 use Rattle.pesp_instance.specs.Network.{Network, event_ids, has_event}
 use Rattle.pesp_ahead.specs.declared.arc.Arc.{Arc}
-use Rattle.pesp_ahead.specs.Rows.{InRows}
 use Rattle.pesp_ahead.specs.Tables.{IsMetAt, arcs_cost}
 
 -- with these times of events each activity is met

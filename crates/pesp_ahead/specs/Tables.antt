@@ -1,5 +1,5 @@
 -- Tables of entries at both ends of arcs, their sums by event, and what residues of places cost along arcs.
-use Rattle.std.specs.Prelude.{◌≡◌, ℕ, zero, suc, ◌+◌, ◌*◌, ◌≤◌, ◌<◌, ◌⊎◌, Bool, IsTrue, List, All, length, slice_index, slice_index_or, sum_by}
+use Rattle.std.specs.Prelude.{◌≡◌, ℕ, zero, suc, ◌+◌, ◌*◌, ◌<◌, ◌⊎◌, Bool, IsTrue, List, slice_index_or, sum_by}
 use Rattle.pesp_base.specs.Bounds.{Bounds}
 use Rattle.pesp_base.specs.Tensions.{IsMet, slack_of}
 use Rattle.pesp_domains.specs.declared.side.Side.{Side}

@@ -1,5 +1,5 @@
 -- Each residue of less slack is as low as it is to be.
-use Rattle.std.proofs.Common.{◌≡◌, ℕ, ◌+◌, ◌-◌, ◌*◌, ◌<◌, ◌≤◌, length, slice_index}
+use Rattle.std.proofs.Common.{ℕ, ◌+◌, ◌-◌, ◌*◌, ◌<◌, ◌≤◌, slice_index}
 use Rattle.pesp_ahead.specs.Tables.{IsStepsFrom, pair, slack_at}
 use Rattle.pesp_ahead.proofs.lower.lower_along.Given as goal
 

@@ -1,7 +1,7 @@
 -- The end that is lowered is under what the other one leaves.
-use Rattle.std.proofs.Common.{◌∙◌, ◌+◌, ◌*◌, subst, sym, arith}
+use Rattle.std.proofs.Common.{◌∙◌, ◌+◌, ◌*◌, arith}
 use Rattle.pesp_base.specs.Tensions.{slack_of}
-use Rattle.pesp_ahead.specs.Tables.{IsMetFrom, pair, slack_at}
+use Rattle.pesp_ahead.specs.Tables.{pair}
 use Rattle.pesp_ahead.proofs.Renewed.{behind, held}
 use Rattle.pesp_ahead.proofs.lower.renew.Goals as goal
 

@@ -1,6 +1,5 @@
 -- One arc more tells no more than it costs.
-use Rattle.std.proofs.Common.{◌≡◌, ℕ, ◌+◌, ◌*◌, ◌<◌, List, length, replicate, slice_index, refl, sym, subst, ap, ◌∙◌, inl, inr, arith, rules}
-use Rattle.std.proofs.lemmas.List.{get_or-replicate}
+use Rattle.std.proofs.Common.{◌≡◌, length, replicate, slice_index, sym, subst, ap, ◌∙◌, arith, rules}
 use Rattle.std.proofs.lemmas.List.Sums.{sum_by_more}
 use Rattle.pesp_ahead.specs.Sights.{IsBetween}
 use Rattle.pesp_ahead.specs.Tables.{IsMetAt, arc_cost}

@@ -1,8 +1,8 @@
 -- Times within the domains are within their rows.
-use Rattle.std.proofs.Common.{◌≡◌, ◌≤◌, slice_index, sym, subst, ap, ◌∙◌}
-use Rattle.pesp_instance.specs.Network.{Network, event_ids}
-use Rattle.pesp_ahead.specs.Rows.{AreDomains, InRows}
-use Rattle.pesp_ahead.specs.Sights.{AreTimes, IsSound, bound_at, cost_at}
+use Rattle.std.proofs.Common.{◌≤◌, slice_index, sym, subst}
+use Rattle.pesp_instance.specs.Network.{event_ids}
+use Rattle.pesp_ahead.specs.Rows.{InRows}
+use Rattle.pesp_ahead.specs.Sights.{IsSound, bound_at, cost_at}
 use Rattle.pesp_ahead.proofs.Filled.{times_in_rows}
 use Rattle.pesp_ahead.proofs.ahead.Ahead.arrive.Goals as goal
 
