@@ -34,7 +34,7 @@ impl Model for Ahead {
 }
 
 impl Ahead {
-    /// Tables for the instance, or none where they would take more than 64 MB.
+    /// Tables for the instance, or none where there are more than 1,024 events or they would take more than 64 MB.
     pub fn new(
         alloc: Global,
         instance: &Instance,

@@ -1,9 +1,12 @@
-//! How many entries there are.
+//! How large tables may be.
 
 ghost use Rattle.std.specs.Prelude.{◌≡◌, ◌*◌, ◌<◌, ◌≤◌, MatchOption};
 ghost use Rattle.pesp_ahead.specs.Tables.{most_entries};
 
 use pesp_base::Period;
+
+/// The greatest number of events for which there are tables, since each look goes over the rows of all of them.
+pub const MOST_PLACES: usize = 1_024;
 
 /// The greatest number of entries: they take 64 MB.
 const MOST_ENTRIES: usize = 8_388_608;

@@ -9,7 +9,7 @@ use crate::Arc;
 use crate::arcs::arcs_of;
 use crate::bounds::tell_bounds;
 use crate::entry::{Entry, PAIR};
-use crate::size::size_of;
+use crate::size::{MOST_PLACES, size_of};
 use crate::sums::renew_all;
 use crate::sweep::sweep;
 use pesp_base::{EventId, Period};
@@ -45,7 +45,7 @@ impl Model for Tables {
 }
 
 impl Tables {
-    /// Tables for the instance, or none where they would take more than 64 MB.
+    /// Tables for the instance, or none where there are more than 1,024 events or they would take more than 64 MB.
     pub fn new(
         alloc: Global,
         instance: &Instance,
@@ -56,6 +56,9 @@ impl Tables {
     {
         let period = instance.period();
         let places = events.len();
+        if places > MOST_PLACES {
+            return Ok(None);
+        }
         let (arcs, loops) = arcs_of(alloc, instance, events)?;
         let Some(size) = size_of(period, arcs.len(), places) else {
             return Ok(None);
