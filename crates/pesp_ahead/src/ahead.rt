@@ -1,9 +1,10 @@
 //! What timetables cost at least, by the residue of the next event.
 
-ghost use Rattle.std.specs.Prelude.{◌≡◌, ◌≢◌, ℕ, ◌*◌, ◌<◌, IfOk, IfSome, length, slice_index};
+ghost use Rattle.std.specs.Prelude.{◌≡◌, ◌≢◌, ℕ, ◌*◌, ◌<◌, IfNone, IfOk, IfSome, length, slice_index};
 ghost use Rattle.pesp_instance.specs.Network.{IsNetwork, event_ids};
 ghost use Rattle.pesp_domains.specs.Domains.{InDomains};
 ghost use Rattle.pesp_ahead.specs.Rows.{InRows};
+ghost use Rattle.pesp_ahead.specs.Tables.{most_entries};
 ghost use Rattle.pesp_ahead.specs.Sights.{IsSightOf, IsSound, bound_at};
 
 use crate::tables::Tables;
@@ -42,6 +43,7 @@ impl Ahead {
     ) -> Result<Option<Ahead>, Memory>
         requires events { events.now ≡ event_ids instance.now }
         ensures of { IfOk result (λ ahead. IfSome ahead (IsSightOf instance.now)) }
+        ensures none { IfOk result (λ ahead. IfNone ahead (most_entries < length events.now * (length (instance.now).activities * (2 * (instance.now).period)))) }
     {
         match Ahead::try_new(alloc, instance, events) {
             Ok(ahead) => Ok(ahead),
@@ -56,6 +58,7 @@ impl Ahead {
     ) -> Result<Option<Ahead>, AllocError>
         requires events { events.now ≡ event_ids instance.now }
         ensures of { IfOk result (λ ahead. IfSome ahead (IsSightOf instance.now)) }
+        ensures none { IfOk result (λ ahead. IfNone ahead (most_entries < length events.now * (length (instance.now).activities * (2 * (instance.now).period)))) }
     {
         let Some(tables) = Tables::new(alloc, instance, events)? else {
             return Ok(None);

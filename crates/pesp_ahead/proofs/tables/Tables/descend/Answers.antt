@@ -22,8 +22,8 @@ pub slice_bounds-copy_from_slice-end : goal.slice_bounds-copy_from_slice-end
 slice_bounds-copy_from_slice-end c =
     let a = c.self.inside in
     let size : ℕ = c.len.result * (2 * c.from.result) in
-    let same : length a.arcs.items * (2 * a.period) ≡ size = ap₂ (λ n t. n * (2 * t)) (omega (arith, a.arcs.ok.0)) (omega arith) in
-    let long : length c.deref_mut.result.now ≡ a.places * size = omega (arith, c.deref_mut.ensures.value, c.self.invariant.1, ap (λ s. a.places * s) same) in
+    let same : length a.arcs.items * (2 * a.period) ≡ size = ap₂ (λ n t. n * (2 * t)) (omega arith) (omega arith) in
+    let long : length c.deref_mut.result.now ≡ a.places * size = omega (arith, c.self.invariant.1, ap (λ s. a.places * s) same) in
     let place : c.args.place < a.places = omega (arith, c.requires, ap (λ s. s.places) c.self.view_is) in
     there c.args.place a.places size _ _ place long c.split_at_mut-before.ensures.back_len
 
@@ -31,8 +31,8 @@ pub slice_bounds-copy_from_slice-end-then-place-gt0 : goal.slice_bounds-copy_fro
 slice_bounds-copy_from_slice-end-then-place-gt0 c =
     let a = c.self.inside in
     let size : ℕ = c.len.result * (2 * c.from.result) in
-    let same : length a.arcs.items * (2 * a.period) ≡ size = ap₂ (λ n t. n * (2 * t)) (omega (arith, a.arcs.ok.0)) (omega arith) in
-    let long : length c.deref_mut.result.now ≡ a.places * size = omega (arith, c.deref_mut.ensures.value, c.self.invariant.1, ap (λ s. a.places * s) same) in
+    let same : length a.arcs.items * (2 * a.period) ≡ size = ap₂ (λ n t. n * (2 * t)) (omega arith) (omega arith) in
+    let long : length c.deref_mut.result.now ≡ a.places * size = omega (arith, c.self.invariant.1, ap (λ s. a.places * s) same) in
     let place : c.args.place < a.places = omega (arith, c.requires, ap (λ s. s.places) c.self.view_is) in
     let fits = there c.args.place a.places size _ _ place long c.split_at_mut-before.ensures.back_len in
     let front = first size c.split_at_mut-before.result.1.now fits in
@@ -42,8 +42,8 @@ pub copy_from_slice-requires : goal.copy_from_slice-requires
 copy_from_slice-requires c =
     let a = c.self.inside in
     let size : ℕ = c.len.result * (2 * c.from.result) in
-    let same : length a.arcs.items * (2 * a.period) ≡ size = ap₂ (λ n t. n * (2 * t)) (omega (arith, a.arcs.ok.0)) (omega arith) in
-    let long : length c.deref_mut.result.now ≡ a.places * size = omega (arith, c.deref_mut.ensures.value, c.self.invariant.1, ap (λ s. a.places * s) same) in
+    let same : length a.arcs.items * (2 * a.period) ≡ size = ap₂ (λ n t. n * (2 * t)) (omega arith) (omega arith) in
+    let long : length c.deref_mut.result.now ≡ a.places * size = omega (arith, c.self.invariant.1, ap (λ s. a.places * s) same) in
     let place : c.args.place < a.places = omega (arith, c.requires, ap (λ s. s.places) c.self.view_is) in
     let fits = there c.args.place a.places size _ _ place long c.split_at_mut-before.ensures.back_len in
     let front = first size c.split_at_mut-before.result.1.now fits in

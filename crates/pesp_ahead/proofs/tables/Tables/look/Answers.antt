@@ -14,8 +14,8 @@ returns-clause-sound c times ok =
     let at = c.args.place * a.period + times (slice_index (event_ids I) c.args.place) in
     let of = subst (IsSightOf I) (sym (c.self.view_is ∙ c.settle.ensures ∙ c.descend.ensures)) c.requires.of in
     let arcs = subst (λ xs. AreArcs I xs a.loops) (sym c.deref.ensures.value) of.arcs in
-    let owed : c.len-2.result * pair ≡ length c.deref.result.now * pair = ap (λ n. n * pair) (omega (arith, a.arcs.ok.0, c.deref.ensures.value)) in
+    let owed : c.len-2.result * pair ≡ length c.deref.result.now * pair = ap (λ n. n * pair) (omega arith) in
     let low = told_at_most I c.args.tests.now c.deref.result.now c.renew_all.new.sums a.loops (c.len-2.result * pair) a.period a.places (slice_index c.tell_bounds.new.bounds at) times of.period of.places arcs
     owed c.renew_all.ensures (c.tell_bounds.ensures.told (by_place (event_ids I) times)) ok in
-    let same = with_items_is a.bounds c.tell_bounds.new.bounds (omega (arith, c.tell_bounds.auto.bounds, a.bounds.ok.0)) in
+    let same = with_items_is a.bounds c.tell_bounds.new.bounds (omega (arith, c.tell_bounds.auto.bounds)) in
     subst (λ xs. slice_index xs at ≤ cost_at I times) (sym same) low
