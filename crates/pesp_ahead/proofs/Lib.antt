@@ -2,6 +2,7 @@ mod Ascending
 mod Costs
 mod Events
 mod Filled
+mod Larger
 mod Renewed
 mod Sound
 mod Steps

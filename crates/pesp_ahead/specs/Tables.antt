@@ -1,7 +1,8 @@
 -- Tables of entries at both ends of arcs, their sums by event, and what residues of places cost along arcs.
-use Rattle.std.specs.Prelude.{◌≡◌, ℕ, zero, suc, ◌+◌, ◌*◌, ◌<◌, ◌⊎◌, Bool, IsTrue, List, slice_index_or, sum_by}
+use Rattle.std.specs.Prelude.{◌≡◌, ℕ, zero, suc, ◌+◌, ◌*◌, ◌<◌, ◌⊎◌, Bool, IsTrue, List, length, slice_index_or, sum_by}
 use Rattle.pesp_base.specs.Bounds.{Bounds}
 use Rattle.pesp_base.specs.Tensions.{IsMet, slack_of}
+use Rattle.pesp_instance.specs.Network.{Network, event_ids}
 use Rattle.pesp_domains.specs.declared.side.Side.{Side}
 use Rattle.pesp_domains.specs.declared.side.Side.TheVariants.{Tail, Head}
 use Rattle.pesp_ahead.specs.declared.arc.Arc.{Arc}
@@ -14,6 +15,14 @@ pair = 4398046511104
 -- the greatest number of entries
 abbrev pub most_entries : ℕ
 most_entries = 8388608
+
+-- the greatest number of events for which there are tables
+abbrev pub most_places : ℕ
+most_places = 1024
+
+-- there are too many events for tables, or tables of all activities would have too many entries
+abbrev pub AreTooLarge : Network → Type 0
+AreTooLarge I = (most_places < length (event_ids I)) ⊎ (most_entries < length (event_ids I) * (length I.activities * (2 * I.period)))
 
 -- ---- arcs
 

@@ -4,7 +4,7 @@ ghost use Rattle.std.specs.Prelude.{◌≡◌, ◌≢◌, ℕ, ◌*◌, ◌<◌,
 ghost use Rattle.pesp_instance.specs.Network.{IsNetwork, event_ids};
 ghost use Rattle.pesp_domains.specs.Domains.{InDomains};
 ghost use Rattle.pesp_ahead.specs.Rows.{InRows};
-ghost use Rattle.pesp_ahead.specs.Tables.{most_entries};
+ghost use Rattle.pesp_ahead.specs.Tables.{AreTooLarge};
 ghost use Rattle.pesp_ahead.specs.Sights.{IsSightOf, IsSound, bound_at};
 
 use crate::tables::Tables;
@@ -43,7 +43,7 @@ impl Ahead {
     ) -> Result<Option<Ahead>, Memory>
         requires events { events.now ≡ event_ids instance.now }
         ensures of { IfOk result (λ ahead. IfSome ahead (IsSightOf instance.now)) }
-        ensures none { IfOk result (λ ahead. IfNone ahead (most_entries < length events.now * (length (instance.now).activities * (2 * (instance.now).period)))) }
+        ensures none { IfOk result (λ ahead. IfNone ahead (AreTooLarge instance.now)) }
     {
         match Ahead::try_new(alloc, instance, events) {
             Ok(ahead) => Ok(ahead),
@@ -58,7 +58,7 @@ impl Ahead {
     ) -> Result<Option<Ahead>, AllocError>
         requires events { events.now ≡ event_ids instance.now }
         ensures of { IfOk result (λ ahead. IfSome ahead (IsSightOf instance.now)) }
-        ensures none { IfOk result (λ ahead. IfNone ahead (most_entries < length events.now * (length (instance.now).activities * (2 * (instance.now).period)))) }
+        ensures none { IfOk result (λ ahead. IfNone ahead (AreTooLarge instance.now)) }
     {
         let Some(tables) = Tables::new(alloc, instance, events)? else {
             return Ok(None);

@@ -3,7 +3,7 @@
 ghost use Rattle.std.specs.Prelude.{◌≡◌, ◌≢◌, ℕ, ◌*◌, ◌<◌, ◌≤◌, All, IfNone, IfOk, IfSome, length, slice_index};
 ghost use Rattle.pesp_instance.specs.Network.{event_ids};
 ghost use Rattle.pesp_ahead.specs.Rows.{InRows};
-ghost use Rattle.pesp_ahead.specs.Tables.{most_entries};
+ghost use Rattle.pesp_ahead.specs.Tables.{AreTooLarge};
 ghost use Rattle.pesp_ahead.specs.Sights.{IsBetween, IsSightOf, IsSound, bound_at};
 
 use crate::Arc;
@@ -54,7 +54,7 @@ impl Tables {
     ) -> Result<Option<Tables>, AllocError>
         requires events { events.now ≡ event_ids instance.now }
         ensures of { IfOk result (λ tables. IfSome tables (IsSightOf instance.now)) }
-        ensures none { IfOk result (λ tables. IfNone tables (most_entries < length events.now * (length (instance.now).activities * (2 * (instance.now).period)))) }
+        ensures none { IfOk result (λ tables. IfNone tables (AreTooLarge instance.now)) }
     {
         let period = instance.period();
         let places = events.len();
