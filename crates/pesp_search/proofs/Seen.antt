@@ -1,14 +1,14 @@
 -- What is seen ahead stays so through pushes and pops.
-use Rattle.std.proofs.Common.{◌≡◌, ◌≢◌, ℕ, ◌+◌, ◌<◌, ◌≤◌, IsTrue, List, [], ◌∷◌, ◌++◌, length, take, get_or, Option, Some, IfSome, refl, sym, ◌∙◌, subst, inl, inr, arith}
+use Rattle.std.proofs.Common.{◌≡◌, ◌≢◌, ℕ, ◌<◌, ◌≤◌, List, [], ◌∷◌, ◌++◌, length, take, get_or, Option, Some, IfSome, sym, ◌∙◌, subst, inl, inr, arith}
 use Rattle.std.proofs.lemmas.Bool.{cases_eq}
 use Rattle.std.proofs.lemmas.List.{length_push, length-take-le, take-append-le, take_all}
-use Rattle.pesp_instance.specs.Network.{IsNetwork, Network, event_ids, has_event}
+use Rattle.pesp_instance.specs.Network.{IsNetwork, Network, event_ids}
 use Rattle.pesp_domains.specs.declared.pair.Pair.{Pair}
 use Rattle.pesp_domains.specs.Domains.{InDomains}
 use Rattle.pesp_ahead.specs.Sights.{IsSightOf, IsSound, Sight, bound_at}
 use Rattle.pesp_search.specs.Places.{at, pairs_of}
 use Rattle.pesp_search.specs.Seen.{IsSeen, SeesAlong, told_at}
-use Rattle.pesp_search.specs.Walk.{Extends, IsFull, full_cost}
+use Rattle.pesp_search.specs.Walk.{full_cost}
 use Rattle.pesp_search.proofs.Members.{member_in_domains}
 use Rattle.pesp_search.proofs.Timed.{at_place}
 
@@ -22,10 +22,6 @@ seen_of_sound I pushes path bound ok is room sound times full x =
       met = full.met;
     }) in
     subst (λ r. bound r ≤ full_cost I times) (at_place I times (length path) ok room within) low
-
--- where nothing sees ahead, 0 is told
-pub seen_none : (I : Network) (path : List ℕ) → IsSeen I path (λ r. 0)
-seen_none I path times full x = omega arith
 
 -- the same is told, of each residue
 seen_same : (I : Network) (path : List ℕ) (old new : ℕ → ℕ) → length path < length (event_ids I) → ((r : ℕ) → r < I.period → new r ≡ old r) → IsSeen I path old → IsSeen I path new

@@ -1,8 +1,13 @@
 -- What is told at the end of the path is told anew, and nowhere else.
-use Rattle.std.proofs.Common.{◌≡◌, length, refl, ap, ◌∙◌, arith}
+use Rattle.std.proofs.Common.{length, refl}
 use Rattle.pesp_ahead.specs.Sights.{bound_at}
-use Rattle.pesp_search.proofs.Seen.{seen_none, seen_of_sound, sees_again}
+use Rattle.pesp_search.proofs.Seen.{seen_of_sound, sees_again}
 use Rattle.pesp_search.proofs.guide.Guide.arrive.Goals as goal
+
+pub returns-in-Some-clause-along : goal.returns-in-Some-clause-along
+returns-in-Some-clause-along g c =
+    let path = c.args.path.now in
+    sees_again (g.K.Keeper.network c.args.keeper.now) c.in-Some.ahead c.arrive.new.self path (length path) refl c.requires.room c.arrive.ensures.of c.arrive.ensures.others (rw c.in-Some.is at c.requires.along)
 
 pub returns-in-Some-clause-seen : goal.returns-in-Some-clause-seen
 returns-in-Some-clause-seen g c =
