@@ -91,8 +91,15 @@ CASES = [
         "a cheaper timetable at a later place",
         10,
         "1; 1; 2; 3; 12; 1",
-        "try 2 / try 1000 / optimum",
-        "stopped 7 2 / 1 0 / 2 0 / optimum 0 2 / 1 0 / 2 3 / optimum 0 2 / 1 0 / 2 3",
+        "try 1 / try 2 / optimum",
+        "stopped none / optimum 0 2 / 1 0 / 2 3 / optimum 0 2 / 1 0 / 2 3",
+    ),
+    (
+        "a stop with the old optimum's timetable",
+        10,
+        TWO,
+        "optimum / weight 1 3 / try 0 / try 0",
+        f"{BEST} / ok / stopped 5 2 / 1 0 / 2 4 / stopped none",
     ),
     (
         "refusals and dump",
