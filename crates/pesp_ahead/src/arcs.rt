@@ -51,7 +51,7 @@ fn loop_cost(period: Period, activity: &Activity) -> u64
 }
 
 /// The activities that are no loops, and what the loops cost.
-pub fn arcs_of(
+pub(crate) fn arcs_of(
     alloc: Global,
     instance: &Instance,
     events: &[EventId],

@@ -52,7 +52,7 @@ fn write_bounds(bounds: &mut [u64], sums: &[u64], from: usize, to: usize, known:
 }
 
 /// Tells what the residues of the event at the place leave at least of what is known and what the sums tell.
-pub fn tell_bounds(
+pub(crate) fn tell_bounds(
     period: Period,
     sums: &[u64],
     tests: &[bool],

@@ -6,11 +6,11 @@ ghost use Rattle.pesp_ahead.specs.Tables.{pair};
 use std::marker::Model;
 
 /// What the two entries of an arc are together where they tell that it costs nothing.
-pub const PAIR: u64 = 4_398_046_511_104;
+pub(crate) const PAIR: u64 = 4_398_046_511_104;
 
 /// An entry of a table, at most [`PAIR`]. It stands for a whole number: for what it is above half of `PAIR`.
 #[derive(Clone, Copy)]
-pub struct Entry {
+pub(crate) struct Entry {
     value: u64,
 }
 
@@ -26,18 +26,18 @@ impl Model for Entry {
 
 impl Entry {
     /// The greatest entry.
-    pub fn greatest() -> Entry
+    pub(crate) fn greatest() -> Entry
         ensures { result ≡ pair }
     {
         Entry { value: PAIR }
     }
 
     /// The entry that stands for 0.
-    pub fn zero() -> Entry {
+    pub(crate) fn zero() -> Entry {
         Entry { value: PAIR / 2 }
     }
 
-    pub fn get(self) -> u64
+    pub(crate) fn get(self) -> u64
         ensures value { result ≡ self }
         ensures limit { self ≤ pair }
     {
@@ -45,7 +45,7 @@ impl Entry {
     }
 
     /// The entry, or the given number where that is less.
-    pub fn at_most(self, most: u64) -> Entry
+    pub(crate) fn at_most(self, most: u64) -> Entry
         ensures { result ≡ min self most }
     {
         Entry {

@@ -57,7 +57,7 @@ fn row_at(period: Period, tests: &[bool], place: usize) -> &[bool]
 }
 
 /// Sets the entries at one end of the arc anew: those of the tail stand first, and then those of the head.
-pub fn renew(period: Period, arc: &Arc, side: Side, tests: &[bool], entries: &mut [Entry])
+pub(crate) fn renew(period: Period, arc: &Arc, side: Side, tests: &[bool], entries: &mut [Entry])
     requires tail { arc.now.tail * period + period ≤ length tests.now }
     requires head { arc.now.head * period + period ≤ length tests.now }
     requires long { length entries.old ≡ 2 * period }

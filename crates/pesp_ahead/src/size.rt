@@ -6,13 +6,13 @@ ghost use Rattle.pesp_ahead.specs.Tables.{most_entries};
 use pesp_base::Period;
 
 /// The greatest number of events for which there are tables, since each look goes over the rows of all of them.
-pub const MOST_PLACES: usize = 1_024;
+pub(crate) const MOST_PLACES: usize = 1_024;
 
 /// The greatest number of entries: they take 64 MB.
 const MOST_ENTRIES: usize = 8_388_608;
 
 /// How many entries the tables of all places have, unless those are too many.
-pub fn size_of(period: Period, arcs: usize, places: usize) -> Option<usize>
+pub(crate) fn size_of(period: Period, arcs: usize, places: usize) -> Option<usize>
     requires { arcs ≤ 100000 }
     ensures { MatchOption result (most_entries < places * (arcs * (2 * period))) (λ size. (size ≡ places * (arcs * (2 * period))) × (size ≤ most_entries)) }
 {

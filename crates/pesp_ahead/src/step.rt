@@ -8,7 +8,7 @@ use pesp_base::{Period, Span, slack};
 use pesp_domains::Side;
 
 /// How many residues at one end go with one at the other: their slacks are below that.
-pub fn steps_of(period: Period, span: Span) -> u16
+pub(crate) fn steps_of(period: Period, span: Span) -> u16
     ensures within { result ≤ period }
     ensures all { (side : Side) (here there : ℕ) → IsMetFrom side period span here there → slack_at side period span here there < result }
 {
@@ -17,7 +17,7 @@ pub fn steps_of(period: Period, span: Span) -> u16
 }
 
 /// The residue at this end that goes with the one at the other at slack 0.
-pub fn first_of(period: Period, span: Span, side: Side, there: u16) -> u16
+pub(crate) fn first_of(period: Period, span: Span, side: Side, there: u16) -> u16
     requires { there < period }
     ensures below { result < period }
     ensures steps { (here : ℕ) → here < period → IsStepsFrom side period result (slack_at side period span here there) here }
@@ -32,7 +32,7 @@ pub fn first_of(period: Period, span: Span, side: Side, there: u16) -> u16
 }
 
 /// The residue at this end that goes with the same one at the other at one slack more.
-pub fn next_of(period: Period, side: Side, here: u16) -> u16
+pub(crate) fn next_of(period: Period, side: Side, here: u16) -> u16
     requires { here < period }
     ensures below { result < period }
     ensures steps { (first k : ℕ) → first < period → k < period → IsStepsFrom side period first k here → IsStepsFrom side period first (k + 1) result }

@@ -11,7 +11,7 @@ use pesp_base::Period;
 use pesp_domains::Side;
 
 /// Adds the entries to the sums from this one on.
-pub fn add_entries(sums: &mut [u64], from: usize, entries: &[Entry])
+pub(crate) fn add_entries(sums: &mut [u64], from: usize, entries: &[Entry])
     requires { from + length entries.now ≤ length sums.old }
     ensures added { (k : ℕ) → k < length entries.now → slice_index sums.new (from + k) ≤ slice_index sums.old (from + k) + slice_index entries.now k }
     ensures others { (k : ℕ) → ((k < from) ⊎ (from + length entries.now ≤ k)) → slice_index sums.new k ≡ slice_index sums.old k }
@@ -44,7 +44,7 @@ fn later_end(arc: &Arc) -> Side {
 }
 
 /// Sets the entries at the later end of each arc anew, and then the sums.
-pub fn renew_all(
+pub(crate) fn renew_all(
     period: Period,
     arcs: &[Arc],
     tests: &[bool],

@@ -1,6 +1,8 @@
 //! Sweeps that move what entries tell from event to event along arcs.
 //!
-//! Bounds hold whatever the entries are, so nothing is proved of these: they make the bounds great.
+//! Bounds hold whatever the entries are, so nothing is proved of these: they make the bounds great. Events before the
+//! one that is looked at are settled: what is told at them is told at one residue, so it is moved off them once and
+//! nothing is moved to them.
 
 ghost use Rattle.std.specs.Prelude.{◌≡◌, ◌*◌, ◌+◌, ◌<◌, ◌≤◌, All, length};
 ghost use Rattle.pesp_ahead.specs.Sights.{IsBetween};
@@ -18,7 +20,7 @@ const ROUNDS: usize = 2;
 /// What stands for no share, so that shares below it stand for what is to be added.
 const NO_SHARE: u64 = 4_611_686_018_427_387_904;
 
-/// Which way a sweep goes over the places.
+/// Which way a sweep goes over the places from the first one that is not settled.
 #[derive(Clone, Copy)]
 enum Way {
     Up,
@@ -35,15 +37,23 @@ impl Way {
     }
 
     /// The place that the sweep comes to at this turn.
-    fn place_at(self, turn: usize, places: usize) -> usize
-        requires { turn < places }
+    fn place_at(self, turn: usize, first: usize, places: usize) -> usize
+        requires { first + turn < places }
         ensures { result < places }
     {
         match self {
-            Way::Up => turn,
+            Way::Up => first + turn,
             Way::Down => places - 1 - turn,
         }
     }
+}
+
+/// The arcs at a place: to those that the sweep comes to later, to those before, and all, settled ones too.
+#[derive(Clone, Copy)]
+struct Ends {
+    onward: u64,
+    back: u64,
+    all: u64,
 }
 
 /// The end of the arc at the place, and the place of the other one.
@@ -57,22 +67,26 @@ fn end_at(arc: &Arc, place: usize) -> Option<(Side, usize)> {
     }
 }
 
-/// Sums the entries at the place up. Says how many arcs lead onward from it, and how many back.
+/// Sums the entries at the place up.
 fn gather(
     period: Period,
     arcs: &[Arc],
     way: Way,
+    first: usize,
     place: usize,
     entries: &[Entry],
     sums: &mut [u64],
-) -> (u64, u64)
+) -> Ends
     requires entries { length entries.now ≡ length arcs.now * (2 * period) }
     requires sums { length sums.old ≡ period }
 {
     sums.fill(0);
     let width = usize::from(period.get());
-    let mut onward: u64 = 0;
-    let mut back: u64 = 0;
+    let mut ends = Ends {
+        onward: 0,
+        back: 0,
+        all: 0,
+    };
     for (k, arc) in arcs.iter().enumerate() {
         let from = k * (2 * width);
         if let Some((side, other)) = end_at(arc, place) {
@@ -80,16 +94,19 @@ fn gather(
                 Side::Tail => add_entries(sums, 0, &entries[from..from + width]),
                 Side::Head => add_entries(sums, 0, &entries[from + width..from + 2 * width]),
             }
+            ends.all = ends.all.saturating_add(1);
+            if other < first {
+                continue;
+            }
             if way.leads(place, other) {
-                onward = onward.saturating_add(1);
+                ends.onward = ends.onward.saturating_add(1);
             } else {
-                back = back.saturating_add(1);
+                ends.back = ends.back.saturating_add(1);
             }
         }
     }
-    (onward, back)
+    ends
 }
-
 /// Divides what sums of so many entries tell into equal shares.
 fn divide(sums: &mut [u64], entries: u64, shares: u64)
     requires { 0 < shares }
@@ -119,6 +136,7 @@ fn pass_on(
     period: Period,
     arcs: &[Arc],
     way: Way,
+    first: usize,
     place: usize,
     tests: &[bool],
     places: usize,
@@ -133,7 +151,7 @@ fn pass_on(
     let width = usize::from(period.get());
     for (k, arc) in arcs.iter().enumerate() {
         if let Some((side, other)) = end_at(arc, place) {
-            if way.leads(place, other) {
+            if first <= other && way.leads(place, other) {
                 let from = k * (2 * width);
                 let pair = &mut entries[from..from + 2 * width];
                 match side {
@@ -156,6 +174,7 @@ fn sweep_place(
     period: Period,
     arcs: &[Arc],
     way: Way,
+    first: usize,
     place: usize,
     tests: &[bool],
     places: usize,
@@ -167,53 +186,85 @@ fn sweep_place(
     requires entries { length entries.old ≡ length arcs.now * (2 * period) }
     requires sums { length sums.old ≡ period }
 {
-    let (onward, back) = gather(period, arcs, way, place, entries, sums);
-    if onward > 0 {
-        divide(sums, onward.saturating_add(back), onward.max(back));
-        pass_on(period, arcs, way, place, tests, places, entries, sums);
+    let ends = gather(period, arcs, way, first, place, entries, sums);
+    if ends.onward > 0 {
+        divide(sums, ends.all, ends.onward.max(ends.back));
+        pass_on(
+            period, arcs, way, first, place, tests, places, entries, sums,
+        );
     }
 }
 
-/// Sweeps over all places one way.
+/// Sweeps one way over all places from the first one on.
 fn sweep_once(
     period: Period,
     arcs: &[Arc],
     way: Way,
+    first: usize,
     tests: &[bool],
     places: usize,
     entries: &mut [Entry],
     sums: &mut [u64],
 )
+    requires first { first ≤ places }
     requires between { All (IsBetween places) arcs.now }
     requires tests { length tests.now ≡ places * period }
     requires entries { length entries.old ≡ length arcs.now * (2 * period) }
     requires sums { length sums.old ≡ places * period }
 {
     let width = usize::from(period.get());
-    for turn in 0..places {
-        let place = way.place_at(turn, places);
+    for turn in 0..places - first {
+        let place = way.place_at(turn, first, places);
         let from = place * width;
         let own = &mut sums[from..from + width];
-        sweep_place(period, arcs, way, place, tests, places, entries, own);
+        sweep_place(period, arcs, way, first, place, tests, places, entries, own);
     }
 }
 
-/// Sweeps up and down.
-pub fn sweep(
+/// Moves what arcs tell off the places before the first one.
+fn leave(
     period: Period,
     arcs: &[Arc],
+    first: usize,
+    tests: &[bool],
+    places: usize,
+    entries: &mut [Entry],
+)
+    requires between { All (IsBetween places) arcs.now }
+    requires tests { length tests.now ≡ places * period }
+    requires entries { length entries.old ≡ length arcs.now * (2 * period) }
+{
+    let width = 2 * usize::from(period.get());
+    for (k, arc) in arcs.iter().enumerate() {
+        let from = k * width;
+        let pair = &mut entries[from..from + width];
+        if arc.tail < first && first <= arc.head {
+            renew(period, arc, Side::Head, tests, pair);
+        } else if arc.head < first && first <= arc.tail {
+            renew(period, arc, Side::Tail, tests, pair);
+        }
+    }
+}
+
+/// Sweeps up and down over the places from the first one on; those before are settled.
+pub(crate) fn sweep(
+    period: Period,
+    arcs: &[Arc],
+    first: usize,
     tests: &[bool],
     places: usize,
     entries: &mut [Entry],
     sums: &mut [u64],
 )
+    requires first { first ≤ places }
     requires between { All (IsBetween places) arcs.now }
     requires tests { length tests.now ≡ places * period }
     requires entries { length entries.old ≡ length arcs.now * (2 * period) }
     requires sums { length sums.old ≡ places * period }
 {
+    leave(period, arcs, first, tests, places, entries);
     for _round in 0..ROUNDS {
-        sweep_once(period, arcs, Way::Up, tests, places, entries, sums);
-        sweep_once(period, arcs, Way::Down, tests, places, entries, sums);
+        sweep_once(period, arcs, Way::Up, first, tests, places, entries, sums);
+        sweep_once(period, arcs, Way::Down, first, tests, places, entries, sums);
     }
 }

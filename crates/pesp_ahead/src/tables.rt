@@ -20,7 +20,7 @@ use std::marker::Model;
 
 /// Entries at both ends of each arc for each place, their sums, and what they told.
 #[derive(Drop)]
-pub struct Tables {
+pub(crate) struct Tables {
     period: Period,
     places: usize,
     arcs: Vec<Arc>,
@@ -47,7 +47,7 @@ impl Model for Tables {
 
 impl Tables {
     /// Tables for the instance, or none where there are more than 1,024 events or they would take more than 64 MB.
-    pub fn new(
+    pub(crate) fn new(
         alloc: Global,
         instance: &Instance,
         events: &[EventId],
@@ -78,7 +78,7 @@ impl Tables {
     }
 
     /// The activities that are no loops.
-    pub fn arcs(&self) -> &[Arc]
+    pub(crate) fn arcs(&self) -> &[Arc]
         ensures { result.now ≡ self.now.arcs }
     {
         &self.arcs
@@ -108,6 +108,7 @@ impl Tables {
         sweep(
             self.period,
             &self.arcs,
+            place,
             tests,
             self.places,
             &mut self.entries[from..from + size],
@@ -116,7 +117,7 @@ impl Tables {
     }
 
     /// Looks ahead within these rows from the event at the place.
-    pub fn look(&mut self, instance: &Instance, tests: &[bool], place: usize)
+    pub(crate) fn look(&mut self, instance: &Instance, tests: &[bool], place: usize)
         requires of { IsSightOf instance.now self.old }
         requires long { length tests.now ≡ length (event_ids instance.now) * instance.now.period }
         requires place { place < length (event_ids instance.now) }
@@ -152,7 +153,7 @@ impl Tables {
     }
 
     /// What was told last of the residue of the event at the place.
-    pub fn bound(&self, place: usize, residue: u16) -> u64
+    pub(crate) fn bound(&self, place: usize, residue: u16) -> u64
         requires { residue < self.now.period }
         ensures { result ≡ bound_at self.now place residue }
     {
