@@ -1,0 +1,18 @@
+//! Answers and what calls are lent, as lines. To print takes no memory.
+
+use pesp_instance::Instance;
+use std::fmt::Debug;
+
+/// A line for each event and each activity.
+pub(crate) fn instance(rt: &impl Print, instance: &Instance) {
+    for event in instance.events() {
+        let _ = println!(rt; "{event:?}");
+    }
+    for activity in instance.activities() {
+        let _ = println!(rt; "{activity:?}");
+    }
+}
+
+pub(crate) fn line<T: Debug>(rt: &impl Print, item: &T) {
+    let _ = println!(rt; "{item:?}");
+}
