@@ -9,22 +9,8 @@ PROGRAM = TOP / "crates/pesp_growths/out/pesp_growths"
 OUTSIDE = (1, b"no room\n")
 # Want of memory in the form of each call; that of most is refusal 10.
 REFUSAL = rb"Err\(Memory\)\n"
-FORMS = {
-    "PlainKeeper::from_instance": rb"NoRoom\n",
-    "CountKeeper::from_instance": rb"NoRoom\n",
-    "best by PlainKeeper": rb"Memory\n",
-    "best by CountKeeper": rb"Memory\n",
-    "best_within by PlainKeeper": rb"Memory\n",
-    "best_within by CountKeeper": rb"Memory\n",
-    "read_activities": rb"ReadFault \{ place: \d+, kind: Memory \}\n",
-    "read_fixed": rb"ReadFault \{ place: \d+, kind: Memory \}\n",
-    "read_times": rb"ReadFault \{ place: \d+, kind: Memory \}\n",
-    "replay": rb"ReplayFault \{ line: \d+, kind: Refused\(Memory\) \}\n",
-}
-SEARCHES = ["Bench::optimum", "Bench::try_optimum", "Bench::adopt"]
+FORMS = {"replay": rb"ReplayFault \{ line: \d+, kind: Refused\(Memory\) \}\n"}
 HEADS = re.compile(rb"^(case .*|before|answer|after|again)\n", re.MULTILINE)
-KNOWN = re.compile(rb"^known .*\n", re.MULTILINE)
-NODES = re.compile(rb"^nodes \d+\n", re.MULTILINE)
 
 
 def calls_of(output):
@@ -39,13 +25,6 @@ def calls_of(output):
     return calls
 
 
-def is_same_but_known(before, after, plain):
-    """Whether a search that was refused left all but what is known, which may have become the optimum with its nodes."""
-    rest = [NODES.sub(b"", KNOWN.sub(b"", text)) for text in (before, after)]
-    told = [(KNOWN.findall(text), NODES.findall(text)) for text in (before, after, plain)]
-    return rest[0] == rest[1] and told[1] in (told[0], told[2])
-
-
 def fault_of_refused(name, call, plain):
     """What is wrong with a call that was refused memory and made again."""
     if [head for head, _ in call] != [b"before", b"answer", b"after", b"again", b"after"]:
@@ -56,14 +35,10 @@ def fault_of_refused(name, call, plain):
         return "another answer than want of memory"
     if before != plain_before:
         return "another state before the call"
-    is_search = name in SEARCHES
-    if after != before and not (is_search and is_same_but_known(before, after, plain_after)):
+    if after != before:
         return "want of memory has left something else"
     if again != plain_answer:
         return "another answer with ample memory"
-    # What became known in the refused call is known in the next, which then visits no node.
-    if is_search and after != before:
-        plain_after, last = NODES.sub(b"", plain_after), NODES.sub(b"", last)
     return None if last == plain_after else "another state after the call with ample memory"
 
 
