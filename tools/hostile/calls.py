@@ -9,7 +9,13 @@ PROGRAM = TOP / "crates/pesp_growths/out/pesp_growths"
 OUTSIDE = (1, b"no room\n")
 # Want of memory in the form of each call; that of most is refusal 10.
 REFUSAL = rb"Err\(Memory\)\n"
-FORMS = {"replay": rb"ReplayFault \{ line: \d+, kind: Refused\(Memory\) \}\n"}
+READ = rb"ReadFault \{ place: \d+, kind: Memory \}\n"
+FORMS = {
+    "read_activities": READ,
+    "read_fixed": READ,
+    "read_times": READ,
+    "replay": rb"ReplayFault \{ line: \d+, kind: Refused\(Memory\) \}\n",
+}
 HEADS = re.compile(rb"^(case .*|before|answer|after|again)\n", re.MULTILINE)
 
 

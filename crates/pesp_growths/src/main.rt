@@ -3,6 +3,7 @@
 
 mod call;
 mod edits;
+mod files;
 mod made;
 mod scripts;
 mod showing;
@@ -20,6 +21,7 @@ fn try_all<R: Env + AllocGlobal + Print>(rt: &R) -> Option<()> {
     let words = words(rt)?;
     let words = words.as_slice();
     edits::try_all(rt, words)?;
+    files::try_all(rt, words)?;
     scripts::try_all(rt, words)
 }
 
