@@ -1,5 +1,6 @@
 """Wrong programs as the tests would see them: each way to go wrong has to be found."""
 
+from hostile.calls import judge_call
 from hostile.damage import fault_of_commands
 from hostile.growths import judge
 from hostile.inputs import ends_of_replies
@@ -43,6 +44,21 @@ DAMAGED = {
     "a signal": (-6, b"", b"", False),
 }
 
+CALL = b"case Instance::apply\nbefore\na\nanswer\nOk(())\nafter\na\nb\n"
+MADE_AGAIN = b"case Instance::apply\nbefore\na\nanswer\n%s\nafter\n%s\nagain\n%s\nafter\n%s\n"
+# What the program of calls wrote with a request refused, and whether that is right.
+CALLS = {
+    "the whole output": (0, CALL, b"", True),
+    "want of memory": (0, MADE_AGAIN % (b"Err(Memory)", b"a", b"Ok(())", b"a\nb"), b"", True),
+    "no room for an input": (1, b"case Instance::apply\n", b"no room\n", True),
+    "a refused activity that stays listed": (0, MADE_AGAIN % (b"Err(Memory)", b"a\nb", b"Ok(())", b"a\nb"), b"", False),
+    "another refusal": (0, MADE_AGAIN % (b"Err(Infeasible)", b"a", b"Ok(())", b"a\nb"), b"", False),
+    "memory wanted twice": (0, MADE_AGAIN % (b"Err(Memory)", b"a", b"Err(Memory)", b"a"), b"", False),
+    "another state with ample memory": (0, MADE_AGAIN % (b"Err(Memory)", b"a", b"Ok(())", b"b"), b"", False),
+    "an edit that is lost": (0, CALL[:-2], b"", False),
+    "a call of pesp_growths that ends by a signal": (-6, b"", b"", False),
+}
+
 
 def came(status, output, error):
     return Came(status, output, error, 1, 1, 0, {})
@@ -58,3 +74,7 @@ def judges(suite, _):
     for name, (status, output, error, is_right) in DAMAGED.items():
         fault = fault_of_commands(GIVEN, came(status, output, error))
         suite.holds(f"damage: {name} is {'right' if is_right else 'found'}", (fault is None) == is_right)
+    plain = came(0, CALL, b"")
+    for name, (status, output, error, is_right) in CALLS.items():
+        fault, _ = judge_call("Instance::apply", came(status, output, error), plain)
+        suite.holds(f"calls: {name} is {'right' if is_right else 'found'}", (fault is None) == is_right)

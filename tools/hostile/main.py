@@ -7,6 +7,7 @@ import pathlib
 import tempfile
 import time
 
+from hostile.calls import calls
 from hostile.damage import damage
 from hostile.failing import devices
 from hostile.growths import growths
@@ -16,9 +17,10 @@ from hostile.served import build_library
 from tests.examples import folders
 from tests.harness import PROGRAM, short
 
-PARTS = {"judges": judges, "growths": growths, "devices": devices, "damage": damage}
+PARTS = {"judges": judges, "calls": calls, "growths": growths, "devices": devices, "damage": damage}
 TRIED = {
     "judges": "programs",
+    "calls": "refused requests of calls",
     "growths": "refused requests",
     "devices": "runs with faulty devices",
     "damage": "damaged texts, each twice",
@@ -67,9 +69,13 @@ def run_part(part, given, words, library):
 def tasks(parts, folder):
     """Each part with each of its inputs."""
     given = list(inputs(folder))
+    own = {
+        "judges": [Input("wrong runs", [], folder)],
+        "calls": [Input("pesp_growths", [], folder)],
+        "damage": map(example, folders()),
+    }
     for part in parts:
-        named = {"judges": [Input("wrong runs", [], folder)], "damage": map(example, folders())}.get(part, given)
-        yield from ((part, each) for each in named)
+        yield from ((part, each) for each in own.get(part, given))
 
 
 def run_all(words, folder):

@@ -1,0 +1,96 @@
+"""Each public call that can want memory, as the program pesp_growths makes it, with each request refused in turn."""
+
+import re
+
+from hostile.served import Order, Served
+from tests.harness import TOP
+
+PROGRAM = TOP / "crates/pesp_growths/out/pesp_growths"
+OUTSIDE = (1, b"no room\n")
+# Want of memory in the form of each call; that of most is refusal 10.
+REFUSAL = rb"Err\(Memory\)\n"
+READ = rb"ReadFault \{ place: \d+, kind: Memory \}\n"
+FORMS = {
+    "read_activities": READ,
+    "read_fixed": READ,
+    "read_times": READ,
+    "replay": rb"ReplayFault \{ line: \d+, kind: Refused\(Memory\) \}\n",
+}
+HEADS = re.compile(rb"^(case .*|before|answer|after|again)\n", re.MULTILINE)
+
+
+def calls_of(output):
+    """What was told of each call: the state before, the answer and the state behind it, and the two of the call made again."""
+    parts = HEADS.split(output)
+    calls = []
+    for head, text in zip(parts[1::2], parts[2::2]):
+        if head == b"before":
+            calls.append([])
+        if calls:
+            calls[-1].append((head, text))
+    return calls
+
+
+def fault_of_refused(name, call, plain):
+    """What is wrong with a call that was refused memory and made again."""
+    if [head for head, _ in call] != [b"before", b"answer", b"after", b"again", b"after"]:
+        return "a call that was refused is not made again"
+    before, answer, after, again, last = (text for _, text in call)
+    plain_before, plain_answer, plain_after = (text for _, text in plain)
+    if not re.fullmatch(FORMS.get(name, REFUSAL), answer):
+        return "another answer than want of memory"
+    if before != plain_before:
+        return "another state before the call"
+    if after != before:
+        return "want of memory has left something else"
+    if again != plain_answer:
+        return "another answer with ample memory"
+    return None if last == plain_after else "another state after the call with ample memory"
+
+
+def judge_call(name, came, plain):
+    """What is wrong with a run, if anything, and whether memory was refused inside of a call."""
+    if (came.status, came.error) == OUTSIDE:
+        return None if plain.output.startswith(came.output) else "another output before an input had no room", False
+    if (came.status, came.error) != (plain.status, plain.error):
+        return "another status or text", False
+    calls, wanted = calls_of(came.output), calls_of(plain.output)
+    if len(calls) != len(wanted):
+        return "another number of calls", False
+    differing = [(call, other) for call, other in zip(calls, wanted) if call != other]
+    if not differing:
+        return None, False
+    if len(differing) > 1:
+        return "more than one call differs", True
+    return fault_of_refused(name, *differing[0]), True
+
+
+def refuse_in_case(suite, folder, name):
+    """Refuses one request after the other of a case, until none is refused any more."""
+    with Served(suite.library, [PROGRAM, name], folder) as served:
+        plain = served.run()
+        suite.holds(f"{name}: nothing is wrong where nothing is refused", (plain.status, plain.error) == (0, b""))
+        wrong, inside, request = [], 0, 1
+        while True:
+            came = served.run(Order(refuse_from=request, refuse_to=request))
+            if came.refused == 0:
+                break
+            fault, is_inside = judge_call(name, came, plain)
+            wrong += [(request, fault, came)] if fault else []
+            inside, request = inside + is_inside, request + 1
+        suite.found(f"{name}: each request for memory refused", request - 1, wrong)
+        suite.holds(f"{name}: memory is refused inside of a call", inside)
+        suite.holds(f"{name}: the same without a refusal at the end", came.told() == plain.told())
+        return inside
+
+
+def calls(suite, given):
+    """Each case of the program, as it names them itself."""
+    if not PROGRAM.exists():
+        suite.holds(f"there is a program at {PROGRAM} (made by `rt run` in its crate)", False)
+        return
+    with Served(suite.library, [PROGRAM], given.folder) as served:
+        names = re.findall(rb"^case (.*)\n", served.run().output, re.MULTILINE)
+    suite.holds("calls are made", names)
+    counts = [(name.decode(), refuse_in_case(suite, given.folder, name.decode())) for name in names]
+    suite.note("; ".join(f"{name} {inside}" for name, inside in counts))
