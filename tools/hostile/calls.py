@@ -1,4 +1,4 @@
-"""Each public call that can want memory, as the program pesp_growths makes it, with each request refused in turn."""
+"""The public calls that the program pesp_growths makes, with each of its requests for memory refused in turn."""
 
 import re
 

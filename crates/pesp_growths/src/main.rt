@@ -1,4 +1,4 @@
-//! Makes each public call that can want memory, and tells what it answered and what it left.
+//! Makes public calls that can want memory, and tells what each answered and what it left.
 #![tactic(auto)]
 
 mod call;
