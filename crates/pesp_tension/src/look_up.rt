@@ -1,17 +1,22 @@
 //! Places in a list of times that rises by event.
 
-ghost use Rattle.std.specs.Prelude.{◌↔◌, IfOk, IfErr, IsTrue, length};
+ghost use Rattle.std.specs.Prelude.{◌↔◌, IfOk, IfErr, IfSome, IsTrue, length};
 ghost use Rattle.pesp_tension.specs.Places.{AreRising, IsAt, IsGap};
 
 use pesp_base::EventId;
 
-/// Where an event stands, or would stand.
-pub(crate) fn place(times: &[(u32, u16)], event: EventId) -> Result<usize, usize>
-    requires { AreRising times.now }
-    ensures found { IfOk result (IsAt times.now event) }
-    ensures absent { IfErr result (IsGap times.now event) }
+/// Where an event stands, if it is as far behind the first one as its number says.
+fn place_by_number(times: &[(u32, u16)], event: EventId) -> Option<usize>
+    ensures { IfSome result (IsAt times.now event) }
 {
-    times.binary_search_by_key(&event.get(), |&(number, _)| number)
+    let (first, _) = times.first()?;
+    let place = event.get().checked_sub(*first)? as usize;
+    let (found, _) = times.get(place)?;
+    if *found == event.get() {
+        Some(place)
+    } else {
+        None
+    }
 }
 
 /// Whether an event is above all that have a time.
@@ -25,15 +30,20 @@ fn is_above_all(times: &[(u32, u16)], event: EventId) -> bool
     }
 }
 
-/// Where an event stands, or would stand, of which the end is the first to be looked at: times mostly
-/// come by rising events.
-pub(crate) fn place_from_end(times: &[(u32, u16)], event: EventId) -> Result<usize, usize>
+/// Where an event stands, or would stand.
+///
+/// Numbers mostly have no gaps, and times mostly come by rising events: the place that the number says is looked at first,
+/// then the end, and then the others.
+pub(crate) fn place(times: &[(u32, u16)], event: EventId) -> Result<usize, usize>
     requires { AreRising times.now }
     ensures found { IfOk result (IsAt times.now event) }
     ensures absent { IfErr result (IsGap times.now event) }
 {
+    if let Some(place) = place_by_number(times, event) {
+        return Ok(place);
+    }
     if is_above_all(times, event) {
         return Err(times.len());
     }
-    place(times, event)
+    times.binary_search_by_key(&event.get(), |&(number, _)| number)
 }

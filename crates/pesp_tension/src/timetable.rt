@@ -8,7 +8,7 @@ ghost use Rattle.pesp_tension.specs.Places.{IsAt, IsGap};
 ghost use Rattle.pesp_tension.specs.Timetables.{no_times, time_of, timed_events, set_time, with_time, without_time, IsSetRefusal, IsTimetable};
 
 use crate::Walk;
-use crate::look_up::{place, place_from_end};
+use crate::look_up::place;
 use pesp_base::{EventId, Period, Refusal, max_events};
 use std::alloc::Global;
 use std::marker::Model;
@@ -100,7 +100,7 @@ impl Timetable {
         ensures found { IfOk result (IsAt self.now.entries event) }
         ensures absent { IfErr result (IsGap self.now.entries event) }
     {
-        place_from_end(&self.times, event)
+        place(&self.times, event)
     }
 
     /// Gives an event that stands at the place another time.

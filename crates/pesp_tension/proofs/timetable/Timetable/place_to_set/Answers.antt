@@ -13,5 +13,5 @@ known_at es e (Err place) rising at gap = sym (ap is_some (lookup_gap es e place
 
 pub returns-clause-known : goal.returns-clause-known
 returns-clause-known c =
-    let facts = rw c.deref.ensures.value at c.place_from_end.ensures in
-    rw (← c.self.view_is) (known_at c.self.inside.times.items c.args.event c.place_from_end.result c.self.invariant.rising facts.found facts.absent)
+    let facts = rw c.deref.ensures.value at c.place.ensures in
+    rw (← c.self.view_is) (known_at c.self.inside.times.items c.args.event c.place.result c.self.invariant.rising facts.found facts.absent)
