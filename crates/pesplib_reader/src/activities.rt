@@ -1,7 +1,8 @@
 //! Activities, in a file.
 
-ghost use Rattle.std.specs.Prelude.{◌≡◌, ◌≤◌, nat_lt, Ok, IfOk, IfErr, OnOk, length};
+ghost use Rattle.std.specs.Prelude.{◌≡◌, ◌≤◌, nat_lt, None, Ok, IfOk, IfErr, OnOk, length};
 ghost use Rattle.pesp_base.specs.Limits as limits;
+ghost use Rattle.pesp_instance.specs.Network.{activity_of};
 ghost use Rattle.pesplib_reader.specs.declared.fault.FaultKind.TheVariants as fault;
 ghost use Rattle.pesplib_reader.specs.Left.{trimmed_fields};
 ghost use Rattle.pesplib_reader.specs.Taking.{IsReadFault, IsTakeFault, row_taken};
@@ -41,26 +42,27 @@ fn exceeds_with_ends(instance: &Instance, activity: &Activity) -> bool
     count_with_ends(instance, activity) > limit
 }
 
-/// Adds an event that is new, or finds no memory for it.
+/// Adds an event where it is new, or finds no memory for it.
 fn add_event(instance: &mut Instance, event: EventId) -> Result<(), FaultKind>
     ensures ok { OnOk result (instance.new ≡ with_event instance.old event) }
     ensures memory { IfErr result (λ found. found ≡ fault.Memory) }
 {
+    if instance.has_event(event) {
+        return Ok(());
+    }
     match instance.apply(&Edit::AddEvent(event)) {
-        Ok(()) | Err(Refusal::EventExists(_)) => Ok(()),
+        Ok(()) => Ok(()),
         Err(_) => Err(FaultKind::Memory),
     }
 }
 
-/// Takes one more activity, with those of its ends that are new, or answers the first fault:
-/// `DuplicateActivity`, `TooManyEvents`, `TooManyActivities`, `Memory`.
+/// Takes one more activity of a new number, with those of its ends that are new, or answers the first fault:
+/// `TooManyEvents`, `TooManyActivities`, `Memory`.
 fn add_with_ends(instance: &mut Instance, activity: &Activity) -> Result<(), FaultKind>
+    requires { activity_of instance.old activity.now.id ≡ None }
     ensures ok { OnOk result (activity_taken instance.old activity.now ≡ Ok instance.new) }
     ensures fault { IfErr result (IsTakeFault (activity_taken instance.old activity.now)) }
 {
-    if instance.activity(activity.id).is_some() {
-        return Err(FaultKind::DuplicateActivity);
-    }
     if exceeds_with_ends(instance, activity) {
         return Err(FaultKind::TooManyEvents);
     }
@@ -75,7 +77,8 @@ fn add_with_ends(instance: &mut Instance, activity: &Activity) -> Result<(), Fau
     }
 }
 
-/// Takes one more activity. Where both ends are known, each is looked up once.
+/// Takes one more activity, or answers the first fault: `DuplicateActivity`, `TooManyEvents`, `TooManyActivities`,
+/// `Memory`. Where both ends are known, each is looked up once.
 fn add_activity(instance: &mut Instance, activity: &Activity) -> Result<(), FaultKind>
     requires { length instance.old.events ≤ limits.max_events instance.old.period }
     ensures ok { OnOk result (activity_taken instance.old activity.now ≡ Ok instance.new) }
@@ -84,7 +87,10 @@ fn add_activity(instance: &mut Instance, activity: &Activity) -> Result<(), Faul
     match instance.apply(&Edit::AddActivity(*activity)) {
         Ok(()) => Ok(()),
         Err(Refusal::Memory) => Err(FaultKind::Memory),
-        Err(_) => add_with_ends(instance, activity),
+        // A number that is there is told before an end that is missing.
+        Err(Refusal::NoEvent(_)) => add_with_ends(instance, activity),
+        Err(Refusal::TooManyActivities) => Err(FaultKind::TooManyActivities),
+        Err(_) => Err(FaultKind::DuplicateActivity),
     }
 }
 
