@@ -5,7 +5,7 @@ ghost use Rattle.std.specs.Fmt.{signed_decimal};
 ghost use Rattle.pesp_base.specs.Texts.{separated};
 ghost use Rattle.pesplib_writer.specs.Texts.{activity_fields};
 
-use crate::text::{put, put_between, put_signed};
+use crate::text::{put, put_before, put_between, put_signed};
 use pesp_base::{Activity, Span};
 use std::alloc::AllocError;
 
@@ -27,9 +27,9 @@ pub(crate) fn put_fields(
 ) -> Result<(), AllocError>
     ensures { OnOk result (text.new.items ≡ text.old.items ++ separated between.now (activity_fields activity.now)) }
 {
-    put_between(text, b"", u64::from(activity.id.get()), between)?;
-    put_between(text, b"", u64::from(activity.from.get()), between)?;
-    put_between(text, b"", u64::from(activity.to.get()), between)?;
+    put_before(text, u64::from(activity.id.get()), between)?;
+    put_before(text, u64::from(activity.from.get()), between)?;
+    put_before(text, u64::from(activity.to.get()), between)?;
     put_bounds(text, activity.span, between)?;
     put_between(text, between, u64::from(activity.weight.get()), b"")
 }

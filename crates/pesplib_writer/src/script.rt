@@ -9,7 +9,7 @@ ghost use Rattle.pesp_instance.specs.Network.{IsNetwork, event_ids};
 ghost use Rattle.pesplib_writer.specs.Script.{applied, edit_line, fix_edit, script, script_edits, script_lines};
 
 use crate::fields::put_fields;
-use crate::text::{put, put_between};
+use crate::text::{put, put_before, put_between};
 use pesp_base::{Activity, EventId, Memory, Period};
 use pesp_instance::Instance;
 use std::alloc::{AllocError, Global};
@@ -41,7 +41,7 @@ fn put_head(text: &mut Vec<u8>, period: Period, lines: usize) -> Result<(), Allo
     ensures { OnOk result (text.new.items ≡ text.old.items ++ (words_line (codes "# period" ∷ decimal period ∷ codes "lines" ∷ decimal lines ∷ []) ++ 10 ∷ [])) }
 {
     put_between(text, b"# period ", u64::from(period.get()), b" lines ")?;
-    put_between(text, b"", lines as u64, b"\n")
+    put_before(text, lines as u64, b"\n")
 }
 
 fn put_events(text: &mut Vec<u8>, instance: &Instance) -> Result<(), AllocError>
@@ -58,7 +58,7 @@ fn put_fix(text: &mut Vec<u8>, event: EventId, time: u16) -> Result<(), AllocErr
     ensures { OnOk result (text.new.items ≡ text.old.items ++ (edit_line (Fix event time) ++ 10 ∷ [])) }
 {
     put_between(text, b"fix ", u64::from(event.get()), b" ")?;
-    put_between(text, b"", u64::from(time), b"\n")
+    put_before(text, u64::from(time), b"\n")
 }
 
 fn put_fixes(text: &mut Vec<u8>, instance: &Instance) -> Result<(), AllocError>

@@ -44,6 +44,14 @@ pub fn put_signed(text: &mut Vec<u8>, number: i32) -> Result<(), AllocError>
     put(text, signed.as_bytes())
 }
 
+/// Puts a number, and a text behind it.
+pub(crate) fn put_before(text: &mut Vec<u8>, number: u64, behind: &[u8]) -> Result<(), AllocError>
+    ensures { OnOk result (text.new.items ≡ text.old.items ++ (decimal number ++ behind.now)) }
+{
+    put_number(text, number)?;
+    put(text, behind)
+}
+
 /// Puts a number between two texts.
 ///
 /// Where memory is wanting the text is as it was, or has the first text behind it, or that and the
