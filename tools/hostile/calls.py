@@ -1,11 +1,12 @@
-"""The public calls that the program pesp_growths makes, with each of its requests for memory refused in turn."""
+"""The public calls that two programs make, with each of their requests for memory refused in turn."""
 
 import re
 
 from hostile.served import Order, Served
 from tests.harness import TOP
 
-PROGRAM = TOP / "crates/pesp_growths/out/pesp_growths"
+# Of the store, files and scripts; of keepers, searches, workbenches and replies.
+PROGRAMS = ["pesp_growths", "pesp_bench_growths"]
 OUTSIDE = (1, b"no room\n")
 # Want of memory in the form of each call; that of most is refusal 10.
 REFUSAL = rb"Err\(Memory\)\n"
@@ -15,7 +16,17 @@ FORMS = {
     "read_fixed": READ,
     "read_times": READ,
     "replay": rb"ReplayFault \{ line: \d+, kind: Refused\(Memory\) \}\n",
+    "PlainKeeper::from_instance": rb"NoRoom\n",
+    "CountKeeper::from_instance": rb"NoRoom\n",
+    "best": rb"Memory\n",
+    "best_within": rb"Memory\n",
 }
+# Cases of calls that take no memory.
+QUIET = " without memory"
+# What a search may leave behind where memory is refused after it.
+SEARCHES = ["Bench::find_optimum", "Bench::optimum", "Bench::try_optimum", "Bench::adopt", "reply to optimum"]
+KNOWN = re.compile(rb"^known .*\n", re.MULTILINE)
+NODES = re.compile(rb"^nodes \d+\n", re.MULTILINE)
 HEADS = re.compile(rb"^(case .*|before|answer|after|again)\n", re.MULTILINE)
 
 
@@ -31,6 +42,19 @@ def calls_of(output):
     return calls
 
 
+def without_nodes(name, state):
+    """The state, for a call that searches without the nodes of the last search."""
+    return NODES.sub(b"", state) if name in SEARCHES else state
+
+
+def is_left(name, before, after, done):
+    """Whether a refused call leaves what it was lent; one that searches may leave the optimum known that it finds where it is done."""
+    if name not in SEARCHES:
+        return after == before
+    is_known = b"".join(KNOWN.findall(after)) in (b"".join(KNOWN.findall(state)) for state in (before, done))
+    return is_known and KNOWN.sub(b"", without_nodes(name, after)) == KNOWN.sub(b"", without_nodes(name, before))
+
+
 def fault_of_refused(name, call, plain):
     """What is wrong with a call that was refused memory and made again."""
     if [head for head, _ in call] != [b"before", b"answer", b"after", b"again", b"after"]:
@@ -41,11 +65,11 @@ def fault_of_refused(name, call, plain):
         return "another answer than want of memory"
     if before != plain_before:
         return "another state before the call"
-    if after != before:
+    if not is_left(name, before, after, plain_after):
         return "want of memory has left something else"
     if again != plain_answer:
         return "another answer with ample memory"
-    return None if last == plain_after else "another state after the call with ample memory"
+    return None if without_nodes(name, last) == without_nodes(name, plain_after) else "another state after the call with ample memory"
 
 
 def judge_call(name, came, plain):
@@ -65,32 +89,37 @@ def judge_call(name, came, plain):
     return fault_of_refused(name, *differing[0]), True
 
 
-def refuse_in_case(suite, folder, name):
+def refuse_in_case(suite, folder, program, name):
     """Refuses one request after the other of a case, until none is refused any more."""
-    with Served(suite.library, [PROGRAM, name], folder) as served:
+    with Served(suite.library, [program, name], folder) as served:
         plain = served.run()
         suite.holds(f"{name}: nothing is wrong where nothing is refused", (plain.status, plain.error) == (0, b""))
-        wrong, inside, request = [], 0, 1
+        wrong, inside, is_before, request = [], 0, False, 1
         while True:
             came = served.run(Order(refuse_from=request, refuse_to=request))
             if came.refused == 0:
                 break
             fault, is_inside = judge_call(name, came, plain)
             wrong += [(request, fault, came)] if fault else []
+            is_before = (came.status, came.error) == OUTSIDE and b"before\n" not in came.output
             inside, request = inside + is_inside, request + 1
         suite.found(f"{name}: each request for memory refused", request - 1, wrong)
-        suite.holds(f"{name}: memory is refused inside of a call", inside)
+        if name.endswith(QUIET):
+            suite.holds(f"{name}: the last request comes before the calls", is_before)
+        else:
+            suite.holds(f"{name}: memory is refused inside of a call", inside)
         suite.holds(f"{name}: the same without a refusal at the end", came.told() == plain.told())
         return inside
 
 
 def calls(suite, given):
-    """Each case of the program, as it names them itself."""
-    if not PROGRAM.exists():
-        suite.holds(f"there is a program at {PROGRAM} (made by `rt run` in its crate)", False)
+    """Each case of a program, as it names them itself."""
+    program = TOP / f"crates/{given.name}/out/{given.name}"
+    if not program.exists():
+        suite.holds(f"there is a program at {program} (made by `rt run` in its crate)", False)
         return
-    with Served(suite.library, [PROGRAM], given.folder) as served:
+    with Served(suite.library, [program], given.folder) as served:
         names = re.findall(rb"^case (.*)\n", served.run().output, re.MULTILINE)
     suite.holds("calls are made", names)
-    counts = [(name.decode(), refuse_in_case(suite, given.folder, name.decode())) for name in names]
+    counts = [(name.decode(), refuse_in_case(suite, given.folder, program, name.decode())) for name in names]
     suite.note("; ".join(f"{name} {inside}" for name, inside in counts))

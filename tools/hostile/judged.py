@@ -56,7 +56,17 @@ CALLS = {
     "memory wanted twice": (0, MADE_AGAIN % (b"Err(Memory)", b"a", b"Err(Memory)", b"a"), b"", False),
     "another state with ample memory": (0, MADE_AGAIN % (b"Err(Memory)", b"a", b"Ok(())", b"b"), b"", False),
     "an edit that is lost": (0, CALL[:-2], b"", False),
-    "a call of pesp_growths that ends by a signal": (-6, b"", b"", False),
+    "a call that ends by a signal": (-6, b"", b"", False),
+}
+SEARCH = b"case Bench::optimum\nbefore\na\nknown nothing\nnodes 0\nanswer\nfound 8\nafter\na\nknown 8\nnodes 2\n"
+SEARCHED_AGAIN = b"case Bench::optimum\nbefore\na\nknown nothing\nnodes 0\nanswer\nErr(Memory)\nafter\n%sagain\nfound 8\nafter\na\nknown 8\nnodes 2\n"
+# The same of a call that searches, by what it leaves where it is refused memory.
+LEFT = {
+    "nothing": (b"a\nknown nothing\nnodes 0\n", True),
+    "the number of nodes": (b"a\nknown nothing\nnodes 2\n", True),
+    "the optimum": (b"a\nknown 8\nnodes 2\n", True),
+    "another optimum": (b"a\nknown 6\nnodes 2\n", False),
+    "another instance": (b"b\nknown nothing\nnodes 0\n", False),
 }
 
 
@@ -78,3 +88,7 @@ def judges(suite, _):
     for name, (status, output, error, is_right) in CALLS.items():
         fault, _ = judge_call("Instance::apply", came(status, output, error), plain)
         suite.holds(f"calls: {name} is {'right' if is_right else 'found'}", (fault is None) == is_right)
+    plain = came(0, SEARCH, b"")
+    for name, (left, is_right) in LEFT.items():
+        fault, _ = judge_call("Bench::optimum", came(0, SEARCHED_AGAIN % left, b""), plain)
+        suite.holds(f"calls: a search leaves {name}, which is {'right' if is_right else 'found'}", (fault is None) == is_right)

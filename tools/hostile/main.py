@@ -7,7 +7,7 @@ import pathlib
 import tempfile
 import time
 
-from hostile.calls import calls
+from hostile.calls import PROGRAMS, calls
 from hostile.damage import damage
 from hostile.failing import devices
 from hostile.growths import growths
@@ -71,7 +71,7 @@ def tasks(parts, folder):
     given = list(inputs(folder))
     own = {
         "judges": [Input("wrong runs", [], folder)],
-        "calls": [Input("pesp_growths", [], folder)],
+        "calls": [Input(name, [], folder) for name in PROGRAMS],
         "damage": map(example, folders()),
     }
     for part in parts:

@@ -1,21 +1,13 @@
 //! Edits of an instance.
 
-use crate::call::{Call, is_asked, try_call};
-use crate::made::{self, KINDS, MANY};
-use crate::showing;
-use pesp_base::Refusal;
+use pesp_calls::made::{self, KINDS, MANY};
+use pesp_calls::{Call, is_asked, is_wanted, showing, try_call};
 use pesp_instance::{Edit, Instance};
 
 #[derive(Drop)]
 struct Edited {
     instance: Instance,
     edit: Edit,
-}
-
-/// Tells the answer. Whether it is want of memory.
-pub(crate) fn is_wanted(rt: &impl Print, answer: Result<(), Refusal>) -> bool {
-    showing::line(rt, &answer);
-    answer == Err(Refusal::Memory)
 }
 
 impl Call for Edited {

@@ -1,10 +1,8 @@
 //! Files that are read and written, and what a timetable answers.
 
-use crate::call::{Call, is_asked, try_call};
-use crate::edits::is_wanted;
-use crate::{made, showing};
 use pesp_base::{EventId, Memory, Refusal};
-use pesp_instance::{Edit, Instance};
+use pesp_calls::{Call, is_asked, is_wanted, made, showing, try_call};
+use pesp_instance::Instance;
 use pesp_tension::{Timetable, tensions, violations};
 use pesplib_reader::{FaultKind, ReadFault, read_activities, read_fixed, read_times};
 use pesplib_writer::{dump, write_activities, write_fixed, write_times};
@@ -133,10 +131,9 @@ impl Call for Lent {
     }
 }
 
-/// Two activities, the first event of which is fixed, and a timetable with the times that are given.
+/// Two activities, and a timetable with the times that are given.
 fn two_with(alloc: Global, times: &[(u32, u16)], ask: Ask) -> Option<Lent> {
-    let mut instance = made::two(alloc)?;
-    instance.apply(&Edit::Fix(EventId::new(1)?, 7)).ok()?;
+    let instance = made::two(alloc)?;
     let mut timetable = Timetable::new(alloc, instance.period());
     for (event, time) in times {
         timetable.set(EventId::new(*event)?, *time).ok()?;

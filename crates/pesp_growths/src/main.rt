@@ -1,21 +1,13 @@
 //! Makes public calls that can want memory, and tells what each answered and what it left.
 #![tactic(auto)]
 
-mod call;
 mod edits;
 mod files;
-mod made;
 mod scripts;
-mod showing;
 
-use std::env;
+use pesp_calls::words;
 use std::process::ExitCode;
 use std::rt::Env;
-
-/// The words of the command line: the program, and behind it the cases that are asked for. Where none is, all of them are.
-fn words<R: Env + AllocGlobal>(rt: &R) -> Option<Vec<String>> {
-    env::args(rt).ok()?.collect::<Vec<String>>(rt.alloc()).ok()
-}
 
 fn try_all<R: Env + AllocGlobal + Print>(rt: &R) -> Option<()> {
     let words = words(rt)?;

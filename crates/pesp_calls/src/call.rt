@@ -1,9 +1,14 @@
 //! How a call is tried.
 
+use crate::showing;
+use pesp_base::Refusal;
+use std::env;
+use std::rt::Env;
+
 /// A call that may want memory, with what it is lent.
 ///
 /// Nothing but the call itself takes memory.
-pub(crate) trait Call {
+pub trait Call {
     /// Tells what the call is lent.
     fn show<R: Print>(&self, rt: &R);
 
@@ -12,7 +17,7 @@ pub(crate) trait Call {
 }
 
 /// Makes the call, and once more where it wants memory.
-pub(crate) fn try_call<C: Call, R: Print + AllocGlobal>(rt: &R, call: &mut C) {
+pub fn try_call<C: Call, R: Print + AllocGlobal>(rt: &R, call: &mut C) {
     let _ = rt.println("before");
     call.show(rt);
     let _ = rt.println("answer");
@@ -27,8 +32,19 @@ pub(crate) fn try_call<C: Call, R: Print + AllocGlobal>(rt: &R, call: &mut C) {
     }
 }
 
+/// Tells the answer. Whether it is want of memory.
+pub fn is_wanted(rt: &impl Print, answer: Result<(), Refusal>) -> bool {
+    showing::line(rt, &answer);
+    answer == Err(Refusal::Memory)
+}
+
+/// The words of the command line: the program, and behind it the cases that are asked for. Where none is, all of them are.
+pub fn words<R: Env + AllocGlobal>(rt: &R) -> Option<Vec<String>> {
+    env::args(rt).ok()?.collect::<Vec<String>>(rt.alloc()).ok()
+}
+
 /// Whether the case is asked for, of which the name is then told.
-pub(crate) fn is_asked(rt: &impl Print, words: &[String], name: &str) -> bool {
+pub fn is_asked(rt: &impl Print, words: &[String], name: &str) -> bool {
     let is_asked = words.len() < 2 || words.iter().any(|word| word.as_str() == name);
     if is_asked {
         let _ = println!(rt; "case {name}");

@@ -5,9 +5,9 @@ use pesp_instance::{Edit, Instance};
 use std::alloc::Global;
 
 /// How many events and activities are there or come.
-pub(crate) const MANY: u32 = 14;
+pub const MANY: u32 = 14;
 
-pub(crate) fn activity(number: u32, from: u32, to: u32) -> Option<Activity> {
+pub fn activity(number: u32, from: u32, to: u32) -> Option<Activity> {
     Some(Activity {
         id: ActivityId::new(number)?,
         from: EventId::new(from)?,
@@ -17,18 +17,19 @@ pub(crate) fn activity(number: u32, from: u32, to: u32) -> Option<Activity> {
     })
 }
 
-/// An instance at period 10 of two events and an activity each way between them.
-pub(crate) fn two(alloc: Global) -> Option<Instance> {
+/// An instance at period 10 of two events, the first of them fixed, and an activity each way between them.
+pub fn two(alloc: Global) -> Option<Instance> {
     let mut instance = Instance::new(alloc, Period::new(10)?);
     instance.apply(&Edit::AddEvent(EventId::new(1)?)).ok()?;
     instance.apply(&Edit::AddEvent(EventId::new(2)?)).ok()?;
     instance.apply(&Edit::AddActivity(activity(1, 1, 2)?)).ok()?;
     instance.apply(&Edit::AddActivity(activity(2, 2, 1)?)).ok()?;
+    instance.apply(&Edit::Fix(EventId::new(1)?, 7)).ok()?;
     Some(instance)
 }
 
 /// The edits that take memory, each of a number: an event more, an activity more, an activity that leads to another event.
-pub(crate) fn edit(kind: Kind, number: u32) -> Option<Edit> {
+pub fn edit(kind: Kind, number: u32) -> Option<Edit> {
     Some(match kind {
         Kind::Event => Edit::AddEvent(EventId::new(number)?),
         Kind::Activity => Edit::AddActivity(activity(number, 1, 2)?),
@@ -41,11 +42,11 @@ pub(crate) fn edit(kind: Kind, number: u32) -> Option<Edit> {
 }
 
 #[derive(Clone, Copy)]
-pub(crate) enum Kind {
+pub enum Kind {
     Event,
     Activity,
     Ends,
 }
 
 /// Each kind, in an order in which all are accepted.
-pub(crate) const KINDS: [Kind; 3] = [Kind::Event, Kind::Activity, Kind::Ends];
+pub const KINDS: [Kind; 3] = [Kind::Event, Kind::Activity, Kind::Ends];

@@ -1,0 +1,93 @@
+//! Searches of what is kept.
+
+ghost use Rattle.std.specs.Prelude.{◌≡◌, []};
+
+use crate::telling;
+use pesp_calls::{Call, is_asked, made, showing, try_call};
+use pesp_counts::CountKeeper;
+use pesp_domains::Keeper;
+use pesp_search::{Tried, best, best_within};
+use std::alloc::Global;
+use std::marker::Model;
+
+/// A keeper with nothing pushed, and how many nodes its search may have, where there is a limit.
+#[derive(Drop)]
+struct Searched {
+    keeper: CountKeeper,
+    limit: Option<u64>,
+}
+
+impl Model for Searched {
+    ghost use Rattle.std.specs.Prelude.{◌≡◌, []};
+    ghost use Rattle.pesp_instance.specs.Network.{Network};
+
+    ghost Value = { Network };
+
+    ghost view = { λ s. s.keeper.network };
+
+    ghost invariant = { λ s. s.keeper.pushes ≡ [] };
+}
+
+fn tell_tried(rt: &impl Print, tried: &Tried) {
+    match tried {
+        Tried::Done(answer) => telling::answer(rt, "found", answer),
+        Tried::Stopped { best } => telling::stopped(rt, best),
+    }
+}
+
+fn find(rt: &impl Print, alloc: Global, keeper: &mut CountKeeper) -> bool
+    requires { keeper.old.pushes ≡ [] }
+    ensures { keeper.new.pushes ≡ [] }
+{
+    match best(alloc, keeper, None) {
+        Ok((answer, nodes)) => {
+            telling::answer(rt, "found", &answer);
+            showing::line(rt, &nodes);
+            false
+        }
+        Err(refusal) => {
+            showing::line(rt, &refusal);
+            true
+        }
+    }
+}
+
+fn find_within(rt: &impl Print, alloc: Global, keeper: &mut CountKeeper, limit: u64) -> bool
+    requires { keeper.old.pushes ≡ [] }
+    ensures { keeper.new.pushes ≡ [] }
+{
+    match best_within(alloc, keeper, None, limit) {
+        Ok((tried, nodes)) => {
+            tell_tried(rt, &tried);
+            showing::line(rt, &nodes);
+            false
+        }
+        Err(refusal) => {
+            showing::line(rt, &refusal);
+            true
+        }
+    }
+}
+
+impl Call for Searched {
+    fn show<R: Print>(&self, rt: &R) {
+        telling::keeper(rt, &self.keeper);
+    }
+
+    fn make<R: Print + AllocGlobal>(&mut self, rt: &R) -> bool {
+        match self.limit {
+            None => find(rt, rt.alloc(), &mut self.keeper),
+            Some(limit) => find_within(rt, rt.alloc(), &mut self.keeper, limit),
+        }
+    }
+}
+
+pub(crate) fn try_all<R: Print + AllocGlobal>(rt: &R, words: &[String]) -> Option<()> {
+    for (name, limit) in [("best", None), ("best_within", Some(1))] {
+        if is_asked(rt, words, name) {
+            let keeper = CountKeeper::from_instance(rt.alloc(), made::two(rt.alloc())?).ok()?;
+            try_call(rt, &mut Searched { keeper, limit });
+        }
+    }
+    Some(())
+}

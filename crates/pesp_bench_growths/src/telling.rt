@@ -1,0 +1,61 @@
+//! Keepers, answers and workbenches, as lines. To print takes no memory.
+
+use pesp_bench::Bench;
+use pesp_calls::showing;
+use pesp_counts::CountKeeper;
+use pesp_domains::Keeper;
+use pesp_search::{Answer, Best};
+use pesp_tension::Timetable;
+
+/// The instance, and a line for each pair of the domains.
+pub(crate) fn keeper<K: Keeper>(rt: &impl Print, keeper: &K) {
+    showing::instance(rt, keeper.instance());
+    let period = keeper.instance().period().get();
+    for event in keeper.instance().events() {
+        for residue in 0..period {
+            if keeper.holds(event.id, residue) {
+                let _ = println!(rt; "{} can take {residue}", event.id.get());
+            }
+        }
+    }
+}
+
+/// A timetable with its cost, each line behind a word.
+pub(crate) fn best(rt: &impl Print, word: &str, cost: u64, times: &Timetable) {
+    let _ = println!(rt; "{word} {cost}");
+    for entry in times.walk() {
+        let _ = println!(rt; "{word} {entry:?}");
+    }
+}
+
+/// What a search had found where it stopped.
+pub(crate) fn stopped(rt: &impl Print, found: &Option<Best>) {
+    if let Some(found) = found {
+        best(rt, "stopped", found.cost, &found.times);
+    }
+}
+
+/// An answer, each line behind a word.
+pub(crate) fn answer(rt: &impl Print, word: &str, answer: &Answer) {
+    match answer {
+        Answer::Optimal { cost, times } => best(rt, word, *cost, times),
+        Answer::Infeasible => {
+            let _ = println!(rt; "{word} infeasible");
+        }
+    }
+}
+
+/// All that a workbench tells of itself without memory.
+pub(crate) fn bench(rt: &impl Print, bench: &Bench<CountKeeper>) {
+    keeper(rt, bench.keeper());
+    showing::line(rt, &bench.keeper().restored());
+    showing::line(rt, &bench.keeper().last_work());
+    showing::timetable(rt, bench.timetable());
+    match bench.known() {
+        Some(known) => answer(rt, "known", known),
+        None => {
+            let _ = rt.println("known nothing");
+        }
+    }
+    let _ = println!(rt; "nodes {}", bench.last_nodes());
+}
