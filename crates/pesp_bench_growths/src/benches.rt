@@ -115,13 +115,9 @@ impl Call for Lent {
 
 /// The call on a workbench of two activities, in which both events have times where that is asked for.
 fn lend(alloc: Global, is_timed: bool, ask: Ask) -> Option<Lent> {
-    let bench = if is_timed {
-        working::timed(alloc)?
-    } else {
-        working::bench(alloc)?
-    };
     let event = EventId::new(2)?;
     let edit = made::edit(made::Kind::Activity, 3)?;
+    let bench = working::bench(alloc, is_timed)?;
     Some(Lent {
         bench,
         event,
@@ -130,24 +126,32 @@ fn lend(alloc: Global, is_timed: bool, ask: Ask) -> Option<Lent> {
     })
 }
 
+fn try_case<R: Print + AllocGlobal>(rt: &R, is_timed: bool, ask: Ask) -> Option<()> {
+    let mut lent = lend(rt.alloc(), is_timed, ask)?;
+    try_call(rt, &mut lent);
+    Some(())
+}
+
+/// Each case, and whether the events have times in it.
+const CASES: [(&str, bool, Ask); 12] = [
+    ("Bench::apply", true, Ask::Apply),
+    ("Bench::set_time", false, Ask::SetTime),
+    ("Bench::tensions", true, Ask::Tensions),
+    ("Bench::violations", true, Ask::Violations),
+    ("Bench::domains", true, Ask::Domains),
+    ("Bench::find_optimum", true, Ask::FindOptimum),
+    ("Bench::optimum", true, Ask::Optimum),
+    ("Bench::try_optimum", true, Ask::TryOptimum),
+    ("Bench::adopt", false, Ask::Adopt),
+    ("reply to an edit", true, Ask::ReplyToEdit),
+    ("reply to domains", true, Ask::ReplyToDomains),
+    ("reply to optimum", true, Ask::ReplyToOptimum),
+];
+
 pub(crate) fn try_all<R: Print + AllocGlobal>(rt: &R, words: &[String]) -> Option<()> {
-    for (name, is_timed, ask) in [
-        ("Bench::apply", true, Ask::Apply),
-        ("Bench::set_time", false, Ask::SetTime),
-        ("Bench::tensions", true, Ask::Tensions),
-        ("Bench::violations", true, Ask::Violations),
-        ("Bench::domains", true, Ask::Domains),
-        ("Bench::find_optimum", true, Ask::FindOptimum),
-        ("Bench::optimum", true, Ask::Optimum),
-        ("Bench::try_optimum", true, Ask::TryOptimum),
-        ("Bench::adopt", false, Ask::Adopt),
-        ("reply to an edit", true, Ask::ReplyToEdit),
-        ("reply to domains", true, Ask::ReplyToDomains),
-        ("reply to optimum", true, Ask::ReplyToOptimum),
-    ] {
+    for (name, is_timed, ask) in CASES {
         if is_asked(rt, words, name) {
-            let mut lent = lend(rt.alloc(), is_timed, ask)?;
-            try_call(rt, &mut lent);
+            try_case(rt, is_timed, ask)?;
         }
     }
     Some(())

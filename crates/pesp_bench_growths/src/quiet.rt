@@ -123,38 +123,45 @@ impl Call for Worked {
     }
 }
 
-fn try_by<K: Keeper, R: Print + AllocGlobal>(rt: &R, words: &[String], name: &str) -> Option<()> {
-    if is_asked(rt, words, name) {
-        let keeper = K::from_instance(rt.alloc(), made::two(rt.alloc())?).ok()?;
-        let event = EventId::new(2)?;
-        let edits = edits()?;
-        try_call(
-            rt,
-            &mut Edited {
-                keeper,
-                event,
-                edits,
-            },
-        );
-    }
+fn try_keeper<K: Keeper, R: Print + AllocGlobal>(rt: &R) -> Option<()> {
+    let event = EventId::new(2)?;
+    let edits = edits()?;
+    let keeper = K::from_instance(rt.alloc(), made::two(rt.alloc())?).ok()?;
+    try_call(
+        rt,
+        &mut Edited {
+            keeper,
+            event,
+            edits,
+        },
+    );
+    Some(())
+}
+
+fn try_bench<R: Print + AllocGlobal>(rt: &R) -> Option<()> {
+    let event = EventId::new(1)?;
+    let edits = edits()?;
+    let bench = working::searched(rt.alloc())?;
+    try_call(
+        rt,
+        &mut Worked {
+            bench,
+            event,
+            edits,
+        },
+    );
     Some(())
 }
 
 pub(crate) fn try_all<R: Print + AllocGlobal>(rt: &R, words: &[String]) -> Option<()> {
-    try_by::<PlainKeeper, R>(rt, words, "PlainKeeper without memory")?;
-    try_by::<CountKeeper, R>(rt, words, "CountKeeper without memory")?;
+    if is_asked(rt, words, "PlainKeeper without memory") {
+        try_keeper::<PlainKeeper, R>(rt)?;
+    }
+    if is_asked(rt, words, "CountKeeper without memory") {
+        try_keeper::<CountKeeper, R>(rt)?;
+    }
     if is_asked(rt, words, "Bench without memory") {
-        let bench = working::searched(rt.alloc())?;
-        let event = EventId::new(1)?;
-        let edits = edits()?;
-        try_call(
-            rt,
-            &mut Worked {
-                bench,
-                event,
-                edits,
-            },
-        );
+        try_bench(rt)?;
     }
     Some(())
 }

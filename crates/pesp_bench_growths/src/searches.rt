@@ -82,11 +82,16 @@ impl Call for Searched {
     }
 }
 
+fn try_case<R: Print + AllocGlobal>(rt: &R, limit: Option<u64>) -> Option<()> {
+    let keeper = CountKeeper::from_instance(rt.alloc(), made::two(rt.alloc())?).ok()?;
+    try_call(rt, &mut Searched { keeper, limit });
+    Some(())
+}
+
 pub(crate) fn try_all<R: Print + AllocGlobal>(rt: &R, words: &[String]) -> Option<()> {
     for (name, limit) in [("best", None), ("best_within", Some(1))] {
         if is_asked(rt, words, name) {
-            let keeper = CountKeeper::from_instance(rt.alloc(), made::two(rt.alloc())?).ok()?;
-            try_call(rt, &mut Searched { keeper, limit });
+            try_case(rt, limit)?;
         }
     }
     Some(())

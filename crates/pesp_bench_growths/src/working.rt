@@ -7,8 +7,7 @@ use pesp_counts::CountKeeper;
 use pesp_domains::Keeper;
 use std::alloc::Global;
 
-/// A workbench of two activities, without times.
-pub(crate) fn bench(alloc: Global) -> Option<Bench<CountKeeper>> {
+fn untimed(alloc: Global) -> Option<Bench<CountKeeper>> {
     let keeper = CountKeeper::from_instance(alloc, made::two(alloc)?).ok()?;
     Some(Bench::new(alloc, keeper))
 }
@@ -18,21 +17,27 @@ fn set_time(bench: &mut Bench<CountKeeper>, number: u32, time: u16) -> Option<()
     bench.set_time(event, time).ok()
 }
 
+fn set_times(bench: &mut Bench<CountKeeper>) -> Option<()> {
+    set_time(bench, 1, 0)?;
+    set_time(bench, 2, 3)
+}
+
 fn find_optimum(alloc: Global, bench: &mut Bench<CountKeeper>) -> Option<()> {
     bench.find_optimum(alloc).ok()
 }
 
-/// The same with a time for each event.
-pub(crate) fn timed(alloc: Global) -> Option<Bench<CountKeeper>> {
-    let mut bench = bench(alloc)?;
-    set_time(&mut bench, 1, 0)?;
-    set_time(&mut bench, 2, 3)?;
+/// A workbench of two activities, with a time for each event where that is asked for.
+pub(crate) fn bench(alloc: Global, is_timed: bool) -> Option<Bench<CountKeeper>> {
+    let mut bench = untimed(alloc)?;
+    if is_timed {
+        set_times(&mut bench)?;
+    }
     Some(bench)
 }
 
-/// The same with its optimum known.
+/// The same with times and its optimum known.
 pub(crate) fn searched(alloc: Global) -> Option<Bench<CountKeeper>> {
-    let mut bench = timed(alloc)?;
+    let mut bench = bench(alloc, true)?;
     find_optimum(alloc, &mut bench)?;
     Some(bench)
 }
