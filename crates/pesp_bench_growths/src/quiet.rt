@@ -6,8 +6,9 @@ use crate::{telling, working};
 use pesp_base::{ActivityId, EventId, Span, Weight};
 use pesp_bench::Bench;
 use pesp_calls::{Call, is_asked, is_wanted, made, showing, try_call};
+use pesp_commands::parse;
 use pesp_counts::CountKeeper;
-use pesp_domains::{Keeper, PlainKeeper};
+use pesp_domains::{Keeper, PlainKeeper, Side};
 use pesp_instance::Edit;
 use std::alloc::Global;
 use std::marker::Model;
@@ -103,6 +104,19 @@ fn clear_time(rt: &impl Print, bench: &mut Bench<CountKeeper>, event: EventId) {
     showing::line(rt, &bench.cost());
 }
 
+/// The counts of the residues at which each activity can begin, and what a line says.
+fn ask(rt: &impl Print, bench: &Bench<CountKeeper>) {
+    for activity in bench.instance().activities() {
+        for residue in 0..bench.instance().period().get() {
+            showing::line(
+                rt,
+                &bench.keeper().support(activity.id, Side::Tail, residue),
+            );
+        }
+    }
+    showing::line(rt, &parse(b"fix 1 2"));
+}
+
 fn find_optimum(rt: &impl Print, alloc: Global, bench: &mut Bench<CountKeeper>) {
     is_wanted(rt, bench.find_optimum(alloc));
 }
@@ -116,6 +130,7 @@ impl Call for Worked {
         set_time(rt, &mut self.bench, self.event, 4);
         find_optimum(rt, rt.alloc(), &mut self.bench);
         clear_time(rt, &mut self.bench, self.event);
+        ask(rt, &self.bench);
         for each in &self.edits {
             edit(rt, &mut self.bench, each);
         }

@@ -12,6 +12,9 @@ pub(crate) fn keeper<K: Keeper>(rt: &impl Print, keeper: &K) {
     showing::instance(rt, keeper.instance());
     let period = keeper.instance().period().get();
     for event in keeper.instance().events() {
+        if let Some(row) = keeper.row(event.id) {
+            let _ = println!(rt; "{} can take {} residues", event.id.get(), row.len());
+        }
         for residue in 0..period {
             if keeper.holds(event.id, residue) {
                 let _ = println!(rt; "{} can take {residue}", event.id.get());
