@@ -81,6 +81,57 @@ head_steps T span there turned first here h e which =
           ]
     ]
 
+-- where the residue of the head is one more, the slack is one more, round the period
+head_more : (T : ℕ) (span : Bounds) (r s : ℕ) → 1 < T → (slack_of T span r (s + 1) ≡ slack_of T span r s + 1) ⊎ (slack_of T span r (s + 1) + T ≡ slack_of T span r s + 1)
+head_more T span r s some =
+    let z : ℤ = pos s -ℤ pos r -ℤ span.lower in
+    let same : pos (s + 1) -ℤ pos r -ℤ span.lower ≡ z +ℤ pos 1 = omega (arith, ints) in
+    let slack : slack_of T span r (s + 1) ≡ residue T (pos (slack_of T span r s) +ℤ pos 1) = ap (residue T) same ∙ sym (residue-residue_add T z (pos 1) (omega (arith, some))) in
+    elim (near_add T (slack_of T span r s) 1 (residue_below T z (omega (arith, some))) some) [
+      | inl at ↦ inl (omega (arith, at, slack))
+      | inr at ↦ inr (omega (arith, at, slack))
+    ]
+
+-- where the residue of the tail is one more, the slack is one less
+tail_more : (T : ℕ) (span : Bounds) (r s : ℕ) → 1 < T → (slack_of T span (r + 1) s + 1 ≡ slack_of T span r s) ⊎ (slack_of T span (r + 1) s + 1 ≡ slack_of T span r s + T)
+tail_more T span r s some =
+    let z : ℤ = pos s -ℤ pos r -ℤ span.lower in
+    let same : pos s -ℤ pos (r + 1) -ℤ span.lower ≡ z -ℤ pos 1 = omega (arith, ints) in
+    let slack : slack_of T span (r + 1) s ≡ residue T (pos (slack_of T span r s) -ℤ pos 1) = ap (residue T) same ∙ sym (residue-residue_sub T z (pos 1) (omega (arith, some))) in
+    elim (near_sub T (slack_of T span r s) 1 (residue_below T z (omega (arith, some))) some) [
+      | inl at ↦ inl (omega (arith, at, slack))
+      | inr at ↦ inr (omega (arith, at, slack))
+    ]
+
+-- a slack and a first residue that are one more lead down to the same residue
+same_down : (T here k l first next : ℕ) → here < T → l < T → next < T → (l ≡ k + 1) ⊎ (l + T ≡ k + 1) → (next ≡ first + 1) ⊎ (next + T ≡ first + 1) → (here + k ≡ first) ⊎ (here + k ≡ first + T) → (here + l ≡ next) ⊎ (here + l ≡ next + T)
+same_down T here k l first next h i n (inl a) (inl b) (inl c) = inl (omega (arith, a, b, c))
+same_down T here k l first next h i n (inl a) (inl b) (inr c) = inr (omega (arith, a, b, c))
+same_down T here k l first next h i n (inl a) (inr b) (inl c) = inr (omega (arith, a, b, c))
+same_down T here k l first next h i n (inl a) (inr b) (inr c) = absurd (omega (arith, a, b, c, h, i))
+same_down T here k l first next h i n (inr a) (inl b) (inl c) = absurd (omega (arith, a, b, c, n))
+same_down T here k l first next h i n (inr a) (inl b) (inr c) = inl (omega (arith, a, b, c))
+same_down T here k l first next h i n (inr a) (inr b) (inl c) = inl (omega (arith, a, b, c))
+same_down T here k l first next h i n (inr a) (inr b) (inr c) = inr (omega (arith, a, b, c))
+
+-- a slack that is one less and a first residue that is one more lead up to the same residue
+same_up : (T here k l first next : ℕ) → here < T → l < T → next < T → (l + 1 ≡ k) ⊎ (l + 1 ≡ k + T) → (next ≡ first + 1) ⊎ (next + T ≡ first + 1) → (here ≡ first + k) ⊎ (here + T ≡ first + k) → (here ≡ next + l) ⊎ (here + T ≡ next + l)
+same_up T here k l first next h i n (inl a) (inl b) (inl c) = inl (omega (arith, a, b, c))
+same_up T here k l first next h i n (inl a) (inl b) (inr c) = inr (omega (arith, a, b, c))
+same_up T here k l first next h i n (inl a) (inr b) (inl c) = absurd (omega (arith, a, b, c, h))
+same_up T here k l first next h i n (inl a) (inr b) (inr c) = inl (omega (arith, a, b, c))
+same_up T here k l first next h i n (inr a) (inl b) (inl c) = inr (omega (arith, a, b, c))
+same_up T here k l first next h i n (inr a) (inl b) (inr c) = absurd (omega (arith, a, b, c, i, n))
+same_up T here k l first next h i n (inr a) (inr b) (inl c) = inl (omega (arith, a, b, c))
+same_up T here k l first next h i n (inr a) (inr b) (inr c) = inr (omega (arith, a, b, c))
+
+-- the residue at the other end one more, the first residue at this end is one more too
+pub first_more : (side : Side) (T : ℕ) (span : Bounds) (here there first next : ℕ) → 1 < T → here < T → next < T → (next ≡ first + 1) ⊎ (next + T ≡ first + 1) → IsStepsFrom side T first (slack_at side T span here there) here → IsStepsFrom side T next (slack_at side T span here (there + 1)) here
+first_more Tail T span here there first next some h n more at =
+    same_down T here (slack_of T span here there) (slack_of T span here (there + 1)) first next h (residue_below T (pos (there + 1) -ℤ pos here -ℤ span.lower) (omega (arith, h))) n (head_more T span here there some) more at
+first_more Head T span here there first next some h n more at =
+    same_up T here (slack_of T span there here) (slack_of T span (there + 1) here) first next h (residue_below T (pos here -ℤ pos (there + 1) -ℤ span.lower) (omega (arith, h))) n (tail_more T span there here some) more at
+
 -- residues that so many steps lead to are one
 pub same_step : (side : Side) (T first k here other : ℕ) → here < T → other < T → IsStepsFrom side T first k here → IsStepsFrom side T first k other → here ≡ other
 same_step Tail T first k here other h l (inl a) (inl b) = omega (arith, a, b)

@@ -3,25 +3,34 @@
 ghost use Rattle.std.specs.Prelude.{◌≡◌, ℕ, ◌+◌, ◌*◌, ◌<◌, ◌≤◌, IsTrue, false, length, slice_index, slice_index_or};
 ghost use Rattle.pesp_base.specs.Tensions.{IsMet, slack_of};
 ghost use Rattle.pesp_ahead.specs.Rows.{holds_at};
-ghost use Rattle.pesp_ahead.specs.Tables.{IsMetFrom, pair, slack_at};
+ghost use Rattle.pesp_ahead.specs.Tables.{IsMetFrom, IsStepsFrom, pair, slack_at};
 
 use crate::Arc;
 use crate::entry::{Entry, PAIR};
-use crate::step::{first_of, next_of, steps_of};
-use pesp_base::Period;
+use crate::step::{first_after, first_of, next_of, steps_of};
+use pesp_base::{Period, Weight};
 use pesp_domains::Side;
 
-/// Lowers the entries at one end to what this residue and entry at the other leave of the cost.
-fn lower_along(period: Period, arc: &Arc, side: Side, there: u16, other: Entry, own: &mut [Entry])
-    requires there { there < period }
+/// Lowers the entries at one end to what a residue and entry at the other leave of the cost: so many, from the first on.
+fn lower_along(
+    period: Period,
+    side: Side,
+    first: u16,
+    steps: u16,
+    weight: Weight,
+    other: Entry,
+    own: &mut [Entry],
+)
+    requires first { first < period }
+    requires steps { steps ≤ period }
     requires long { length own.old ≡ period }
     ensures falls { (here : ℕ) → slice_index own.new here ≤ slice_index own.old here }
-    ensures low { (here : ℕ) → here < period → IsMetFrom side period arc.now.span here there → slice_index own.new here + other ≤ pair + slack_at side period arc.now.span here there * arc.now.weight }
+    ensures low { (here k : ℕ) → here < period → k < steps → IsStepsFrom side period first k here → slice_index own.new here + other ≤ pair + k * weight }
 {
-    let weight = u64::from(arc.weight.get());
-    let mut here = first_of(period, arc.span, side, there);
+    let weight = u64::from(weight.get());
+    let mut here = first;
     let mut most = PAIR - other.get();
-    for _slack in 0..steps_of(period, arc.span) {
+    for _slack in 0..steps {
         let at = usize::from(here);
         own[at] = own[at].at_most(most);
         most = most.saturating_add(weight);
@@ -37,11 +46,14 @@ fn lower(period: Period, arc: &Arc, side: Side, own: &mut [Entry], other: &[Entr
     ensures { (here there : ℕ) → here < period → there < period → IsTrue (slice_index_or row.now there false) → IsMetFrom side period arc.now.span here there → slice_index own.new here + slice_index other.now there ≤ pair + slack_at side period arc.now.span here there * arc.now.weight }
 {
     own.fill(Entry::greatest());
+    let steps = steps_of(period, arc.span);
+    let mut first = first_of(period, arc.span, side, 0);
     for there in 0..period.get() {
         let at = usize::from(there);
         if row[at] {
-            lower_along(period, arc, side, there, other[at], own);
+            lower_along(period, side, first, steps, arc.weight, other[at], own);
         }
+        first = first_after(period, first);
     }
 }
 

@@ -1,6 +1,7 @@
 //! The residues at one end of an arc by rising slack, for a residue at the other.
 
-ghost use Rattle.std.specs.Prelude.{◌≡◌, ℕ, ◌+◌, ◌<◌, ◌≤◌};
+ghost use Rattle.pesp_base.specs.Bounds.{Bounds};
+ghost use Rattle.std.specs.Prelude.{◌≡◌, ℕ, ◌+◌, ◌<◌, ◌≤◌, ◌⊎◌};
 ghost use Rattle.pesp_domains.specs.declared.side.Side.{Side};
 ghost use Rattle.pesp_ahead.specs.Tables.{IsMetFrom, IsStepsFrom, slack_at};
 
@@ -31,17 +32,38 @@ pub(crate) fn first_of(period: Period, span: Span, side: Side, there: u16) -> u1
     }
 }
 
+/// The residue one above, round the period.
+fn above(period: Period, residue: u16) -> u16
+    requires { residue < period }
+    ensures below { result < period }
+    ensures value { (result ≡ residue + 1) ⊎ (result + period ≡ residue + 1) }
+{
+    if residue == period.get() - 1 {
+        0
+    } else {
+        residue + 1
+    }
+}
+
+/// The residue at this end that goes at slack 0 with the residue one above at the other, from the one that goes with
+/// the residue itself.
+pub(crate) fn first_after(period: Period, first: u16) -> u16
+    requires { first < period }
+    ensures below { result < period }
+    ensures steps { (side : Side) (span : Bounds) (here there : ℕ) → here < period → IsStepsFrom side period first (slack_at side period span here there) here → IsStepsFrom side period result (slack_at side period span here (there + 1)) here }
+{
+    above(period, first)
+}
+
 /// The residue at this end that goes with the same one at the other at one slack more.
 pub(crate) fn next_of(period: Period, side: Side, here: u16) -> u16
     requires { here < period }
     ensures below { result < period }
     ensures steps { (first k : ℕ) → first < period → k < period → IsStepsFrom side period first k here → IsStepsFrom side period first (k + 1) result }
 {
-    let period = period.get();
     match side {
-        Side::Tail if here == 0 => period - 1,
+        Side::Tail if here == 0 => period.get() - 1,
         Side::Tail => here - 1,
-        Side::Head if here == period - 1 => 0,
-        Side::Head => here + 1,
+        Side::Head => above(period, here),
     }
 }

@@ -12,7 +12,7 @@ use crate::bounds::tell_bounds;
 use crate::entry::{Entry, PAIR};
 use crate::size::{MOST_PLACES, size_of};
 use crate::sums::renew_all;
-use crate::sweep::sweep;
+use crate::sweep::Sweep;
 use pesp_base::{EventId, Period};
 use pesp_instance::Instance;
 use std::alloc::{AllocError, Global};
@@ -103,17 +103,16 @@ impl Tables {
         requires between { All (IsBetween self.old.places) self.old.arcs }
         ensures { self.new ≡ self.old }
     {
+        let sweep = Sweep {
+            period: self.period,
+            places: self.places,
+            first: place,
+            arcs: &self.arcs,
+            tests,
+        };
         let size = self.arcs.len() * (2 * usize::from(self.period.get()));
         let from = place * size;
-        sweep(
-            self.period,
-            &self.arcs,
-            place,
-            tests,
-            self.places,
-            &mut self.entries[from..from + size],
-            &mut self.sums,
-        );
+        sweep.run(&mut self.entries[from..from + size], &mut self.sums);
     }
 
     /// Looks ahead within these rows from the event at the place.
