@@ -8,11 +8,12 @@ use Rattle.pesp_instance.specs.Network.{Network}
 use Rattle.pesp_domains.specs.declared.pair.Pair.{Pair}
 use Rattle.pesp_domains.specs.Sweeps.{AreDomains}
 use Rattle.pesp_domains.proofs.Pushes.{pushed_none}
-use Rattle.pesp_counts.specs.Counts.{has_at}
-use Rattle.pesp_counts.specs.Keeping.{AreSettled, HaveRoom, IsKeeping, adds}
+use Rattle.pesp_supports.specs.Counts.{has_at}
+use Rattle.pesp_counts.specs.Keeping.{AreSettled, IsKeeping, adds}
+use Rattle.pesp_supports.specs.Resting.{HaveRoom}
 use Rattle.pesp_links.specs.Links.{Links}
 use Rattle.pesp_links.specs.Places.{numbered}
-use Rattle.pesp_counts.specs.Supports.{HaveSameShape, Supports}
+use Rattle.pesp_supports.specs.Supports.{HaveSameShape, Supports}
 use Rattle.pesp_counts.proofs.Keeping.{for_same}
 use Rattle.pesp_counts.proofs.Remade.{out_none}
 

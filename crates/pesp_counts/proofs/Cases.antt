@@ -1,5 +1,5 @@
--- Which edits may bring pairs back, what they reach, what ends pass, and counts of partners, by computation.
-use Rattle.std.proofs.Common.{◌≡◌, ◌||◌, ◌==◌, ℤ, pos, negsuc, refl, true, false, [], ◌∷◌, arith}
+-- Which edits may bring pairs back, and what they reach, by computation.
+use Rattle.std.proofs.Common.{◌≡◌, ℤ, pos, negsuc, refl, true, false, [], ◌∷◌, arith}
 use Rattle.std.proofs.lemmas.Bool.{false≢true}
 use Rattle.pesp_base.specs.Bounds.{Bounds}
 use Rattle.pesp_base.proofs.Laws.{met_is}
@@ -10,9 +10,6 @@ use Rattle.pesp_instance.specs.Network.{Network, new_event}
 use Rattle.pesp_domains.specs.declared.side.Side.TheVariants.{Head}
 use Rattle.pesp_domains.proofs.Families.{here, not_in_none}
 use Rattle.pesp_domains.proofs.Sweeps.{swept}
-use Rattle.pesp_links.specs.declared.end.End.{End}
-use Rattle.pesp_links.specs.Ends.{passes}
-use Rattle.pesp_counts.specs.Counts.{supporters}
 use Rattle.pesp_domains.specs.Loosening.{admits_more}
 use Rattle.pesp_counts.specs.Reached.{Reached, starts}
 use Rattle.pesp_counts.specs.Reached.Reached.{begins, follows}
@@ -85,28 +82,3 @@ moved_there =
       outside = λ d. false≢true ((swept one_fixed [] 2 refl 2 6).1 d);
       admitted = record { of_event = refl; below = omega arith; fixed = refl; pushed = λ s i. absurd (not_in_none _ i) };
     })
-
--- ---- ends and counts
-
--- the tail of a span from 3 to 5 at period 10, and its head
-abbrev tail : End
-tail = record { looks_at = 0; mate = 1; first = 3; width = 3 }
-
-abbrev head : End
-head = record { looks_at = 0; mate = 0; first = 5; width = 3 }
-
-tail_at_seven : passes 10 tail 7 2 ≡ true
-tail_at_seven = refl
-
-head_at_two : passes 10 head 2 7 ≡ true
-head_at_two = refl
-
-head_at_three : passes 10 head 3 7 ≡ false
-head_at_three = refl
-
--- of 4 and 5 at the head both go with 0 at the tail, and 5 alone with 2
-two_partners : supporters 10 (λ s. s == 4 || s == 5) (passes 10 tail 0) ≡ 2
-two_partners = refl
-
-partners_of_two : supporters 10 (λ s. s == 4 || s == 5) (passes 10 tail 2) ≡ 1
-partners_of_two = refl

@@ -18,7 +18,7 @@ use Rattle.pesp_counts.specs.Loosening.{AreSpared, AreStarts}
 use Rattle.pesp_links.specs.Places.{ArePlaces, place_of}
 use Rattle.pesp_domains.specs.Loosening.{admits_anew, is_looser}
 use Rattle.pesp_counts.specs.Reached.{ends_of, is_edited, starts}
-use Rattle.pesp_counts.specs.Restoring.{is_spared}
+use Rattle.pesp_supports.specs.Restoring.{is_spared}
 use Rattle.pesp_counts.proofs.Bridge.{the_same}
 use Rattle.pesp_links.proofs.StandAround.{apart_places}
 use Rattle.pesp_links.proofs.StandMembers.{in_change_other, in_take_out, of_change, of_take_out}

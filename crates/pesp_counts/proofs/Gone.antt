@@ -1,21 +1,22 @@
 -- The pairs that an edit took out, and the probes that it made.
-use Rattle.std.proofs.Common.{◌≡◌, ℕ, ◌+◌, ◌*◌, ◌≤◌, ◌⊎◌, ◌==◌, ◌&&◌, ◌||◌, not, Bool, true, false, List, [], ◌∷◌, ◌++◌, Some, length, refl, sym, ap, subst, ◌∙◌, inl, inr, arith, IsTrue}
+use Rattle.std.proofs.Common.{◌≡◌, ℕ, ◌+◌, ◌*◌, ◌≤◌, ◌⊎◌, ◌==◌, ◌&&◌, ◌||◌, Bool, true, false, List, [], ◌∷◌, ◌++◌, Some, length, refl, sym, ap, subst, ◌∙◌, inl, inr, arith, IsTrue}
 use Rattle.std.specs.List.{Contains}
-use Rattle.std.proofs.lemmas.Bool.{and_from, and_parts, cases_Bool, cases_eq, eq-eqb, false≢true, ne_eqb}
+use Rattle.std.proofs.lemmas.Bool.{and_from, and_parts, cases_eq, eq-eqb, false≢true, ne_eqb}
 use Rattle.std.proofs.Math.Nat.{add-mul}
 use Rattle.pesp_instance.specs.Network.{Network}
 use Rattle.pesp_domains.specs.Domains.{own}
 use Rattle.pesp_domains.specs.Sweeps.{Of, Pairs}
 use Rattle.pesp_domains.proofs.Families.{here}
 use Rattle.pesp_domains.proofs.Pushes.{limited}
-use Rattle.pesp_counts.specs.declared.trail.Placed.{Placed}
+use Rattle.pesp_supports.specs.declared.trail.Placed.{Placed}
 use Rattle.pesp_links.specs.Ends.{ends_of}
-use Rattle.pesp_counts.specs.Counts.{IsClosed, KeepsClosed, has_at}
+use Rattle.pesp_supports.specs.Counts.{IsClosed, KeepsClosed, has_at}
 use Rattle.pesp_links.specs.Links.{Links, StandFor}
 use Rattle.pesp_links.specs.Places.{place_of}
-use Rattle.pesp_counts.specs.Supports.{IsTaken, Supports, is_in}
-use Rattle.pesp_counts.specs.Works.{IsWorked, KeepPlaces, ends_at}
-use Rattle.pesp_counts.proofs.Taken.{eqb_is}
+use Rattle.pesp_supports.specs.Supports.{IsTaken, Supports, is_in}
+use Rattle.pesp_counts.specs.Works.{IsWorked, KeepPlaces}
+use Rattle.pesp_supports.specs.Spent.{ends_at}
+use Rattle.pesp_supports.proofs.Taken.{eqb_is}
 
 -- ---- only pairs at places of events go
 

@@ -13,14 +13,15 @@ use Rattle.pesp_domains.proofs.Edits.{effect_is, keeps_fix, keeps_unfix}
 use Rattle.pesp_domains.proofs.Families.{and_left}
 use Rattle.pesp_domains.proofs.Laws.{InDomains-admitted}
 use Rattle.pesp_domains.proofs.Pushes.{limited, limited_agrees, limited_keeps}
-use Rattle.pesp_counts.specs.declared.trail.Placed.{Placed}
-use Rattle.pesp_counts.specs.Counts.{KeepsClosed, has_at}
-use Rattle.pesp_counts.specs.Keeping.{AreAtRest, AreFor, AreSettled, rows_of}
+use Rattle.pesp_supports.specs.declared.trail.Placed.{Placed}
+use Rattle.pesp_supports.specs.Counts.{KeepsClosed, has_at}
+use Rattle.pesp_counts.specs.Keeping.{AreFor, AreSettled, rows_of}
+use Rattle.pesp_supports.specs.Resting.{AreAtRest}
 use Rattle.pesp_links.specs.Links.{Links}
 use Rattle.pesp_counts.specs.Loosened.{IsReach}
 use Rattle.pesp_counts.specs.Loosening.{AreReached, AreSpared, AreStarts, IsLoosened, IsPutBack, WereLoose}
 use Rattle.pesp_links.specs.Places.{numbered, place_of}
-use Rattle.pesp_counts.specs.Supports.{Supports}
+use Rattle.pesp_supports.specs.Supports.{Supports}
 use Rattle.pesp_counts.proofs.Asks.{asks_again, refixed_elsewhere, refixed_here}
 use Rattle.pesp_counts.proofs.Bridge.{counts_settle}
 use Rattle.pesp_counts.proofs.Carried.{same_period}

@@ -15,21 +15,22 @@ use Rattle.pesp_domains.proofs.Edits.{effect_is, keeps_fix}
 use Rattle.pesp_domains.proofs.Laws.{InDomains-admitted}
 use Rattle.pesp_domains.proofs.Pushes.{limited, limited_agrees, limited_keeps}
 use Rattle.pesp_domains.proofs.Families.{and_left}
-use Rattle.pesp_counts.specs.Counts.{KeepsClosed, has_at}
-use Rattle.pesp_counts.specs.Keeping.{AreAtRest, AreFor, AreSettled, IsNarrowed, adds, rows_of}
+use Rattle.pesp_supports.specs.Counts.{KeepsClosed, has_at}
+use Rattle.pesp_counts.specs.Keeping.{AreFor, AreSettled, adds, rows_of}
+use Rattle.pesp_supports.specs.Resting.{AreAtRest, IsNarrowed}
 use Rattle.pesp_links.specs.Links.{Links, StandFor}
 use Rattle.pesp_links.specs.Places.{Places, numbered, place_of}
 use Rattle.pesp_domains.specs.Loosening.{admits_anew}
 use Rattle.pesp_counts.specs.Reached.{ends_of, starts}
-use Rattle.pesp_counts.specs.Supports.{Supports}
+use Rattle.pesp_supports.specs.Supports.{Supports}
 use Rattle.pesp_domains.proofs.Anew.{unfixed_anew}
 use Rattle.pesp_counts.proofs.Asks.{first_fails, refixed_elsewhere, refixed_here}
 use Rattle.pesp_counts.proofs.Bridge.{counts_settle, numbered_at, place_is, test_of}
 use Rattle.pesp_counts.proofs.Carried.{places_dropped, same_period}
 use Rattle.pesp_counts.proofs.Followed.{still_admitted, tight_settles}
 use Rattle.pesp_counts.proofs.Keeping.{for_same, limited_numbered}
-use Rattle.pesp_counts.proofs.Marks.{keeps_like}
-use Rattle.pesp_counts.proofs.Taken.{keeps_none}
+use Rattle.pesp_supports.proofs.Marks.{keeps_like}
+use Rattle.pesp_supports.proofs.Taken.{keeps_none}
 
 pub admits_same : (I J : Network) (e r : ℕ) → J.events ≡ I.events → J.period ≡ I.period → admits J e r ≡ admits I e r
 admits_same I J e r events period =

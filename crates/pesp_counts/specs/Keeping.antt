@@ -1,5 +1,5 @@
 -- What a keeper by counts keeps.
-use Rattle.std.specs.Prelude.{◌≡◌, ◌≢◌, ℕ, ◌*◌, ◌<◌, ◌≤◌, Bool, true, false, ◌||◌, IsTrue, List, [], Some, Ok, length, slice_index_or, take, drop}
+use Rattle.std.specs.Prelude.{◌≡◌, ◌≢◌, ℕ, ◌<◌, ◌≤◌, Bool, true, false, ◌||◌, List, [], Some, Ok, length, slice_index_or, take, drop}
 use Rattle.std.specs.List.{Contains}
 use Rattle.pesp_instance.specs.declared.edit.Edit.{Edit}
 use Rattle.pesp_instance.specs.declared.edit.Edit.TheVariants.{AddEvent, DropEvent, Fix, Unfix, AddActivity, DropActivity, SetSpan, SetWeight, SetEnds}
@@ -7,15 +7,15 @@ use Rattle.pesp_instance.specs.Edited.{edited}
 use Rattle.pesp_instance.specs.Network.{IsNetwork, Network}
 use Rattle.pesp_domains.specs.declared.pair.Pair.{Pair}
 use Rattle.pesp_domains.specs.Kept.{ArePushed}
-use Rattle.pesp_domains.proofs.Pushes.{limited}
 use Rattle.pesp_domains.specs.Sweeps.{AreDomains, Of, Pairs}
-use Rattle.pesp_counts.specs.declared.trail.Placed.{Placed}
+use Rattle.pesp_supports.specs.declared.trail.Placed.{Placed}
 use Rattle.pesp_links.specs.Ends.{end_at, ends_of}
-use Rattle.pesp_counts.specs.Counts.{IsExactAt, IsLiveAt, KeepsClosed, has_at}
+use Rattle.pesp_supports.specs.Counts.{IsExactAt, IsLiveAt, has_at}
 use Rattle.pesp_links.specs.Links.{Links, StandFor}
 use Rattle.pesp_links.specs.Places.{numbered, place_of}
 use Rattle.pesp_counts.specs.Reached.{starts}
-use Rattle.pesp_counts.specs.Supports.{AreExact, AreLevel, AreOut, Fit, HaveSameShape, IsTaken, Supports, is_in, without_those}
+use Rattle.pesp_supports.specs.Resting.{AreAtRest, HaveRoom}
+use Rattle.pesp_supports.specs.Supports.{AreLevel, Fit, Supports, is_in, without_those}
 
 -- the ends stand for the instance, and there are rows and counts for them
 pub record AreFor (I : Network) (links : Links) (s : Supports) : Type 0 where
@@ -26,26 +26,9 @@ pub record AreFor (I : Network) (links : Links) (s : Supports) : Type 0 where
   pub counted : (e p : ℕ) → place_of links.events e ≡ Some p → p < length s.counted
   pub even : length s.counted ≡ length s.rows
 
--- each pair of the rows has a count above 0 at each end at its place
-abbrev pub AreLive : Links → Supports → Type 0
-AreLive links s = (p k : ℕ) → Contains (ends_of links.lists p) k → IsLiveAt s.period s.counts (has_at s.rows) p k
-
--- nothing waits to be counted out, and what was taken out stands in the trail
-pub record AreAtRest (links : Links) (s : Supports) : Type 0 where
-  pub exact : AreExact links s (has_at s.counted)
-  pub level : AreLevel s
-  pub live : AreLive links s
-  pub below : (p r : ℕ) → Of (has_at s.rows) p r → r < s.period
-  pub out : AreOut s s.trail
-
 -- the rows, by number
 abbrev pub rows_of : Links → Supports → Pairs
 rows_of links s = numbered links.events (has_at s.rows)
-
--- there is room for each pair that the rows may hold, in either list of those that were put back
-pub record HaveRoom (s : Supports) (for_back for_restored : ℕ) : Type 0 where
-  pub back : length s.rows * s.period ≤ for_back
-  pub restored : length s.rows * s.period ≤ for_restored
 
 -- the counts are those of the rows, and the rows are the domains
 pub record AreSettled (I : Network) (pushes : List Pair) (links : Links) (s : Supports) : Type 0 where
@@ -54,13 +37,6 @@ pub record AreSettled (I : Network) (pushes : List Pair) (links : Links) (s : Su
   pub rest : AreAtRest links s
   pub domains : AreDomains I pushes (rows_of links s)
 
--- all pairs but one of a place go, and of the others those that are left without a partner
-pub record IsNarrowed (links : Links) (p r : ℕ) (before after : Supports) : Type 0 where
-  pub rest : AreAtRest links after
-  pub taken : IsTaken before after
-  pub shape : HaveSameShape before after
-  pub keeps : KeepsClosed before.period links.ends links.lists (limited (has_at before.rows) p r) (has_at after.rows)
-
 -- at each listed end but one and its mate nothing waits to be counted out, and nothing was taken out yet; but pairs of a list may have counts of 0
 pub record AreAtRestBut (links : Links) (s : Supports) (end : ℕ) (back : List Placed) : Type 0 where
   pub exact : (p k : ℕ) → Contains (ends_of links.lists p) k → k ≢ end → k ≢ (end_at links.ends end).mate → IsExactAt s.period links.ends s.counts (has_at s.counted) k
@@ -68,15 +44,6 @@ pub record AreAtRestBut (links : Links) (s : Supports) (end : ℕ) (back : List 
   pub level : AreLevel s
   pub below : (p r : ℕ) → Of (has_at s.rows) p r → r < s.period
   pub trail : s.trail ≡ []
-
--- pairs of the rows but those of a list have counts above 0, and what was taken out of the rows waits in the trail
-pub record ArePendingBut (links : Links) (s : Supports) (back : List Placed) : Type 0 where
-  pub exact : AreExact links s (has_at s.counted)
-  pub live : (p k : ℕ) → Contains (ends_of links.lists p) k → IsLiveAt s.period s.counts (without_those (has_at s.rows) back) p k
-  pub within : (p r : ℕ) → Of (has_at s.rows) p r → Of (has_at s.counted) p r
-  pub waiting : (p r : ℕ) → Of (has_at s.counted) p r → has_at s.rows p r ≡ false → IsTrue (is_in s.trail p r)
-  pub below : (p r : ℕ) → Of (has_at s.rows) p r → r < s.period
-  pub out : AreOut s s.trail
 
 -- whether the edit adds an event or an activity
 abbrev pub adds : Edit → Bool

@@ -1,13 +1,7 @@
-pub mod Counts
 pub mod Keeping
 pub mod Loosened
 pub mod Loosening
-pub mod Put
-pub mod Ranges
 pub mod Reached
-pub mod Restored
 pub mod Restores
-pub mod Restoring
 pub mod Support
-pub mod Supports
 pub mod Works

@@ -6,17 +6,14 @@ use Rattle.pesp_instance.specs.Network.{Network, has_event}
 use Rattle.pesp_domains.specs.declared.pair.Pair.{Pair}
 use Rattle.pesp_domains.specs.Domains.{In, InDomains}
 use Rattle.pesp_domains.specs.Sweeps.{Of}
-use Rattle.pesp_counts.specs.declared.bringing.Admitted.{Admitted}
-use Rattle.pesp_counts.specs.declared.bringing.Admitted.TheVariants.{Nothing, One, Any}
-use Rattle.pesp_links.specs.declared.end.Window.{Window}
-use Rattle.pesp_counts.specs.declared.trail.Placed.{Placed}
+use Rattle.pesp_supports.specs.declared.trail.Placed.{Placed}
 use Rattle.pesp_counts.specs.declared.work.Work.{Work}
-use Rattle.pesp_links.specs.Ends.{ends_of}
-use Rattle.pesp_counts.specs.Counts.{has_at}
+use Rattle.pesp_supports.specs.Counts.{has_at}
 use Rattle.pesp_links.specs.Links.{Links}
 use Rattle.pesp_links.specs.Places.{place_of}
 use Rattle.pesp_counts.specs.Restores.{AreThePairs}
-use Rattle.pesp_counts.specs.Supports.{Supports, is_in}
+use Rattle.pesp_supports.specs.Spent.{ends_at}
+use Rattle.pesp_supports.specs.Supports.{Supports, is_in}
 
 -- the pair was in the domains or is restored, its event stays, and it is not in the domains of the edited instance
 pub record IsRemoved (I : Network) (edit : Edit) (restored : List Pair) (e r : ℕ) : Type 0 where
@@ -45,20 +42,6 @@ pub record IsWork (I : Network) (edit : Edit) (restored : List Pair) (work : Wor
   pub probes : work.probes ≤ probe_bound I (effect I edit) restored removed
 
 -- ---- by place
-
--- the greatest number of probes that is told
-abbrev pub most_probes : ℕ
-most_probes = 18446744073709551615
-
--- how many ends there are at the places of these pairs
-abbrev pub ends_at : Links → List Placed → ℕ
-ends_at links pairs = sum_by (λ x. length (ends_of links.lists x.place)) pairs
-
--- at most so many residues of a window are looked at, where this is admitted
-abbrev pub looked : Admitted → Window → ℕ
-looked Nothing w = 0
-looked (One time) w = 1
-looked Any w = w.end
 
 -- the pairs that went stand in the trail, by places of events, and the probes are those of the edited activity, of the pairs of the list, which came, and of the trail
 pub record IsWorked (links : Links) (before after : Supports) (back : List Placed) : Type 0 where

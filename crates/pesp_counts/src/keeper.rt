@@ -20,8 +20,6 @@ mod restores;
 mod spans;
 mod told;
 
-use crate::back::Back;
-use crate::supports::Supports;
 use crate::work::Work;
 use edits::follow;
 use filled::house;
@@ -32,6 +30,7 @@ use pesp_base::{ActivityId, EventId, Refusal};
 use pesp_domains::{Keeper, NoRoom, Pair, Row, Side};
 use pesp_instance::{Edit, Instance};
 use pesp_links::Links;
+use pesp_supports::{Back, Supports};
 use remake::remake;
 use restores::restores;
 use std::alloc::Global;

@@ -4,16 +4,17 @@ ghost use Rattle.std.specs.Prelude.{◌≡◌, ◌<◌, ◌≤◌, ◌+◌, ◌*
 ghost use Rattle.pesp_instance.specs.Network.{IsNetwork};
 ghost use Rattle.pesp_domains.specs.Sweeps.{AreOpen};
 ghost use Rattle.pesp_links.specs.Ends.{AreLinked};
-ghost use Rattle.pesp_counts.specs.Counts.{has_at};
-ghost use Rattle.pesp_counts.specs.Keeping.{AreAtRest, AreFor, IsNarrowed, rows_of};
+ghost use Rattle.pesp_supports.specs.Counts.{has_at};
+ghost use Rattle.pesp_counts.specs.Keeping.{AreFor, rows_of};
+ghost use Rattle.pesp_supports.specs.Resting.{AreAtRest, IsNarrowed};
 ghost use Rattle.pesp_links.specs.Places.{place_of};
-ghost use Rattle.pesp_counts.specs.Supports.{Fit, IsTaken, Keeps};
-ghost use Rattle.pesp_counts.specs.Works.{ends_at};
+ghost use Rattle.pesp_supports.specs.Supports.{Fit, IsTaken, Keeps};
+ghost use Rattle.pesp_supports.specs.Spent.{ends_at};
 
-use crate::supports::Supports;
 use pesp_base::EventId;
 use pesp_instance::Instance;
 use pesp_links::Links;
+use pesp_supports::Supports;
 
 /// Takes all residues of an event but one out, and of the other pairs those that are left without a partner.
 pub fn limit_event(links: &Links, supports: &mut Supports, event: EventId, residue: u16)

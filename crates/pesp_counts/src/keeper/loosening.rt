@@ -6,18 +6,18 @@ ghost use Rattle.pesp_instance.specs.declared.edit.Edit.TheVariants as edits;
 ghost use Rattle.pesp_instance.specs.Network.{Network};
 ghost use Rattle.pesp_domains.proofs.Pushes.{limited};
 ghost use Rattle.pesp_links.specs.Ends.{ends_of};
-ghost use Rattle.pesp_counts.specs.Keeping.{AreAtRest, AreAtRestBut, AreFor};
+ghost use Rattle.pesp_counts.specs.Keeping.{AreAtRestBut, AreFor};
+ghost use Rattle.pesp_supports.specs.Resting.{AreAtRest};
 ghost use Rattle.pesp_counts.specs.Loosening.{IsLoosened, IsPutBack, WereLoose};
 ghost use Rattle.pesp_links.specs.Places.{place_of};
-ghost use Rattle.pesp_counts.specs.Supports.{HaveSameShape};
+ghost use Rattle.pesp_supports.specs.Supports.{HaveSameShape};
 ghost use Rattle.pesp_counts.specs.Works.{IsWorked};
 
 use super::spans::narrow_ends;
-use crate::back::Back;
-use crate::supports::Supports;
 use pesp_base::{ActivityId, EventId, Span};
 use pesp_instance::{Edit, Instance};
 use pesp_links::Links;
+use pesp_supports::{Back, Supports};
 
 /// Puts back what is reached from these places, and takes out what has no partner.
 fn reopen(

@@ -3,10 +3,10 @@
 ghost use Rattle.std.specs.Prelude.{◌≡◌, ◌≤◌, Some, length, map, All, vec_capacity};
 ghost use Rattle.pesp_counts.specs.Restores.{IsEventPlace, numbered_pair};
 
-use crate::Placed;
 use pesp_base::EventId;
 use pesp_domains::Pair;
 use pesp_links::Links;
+use pesp_supports::Placed;
 
 /// A pair by the number of its event.
 fn numbered(links: &Links, placed: Placed) -> Option<Pair>

@@ -3,14 +3,14 @@
 ghost use Rattle.std.specs.Prelude.{ℕ, ◌≤◌, ◌+◌, ◌*◌};
 ghost use Rattle.std.specs.List.{Contains};
 ghost use Rattle.pesp_links.specs.Ends.{AreLinked, ends_of};
-ghost use Rattle.pesp_counts.specs.Counts.{KeepsClosed, has_at};
-ghost use Rattle.pesp_counts.specs.Keeping.{AreAtRest, AreAtRestBut};
-ghost use Rattle.pesp_counts.specs.Supports.{Fit, HaveSameShape, IsTaken};
-ghost use Rattle.pesp_counts.specs.Works.{ends_at};
+ghost use Rattle.pesp_supports.specs.Counts.{KeepsClosed, has_at};
+ghost use Rattle.pesp_counts.specs.Keeping.{AreAtRestBut};
+ghost use Rattle.pesp_supports.specs.Resting.{AreAtRest};
+ghost use Rattle.pesp_supports.specs.Supports.{Fit, HaveSameShape, IsTaken};
+ghost use Rattle.pesp_supports.specs.Spent.{ends_at};
 
-use crate::Placed;
-use crate::supports::Supports;
 use pesp_links::Links;
+use pesp_supports::{Placed, Supports};
 
 /// Counts at both ends of an activity anew, and takes out the pairs that are left without a partner, there or among those of a list
 /// that were put back.

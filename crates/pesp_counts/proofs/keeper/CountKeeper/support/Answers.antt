@@ -5,7 +5,7 @@ use Rattle.pesp_domains.specs.Domains.{InDomains, own}
 use Rattle.pesp_counts.specs.Restores.{Seen}
 use Rattle.pesp_links.specs.declared.end.End.{End}
 use Rattle.pesp_links.specs.Ends.{end_at}
-use Rattle.pesp_counts.specs.Counts.{count_at}
+use Rattle.pesp_supports.specs.Counts.{count_at}
 use Rattle.pesp_links.specs.Links.{end_number}
 use Rattle.pesp_links.specs.Places.{place_of}
 use Rattle.pesp_counts.specs.Support.{IsSupport}

@@ -6,19 +6,19 @@ use Rattle.pesp_instance.specs.Edited.{edited}
 use Rattle.pesp_instance.specs.Network.{Network}
 use Rattle.pesp_domains.proofs.Edits.{effect_is}
 use Rattle.pesp_links.specs.Ends.{end_at, ends_of}
-use Rattle.pesp_counts.specs.Counts.{has_at}
+use Rattle.pesp_supports.specs.Counts.{has_at}
 use Rattle.pesp_links.specs.Places.{place_of}
 use Rattle.pesp_counts.specs.Reached.{starts}
 use Rattle.pesp_counts.proofs.Bridge.{some_of}
 use Rattle.pesp_counts.proofs.Carried.{dropped_not, for_relinked, places_dropped, rest_same, roomier_none, same_period, stands_still}
 use Rattle.pesp_counts.proofs.Keeping.{for_linked}
 use Rattle.pesp_links.proofs.StandLaws.{stands_fix}
-use Rattle.pesp_counts.proofs.Taken.{keeps_none}
+use Rattle.pesp_supports.proofs.Taken.{keeps_none}
 use Rattle.pesp_counts.proofs.Tightened.{fixed_event, only_weight, settled_dropped, settled_even, settled_fixed}
 use Rattle.std.proofs.lemmas.Bool.{false≢true}
 use Rattle.pesp_domains.proofs.Pushes.{limited}
-use Rattle.pesp_counts.specs.Supports.{is_in}
-use Rattle.pesp_counts.specs.Works.{ends_at}
+use Rattle.pesp_supports.specs.Supports.{is_in}
+use Rattle.pesp_supports.specs.Spent.{ends_at}
 use Rattle.pesp_counts.proofs.Gone.{keep_same, limited_placed, worked_none, worked_tight}
 use Rattle.pesp_counts.proofs.keeper.edits.tighten.Goals as goal
 

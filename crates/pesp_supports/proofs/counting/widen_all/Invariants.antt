@@ -1,0 +1,13 @@
+-- The ends at the places so far are wide.
+use Rattle.std.proofs.Common.{◌≡◌, ℕ, ◌<◌, length}
+use Rattle.std.specs.List.{Contains}
+use Rattle.pesp_links.specs.Ends.{ends_of}
+use Rattle.pesp_supports.specs.Supports.{IsWide}
+use Rattle.pesp_supports.proofs.counting.widen_all.Given as goal
+
+abbrev pub invariant-loop-place : goal.invariant-loop-place
+invariant-loop-place l =
+    record {
+      long : length l.counts ≡ length l.fn.counts;
+      wide : (p k : ℕ) → p < l.place → Contains (ends_of l.fn.links.lists p) k → IsWide l.fn.period l.fn.links.ends l.counts k;
+    }

@@ -1,0 +1,22 @@
+-- What is spent by place.
+use Rattle.std.specs.Prelude.{ℕ, List, length, sum_by}
+use Rattle.pesp_supports.specs.declared.bringing.Admitted.{Admitted}
+use Rattle.pesp_supports.specs.declared.bringing.Admitted.TheVariants.{Nothing, One, Any}
+use Rattle.pesp_links.specs.declared.end.Window.{Window}
+use Rattle.pesp_supports.specs.declared.trail.Placed.{Placed}
+use Rattle.pesp_links.specs.Ends.{ends_of}
+use Rattle.pesp_links.specs.Links.{Links}
+
+-- the greatest number of probes that is told
+abbrev pub most_probes : ℕ
+most_probes = 18446744073709551615
+
+-- how many ends there are at the places of these pairs
+abbrev pub ends_at : Links → List Placed → ℕ
+ends_at links pairs = sum_by (λ x. length (ends_of links.lists x.place)) pairs
+
+-- at most so many residues of a window are looked at, where this is admitted
+abbrev pub looked : Admitted → Window → ℕ
+looked Nothing w = 0
+looked (One time) w = 1
+looked Any w = w.end

@@ -1,0 +1,114 @@
+//! Pairs are put back, with the counts for them.
+
+ghost use Rattle.std.specs.Prelude.{◌≡◌, ◌<◌, ◌≤◌, ◌*◌, ◌+◌, ◌||◌, ◌⊎◌, cond, drop, take, false, ℕ, All, IsTrue, length, slice_index_or};
+ghost use Rattle.pesp_base.specs.Limits.{greatest_period};
+ghost use Rattle.pesp_links.specs.Ends.{AreLinked, is_from_to, passes};
+ghost use Rattle.pesp_supports.specs.Counts.{has_at};
+ghost use Rattle.pesp_supports.specs.Supports.{AreExact, AreLevel, AreOut, Fit, HaveSameShape, held, is_in, joined};
+
+use crate::Placed;
+use crate::counts::Counts;
+use crate::supports::Supports;
+use pesp_links::{End, Links};
+
+/// Makes each count of a range one more.
+fn raise_range(counts: &mut Counts, from: usize, to: usize)
+    requires order { from ≤ to }
+    requires within { to ≤ length counts.old }
+    requires low { (i : ℕ) → from ≤ i → i < to → slice_index_or counts.old i 0 < greatest_period }
+    ensures long { length counts.new ≡ length counts.old }
+    ensures counts { (i : ℕ) → slice_index_or counts.new i 0 ≡ slice_index_or counts.old i 0 + cond (is_from_to from to i) 1 0 }
+{
+    for at in from..to {
+        counts.raise(at);
+    }
+}
+
+/// Counts a residue in at the other end of an activity, whose counts begin at `base`: the residues there that go with it have one
+/// partner more.
+fn raise_window(counts: &mut Counts, period: u16, base: usize, end: End, residue: u16)
+    requires period { 2 * period < 65536 }
+    requires residue { residue < period }
+    requires first { end.first < period }
+    requires width { end.width ≤ period }
+    requires within { base + period ≤ length counts.old }
+    requires small { base + period < 18446744073709551616 }
+    requires low { (r : ℕ) → r < period → IsTrue (passes period end residue r) → slice_index_or counts.old (base + r) 0 < greatest_period }
+    ensures long { length counts.new ≡ length counts.old }
+    ensures here { (r : ℕ) → r < period → slice_index_or counts.new (base + r) 0 ≡ slice_index_or counts.old (base + r) 0 + cond (passes period end residue r) 1 0 }
+    ensures elsewhere { (i : ℕ) → i < base ⊎ base + period ≤ i → slice_index_or counts.new i 0 ≡ slice_index_or counts.old i 0 }
+{
+    let window = end.window(period, residue);
+    raise_range(
+        counts,
+        base + window.start as usize,
+        base + window.end as usize,
+    );
+    raise_range(counts, base, base + window.wrapped as usize);
+}
+
+impl Supports {
+    /// Puts the pairs of the trail from a mark on back, with the counts for them.
+    pub fn put_back(&mut self, links: &Links, mark: usize)
+        requires linked { AreLinked (self.old).period (links.now).ends (links.now).lists }
+        requires fit { Fit links.now self.old }
+        requires exact { AreExact links.now self.old (has_at (self.old).counted) }
+        requires level { AreLevel self.old }
+        requires mark { mark ≤ length (self.old).trail }
+        requires out { AreOut self.old (drop mark (self.old).trail) }
+        ensures rows { (p r : ℕ) → has_at (self.new).rows p r ≡ (has_at (self.old).rows p r || is_in (drop mark (self.old).trail) p r) }
+        ensures exact { AreExact links.now self.new (has_at (self.new).counted) }
+        ensures level { AreLevel self.new }
+        ensures trail { (self.new).trail ≡ take mark (self.old).trail }
+        ensures shape { HaveSameShape self.old self.new }
+    {
+        while self.trail.len() > mark {
+            let pair = self.trail.take_last();
+            self.put_in(links, pair);
+        }
+    }
+
+    /// Puts a pair into the rows, with the counts for it.
+    fn put_in(&mut self, links: &Links, pair: Placed)
+        requires linked { AreLinked (self.old).period (links.now).ends (links.now).lists }
+        requires fit { Fit links.now self.old }
+        requires exact { AreExact links.now self.old (has_at (self.old).counted) }
+        requires level { AreLevel self.old }
+        requires rows { pair.place < length (self.old).rows }
+        requires counted { pair.place < length (self.old).counted }
+        requires residue { pair.residue < (self.old).period }
+        requires absent { has_at (self.old).rows pair.place pair.residue ≡ false }
+        requires room { length (self.old).trail + held (self.old).rows < (self.old).room }
+        ensures rows { (p r : ℕ) → has_at (self.new).rows p r ≡ joined (has_at (self.old).rows) pair.place pair.residue p r }
+        ensures exact { AreExact links.now self.new (has_at (self.new).counted) }
+        ensures level { AreLevel self.new }
+        ensures trail { (self.new).trail ≡ (self.old).trail }
+        ensures shape { HaveSameShape self.old self.new }
+    {
+        self.count_in(links, pair);
+        let place = pair.place;
+        self.counted[place].put_in(pair.residue);
+        self.rows[place].put_in(pair.residue);
+    }
+
+    /// Counts a pair in at each end that looks at its place.
+    fn count_in(&mut self, links: &Links, pair: Placed)
+        requires linked { AreLinked (self.old).period (links.now).ends (links.now).lists }
+        requires fit { Fit links.now self.old }
+        requires exact { AreExact links.now self.old (has_at (self.old).counted) }
+        requires residue { pair.residue < (self.old).period }
+        requires absent { has_at (self.old).counted pair.place pair.residue ≡ false }
+        ensures exact { AreExact links.now self.new (joined (has_at (self.old).counted) pair.place pair.residue) }
+        ensures rows { (self.new).rows ≡ (self.old).rows }
+        ensures counted { (self.new).counted ≡ (self.old).counted }
+        ensures trail { (self.new).trail ≡ (self.old).trail }
+        ensures shape { HaveSameShape self.old self.new }
+    {
+        let period = self.period.get();
+        for number in links.at(pair.place) {
+            let end = links.end(number);
+            let base = self.counts.base(end.mate, period);
+            raise_window(&mut self.counts, period, base, end, pair.residue);
+        }
+    }
+}
