@@ -1,7 +1,7 @@
 //! What tests of searches ask of a keeper, step by step.
 
 use crate::changes::Change;
-use crate::made::event;
+use crate::made::{event, hold, same};
 use crate::unpushed::Unpushed;
 use pesp_counts::CountKeeper;
 use pesp_domains::{Keeper, PlainKeeper};
@@ -33,18 +33,18 @@ pub(crate) enum Step<'a> {
 
 fn assert_times(rt: &impl Abort, times: &Timetable, wanted: Times<'_>, message: &str) {
     for (number, time) in wanted {
-        assert_eq!(rt; times.get(event(rt, *number)), Some(*time), "{message}");
+        same(rt, times.get(event(rt, *number)), Some(*time), message);
     }
-    assert_eq!(rt; times.walk().count(), wanted.len(), "{message}");
+    same(rt, times.walk().count(), wanted.len(), message);
 }
 
 fn assert_optimal(rt: &impl Abort, answer: &Answer, cost: u64, wanted: Times<'_>, message: &str) {
     match answer {
         Answer::Optimal { cost: found, times } => {
-            assert_eq!(rt; *found, cost, "{message}");
+            same(rt, *found, cost, message);
             assert_times(rt, times, wanted, message);
         }
-        Answer::Infeasible => panic!(rt; "{message}: infeasible"),
+        Answer::Infeasible => hold(rt, false, message),
     }
 }
 
@@ -68,8 +68,8 @@ fn assert_infeasible<K: Keeper>(
     message: &str,
 ) {
     let (answer, nodes) = kept.best(rt);
-    assert!(rt; matches!(answer, Answer::Infeasible), "{message}");
-    assert_eq!(rt; nodes, wanted.unwrap_or(nodes), "{message}: nodes");
+    hold(rt, matches!(answer, Answer::Infeasible), message);
+    same(rt, nodes, wanted.unwrap_or(nodes), message);
 }
 
 pub(crate) fn assert_done(
@@ -81,7 +81,7 @@ pub(crate) fn assert_done(
 ) {
     match tried {
         Tried::Done(answer) => assert_optimal(rt, answer, cost, wanted, message),
-        Tried::Stopped { .. } => panic!(rt; "{message}: stopped"),
+        Tried::Stopped { .. } => hold(rt, false, message),
     }
 }
 
@@ -95,21 +95,22 @@ pub(crate) fn assert_found(
     match tried {
         Tried::Done(answer) => assert_optimal(rt, answer, cost, wanted, message),
         Tried::Stopped { best: Some(best) } => {
-            assert_eq!(rt; best.cost, cost, "{message}");
+            same(rt, best.cost, cost, message);
             assert_times(rt, &best.times, wanted, message);
         }
-        Tried::Stopped { best: None } => panic!(rt; "{message}: nothing"),
+        Tried::Stopped { best: None } => hold(rt, false, message),
     }
 }
 
 pub(crate) fn assert_stopped(rt: &impl Abort, tried: &Tried, message: &str) {
-    assert!(rt; matches!(tried, Tried::Stopped { best: None }), "{message}");
+    hold(rt, matches!(tried, Tried::Stopped { best: None }), message);
 }
 
 fn assert_done_infeasible(rt: &impl Abort, tried: &Tried, message: &str) {
-    assert!(rt;
+    hold(
+        rt,
         matches!(tried, Tried::Done(Answer::Infeasible)),
-        "{message}"
+        message,
     );
 }
 
@@ -121,7 +122,7 @@ fn tried<K: Keeper>(
     message: &str,
 ) -> Tried {
     let (tried, nodes) = kept.tried(rt, limit);
-    assert!(rt; nodes <= limit, "{message}: nodes");
+    hold(rt, nodes <= limit, message);
     tried
 }
 
@@ -146,11 +147,14 @@ fn take<K: Keeper>(
     }
 }
 
+/// Steps, with a message each.
+pub(crate) type Steps<'a> = &'a [(Step<'a>, &'a str)];
+
 fn try_steps_by<K: Keeper>(
     rt: &(impl Abort + AllocGlobal),
     period: u16,
     made: &[Change],
-    steps: &[(Step<'_>, &str)],
+    steps: Steps<'_>,
 ) {
     let mut kept: Unpushed<K> = Unpushed::made(rt, period, made);
     for (step, message) in steps {
@@ -163,7 +167,7 @@ pub(crate) fn try_steps(
     rt: &(impl Abort + AllocGlobal),
     period: u16,
     made: &[Change],
-    steps: &[(Step<'_>, &str)],
+    steps: Steps<'_>,
 ) {
     try_steps_by::<PlainKeeper>(rt, period, made, steps);
     try_steps_by::<CountKeeper>(rt, period, made, steps);

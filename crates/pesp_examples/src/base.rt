@@ -1,17 +1,23 @@
 //! The limits of periods and spans, and the residues that an activity admits.
 
-use crate::made::span;
+use crate::made::{same, same_of, span};
 use pesp_base::{
     GREATEST_BOUND, GREATEST_PERIOD, LEAST_PERIOD, Period, Span, SpanFault, partners, sources,
 };
 use std::process::Abort;
 
 fn assert_period(rt: &impl Abort, value: u16, is_period: bool) {
-    assert!(rt; Period::new(value).is_some() == is_period, "period {value}");
+    same_of(
+        rt,
+        Period::new(value).is_some(),
+        is_period,
+        "period",
+        u32::from(value),
+    );
 }
 
 fn assert_no_span(rt: &impl Abort, lower: i32, upper: i32, fault: SpanFault) {
-    assert_eq!(rt; Span::new(lower, upper), Err(fault));
+    same(rt, Span::new(lower, upper), Err(fault), "no span");
 }
 
 #[test]
@@ -35,7 +41,7 @@ fn assert_partners(
     let period = Period::new(10).expect(rt, "a period");
     assert!(rt; from < period.get(), "a residue");
     let listed = partners(period, span, from).collect::<Vec<u16>>(rt.alloc());
-    assert_eq!(rt; listed.expect(rt, "memory").as_slice(), wanted, "{message}");
+    same(rt, listed.expect(rt, "memory").as_slice(), wanted, message);
 }
 
 /// The partners at period 10, from the back.
@@ -51,7 +57,7 @@ fn assert_partners_back(
     let listed = partners(period, span, from)
         .rev()
         .collect::<Vec<u16>>(rt.alloc());
-    assert_eq!(rt; listed.expect(rt, "memory").as_slice(), wanted, "{message}");
+    same(rt, listed.expect(rt, "memory").as_slice(), wanted, message);
 }
 
 /// The sources at period 10.
@@ -65,7 +71,7 @@ fn assert_sources(
     let period = Period::new(10).expect(rt, "a period");
     assert!(rt; to < period.get(), "a residue");
     let listed = sources(period, span, to).collect::<Vec<u16>>(rt.alloc());
-    assert_eq!(rt; listed.expect(rt, "memory").as_slice(), wanted, "{message}");
+    same(rt, listed.expect(rt, "memory").as_slice(), wanted, message);
 }
 
 #[test]

@@ -1,38 +1,38 @@
 //! The optimum of a workbench: found, known, forgotten, and looked for within limits.
 
 use crate::changes::Change;
+use crate::made::{hold, same};
 use crate::workbench::{
-    FIRST, Known, Step, assert_known, assert_knows, assert_no_nodes, assert_set, assert_times,
-    bench, is_answered, try_steps,
+    FIRST, Known, Step, Steps, assert_known, assert_knows, assert_no_nodes, assert_set,
+    assert_times, bench, is_answered, try_steps,
 };
 use pesp_bench::{Attempt, Bench};
 use pesp_counts::CountKeeper;
 use pesp_domains::{Keeper, PlainKeeper};
 use std::process::Abort;
 
+const OPTIMUM_IS_FOUND_AND_KEPT: Steps<'_> = &[
+    (Step::Search, FIRST, "the optimum"),
+    (Step::FindAgain, FIRST, "a known one serves"),
+    (
+        Step::Edit(Change::SetSpan(1, 3, 3)),
+        Known::Nothing,
+        "an edit forgets it",
+    ),
+    (Step::Find, Known::Infeasible, "3 to 3"),
+];
+
 #[test]
 fn optimum_is_found_and_kept(rt: HostRuntime) {
-    try_steps(
-        &rt,
-        &[
-            (Step::Search, FIRST, "the optimum"),
-            (Step::FindAgain, FIRST, "a known one serves"),
-            (
-                Step::Edit(Change::SetSpan(1, 3, 3)),
-                Known::Nothing,
-                "an edit forgets it",
-            ),
-            (Step::Find, Known::Infeasible, "3 to 3"),
-        ],
-    );
+    try_steps(&rt, OPTIMUM_IS_FOUND_AND_KEPT);
 }
 
 /// The optimum is known, and the time and the instance are as they were.
 fn assert_optimum_beside_seven<K: Keeper>(rt: &impl Abort, bench: &Bench<K>, message: &str) {
     assert_known(rt, bench, 4, &[(1, 0), (2, 4)], message);
     assert_times(rt, bench.timetable(), &[(1, 7)], message);
-    assert_eq!(rt; bench.instance().event_count(), 2, "{message}");
-    assert_eq!(rt; bench.instance().activity_count(), 2, "{message}");
+    same(rt, bench.instance().event_count(), 2, message);
+    same(rt, bench.instance().activity_count(), 2, message);
 }
 
 /// The optimum is answered, found or known before, and leaves all but what is known of it.
@@ -42,8 +42,8 @@ fn assert_answered<K: Keeper>(
     is_known: bool,
     message: &str,
 ) {
-    assert!(rt; is_answered(rt, bench), "{message}: memory");
-    assert_eq!(rt; bench.last_nodes() == 0, is_known, "{message}");
+    hold(rt, is_answered(rt, bench), message);
+    same(rt, bench.last_nodes() == 0, is_known, message);
     assert_optimum_beside_seven(rt, bench, message);
 }
 
@@ -83,13 +83,13 @@ fn assert_done<K: Keeper>(
     limit: u64,
     message: &str,
 ) {
-    assert!(rt; is_done(rt, bench, limit), "{message}");
+    hold(rt, is_done(rt, bench, limit), message);
     assert_knows(rt, bench, FIRST, message);
 }
 
 fn limited_tries_by<K: Keeper, R: Abort + AllocGlobal>(rt: &R) {
     let mut bench: Bench<K> = bench(rt);
-    assert!(rt; is_stopped(rt, &mut bench, 0), "limit 0");
+    hold(rt, is_stopped(rt, &mut bench, 0), "limit 0");
     assert_done(rt, &mut bench, 1_000_000, "limit 1,000,000");
     assert_done(rt, &mut bench, 0, "limit 0 again");
     assert_no_nodes(rt, &bench, "limit 0 again");

@@ -3,7 +3,7 @@
 ghost use Rattle.std.specs.Prelude.{◌≡◌, []};
 
 use crate::changes::FOUR_EVENTS;
-use crate::made::{event, id, push};
+use crate::made::{event, hold, id, push, same, same_of};
 use crate::unpushed::{Counted, Unpushed};
 use pesp_base::EventId;
 use pesp_counts::CountKeeper;
@@ -16,7 +16,7 @@ type Count = (Side, u16, Option<u16>);
 fn assert_supports(rt: &impl Abort, keeper: &CountKeeper, counts: &[Count], message: &str) {
     for (side, residue, wanted) in counts {
         let count = keeper.support(id(rt, 1), *side, *residue);
-        assert_eq!(rt; count, *wanted, "{message}: residue {residue}");
+        same_of(rt, count, *wanted, message, u32::from(*residue));
     }
 }
 
@@ -28,15 +28,18 @@ fn assert_pushed(rt: &impl Abort, kept: &mut Counted, pushed: &[Count], popped: 
     assert_supports(rt, &kept.keeper, popped, "nothing is pushed");
 }
 
+const PUSHED: &[Count] = &[
+    (Side::Tail, 0, Some(2)),
+    (Side::Head, 4, Some(1)),
+    (Side::Tail, 1, None),
+];
+
+const POPPED: &[Count] = &[(Side::Tail, 0, Some(3))];
+
 #[test]
 fn counts_are_read_by_support(rt: HostRuntime) {
     let mut kept = Counted::two_activities(&rt);
-    let pushed: &[Count] = &[
-        (Side::Tail, 0, Some(2)),
-        (Side::Head, 4, Some(1)),
-        (Side::Tail, 1, None),
-    ];
-    assert_pushed(&rt, &mut kept, pushed, &[(Side::Tail, 0, Some(3))]);
+    assert_pushed(&rt, &mut kept, PUSHED, POPPED);
 }
 
 /// The rows of the four events, which are the same by either keeper.
@@ -45,12 +48,16 @@ fn assert_same<P: Keeper, C: Keeper>(rt: &impl Abort, plain: &P, counted: &C, me
         let event = event(rt, number);
         let wanted = plain.row(event).expect(rt, "a row");
         let row = counted.row(event).expect(rt, "a row");
-        assert_eq!(rt; row.len(), wanted.len(), "{message}: event {number}");
+        same_of(rt, row.len(), wanted.len(), message, number);
         for residue in 0..3 {
-            assert!(rt;
-                row.holds(residue) == wanted.holds(residue)
-                    && counted.holds(event, residue) == wanted.holds(residue),
-                "{message}: event {number} at {residue}"
+            let is_wanted = wanted.holds(residue);
+            same_of(rt, row.holds(residue), is_wanted, message, number);
+            same_of(
+                rt,
+                counted.holds(event, residue),
+                is_wanted,
+                message,
+                number,
             );
         }
     }

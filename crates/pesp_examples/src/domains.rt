@@ -1,7 +1,7 @@
 //! The rows of the worked examples, by edits, pushes and pops.
 
 use crate::changes::{Change, FOUR_EVENTS, TWO_ACTIVITIES};
-use crate::made::{event, push};
+use crate::made::{event, hold, push, same};
 use crate::unpushed::Unpushed;
 use pesp_counts::CountKeeper;
 use pesp_domains::{Keeper, PlainKeeper};
@@ -9,6 +9,9 @@ use std::process::Abort;
 
 /// Events and the residues in their rows.
 type Rows<'a> = &'a [(u32, &'a [u16])];
+
+/// Edits, the rows behind each, and a message.
+type Edits<'a> = &'a [(Change, Rows<'a>, &'a str)];
 
 /// The residues at period 10.
 const ALL: &[u16] = &[0, 1, 2, 3, 4, 5, 6, 7, 8, 9];
@@ -19,17 +22,15 @@ const BOTH: Rows<'_> = &[(1, ALL), (2, ALL)];
 fn assert_row<K: Keeper>(rt: &impl Abort, keeper: &K, number: u32, wanted: &[u16], message: &str) {
     let event = event(rt, number);
     let row = keeper.row(event).expect(rt, "a row");
-    assert_eq!(rt; row.len(), wanted.len(), "{message}");
+    same(rt, row.len(), wanted.len(), message);
     let mut next = 0;
     for residue in wanted {
-        assert_eq!(rt; row.next_from(next), Some(*residue), "{message}");
-        assert!(rt;
-            row.holds(*residue) && keeper.holds(event, *residue),
-            "{message}"
-        );
+        same(rt, row.next_from(next), Some(*residue), message);
+        hold(rt, row.holds(*residue), message);
+        hold(rt, keeper.holds(event, *residue), message);
         next = residue.saturating_add(1);
     }
-    assert_eq!(rt; row.next_from(next), None, "{message}");
+    same(rt, row.next_from(next), None, message);
 }
 
 fn assert_rows<K: Keeper>(rt: &impl Abort, keeper: &K, rows: Rows<'_>, message: &str) {
@@ -42,7 +43,7 @@ fn edited_by<K: Keeper>(
     rt: &(impl Abort + AllocGlobal),
     made: &[Change],
     first: Rows<'_>,
-    edits: &[(Change, Rows<'_>, &str)],
+    edits: Edits<'_>,
 ) -> Unpushed<K> {
     let mut kept: Unpushed<K> = Unpushed::made(rt, 10, made);
     assert_rows(rt, &kept.keeper, first, "before the edits");
@@ -54,74 +55,60 @@ fn edited_by<K: Keeper>(
 }
 
 /// A keeper of either kind of what the first edits make has the first rows, and behind each of the others these.
-fn try_edits(
-    rt: &(impl Abort + AllocGlobal),
-    made: &[Change],
-    first: Rows<'_>,
-    edits: &[(Change, Rows<'_>, &str)],
-) {
+fn try_edits(rt: &(impl Abort + AllocGlobal), made: &[Change], first: Rows<'_>, edits: Edits<'_>) {
     edited_by::<PlainKeeper>(rt, made, first, edits);
     edited_by::<CountKeeper>(rt, made, first, edits);
 }
 
+const FIXED_EVENT_NARROWS_DOMAINS: Edits<'_> = &[
+    (
+        Change::Fix(1, 0),
+        &[(1, &[0]), (2, &[4, 5])],
+        "event 1 at 0",
+    ),
+    (
+        Change::Fix(1, 1),
+        &[(1, &[1]), (2, &[5, 6])],
+        "event 1 at 1",
+    ),
+];
+
 #[test]
 fn fixed_event_narrows_domains(rt: HostRuntime) {
-    try_edits(
-        &rt,
-        TWO_ACTIVITIES,
-        BOTH,
-        &[
-            (
-                Change::Fix(1, 0),
-                &[(1, &[0]), (2, &[4, 5])],
-                "event 1 at 0",
-            ),
-            (
-                Change::Fix(1, 1),
-                &[(1, &[1]), (2, &[5, 6])],
-                "event 1 at 1",
-            ),
-        ],
-    );
+    try_edits(&rt, TWO_ACTIVITIES, BOTH, FIXED_EVENT_NARROWS_DOMAINS);
 }
+
+const UNFIX_REFILLS_BOTH_ROWS: Edits<'_> = &[
+    (Change::Fix(1, 0), &[(1, &[0]), (2, &[4, 5])], "fixed"),
+    (
+        Change::SetSpan(1, 3, 4),
+        &[(1, &[0]), (2, &[4])],
+        "a narrower span",
+    ),
+    (Change::Unfix(1), BOTH, "event 1 is free"),
+];
 
 #[test]
 fn unfix_refills_both_rows(rt: HostRuntime) {
-    try_edits(
-        &rt,
-        TWO_ACTIVITIES,
-        BOTH,
-        &[
-            (Change::Fix(1, 0), &[(1, &[0]), (2, &[4, 5])], "fixed"),
-            (
-                Change::SetSpan(1, 3, 4),
-                &[(1, &[0]), (2, &[4])],
-                "a narrower span",
-            ),
-            (Change::Unfix(1), BOTH, "event 1 is free"),
-        ],
-    );
+    try_edits(&rt, TWO_ACTIVITIES, BOTH, UNFIX_REFILLS_BOTH_ROWS);
 }
 
+const INFEASIBLE_INSTANCES: Edits<'_> = &[
+    (Change::SetSpan(1, 3, 3), BOTH, "full domains"),
+    (Change::Fix(1, 0), &[(1, &[]), (2, &[])], "empty domains"),
+    (
+        Change::AddEvent(3),
+        &[(1, &[]), (2, &[]), (3, ALL)],
+        "a new event",
+    ),
+    (Change::DropEvent(3), &[(1, &[]), (2, &[])], "it goes"),
+];
+
 fn infeasible_instances_by<K: Keeper, R: Abort + AllocGlobal>(rt: &R) {
-    let kept: Unpushed<K> = edited_by(
-        rt,
-        TWO_ACTIVITIES,
-        BOTH,
-        &[
-            (Change::SetSpan(1, 3, 3), BOTH, "full domains"),
-            (Change::Fix(1, 0), &[(1, &[]), (2, &[])], "empty domains"),
-            (
-                Change::AddEvent(3),
-                &[(1, &[]), (2, &[]), (3, ALL)],
-                "a new event",
-            ),
-            (Change::DropEvent(3), &[(1, &[]), (2, &[])], "it goes"),
-        ],
-    );
+    let kept: Unpushed<K> = edited_by(rt, TWO_ACTIVITIES, BOTH, INFEASIBLE_INSTANCES);
     let three = event(rt, 3);
-    assert!(rt; kept.keeper.row(three).is_none(), "no event, no row");
-    assert!(rt; !kept.keeper.holds(three, 0), "no event, no residue");
+    hold(rt, kept.keeper.row(three).is_none(), "no event, no row");
+    hold(rt, !kept.keeper.holds(three, 0), "no event, no residue");
 }
 
 #[test]
@@ -130,11 +117,17 @@ fn infeasible_instances(rt: HostRuntime) {
     infeasible_instances_by::<CountKeeper, _>(&rt);
 }
 
+/// All residues of four events at period 3.
+const THREE_EACH: Rows<'_> = &[
+    (1, &[0, 1, 2]),
+    (2, &[0, 1, 2]),
+    (3, &[0, 1, 2]),
+    (4, &[0, 1, 2]),
+];
+
 fn four_events_at_period_three_by<K: Keeper, R: Abort + AllocGlobal>(rt: &R) {
     let kept: Unpushed<K> = Unpushed::made(rt, 3, FOUR_EVENTS);
-    let row: &[u16] = &[0, 1, 2];
-    let rows: Rows<'_> = &[(1, row), (2, row), (3, row), (4, row)];
-    assert_rows(rt, &kept.keeper, rows, "full domains");
+    assert_rows(rt, &kept.keeper, THREE_EACH, "full domains");
 }
 
 #[test]
@@ -143,38 +136,35 @@ fn four_events_at_period_three(rt: HostRuntime) {
     four_events_at_period_three_by::<CountKeeper, _>(&rt);
 }
 
+const ONE_EVENT: &[Change] = &[Change::AddEvent(1)];
+
+/// The row of one event alone.
+const ONE_ROW: Rows<'_> = &[(1, ALL)];
+
+const LOOPS_AND_SPANS: Edits<'_> = &[
+    (
+        Change::AddActivity(3, (1, 1), (1, 2), 1),
+        ONE_ROW,
+        "a partner in its own row",
+    ),
+    (Change::SetSpan(3, 0, 0), ONE_ROW, "itself as its partner"),
+    (Change::AddEvent(2), BOTH, "one event more"),
+    (
+        Change::AddActivity(1, (1, 2), (-2, 1), 1),
+        BOTH,
+        "full rows",
+    ),
+    (Change::Fix(1, 0), &[(2, &[0, 1, 8, 9])], "a negative bound"),
+    (
+        Change::SetSpan(1, 7, 16),
+        &[(2, ALL)],
+        "a span as wide as the period",
+    ),
+];
+
 #[test]
 fn loops_and_spans(rt: HostRuntime) {
-    let around: Rows<'_> = &[(2, &[0, 1, 8, 9])];
-    try_edits(
-        &rt,
-        &[Change::AddEvent(1)],
-        &[(1, ALL)],
-        &[
-            (
-                Change::AddActivity(3, (1, 1), (1, 2), 1),
-                &[(1, ALL)],
-                "a partner in its own row",
-            ),
-            (
-                Change::SetSpan(3, 0, 0),
-                &[(1, ALL)],
-                "itself as its partner",
-            ),
-            (Change::AddEvent(2), BOTH, "one event more"),
-            (
-                Change::AddActivity(1, (1, 2), (-2, 1), 1),
-                BOTH,
-                "full rows",
-            ),
-            (Change::Fix(1, 0), around, "a negative bound"),
-            (
-                Change::SetSpan(1, 7, 16),
-                &[(2, ALL)],
-                "a span as wide as the period",
-            ),
-        ],
-    );
+    try_edits(&rt, ONE_EVENT, ONE_ROW, LOOPS_AND_SPANS);
 }
 
 /// Pushes a pair, and behind it a second one where there is one; pops leave the rows that were there before.
@@ -196,11 +186,14 @@ fn assert_pushed<K: Keeper>(
     assert_rows(rt, &kept.keeper, BOTH, "nothing is pushed");
 }
 
+/// The rows with event 1 at 0, and with event 2 at 4 too.
+const FIRST_PUSHED: Rows<'_> = &[(1, &[0]), (2, &[4, 5])];
+
+const BOTH_PUSHED: Rows<'_> = &[(1, &[0]), (2, &[4])];
+
 fn two_pushes_and_two_pops_by<K: Keeper, R: Abort + AllocGlobal>(rt: &R) {
     let mut kept: Unpushed<K> = Unpushed::two_activities(rt);
-    let one: Rows<'_> = &[(1, &[0]), (2, &[4, 5])];
-    let two: Rows<'_> = &[(1, &[0]), (2, &[4])];
-    assert_pushed(rt, &mut kept, (0, one), Some((4, two)));
+    assert_pushed(rt, &mut kept, (0, FIRST_PUSHED), Some((4, BOTH_PUSHED)));
 }
 
 #[test]
@@ -209,10 +202,12 @@ fn two_pushes_and_two_pops(rt: HostRuntime) {
     two_pushes_and_two_pops_by::<CountKeeper, _>(&rt);
 }
 
+const NO_ROWS: Rows<'_> = &[(1, &[]), (2, &[])];
+
 fn push_empties_both_rows_by<K: Keeper, R: Abort + AllocGlobal>(rt: &R) {
     let mut kept: Unpushed<K> = Unpushed::two_activities(rt);
     kept.change(rt, Change::SetSpan(1, 3, 3));
-    assert_pushed(rt, &mut kept, (0, &[(1, &[]), (2, &[])]), None);
+    assert_pushed(rt, &mut kept, (0, NO_ROWS), None);
 }
 
 #[test]

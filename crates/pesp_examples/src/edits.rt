@@ -1,6 +1,6 @@
 //! Edits of instances, their refusals, look-ups and walks, and the limits.
 
-use crate::made::{self, event, id};
+use crate::made::{self, event, hold, id, same, same_of};
 use pesp_base::{Activity, Period, Refusal, max_activities, max_events};
 use pesp_instance::{Edit, Instance};
 use std::process::Abort;
@@ -14,11 +14,11 @@ fn empty(rt: &(impl Abort + AllocGlobal), period: u16) -> Instance {
 }
 
 fn accepted(rt: &impl Abort, instance: &mut Instance, edit: Edit, message: &str) {
-    assert_eq!(rt; instance.apply(&edit), Ok(()), "{message}");
+    same(rt, instance.apply(&edit), Ok(()), message);
 }
 
 fn refused(rt: &impl Abort, instance: &mut Instance, edit: Edit, refusal: Refusal, message: &str) {
-    assert_eq!(rt; instance.apply(&edit), Err(refusal), "{message}");
+    same(rt, instance.apply(&edit), Err(refusal), message);
 }
 
 /// Two events and an activity each way between them, added in no order.
@@ -102,12 +102,14 @@ fn ends_changed(rt: HostRuntime) {
 
 /// Period 10, two events and two activities.
 fn assert_two_of_each(rt: &impl Abort, instance: &Instance) {
-    assert_eq!(rt; instance.period().get(), 10);
-    assert_eq!(rt; (instance.event_count(), instance.activity_count()), (2, 2));
+    same(rt, instance.period().get(), 10, "the period");
+    same(rt, instance.event_count(), 2, "events");
+    same(rt, instance.activity_count(), 2, "activities");
 }
 
 fn assert_activity(rt: &impl Abort, instance: &Instance, activity: Activity) {
-    assert_eq!(rt; instance.activity(activity.id).copied(), Some(activity));
+    let found = instance.activity(activity.id).copied();
+    same(rt, found, Some(activity), "an activity");
 }
 
 #[test]
@@ -116,27 +118,27 @@ fn look_ups(rt: HostRuntime) {
     let (one, two) = (event(&rt, 1), event(&rt, 2));
     accepted(&rt, &mut instance, Edit::Fix(two, 7), "event 2 is fixed");
     assert_two_of_each(&rt, &instance);
-    assert!(rt; instance.has_event(one), "event 1");
-    assert_eq!(rt; instance.fixed(two), Some(7));
+    hold(&rt, instance.has_event(one), "event 1");
+    same(&rt, instance.fixed(two), Some(7), "event 2");
     assert_activity(&rt, &instance, activity(&rt, 1, 1, 2));
 }
 
 fn assert_events(rt: &(impl Abort + AllocGlobal), instance: &Instance, numbers: &[u32]) {
     let walk = instance.events().map(|e| e.id.get());
     let found = walk.collect::<Vec<u32>>(rt.alloc()).expect(rt, "memory");
-    assert_eq!(rt; found.as_slice(), numbers);
+    same(rt, found.as_slice(), numbers, "events");
 }
 
 fn assert_activities(rt: &(impl Abort + AllocGlobal), instance: &Instance, numbers: &[u32]) {
     let walk = instance.activities().map(|a| a.id.get());
     let found = walk.collect::<Vec<u32>>(rt.alloc()).expect(rt, "memory");
-    assert_eq!(rt; found.as_slice(), numbers);
+    same(rt, found.as_slice(), numbers, "activities");
 }
 
 fn assert_around(rt: &(impl Abort + AllocGlobal), instance: &Instance, at: u32, numbers: &[u32]) {
     let walk = instance.around(event(rt, at)).map(|a| a.id.get());
     let found = walk.collect::<Vec<u32>>(rt.alloc()).expect(rt, "memory");
-    assert_eq!(rt; found.as_slice(), numbers, "around event {at}");
+    same_of(rt, found.as_slice(), numbers, "around event", at);
 }
 
 #[test]

@@ -1,10 +1,11 @@
 //! Known answers that edits keep or forget, and timetables that meet everything or not.
 
 use crate::changes::Change;
-use crate::made::event;
+use crate::made::{event, hold, same};
 use crate::unpushed::Unpushed;
 use crate::workbench::{
-    Known, Step, assert_times, assert_unknown, bench, bench_of, change, find, take_steps, try_steps,
+    FIRST, Known, Step, Steps, assert_times, assert_unknown, bench, bench_of, change, find,
+    take_steps, try_steps,
 };
 use pesp_bench::{Attempt, Bench};
 use pesp_counts::CountKeeper;
@@ -14,134 +15,119 @@ use pesp_search::{Best, member_cost};
 use pesp_tension::Timetable;
 use std::process::Abort;
 
+const EDITS_THAT_KEEP_THE_ANSWER: Steps<'_> = &[
+    (Step::Find, FIRST, "the optimum"),
+    (
+        Step::Edit(Change::SetSpan(1, 3, 4)),
+        FIRST,
+        "a narrower span",
+    ),
+    (Step::Edit(Change::Fix(1, 0)), FIRST, "fixed at its time"),
+    (
+        Step::Edit(Change::AddActivity(3, (1, 2), (4, 9), 7)),
+        FIRST,
+        "met without slack",
+    ),
+    (Step::FindAgain, FIRST, "the kept one serves"),
+];
+
 #[test]
 fn edits_that_keep_the_answer(rt: HostRuntime) {
-    let first = Known::Optimal(4, &[(1, 0), (2, 4)]);
-    let met = Change::AddActivity(3, (1, 2), (4, 9), 7);
-    try_steps(
-        &rt,
-        &[
-            (Step::Find, first, "the optimum"),
-            (
-                Step::Edit(Change::SetSpan(1, 3, 4)),
-                first,
-                "a narrower span",
-            ),
-            (Step::Edit(Change::Fix(1, 0)), first, "fixed at its time"),
-            (Step::Edit(met), first, "met without slack"),
-            (Step::FindAgain, first, "the kept one serves"),
-        ],
-    );
+    try_steps(&rt, EDITS_THAT_KEEP_THE_ANSWER);
 }
+
+const SMALLER_WEIGHT_FORGETS: Steps<'_> = &[
+    (Step::Find, FIRST, "the optimum"),
+    (
+        Step::Edit(Change::SetWeight(1, 1)),
+        Known::Nothing,
+        "a smaller weight",
+    ),
+    (
+        Step::Find,
+        Known::Optimal(3, &[(1, 0), (2, 4)]),
+        "a smaller weight",
+    ),
+];
 
 #[test]
 fn smaller_weight_forgets(rt: HostRuntime) {
-    try_steps(
-        &rt,
-        &[
-            (
-                Step::Find,
-                Known::Optimal(4, &[(1, 0), (2, 4)]),
-                "the optimum",
-            ),
-            (
-                Step::Edit(Change::SetWeight(1, 1)),
-                Known::Nothing,
-                "a smaller weight",
-            ),
-            (
-                Step::Find,
-                Known::Optimal(3, &[(1, 0), (2, 4)]),
-                "a smaller weight",
-            ),
-        ],
-    );
+    try_steps(&rt, SMALLER_WEIGHT_FORGETS);
 }
+
+const LARGER_WEIGHT_FORGETS: Steps<'_> = &[
+    (Step::Find, FIRST, "the optimum"),
+    (
+        Step::Edit(Change::SetWeight(1, 3)),
+        Known::Nothing,
+        "a larger weight",
+    ),
+    (
+        Step::Find,
+        Known::Optimal(5, &[(1, 0), (2, 4)]),
+        "a larger weight",
+    ),
+];
 
 #[test]
 fn larger_weight_forgets(rt: HostRuntime) {
-    try_steps(
-        &rt,
-        &[
-            (
-                Step::Find,
-                Known::Optimal(4, &[(1, 0), (2, 4)]),
-                "the optimum",
-            ),
-            (
-                Step::Edit(Change::SetWeight(1, 3)),
-                Known::Nothing,
-                "a larger weight",
-            ),
-            (
-                Step::Find,
-                Known::Optimal(5, &[(1, 0), (2, 4)]),
-                "a larger weight",
-            ),
-        ],
-    );
+    try_steps(&rt, LARGER_WEIGHT_FORGETS);
 }
+
+const FIXED_ELSEWHERE_FORGETS: Steps<'_> = &[
+    (Step::Find, FIRST, "the optimum"),
+    (
+        Step::Edit(Change::Fix(1, 3)),
+        Known::Nothing,
+        "fixed elsewhere",
+    ),
+    (
+        Step::Find,
+        Known::Optimal(4, &[(1, 3), (2, 7)]),
+        "fixed elsewhere",
+    ),
+    (
+        Step::Edit(Change::SetSpan(1, 3, 6)),
+        Known::Nothing,
+        "a wider span with the same lower bound",
+    ),
+];
 
 #[test]
 fn fixed_elsewhere_forgets(rt: HostRuntime) {
-    try_steps(
-        &rt,
-        &[
-            (
-                Step::Find,
-                Known::Optimal(4, &[(1, 0), (2, 4)]),
-                "the optimum",
-            ),
-            (
-                Step::Edit(Change::Fix(1, 3)),
-                Known::Nothing,
-                "fixed elsewhere",
-            ),
-            (
-                Step::Find,
-                Known::Optimal(4, &[(1, 3), (2, 7)]),
-                "fixed elsewhere",
-            ),
-            (
-                Step::Edit(Change::SetSpan(1, 3, 6)),
-                Known::Nothing,
-                "a wider span with the same lower bound",
-            ),
-        ],
-    );
+    try_steps(&rt, FIXED_ELSEWHERE_FORGETS);
 }
+
+const INFEASIBLE_IS_KEPT: Steps<'_> = &[
+    (
+        Step::Edit(Change::SetSpan(1, 3, 3)),
+        Known::Nothing,
+        "3 to 3",
+    ),
+    (Step::Find, Known::Infeasible, "3 to 3"),
+    (
+        Step::Edit(Change::SetWeight(1, 9)),
+        Known::Infeasible,
+        "another weight",
+    ),
+    (
+        Step::Edit(Change::AddEvent(3)),
+        Known::Infeasible,
+        "one event more",
+    ),
+    (
+        Step::Edit(Change::Fix(1, 0)),
+        Known::Infeasible,
+        "a first time",
+    ),
+    (Step::FindAgain, Known::Infeasible, "the kept one serves"),
+    (Step::Edit(Change::Unfix(1)), Known::Nothing, "unfixed"),
+    (Step::Find, Known::Infeasible, "found again"),
+];
 
 #[test]
 fn infeasible_is_kept(rt: HostRuntime) {
-    try_steps(
-        &rt,
-        &[
-            (
-                Step::Edit(Change::SetSpan(1, 3, 3)),
-                Known::Nothing,
-                "3 to 3",
-            ),
-            (Step::Find, Known::Infeasible, "3 to 3"),
-            (
-                Step::Edit(Change::SetWeight(1, 9)),
-                Known::Infeasible,
-                "another weight",
-            ),
-            (
-                Step::Edit(Change::AddEvent(3)),
-                Known::Infeasible,
-                "one event more",
-            ),
-            (
-                Step::Edit(Change::Fix(1, 0)),
-                Known::Infeasible,
-                "a first time",
-            ),
-            (Step::FindAgain, Known::Infeasible, "the kept one serves"),
-            (Step::Edit(Change::Unfix(1)), Known::Nothing, "unfixed"),
-            (Step::Find, Known::Infeasible, "found again"),
-        ],
-    );
+    try_steps(&rt, INFEASIBLE_IS_KEPT);
 }
 
 /// A workbench of one activity of number 2 between these events.
@@ -160,26 +146,27 @@ fn one_activity<K: Keeper>(
     bench_of(rt, Unpushed::made(rt, period, edits))
 }
 
+const WITHOUT_SLACK: Steps<'_> = &[
+    (
+        Step::Find,
+        Known::Optimal(0, &[(0, 0), (1, 1)]),
+        "with weight",
+    ),
+    (
+        Step::Edit(Change::SetWeight(2, 0)),
+        Known::Nothing,
+        "no weight",
+    ),
+    (
+        Step::Find,
+        Known::Optimal(0, &[(0, 0), (1, 0)]),
+        "no weight",
+    ),
+];
+
 fn weight_without_slack_forgets_by<K: Keeper, R: Abort + AllocGlobal>(rt: &R) {
     let mut bench: Bench<K> = one_activity(rt, 2, (0, 1), (1, 2), 1);
-    let steps: &[(Step, Known<'_>, &str)] = &[
-        (
-            Step::Find,
-            Known::Optimal(0, &[(0, 0), (1, 1)]),
-            "with weight",
-        ),
-        (
-            Step::Edit(Change::SetWeight(2, 0)),
-            Known::Nothing,
-            "no weight",
-        ),
-        (
-            Step::Find,
-            Known::Optimal(0, &[(0, 0), (1, 0)]),
-            "no weight",
-        ),
-    ];
-    take_steps(rt, &mut bench, steps);
+    take_steps(rt, &mut bench, WITHOUT_SLACK);
 }
 
 #[test]
@@ -188,19 +175,20 @@ fn weight_without_slack_forgets(rt: HostRuntime) {
     weight_without_slack_forgets_by::<CountKeeper, _>(&rt);
 }
 
+const NO_LONGER_FIRST: Steps<'_> = &[
+    (Step::Edit(Change::Fix(1, 5)), Known::Nothing, "fixed"),
+    (Step::Find, Known::Optimal(0, &[(1, 5), (2, 0)]), "fixed"),
+    (Step::Edit(Change::Unfix(1)), Known::Nothing, "unfixed"),
+    (
+        Step::Find,
+        Known::Optimal(0, &[(1, 0), (2, 3)]),
+        "an earlier one",
+    ),
+];
+
 fn old_optimum_is_no_longer_first_by<K: Keeper, R: Abort + AllocGlobal>(rt: &R) {
     let mut bench: Bench<K> = one_activity(rt, 10, (1, 2), (3, 5), 0);
-    let steps: &[(Step, Known<'_>, &str)] = &[
-        (Step::Edit(Change::Fix(1, 5)), Known::Nothing, "fixed"),
-        (Step::Find, Known::Optimal(0, &[(1, 5), (2, 0)]), "fixed"),
-        (Step::Edit(Change::Unfix(1)), Known::Nothing, "unfixed"),
-        (
-            Step::Find,
-            Known::Optimal(0, &[(1, 0), (2, 3)]),
-            "an earlier one",
-        ),
-    ];
-    take_steps(rt, &mut bench, steps);
+    take_steps(rt, &mut bench, NO_LONGER_FIRST);
 }
 
 #[test]
@@ -220,7 +208,7 @@ fn stopped_with<K: Keeper>(rt: &(impl Abort + AllocGlobal), bench: &mut Bench<K>
 /// A search that may visit no node stops with the old optimum's timetable, at this cost.
 fn assert_handed_out<K: Keeper>(rt: &(impl Abort + AllocGlobal), bench: &mut Bench<K>, cost: u64) {
     let best = stopped_with(rt, bench).expect(rt, "the candidate");
-    assert_eq!(rt; best.cost, cost, "the candidate");
+    same(rt, best.cost, cost, "the candidate");
     assert_times(rt, &best.times, &[(1, 0), (2, 4)], "the candidate");
 }
 
@@ -229,14 +217,14 @@ fn assert_no_candidate<K: Keeper>(
     bench: &mut Bench<K>,
     message: &str,
 ) {
-    assert!(rt; stopped_with(rt, bench).is_none(), "{message}");
+    hold(rt, stopped_with(rt, bench).is_none(), message);
     assert_unknown(rt, bench, message);
 }
 
 /// A workbench of the two activities of which the optimum was found before this edit.
 fn found_before<K: Keeper>(rt: &(impl Abort + AllocGlobal), edit: Change) -> Bench<K> {
     let mut bench: Bench<K> = bench(rt);
-    assert_eq!(rt; find(rt, &mut bench), Ok(()));
+    same(rt, find(rt, &mut bench), Ok(()), "found before");
     change(rt, &mut bench, edit);
     bench
 }
@@ -274,37 +262,47 @@ fn timetable(
 ) -> Timetable {
     let mut timetable = Timetable::new(rt.alloc(), instance.period());
     for (number, time) in times {
-        assert_eq!(rt; timetable.set(event(rt, *number), *time), Ok(()));
+        same(
+            rt,
+            timetable.set(event(rt, *number), *time),
+            Ok(()),
+            "a time",
+        );
     }
     timetable
 }
 
 /// Times, and what they cost where they are of a timetable that meets everything.
-type Costed<'a> = (&'a [(u32, u16)], Option<u64>, &'a str);
+type Costs<'a> = &'a [(&'a [(u32, u16)], Option<u64>, &'a str)];
 
-fn assert_costs(rt: &(impl Abort + AllocGlobal), instance: &Instance, cases: &[Costed<'_>]) {
+fn assert_costs(rt: &(impl Abort + AllocGlobal), instance: &Instance, cases: Costs<'_>) {
     for (times, cost, message) in cases {
         let timetable = timetable(rt, instance, times);
-        assert_eq!(rt; member_cost(instance, &timetable), *cost, "{message}");
+        same(rt, member_cost(instance, &timetable), *cost, message);
     }
 }
+
+const COST_OF_A_MEMBER: Costs<'_> = &[
+    (&[(1, 0), (2, 4)], Some(4), "the optimum"),
+    (&[(1, 5), (2, 9)], Some(4), "the optimum, five later"),
+    (&[(1, 0), (2, 5)], Some(5), "another one"),
+    (&[(1, 0), (2, 3)], None, "activity 2 is not met"),
+    (&[(1, 0)], None, "event 2 has no time"),
+    (&[(1, 0), (2, 4), (3, 0)], None, "event 3 is none"),
+];
 
 #[test]
 fn cost_of_a_member(rt: HostRuntime) {
     let kept: Unpushed<PlainKeeper> = Unpushed::two_activities(&rt);
-    assert_costs(
-        &rt,
-        kept.keeper.instance(),
-        &[
-            (&[(1, 0), (2, 4)], Some(4), "the optimum"),
-            (&[(1, 5), (2, 9)], Some(4), "the optimum, five later"),
-            (&[(1, 0), (2, 5)], Some(5), "another one"),
-            (&[(1, 0), (2, 3)], None, "activity 2 is not met"),
-            (&[(1, 0)], None, "event 2 has no time"),
-            (&[(1, 0), (2, 4), (3, 0)], None, "event 3 is none"),
-        ],
-    );
+    assert_costs(&rt, kept.keeper.instance(), COST_OF_A_MEMBER);
 }
+
+const COST_OF_A_MEMBER_WITH_A_FIXED_TIME: Costs<'_> = &[
+    (&[(1, 0), (2, 4)], Some(4), "fixed there"),
+    (&[(1, 5), (2, 9)], None, "fixed elsewhere"),
+];
+
+const COST_OF_NO_MEMBER: Costs<'_> = &[(&[(1, 0), (2, 4)], None, "infeasible")];
 
 #[test]
 fn cost_of_a_member_with_a_fixed_time(rt: HostRuntime) {
@@ -313,15 +311,8 @@ fn cost_of_a_member_with_a_fixed_time(rt: HostRuntime) {
     assert_costs(
         &rt,
         kept.keeper.instance(),
-        &[
-            (&[(1, 0), (2, 4)], Some(4), "fixed there"),
-            (&[(1, 5), (2, 9)], None, "fixed elsewhere"),
-        ],
+        COST_OF_A_MEMBER_WITH_A_FIXED_TIME,
     );
     kept.change(&rt, Change::SetSpan(1, 3, 3));
-    assert_costs(
-        &rt,
-        kept.keeper.instance(),
-        &[(&[(1, 0), (2, 4)], None, "infeasible")],
-    );
+    assert_costs(&rt, kept.keeper.instance(), COST_OF_NO_MEMBER);
 }

@@ -1,19 +1,16 @@
 //! Parts of an instance without a fixed time, at whose first event residue 0 alone is tried.
 
-use crate::asked::{Step, try_steps};
+use crate::asked::{Step, Steps, Times, try_steps};
 use crate::changes::{Change, TWO_ACTIVITIES};
+
+const INFEASIBLE_AT_ONE_NODE: Steps<'_> = &[
+    (Step::Edit(Change::SetSpan(1, 3, 3)), "3 to 3"),
+    (Step::Infeasible(Some(1)), "event 1 at 0 alone"),
+];
 
 #[test]
 fn infeasible_at_one_node(rt: HostRuntime) {
-    try_steps(
-        &rt,
-        10,
-        TWO_ACTIVITIES,
-        &[
-            (Step::Edit(Change::SetSpan(1, 3, 3)), "3 to 3"),
-            (Step::Infeasible(Some(1)), "event 1 at 0 alone"),
-        ],
-    );
+    try_steps(&rt, 10, TWO_ACTIVITIES, INFEASIBLE_AT_ONE_NODE);
 }
 
 /// Events 1 and 2 with one activity, and events 3 and 4 with another.
@@ -26,22 +23,24 @@ const TWO_PARTS: &[Change] = &[
     Change::AddActivity(2, (4, 3), (2, 4), 1),
 ];
 
+const FREE: Times<'_> = &[(1, 0), (2, 3), (3, 0), (4, 8)];
+
+const HELD: Times<'_> = &[(1, 0), (2, 3), (3, 7), (4, 5)];
+
+const JOINED: Times<'_> = &[(1, 9), (2, 2), (3, 7), (4, 5)];
+
+const PARTS_WITHOUT_A_FIXED_TIME: Steps<'_> = &[
+    (Step::Best(0, FREE), "two parts"),
+    (Step::Edit(Change::Fix(4, 5)), "4 at 5"),
+    (Step::Best(0, HELD), "one with a fixed time"),
+    (
+        Step::Edit(Change::AddActivity(3, (3, 1), (2, 2), 1)),
+        "joined",
+    ),
+    (Step::Best(0, JOINED), "both joined"),
+];
+
 #[test]
 fn parts_without_a_fixed_time(rt: HostRuntime) {
-    let free: &[(u32, u16)] = &[(1, 0), (2, 3), (3, 0), (4, 8)];
-    let held: &[(u32, u16)] = &[(1, 0), (2, 3), (3, 7), (4, 5)];
-    let joined: &[(u32, u16)] = &[(1, 9), (2, 2), (3, 7), (4, 5)];
-    let between = Change::AddActivity(3, (3, 1), (2, 2), 1);
-    try_steps(
-        &rt,
-        10,
-        TWO_PARTS,
-        &[
-            (Step::Best(0, free), "two parts"),
-            (Step::Edit(Change::Fix(4, 5)), "4 at 5"),
-            (Step::Best(0, held), "one with a fixed time"),
-            (Step::Edit(between), "joined"),
-            (Step::Best(0, joined), "both joined"),
-        ],
-    );
+    try_steps(&rt, 10, TWO_PARTS, PARTS_WITHOUT_A_FIXED_TIME);
 }

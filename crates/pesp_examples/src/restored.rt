@@ -1,7 +1,7 @@
 //! What an edit puts back, as the keeper by counts tells it.
 
 use crate::changes::Change;
-use crate::made::{event, push};
+use crate::made::{event, push, same, same_of};
 use crate::unpushed::Counted;
 use pesp_counts::CountKeeper;
 use pesp_domains::{Keeper, Pair};
@@ -14,7 +14,7 @@ fn assert_among(rt: &impl Abort, restored: &[Pair], number: u32, residues: &[u16
         let found = restored
             .iter()
             .any(|pair| pair.event == event && pair.residue == *residue);
-        assert!(rt; found, "{message}: event {number} at {residue}");
+        same_of(rt, found, true, message, u32::from(*residue));
     }
 }
 
@@ -28,14 +28,16 @@ fn assert_restored(
 ) {
     let restored = keeper.restored();
     let wanted = first.len().saturating_add(second.len());
-    assert_eq!(rt; restored.len(), wanted, "{message}");
+    same(rt, restored.len(), wanted, message);
     assert_among(rt, restored, 1, first, message);
     assert_among(rt, restored, 2, second, message);
 }
 
-/// The two activities after these edits, each of which puts back the residues of both events that
-/// stand beside it.
-fn edited(rt: &(impl Abort + AllocGlobal), edits: &[(Change, &[u16], &[u16], &str)]) -> Counted {
+/// Edits, and the residues of both events that each puts back.
+type Edits<'a> = &'a [(Change, &'a [u16], &'a [u16], &'a str)];
+
+/// The two activities after these edits.
+fn edited(rt: &(impl Abort + AllocGlobal), edits: Edits<'_>) -> Counted {
     let mut kept = Counted::two_activities(rt);
     for (change, first, second, message) in edits {
         kept.change(rt, *change);
@@ -44,68 +46,66 @@ fn edited(rt: &(impl Abort + AllocGlobal), edits: &[(Change, &[u16], &[u16], &st
     kept
 }
 
+const A_FIXED_TIME_IS_MOVED: Edits<'_> = &[
+    (Change::Fix(1, 0), &[], &[], "a first time"),
+    (Change::Fix(1, 0), &[], &[], "the same time"),
+    (Change::Fix(1, 1), &[1], &[6, 7], "another time"),
+    (Change::SetWeight(1, 3), &[], &[], "a weight"),
+];
+
 #[test]
 fn a_fixed_time_is_moved(rt: HostRuntime) {
-    edited(
-        &rt,
-        &[
-            (Change::Fix(1, 0), &[], &[], "a first time"),
-            (Change::Fix(1, 0), &[], &[], "the same time"),
-            (Change::Fix(1, 1), &[1], &[6, 7], "another time"),
-            (Change::SetWeight(1, 3), &[], &[], "a weight"),
-        ],
-    );
+    edited(&rt, A_FIXED_TIME_IS_MOVED);
 }
+
+const A_FIXED_TIME_IS_TAKEN_AWAY: Edits<'_> = &[
+    (Change::Fix(1, 0), &[], &[], "a first time"),
+    (Change::SetSpan(1, 3, 4), &[], &[], "a narrower span"),
+    (
+        Change::Unfix(1),
+        &[1, 2, 3, 4, 5, 6, 7, 8, 9],
+        &[0, 1, 2, 3, 5, 6, 7, 8, 9],
+        "no time",
+    ),
+    (Change::SetSpan(1, 3, 6), &[], &[], "full rows"),
+];
 
 #[test]
 fn a_fixed_time_is_taken_away(rt: HostRuntime) {
-    let first: &[u16] = &[1, 2, 3, 4, 5, 6, 7, 8, 9];
-    let second: &[u16] = &[0, 1, 2, 3, 5, 6, 7, 8, 9];
-    edited(
-        &rt,
-        &[
-            (Change::Fix(1, 0), &[], &[], "a first time"),
-            (Change::SetSpan(1, 3, 4), &[], &[], "a narrower span"),
-            (Change::Unfix(1), first, second, "no time"),
-            (Change::SetSpan(1, 3, 6), &[], &[], "full rows"),
-        ],
-    );
+    edited(&rt, A_FIXED_TIME_IS_TAKEN_AWAY);
 }
 
 /// The residues of the second event that come back where the second activity joins nothing.
 const SECOND: &[u16] = &[0, 1, 2, 3, 6, 7, 8, 9];
 
+const AN_ACTIVITY_IS_DROPPED: Edits<'_> = &[
+    (Change::Fix(1, 0), &[], &[], "a first time"),
+    (Change::DropActivity(2), &[], SECOND, "no activity back"),
+];
+
 #[test]
 fn an_activity_is_dropped(rt: HostRuntime) {
-    edited(
-        &rt,
-        &[
-            (Change::Fix(1, 0), &[], &[], "a first time"),
-            (Change::DropActivity(2), &[], SECOND, "no activity back"),
-        ],
-    );
+    edited(&rt, AN_ACTIVITY_IS_DROPPED);
 }
+
+const THE_SAME_ENDS_ARE_GIVEN_AGAIN: Edits<'_> = &[
+    (Change::Fix(1, 0), &[], &[], "a first time"),
+    (Change::SetEnds(2, 2, 1), &[], SECOND, "the same ends"),
+];
 
 #[test]
 fn the_same_ends_are_given_again(rt: HostRuntime) {
-    edited(
-        &rt,
-        &[
-            (Change::Fix(1, 0), &[], &[], "a first time"),
-            (Change::SetEnds(2, 2, 1), &[], SECOND, "the same ends"),
-        ],
-    );
+    edited(&rt, THE_SAME_ENDS_ARE_GIVEN_AGAIN);
 }
+
+const A_WIDER_SPAN_IS_GIVEN: Edits<'_> = &[
+    (Change::Fix(1, 0), &[], &[], "a first time"),
+    (Change::SetSpan(2, 4, 7), &[], SECOND, "a wider span"),
+];
 
 #[test]
 fn a_wider_span_is_given(rt: HostRuntime) {
-    edited(
-        &rt,
-        &[
-            (Change::Fix(1, 0), &[], &[], "a first time"),
-            (Change::SetSpan(2, 4, 7), &[], SECOND, "a wider span"),
-        ],
-    );
+    edited(&rt, A_WIDER_SPAN_IS_GIVEN);
 }
 
 #[test]
@@ -129,14 +129,13 @@ fn assert_kept(rt: &impl Abort, mut kept: Counted, first: &[u16], second: &[u16]
     assert_pushed(rt, &mut kept, first, second);
 }
 
+const TWO_FIXED_TIMES: Edits<'_> = &[
+    (Change::Fix(1, 0), &[], &[], "a first time"),
+    (Change::Fix(1, 1), &[1], &[6, 7], "another time"),
+];
+
 #[test]
 fn nothing_but_an_accepted_edit_changes_the_list(rt: HostRuntime) {
-    let kept = edited(
-        &rt,
-        &[
-            (Change::Fix(1, 0), &[], &[], "a first time"),
-            (Change::Fix(1, 1), &[1], &[6, 7], "another time"),
-        ],
-    );
+    let kept = edited(&rt, TWO_FIXED_TIMES);
     assert_kept(&rt, kept, &[1], &[6, 7]);
 }

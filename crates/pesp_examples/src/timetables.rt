@@ -1,6 +1,6 @@
 //! Timetables, and how many times one may have.
 
-use crate::made::event;
+use crate::made::{event, hold, same, same_of};
 use pesp_base::{Period, Refusal, max_events};
 use pesp_tension::Timetable;
 use std::process::Abort;
@@ -17,11 +17,11 @@ fn assert_set(
     answer: Result<(), Refusal>,
     message: &str,
 ) {
-    assert_eq!(rt; timetable.set(event(rt, number), time), answer, "{message}");
+    same(rt, timetable.set(event(rt, number), time), answer, message);
 }
 
 fn assert_time(rt: &impl Abort, timetable: &Timetable, number: u32, time: Option<u16>) {
-    assert_eq!(rt; timetable.get(event(rt, number)), time, "event {number}");
+    same_of(rt, timetable.get(event(rt, number)), time, "event", number);
 }
 
 fn assert_times(rt: &(impl Abort + AllocGlobal), timetable: &Timetable, wanted: &[(u32, u16)]) {
@@ -31,7 +31,7 @@ fn assert_times(rt: &(impl Abort + AllocGlobal), timetable: &Timetable, wanted: 
     let times = walk
         .collect::<Vec<(u32, u16)>>(rt.alloc())
         .expect(rt, "memory");
-    assert_eq!(rt; times.as_slice(), wanted);
+    same(rt, times.as_slice(), wanted, "all times");
 }
 
 fn is_cleared(rt: &impl Abort, timetable: &mut Timetable, number: u32) -> bool {
@@ -55,8 +55,16 @@ fn times_come_and_go(rt: HostRuntime) {
     assert_set(&rt, &mut timetable, 2, 4, Ok(()), "another time");
     assert_time(&rt, &timetable, 2, Some(4));
     assert_times(&rt, &timetable, &[(1, 9), (2, 4)]);
-    assert!(rt; is_cleared(&rt, &mut timetable, 2), "a time to take away");
-    assert!(rt; !is_cleared(&rt, &mut timetable, 2), "no time to take away");
+    hold(
+        &rt,
+        is_cleared(&rt, &mut timetable, 2),
+        "a time to take away",
+    );
+    hold(
+        &rt,
+        !is_cleared(&rt, &mut timetable, 2),
+        "no time to take away",
+    );
     assert_time(&rt, &timetable, 2, None);
 }
 

@@ -1,7 +1,7 @@
 //! Keepers on which nothing is pushed, to try tables of edits on.
 
 use crate::changes::{Change, TWO_ACTIVITIES, edit_of};
-use crate::made::event;
+use crate::made::{event, hold, same};
 use pesp_base::Period;
 use pesp_counts::CountKeeper;
 use pesp_domains::Keeper;
@@ -62,13 +62,13 @@ impl<K: Keeper> Unpushed<K> {
     /// The edit is accepted.
     pub(crate) fn change(&mut self, rt: &impl Abort, change: Change) {
         let accepted = self.keeper.apply(&edit_of(rt, change));
-        assert_eq!(rt; accepted, Ok(()));
+        same(rt, accepted, Ok(()), "the edit is accepted");
     }
 
     /// A time beyond the period is refused.
     pub(crate) fn refuse_a_time(&mut self, rt: &impl Abort) {
         let refused = self.keeper.apply(&Edit::Fix(event(rt, 1), 12));
-        assert!(rt; refused.is_err(), "a time beyond the period");
+        hold(rt, refused.is_err(), "a time beyond the period");
     }
 
     /// The optimum, and the nodes of the search.

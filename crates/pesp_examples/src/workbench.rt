@@ -1,7 +1,7 @@
 //! Workbenches over either keeper, and the steps that tests take on them.
 
 use crate::changes::{Change, edit_of};
-use crate::made::event;
+use crate::made::{event, hold, same};
 use crate::unpushed::Unpushed;
 use pesp_base::Refusal;
 use pesp_bench::Bench;
@@ -18,7 +18,7 @@ pub(crate) fn change<K: Keeper>(rt: &impl Abort, bench: &mut Bench<K>, change: C
 }
 
 fn edit<K: Keeper>(rt: &impl Abort, bench: &mut Bench<K>, edit: Edit) {
-    assert_eq!(rt; bench.apply(&edit), Ok(()));
+    same(rt, bench.apply(&edit), Ok(()), "the edit is accepted");
 }
 
 pub(crate) fn bench_of<K: Keeper>(rt: &(impl Abort + AllocGlobal), kept: Unpushed<K>) -> Bench<K> {
@@ -37,9 +37,9 @@ pub(crate) fn assert_times(
     message: &str,
 ) {
     for (number, time) in wanted {
-        assert_eq!(rt; times.get(event(rt, *number)), Some(*time), "{message}");
+        same(rt, times.get(event(rt, *number)), Some(*time), message);
     }
-    assert_eq!(rt; times.walk().count(), wanted.len(), "{message}");
+    same(rt, times.walk().count(), wanted.len(), message);
 }
 
 pub(crate) fn assert_known<K: Keeper>(
@@ -51,11 +51,10 @@ pub(crate) fn assert_known<K: Keeper>(
 ) {
     match bench.known() {
         Some(Answer::Optimal { cost: found, times }) => {
-            assert_eq!(rt; *found, cost, "{message}");
+            same(rt, *found, cost, message);
             assert_times(rt, times, wanted, message);
         }
-        Some(Answer::Infeasible) => panic!(rt; "{message}: infeasible"),
-        None => panic!(rt; "{message}: not known"),
+        Some(Answer::Infeasible) | None => hold(rt, false, message),
     }
 }
 
@@ -79,18 +78,16 @@ pub(crate) fn find<K: Keeper>(
 }
 
 pub(crate) fn assert_unknown<K: Keeper>(rt: &impl Abort, bench: &Bench<K>, message: &str) {
-    assert!(rt; bench.known().is_none(), "{message}");
+    hold(rt, bench.known().is_none(), message);
 }
 
 fn assert_infeasible<K: Keeper>(rt: &impl Abort, bench: &Bench<K>, message: &str) {
-    assert!(rt;
-        matches!(bench.known(), Some(Answer::Infeasible)),
-        "{message}"
-    );
+    let is_infeasible = matches!(bench.known(), Some(Answer::Infeasible));
+    hold(rt, is_infeasible, message);
 }
 
 pub(crate) fn assert_no_nodes<K: Keeper>(rt: &impl Abort, bench: &Bench<K>, message: &str) {
-    assert_eq!(rt; bench.last_nodes(), 0, "{message}");
+    same(rt, bench.last_nodes(), 0, message);
 }
 
 /// What a test asks of a workbench.
@@ -128,12 +125,12 @@ pub(crate) fn assert_knows<K: Keeper>(
 }
 
 fn search<K: Keeper>(rt: &(impl Abort + AllocGlobal), bench: &mut Bench<K>, message: &str) {
-    assert!(rt; is_answered(rt, bench), "{message}: memory");
-    assert!(rt; bench.last_nodes() > 0, "{message}: nodes");
+    hold(rt, is_answered(rt, bench), message);
+    hold(rt, bench.last_nodes() > 0, message);
 }
 
 fn find_again<K: Keeper>(rt: &(impl Abort + AllocGlobal), bench: &mut Bench<K>, message: &str) {
-    assert_eq!(rt; find(rt, bench), Ok(()), "{message}");
+    same(rt, find(rt, bench), Ok(()), message);
     assert_no_nodes(rt, bench, message);
 }
 
@@ -145,17 +142,20 @@ fn take<K: Keeper>(
 ) {
     match step {
         Step::Edit(edit) => change(rt, bench, edit),
-        Step::Find => assert_eq!(rt; find(rt, bench), Ok(()), "{message}"),
+        Step::Find => same(rt, find(rt, bench), Ok(()), message),
         Step::Search => search(rt, bench, message),
         Step::FindAgain => find_again(rt, bench, message),
     }
 }
 
+/// Steps, what is known behind each, and a message.
+pub(crate) type Steps<'a> = &'a [(Step, Known<'a>, &'a str)];
+
 /// Takes these steps one after another. Behind each, this is known.
 pub(crate) fn take_steps<K: Keeper>(
     rt: &(impl Abort + AllocGlobal),
     bench: &mut Bench<K>,
-    steps: &[(Step, Known<'_>, &str)],
+    steps: Steps<'_>,
 ) {
     for (step, known, message) in steps {
         take(rt, bench, *step, message);
@@ -163,7 +163,7 @@ pub(crate) fn take_steps<K: Keeper>(
     }
 }
 
-fn try_steps_by<K: Keeper>(rt: &(impl Abort + AllocGlobal), steps: &[(Step, Known<'_>, &str)]) {
+fn try_steps_by<K: Keeper>(rt: &(impl Abort + AllocGlobal), steps: Steps<'_>) {
     let mut bench: Bench<K> = bench(rt);
     assert_unknown(rt, &bench, "before the first step");
     assert_no_nodes(rt, &bench, "before the first step");
@@ -171,7 +171,7 @@ fn try_steps_by<K: Keeper>(rt: &(impl Abort + AllocGlobal), steps: &[(Step, Know
 }
 
 /// Takes the steps on a workbench of the two activities, over either keeper.
-pub(crate) fn try_steps(rt: &(impl Abort + AllocGlobal), steps: &[(Step, Known<'_>, &str)]) {
+pub(crate) fn try_steps(rt: &(impl Abort + AllocGlobal), steps: Steps<'_>) {
     try_steps_by::<PlainKeeper>(rt, steps);
     try_steps_by::<CountKeeper>(rt, steps);
 }
@@ -195,5 +195,5 @@ pub(crate) fn assert_set<K: Keeper>(
     time: u16,
     answer: Result<(), Refusal>,
 ) {
-    assert_eq!(rt; set_time(rt, bench, number, time), answer);
+    same(rt, set_time(rt, bench, number, time), answer, "a time");
 }

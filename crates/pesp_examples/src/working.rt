@@ -1,7 +1,7 @@
 //! A workbench's working timetable, and the domains of its events.
 
 use crate::changes::Change;
-use crate::made::{event, id};
+use crate::made::{event, hold, id, same};
 use crate::workbench::{assert_set, assert_times, bench, change};
 use pesp_base::Refusal;
 use pesp_bench::{Bench, EventDomain};
@@ -24,18 +24,16 @@ fn adopt<K: Keeper>(rt: &(impl Abort + AllocGlobal), bench: &mut Bench<K>) -> Re
 }
 
 fn assert_cost<K: Keeper>(rt: &impl Abort, bench: &Bench<K>, cost: Result<u64, Refusal>) {
-    assert_eq!(rt; bench.cost(), cost);
+    same(rt, bench.cost(), cost, "the cost");
 }
 
 /// Both activities have a tension, and the second is violated.
 fn assert_second_violated<K: Keeper>(rt: &(impl Abort + AllocGlobal), bench: &Bench<K>) {
     let tensions = bench.tensions(rt.alloc()).ok().expect(rt, "memory");
-    assert_eq!(rt; tensions.len(), 2);
+    same(rt, tensions.len(), 2, "tensions");
     let violations = bench.violations(rt.alloc()).ok().expect(rt, "memory");
-    assert_eq!(rt;
-        violations.as_slice(),
-        [Violation::Activity(id(rt, 2))].as_slice()
-    );
+    let wanted = [Violation::Activity(id(rt, 2))];
+    same(rt, violations.as_slice(), &wanted, "violations");
 }
 
 fn assert_cleared<K: Keeper>(
@@ -44,7 +42,7 @@ fn assert_cleared<K: Keeper>(
     number: u32,
     answer: Result<(), Refusal>,
 ) {
-    assert_eq!(rt; clear_time(rt, bench, number), answer);
+    same(rt, clear_time(rt, bench, number), answer, "no time");
 }
 
 fn working_timetable_by<K: Keeper, R: Abort + AllocGlobal>(rt: &R) {
@@ -69,7 +67,7 @@ fn assert_adopted<K: Keeper>(
     answer: Result<(), Refusal>,
     message: &str,
 ) {
-    assert_eq!(rt; adopt(rt, bench), answer, "{message}");
+    same(rt, adopt(rt, bench), answer, message);
     assert_times(rt, bench.timetable(), &[(1, 0), (2, 4)], message);
     assert_cost(rt, bench, Ok(4));
 }
@@ -90,7 +88,8 @@ fn working_timetable(rt: HostRuntime) {
 /// Event 2 is an end of activity 1.
 fn assert_in_use<K: Keeper>(rt: &impl Abort, bench: &mut Bench<K>) {
     let refused = Err(Refusal::EventInUse(event(rt, 2), id(rt, 1)));
-    assert_eq!(rt; bench.apply(&Edit::DropEvent(event(rt, 2))), refused);
+    let dropped = bench.apply(&Edit::DropEvent(event(rt, 2)));
+    same(rt, dropped, refused, "event 2 is dropped");
 }
 
 fn dropped_event_has_no_time_by<K: Keeper, R: Abort + AllocGlobal>(rt: &R) {
@@ -101,7 +100,7 @@ fn dropped_event_has_no_time_by<K: Keeper, R: Abort + AllocGlobal>(rt: &R) {
     change(rt, &mut bench, Change::AddEvent(3));
     assert_times(rt, bench.timetable(), &[], "event 3 is another one");
     assert_in_use(rt, &mut bench);
-    assert_eq!(rt; bench.instance().event_count(), 3);
+    same(rt, bench.instance().event_count(), 3, "events");
 }
 
 #[test]
@@ -121,7 +120,7 @@ fn assert_listed(
     let event = event(rt, number);
     for domain in domains {
         if domain.event == event {
-            assert_eq!(rt; domain.residues.as_slice(), wanted, "{message}");
+            same(rt, domain.residues.as_slice(), wanted, message);
         }
     }
 }
@@ -135,7 +134,7 @@ fn assert_row<K: Keeper>(
     message: &str,
 ) {
     let row = bench.domain(event(rt, number)).ok().expect(rt, message);
-    assert_eq!(rt; row.len(), wanted.len(), "{message}");
+    same(rt, row.len(), wanted.len(), message);
 }
 
 fn assert_domain<K: Keeper>(
@@ -152,8 +151,8 @@ fn assert_domain<K: Keeper>(
 
 /// There is no event 3, and event 2 may stand at 4.
 fn assert_looked_up<K: Keeper>(rt: &impl Abort, bench: &Bench<K>) {
-    assert!(rt; bench.domain(event(rt, 3)).is_err(), "no event");
-    assert!(rt; bench.keeper().holds(event(rt, 2), 4), "by the keeper");
+    hold(rt, bench.domain(event(rt, 3)).is_err(), "no event");
+    hold(rt, bench.keeper().holds(event(rt, 2), 4), "by the keeper");
 }
 
 /// The residues at period 10.

@@ -1,7 +1,7 @@
 //! What an edit takes, as the keeper by counts tells it.
 
 use crate::changes::Change;
-use crate::made::{activity, event, push};
+use crate::made::{activity, event, hold, push, same};
 use crate::unpushed::Counted;
 use pesp_base::{Activity, Period};
 use pesp_counts::{CountKeeper, Work};
@@ -15,20 +15,17 @@ type Taken = (u64, u64, Option<u64>);
 fn assert_taken(rt: &impl Abort, keeper: &CountKeeper, taken: Taken, message: &str) {
     let (restored, removed, most) = taken;
     let work = keeper.last_work();
-    assert_eq!(rt;
-        (work.restored, work.removed),
-        (restored, removed),
-        "{message}"
-    );
+    same(rt, work.restored, restored, message);
+    same(rt, work.removed, removed, message);
     let probes = work.probes;
-    assert!(rt;
-        probes <= most.unwrap_or(probes),
-        "{message}: {probes} probes"
-    );
+    hold(rt, probes <= most.unwrap_or(probes), message);
 }
 
-/// The two activities after these edits, each of which takes what stands beside it.
-fn edited(rt: &(impl Abort + AllocGlobal), edits: &[(Change, Taken, &str)]) -> Counted {
+/// Edits, and what each takes.
+type Edits<'a> = &'a [(Change, Taken, &'a str)];
+
+/// The two activities after these edits.
+fn edited(rt: &(impl Abort + AllocGlobal), edits: Edits<'_>) -> Counted {
     let mut kept = Counted::two_activities(rt);
     for (change, taken, message) in edits {
         kept.change(rt, *change);
@@ -37,68 +34,63 @@ fn edited(rt: &(impl Abort + AllocGlobal), edits: &[(Change, Taken, &str)]) -> C
     kept
 }
 
+const BOTH_ROWS_ARE_FILLED_AGAIN: Edits<'_> = &[
+    (Change::Fix(1, 0), (0, 17, None), "a first time"),
+    (Change::SetSpan(1, 3, 4), (0, 1, None), "a narrower span"),
+    (Change::Unfix(1), (18, 0, None), "no time"),
+];
+
 #[test]
 fn both_rows_are_filled_again(rt: HostRuntime) {
-    edited(
-        &rt,
-        &[
-            (Change::Fix(1, 0), (0, 17, None), "a first time"),
-            (Change::SetSpan(1, 3, 4), (0, 1, None), "a narrower span"),
-            (Change::Unfix(1), (18, 0, None), "no time"),
-        ],
-    );
+    edited(&rt, BOTH_ROWS_ARE_FILLED_AGAIN);
 }
+
+const A_FIXED_TIME_IS_MOVED: Edits<'_> = &[
+    (Change::Fix(1, 0), (0, 17, None), "a first time"),
+    (Change::Fix(1, 1), (3, 3, None), "another time"),
+];
 
 #[test]
 fn a_fixed_time_is_moved(rt: HostRuntime) {
-    edited(
-        &rt,
-        &[
-            (Change::Fix(1, 0), (0, 17, None), "a first time"),
-            (Change::Fix(1, 1), (3, 3, None), "another time"),
-        ],
-    );
+    edited(&rt, A_FIXED_TIME_IS_MOVED);
 }
+
+const THE_SAME_TIME_IS_GIVEN_AGAIN: Edits<'_> = &[
+    (Change::Fix(1, 0), (0, 17, None), "a first time"),
+    (Change::Fix(1, 0), (0, 0, Some(400)), "the same time"),
+];
 
 #[test]
 fn the_same_time_is_given_again(rt: HostRuntime) {
-    edited(
-        &rt,
-        &[
-            (Change::Fix(1, 0), (0, 17, None), "a first time"),
-            (Change::Fix(1, 0), (0, 0, Some(400)), "the same time"),
-        ],
-    );
+    edited(&rt, THE_SAME_TIME_IS_GIVEN_AGAIN);
 }
+
+const AN_ACTIVITY_IS_DROPPED: Edits<'_> = &[
+    (Change::Fix(1, 0), (0, 17, None), "a first time"),
+    (
+        Change::DropActivity(2),
+        (8, 7, Some(1300)),
+        "no activity back",
+    ),
+];
 
 #[test]
 fn an_activity_is_dropped(rt: HostRuntime) {
-    edited(
-        &rt,
-        &[
-            (Change::Fix(1, 0), (0, 17, None), "a first time"),
-            (
-                Change::DropActivity(2),
-                (8, 7, Some(1300)),
-                "no activity back",
-            ),
-        ],
-    );
+    edited(&rt, AN_ACTIVITY_IS_DROPPED);
 }
+
+const THE_SAME_ENDS_ARE_GIVEN_AGAIN: Edits<'_> = &[
+    (Change::Fix(1, 0), (0, 17, None), "a first time"),
+    (Change::SetEnds(2, 2, 1), (8, 8, None), "the same ends"),
+];
 
 #[test]
 fn the_same_ends_are_given_again(rt: HostRuntime) {
-    edited(
-        &rt,
-        &[
-            (Change::Fix(1, 0), (0, 17, None), "a first time"),
-            (Change::SetEnds(2, 2, 1), (8, 8, None), "the same ends"),
-        ],
-    );
+    edited(&rt, THE_SAME_ENDS_ARE_GIVEN_AGAIN);
 }
 
 fn accept(rt: &impl Abort, instance: &mut Instance, edit: Edit) {
-    assert_eq!(rt; instance.apply(&edit), Ok(()));
+    same(rt, instance.apply(&edit), Ok(()), "the edit is accepted");
 }
 
 fn join(rt: &impl Abort, instance: &mut Instance, activity: Activity) {
@@ -130,7 +122,7 @@ fn a_long_chain(rt: HostRuntime) {
 
 /// The work of the last edit is this one.
 fn assert_work(rt: &impl Abort, keeper: &CountKeeper, work: Work, message: &str) {
-    assert_eq!(rt; keeper.last_work(), work, "{message}");
+    same(rt, keeper.last_work(), work, message);
 }
 
 #[test]
