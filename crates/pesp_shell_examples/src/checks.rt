@@ -1,6 +1,7 @@
 //! Checks of three files, and the first faulty one.
 
-use pesp_base::Period;
+use crate::asserts::{same, same_text};
+use crate::sessions::period;
 use pesp_shell::{FaultKind, ReadFault, RunFault, Source, check};
 use std::process::Abort;
 use std::test::Fail;
@@ -27,10 +28,9 @@ fn checked(
     fixed: &str,
     times: &str,
 ) -> Result<Vec<u8>, RunFault> {
-    let period = Period::new(10).expect(rt, "a period");
     check(
         rt.alloc(),
-        period,
+        period(rt, 10),
         activities.as_bytes(),
         Some(fixed.as_bytes()),
         Some(times.as_bytes()),
@@ -39,8 +39,7 @@ fn checked(
 
 /// The replies without any file at period 10.
 fn checked_without_files(rt: &(impl Abort + AllocGlobal)) -> Result<Vec<u8>, RunFault> {
-    let period = Period::new(10).expect(rt, "a period");
-    check(rt.alloc(), period, b"", None, None)
+    check(rt.alloc(), period(rt, 10), b"", None, None)
 }
 
 #[test]
@@ -73,10 +72,10 @@ fn replies_of_checks(rt: HostRuntime) -> Result<(), Fail> {
     ];
     for (name, activities, fixed, times, wanted) in table {
         let text = checked(&rt, activities, fixed, times)?;
-        assert_eq!(rt; text.as_slice(), wanted.as_bytes(), "{name}");
+        same_text(&rt, text.as_slice(), wanted, name);
     }
     let text = checked_without_files(&rt)?;
-    assert_eq!(rt; text.as_slice(), EMPTY_REPLIES.as_bytes(), "no files");
+    same_text(&rt, text.as_slice(), EMPTY_REPLIES, "no files");
     Ok(())
 }
 
@@ -105,10 +104,11 @@ fn the_first_faulty_file(rt: HostRuntime) {
     ];
     for (name, activities, fixed, times, source) in table {
         let ended = checked(&rt, activities, fixed, times);
-        assert_eq!(rt;
+        same(
+            &rt,
             ended.err(),
             Some(RunFault::File { source, fault }),
-            "{name}"
+            name,
         );
     }
 }

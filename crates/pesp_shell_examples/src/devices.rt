@@ -1,7 +1,6 @@
 //! Devices that give or take small pieces, and that break at one of their calls; and runs over them.
 
-use crate::sessions::Given;
-use pesp_base::Period;
+use crate::sessions::{Given, period};
 use pesp_domains::Keeper;
 use pesp_shell::{Noted, RunFault, run};
 use std::io::{self, Read, Write};
@@ -132,7 +131,7 @@ pub(crate) fn ending_of<K: Keeper, R: Abort + AllocGlobal>(
     input: &[u8],
     devices: Devices,
 ) -> Ending {
-    let period = Period::new(given.period).expect(rt, "a period");
+    let period = period(rt, given.period);
     let mut output = Vec::new(rt.alloc());
     let (mut unread, mut unwritten) = (0, 0);
     let mut reader = Noted::new(Pieces {

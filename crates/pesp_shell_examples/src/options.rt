@@ -1,5 +1,6 @@
 //! Command lines, refused lines, and the help.
 
+use crate::asserts::{hold, same};
 use clap::Error;
 use clap::error::ErrorKind;
 use pesp_base::{GREATEST_PERIOD, LEAST_PERIOD};
@@ -31,11 +32,24 @@ fn refusal(alloc: Global, words: &[&str]) -> Option<ErrorKind> {
 
 fn assert_asked(rt: &impl Abort, asked: &Settings<'_>, wanted: Asked<'_>, line: &str) {
     let (period, fixed, times, activities, check) = wanted;
-    assert_eq!(rt; asked.period.get(), period, "{line}");
-    assert_eq!(rt; asked.fixed, fixed, "{line}");
-    assert_eq!(rt; asked.times, times, "{line}");
-    assert_eq!(rt; asked.activities, activities, "{line}");
-    assert_eq!(rt; asked.check, check, "{line}");
+    same(rt, asked.period.get(), period, line);
+    same(rt, asked.fixed, fixed, line);
+    same(rt, asked.times, times, line);
+    same(rt, asked.activities, activities, line);
+    same(rt, asked.check, check, line);
+}
+
+/// Words ask for this, or are refused.
+fn assert_line(
+    rt: &(impl Abort + AllocGlobal),
+    words: &[&str],
+    wanted: Option<Asked<'_>>,
+    line: &str,
+) {
+    match (asked(rt.alloc(), words), wanted) {
+        (Ok(asked), Some(wanted)) => assert_asked(rt, &asked, wanted, line),
+        (asked, wanted) => hold(rt, asked.is_err() && wanted.is_none(), line),
+    }
 }
 
 #[test]
@@ -50,10 +64,7 @@ fn three_command_lines(rt: HostRuntime) -> Result<(), Fail> {
     ];
     for (line, wanted) in table {
         let words = words(rt.alloc(), line)?;
-        match (asked(rt.alloc(), words.as_slice()), wanted) {
-            (Ok(asked), Some(wanted)) => assert_asked(&rt, &asked, wanted, line),
-            (asked, wanted) => assert!(rt; asked.is_err() && wanted.is_none(), "{line}"),
-        }
+        assert_line(&rt, words.as_slice(), wanted, line);
     }
     Ok(())
 }
@@ -73,9 +84,25 @@ fn refused_lines(rt: HostRuntime) -> Result<(), Fail> {
     for (line, wanted) in table {
         let words = words(rt.alloc(), line)?;
         let refused = refusal(rt.alloc(), words.as_slice());
-        assert_eq!(rt; refused, Some(wanted), "{line}");
+        same(&rt, refused, Some(wanted), line);
     }
     Ok(())
+}
+
+/// What an error tells.
+fn told(alloc: Global, error: &Error) -> Result<String, AllocError> {
+    format!(in alloc; "{error}")
+}
+
+/// What help says of the limits on the period.
+fn limits(alloc: Global) -> Result<String, AllocError> {
+    format!(in alloc; "The period, {LEAST_PERIOD} to {GREATEST_PERIOD}")
+}
+
+/// An error is help, and tells the limits.
+fn assert_help(rt: &impl Abort, kind: ErrorKind, text: &str, limits: &str) {
+    same(rt, kind, ErrorKind::DisplayHelp, text);
+    hold(rt, text.contains(limits), text);
 }
 
 #[test]
@@ -83,9 +110,8 @@ fn help_names_the_limits(rt: HostRuntime) -> Result<(), Fail> {
     let alloc = rt.alloc();
     let words = words(alloc, "pespbench --help")?;
     let help = asked(alloc, words.as_slice()).err().ok_or("no help")?;
-    let text = format!(in alloc; "{help}")?;
-    let limits = format!(in alloc; "The period, {LEAST_PERIOD} to {GREATEST_PERIOD}")?;
-    assert_eq!(rt; help.kind(), ErrorKind::DisplayHelp);
-    assert!(rt; text.as_str().contains(limits.as_str()), "{text}");
+    let text = told(alloc, &help)?;
+    let limits = limits(alloc)?;
+    assert_help(&rt, help.kind(), text.as_str(), limits.as_str());
     Ok(())
 }

@@ -1,5 +1,6 @@
 //! The worked examples, by runs over memory with each keeper.
 
+use crate::asserts::same_with;
 use pesp_base::Period;
 use pesp_counts::CountKeeper;
 use pesp_domains::{Keeper, PlainKeeper};
@@ -11,6 +12,10 @@ use std::test::Fail;
 pub(crate) const TWO: &str = "1; 1; 2; 3; 5; 2\n2; 2; 1; 4; 6; 1\n";
 
 const THREE: &str = "1; 1; 2; 1; 2; 0\n2; 1; 3; 1; 2; 0\n3; 2; 3; 1; 2; 0\n";
+
+pub(crate) fn period(rt: &impl Abort, length: u16) -> Period {
+    Period::new(length).expect(rt, "a period")
+}
 
 /// A period, and the texts of the three files.
 #[derive(Clone, Copy)]
@@ -39,7 +44,7 @@ fn answered<K: Keeper, R: Abort + AllocGlobal>(
     given: Given,
     input: &[u8],
 ) -> (Option<RunFault>, Vec<u8>) {
-    let period = Period::new(given.period).expect(rt, "a period");
+    let period = period(rt, given.period);
     let mut output = Vec::new(rt.alloc());
     let mut reader = Noted::new(input);
     let mut writer = Noted::new(&mut output);
@@ -64,12 +69,8 @@ fn assert_run_by<K: Keeper, R: Abort + AllocGlobal>(
     message: &str,
 ) {
     let (ended, output) = answered::<K, R>(rt, given, input);
-    assert_eq!(rt; ended, wanted.0, "{keeper}: {message}");
-    assert_eq!(rt;
-        output.as_slice(),
-        wanted.1.as_bytes(),
-        "{keeper}: {message}"
-    );
+    same_with(rt, ended, wanted.0, keeper, message);
+    same_with(rt, output.as_slice(), wanted.1.as_bytes(), keeper, message);
 }
 
 /// A run ends so with each keeper, and with this output.

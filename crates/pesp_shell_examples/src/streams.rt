@@ -1,5 +1,6 @@
 //! Runs over devices that break, over long streams and over odd lines.
 
+use crate::asserts::{hold_at, same, same_at, same_text};
 use crate::devices::{Devices, Ending, Habit, Manner, ending_of, pieces_of};
 use crate::sessions::{TWO, alone};
 use pesp_counts::CountKeeper;
@@ -23,17 +24,24 @@ fn stored<R: Abort + AllocGlobal>(rt: &R, counts: bool, devices: Devices) -> End
     }
 }
 
+/// The stored run in pieces of this size.
+fn assert_stored<R: Abort + AllocGlobal>(rt: &R, counts: bool, size: usize, wanted: &str) {
+    let ending = stored(rt, counts, pieces_of(size));
+    same_at(rt, ending.fault, None, "pieces of", size);
+    same_at(
+        rt,
+        ending.output.as_slice(),
+        wanted.as_bytes(),
+        "pieces of",
+        size,
+    );
+}
+
 #[test]
 fn stored_run_in_pieces(rt: HostRuntime) {
     for size in [1, 2, 3, 7, 4_096] {
         for counts in [false, true] {
-            let ending = stored(&rt, counts, pieces_of(size));
-            assert_eq!(rt; ending.fault, None, "pieces of {size}");
-            assert_eq!(rt;
-                ending.output.as_slice(),
-                STORED_REPLIES.as_bytes(),
-                "pieces of {size}"
-            );
+            assert_stored(&rt, counts, size, STORED_REPLIES);
         }
     }
 }
@@ -42,15 +50,13 @@ fn stored_run_in_pieces(rt: HostRuntime) {
 fn assert_broken<R: Abort + AllocGlobal>(rt: &R, ending: &Ending, wanted: RunFault, calls: usize) {
     let replies = STORED_REPLIES.as_bytes();
     if ending.broken_calls == 0 {
-        assert_eq!(rt; ending.fault, None, "{calls} calls");
-        assert_eq!(rt; ending.output.as_slice(), replies, "{calls} calls");
+        same_at(rt, ending.fault, None, "calls:", calls);
+        same_at(rt, ending.output.as_slice(), replies, "calls:", calls);
     } else {
-        assert_eq!(rt; ending.broken_calls, 1, "{calls} calls");
-        assert_eq!(rt; ending.fault, Some(wanted), "{calls} calls");
-        assert!(rt;
-            replies.starts_with(ending.output.as_slice()),
-            "{calls} calls"
-        );
+        same_at(rt, ending.broken_calls, 1, "calls:", calls);
+        same_at(rt, ending.fault, Some(wanted), "calls:", calls);
+        let begun = replies.starts_with(ending.output.as_slice());
+        hold_at(rt, begun, "calls:", calls);
     }
 }
 
@@ -92,11 +98,8 @@ fn assert_sink<R: Abort + AllocGlobal>(rt: &R, counts: bool, broken: Manner, cal
     };
     let ending = stored(rt, counts, devices);
     assert_broken(rt, &ending, RunFault::Write, calls);
-    assert_eq!(rt;
-        ending.output.len(),
-        calls.min(STORED_REPLIES.len()),
-        "{calls} calls"
-    );
+    let taken = calls.min(STORED_REPLIES.len());
+    same_at(rt, ending.output.len(), taken, "calls:", calls);
 }
 
 #[test]
@@ -109,16 +112,21 @@ fn sink_breaks_at_each_call(rt: HostRuntime) {
     }
 }
 
+/// The stored run over a sink that fails to flush.
+fn assert_flush<R: Abort + AllocGlobal>(rt: &R, counts: bool) {
+    let devices = Devices {
+        flushes: false,
+        ..pieces_of(4_096)
+    };
+    let ending = stored(rt, counts, devices);
+    same(rt, ending.broken_calls, 1, "flushes");
+    assert_broken(rt, &ending, RunFault::Write, 0);
+}
+
 #[test]
 fn sink_fails_at_its_flush(rt: HostRuntime) {
     for counts in [false, true] {
-        let devices = Devices {
-            flushes: false,
-            ..pieces_of(4_096)
-        };
-        let ending = stored(&rt, counts, devices);
-        assert_eq!(rt; ending.broken_calls, 1, "flushes");
-        assert_broken(&rt, &ending, RunFault::Write, 0);
+        assert_flush(&rt, counts);
     }
 }
 
@@ -146,8 +154,8 @@ fn half_a_line(rt: HostRuntime) {
         (Manner::Works, behind, None),
     ] {
         let ending = two_activities(&rt, b"cost\nco", broken);
-        assert_eq!(rt; ending.output.as_slice(), wanted.as_bytes(), "half a line");
-        assert_eq!(rt; ending.fault, fault, "half a line");
+        same_text(&rt, ending.output.as_slice(), wanted, "half a line");
+        same(&rt, ending.fault, fault, "half a line");
     }
 }
 
@@ -166,8 +174,8 @@ fn long_streams(rt: HostRuntime) -> Result<(), Fail> {
         (b'x', 100_000, Some(RunFault::LineTooLong { line: 1 })),
     ] {
         let ending = repeated(&rt, byte, count)?;
-        assert_eq!(rt; ending.fault, wanted, "{count} bytes");
-        assert!(rt; ending.output.is_empty(), "{count} bytes");
+        same_at(&rt, ending.fault, wanted, "bytes:", count);
+        hold_at(&rt, ending.output.is_empty(), "bytes:", count);
     }
     Ok(())
 }
@@ -181,6 +189,11 @@ fn line_of(alloc: Global, words: &str, digit: u8, count: usize) -> Result<Vec<u8
     Ok(line)
 }
 
+/// A run over the two activities, and one line in pieces of seven bytes.
+fn answered_line<R: Abort + AllocGlobal>(rt: &R, line: &[u8]) -> Ending {
+    ending_of::<CountKeeper, R>(rt, alone(10, TWO), line, pieces_of(7))
+}
+
 #[test]
 fn long_and_odd_words(rt: HostRuntime) -> Result<(), Fail> {
     for (words, digit, count, wanted) in [
@@ -190,14 +203,9 @@ fn long_and_odd_words(rt: HostRuntime) -> Result<(), Fail> {
         ("", 255, 1, "fault unknown command\n"),
     ] {
         let line = line_of(rt.alloc(), words, digit, count)?;
-        let ending = ending_of::<CountKeeper, _>(
-            &rt,
-            alone(10, TWO),
-            line.as_slice(),
-            pieces_of(7),
-        );
-        assert_eq!(rt; ending.fault, None, "{words}");
-        assert_eq!(rt; ending.output.as_slice(), wanted.as_bytes(), "{words}");
+        let ending = answered_line(&rt, line.as_slice());
+        same(&rt, ending.fault, None, words);
+        same_text(&rt, ending.output.as_slice(), wanted, words);
     }
     Ok(())
 }

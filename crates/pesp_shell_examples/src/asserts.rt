@@ -1,0 +1,51 @@
+//! Assertions in small functions: where a message is written out, its text is proved once more.
+
+use std::fmt::Debug;
+use std::process::Abort;
+
+/// It holds.
+pub(crate) fn hold(rt: &impl Abort, holds: bool, message: &str) {
+    assert!(rt; holds, "{message}");
+}
+
+/// It holds, and the message is words and a number.
+pub(crate) fn hold_at(rt: &impl Abort, holds: bool, words: &str, number: usize) {
+    assert!(rt; holds, "{words} {number}");
+}
+
+/// Both are the same.
+pub(crate) fn same<T: PartialEq + Debug + Drop>(
+    rt: &impl Abort,
+    found: T,
+    wanted: T,
+    message: &str,
+) {
+    assert_eq!(rt; found, wanted, "{message}");
+}
+
+/// Both are the same, and the message is words and a number.
+pub(crate) fn same_at<T: PartialEq + Debug + Drop>(
+    rt: &impl Abort,
+    found: T,
+    wanted: T,
+    words: &str,
+    number: usize,
+) {
+    assert_eq!(rt; found, wanted, "{words} {number}");
+}
+
+/// Both are the same with a keeper.
+pub(crate) fn same_with<T: PartialEq + Debug + Drop>(
+    rt: &impl Abort,
+    found: T,
+    wanted: T,
+    keeper: &str,
+    message: &str,
+) {
+    assert_eq!(rt; found, wanted, "{keeper}: {message}");
+}
+
+/// The bytes are those of the text.
+pub(crate) fn same_text(rt: &impl Abort, found: &[u8], wanted: &str, message: &str) {
+    assert_eq!(rt; found, wanted.as_bytes(), "{message}");
+}
