@@ -1,7 +1,8 @@
 //! What tests of searches ask of a keeper, step by step.
 
+use crate::asserts::{hold, same};
 use crate::changes::Change;
-use crate::made::{event, hold, same};
+use crate::made::event;
 use crate::unpushed::Unpushed;
 use pesp_counts::CountKeeper;
 use pesp_domains::{Keeper, PlainKeeper};

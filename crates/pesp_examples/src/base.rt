@@ -1,13 +1,14 @@
 //! The limits of periods and spans, and the residues that an activity admits.
 
-use crate::made::{same, same_of, span};
+use crate::asserts::{same, same_at};
+use crate::made::span;
 use pesp_base::{
     GREATEST_BOUND, GREATEST_PERIOD, LEAST_PERIOD, Period, Span, SpanFault, partners, sources,
 };
 use std::process::Abort;
 
 fn assert_period(rt: &impl Abort, value: u16, is_period: bool) {
-    same_of(
+    same_at(
         rt,
         Period::new(value).is_some(),
         is_period,

@@ -1,7 +1,7 @@
 //! The optimum of a workbench: found, known, forgotten, and looked for within limits.
 
+use crate::asserts::{hold, same};
 use crate::changes::Change;
-use crate::made::{hold, same};
 use crate::workbench::{
     FIRST, Known, Step, Steps, assert_known, assert_knows, assert_no_nodes, assert_set,
     assert_times, bench, is_answered, try_steps,

@@ -2,8 +2,9 @@
 
 ghost use Rattle.std.specs.Prelude.{◌≡◌, []};
 
+use crate::asserts::same_at;
 use crate::changes::FOUR_EVENTS;
-use crate::made::{event, hold, id, push, same, same_of};
+use crate::made::{event, id, push};
 use crate::unpushed::{Counted, Unpushed};
 use pesp_base::EventId;
 use pesp_counts::CountKeeper;
@@ -16,7 +17,7 @@ type Count = (Side, u16, Option<u16>);
 fn assert_supports(rt: &impl Abort, keeper: &CountKeeper, counts: &[Count], message: &str) {
     for (side, residue, wanted) in counts {
         let count = keeper.support(id(rt, 1), *side, *residue);
-        same_of(rt, count, *wanted, message, u32::from(*residue));
+        same_at(rt, count, *wanted, message, u32::from(*residue));
     }
 }
 
@@ -48,11 +49,11 @@ fn assert_same<P: Keeper, C: Keeper>(rt: &impl Abort, plain: &P, counted: &C, me
         let event = event(rt, number);
         let wanted = plain.row(event).expect(rt, "a row");
         let row = counted.row(event).expect(rt, "a row");
-        same_of(rt, row.len(), wanted.len(), message, number);
+        same_at(rt, row.len(), wanted.len(), message, number);
         for residue in 0..3 {
             let is_wanted = wanted.holds(residue);
-            same_of(rt, row.holds(residue), is_wanted, message, number);
-            same_of(
+            same_at(rt, row.holds(residue), is_wanted, message, number);
+            same_at(
                 rt,
                 counted.holds(event, residue),
                 is_wanted,

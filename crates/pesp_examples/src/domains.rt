@@ -1,7 +1,8 @@
 //! The rows of the worked examples, by edits, pushes and pops.
 
+use crate::asserts::{hold, same};
 use crate::changes::{Change, FOUR_EVENTS, TWO_ACTIVITIES};
-use crate::made::{event, hold, push, same};
+use crate::made::{event, push};
 use crate::unpushed::Unpushed;
 use pesp_counts::CountKeeper;
 use pesp_domains::{Keeper, PlainKeeper};

@@ -1,6 +1,7 @@
 //! Edits of instances, their refusals, look-ups and walks, and the limits.
 
-use crate::made::{self, event, hold, id, same, same_of};
+use crate::asserts::{hold, same, same_at};
+use crate::made::{self, event, id};
 use pesp_base::{Activity, Period, Refusal, max_activities, max_events};
 use pesp_instance::{Edit, Instance};
 use std::process::Abort;
@@ -138,7 +139,7 @@ fn assert_activities(rt: &(impl Abort + AllocGlobal), instance: &Instance, numbe
 fn assert_around(rt: &(impl Abort + AllocGlobal), instance: &Instance, at: u32, numbers: &[u32]) {
     let walk = instance.around(event(rt, at)).map(|a| a.id.get());
     let found = walk.collect::<Vec<u32>>(rt.alloc()).expect(rt, "memory");
-    same_of(rt, found.as_slice(), numbers, "around event", at);
+    same_at(rt, found.as_slice(), numbers, "around event", at);
 }
 
 #[test]

@@ -1,7 +1,8 @@
 //! Known answers that edits keep or forget, and timetables that meet everything or not.
 
+use crate::asserts::{hold, same};
 use crate::changes::Change;
-use crate::made::{event, hold, same};
+use crate::made::event;
 use crate::unpushed::Unpushed;
 use crate::workbench::{
     FIRST, Known, Step, Steps, assert_times, assert_unknown, bench, bench_of, change, find,

@@ -5,37 +5,7 @@ ghost use Rattle.pesp_domains.specs.Domains.{In};
 
 use pesp_base::{Activity, ActivityId, EventId, Span, Weight};
 use pesp_domains::Keeper;
-use std::fmt::Debug;
 use std::process::Abort;
-
-/// What the message says holds.
-///
-/// Tests say what holds through this and [`same`], since what an assertion prints is proved anew at each place where
-/// one is written out.
-pub(crate) fn hold(rt: &impl Abort, holds: bool, message: &str) {
-    assert!(rt; holds, "{message}");
-}
-
-/// What was found is what is wanted.
-pub(crate) fn same<T: PartialEq + Debug + Drop>(
-    rt: &impl Abort,
-    found: T,
-    wanted: T,
-    message: &str,
-) {
-    assert_eq!(rt; found, wanted, "{message}");
-}
-
-/// The same for what is told of a number.
-pub(crate) fn same_of<T: PartialEq + Debug + Drop>(
-    rt: &impl Abort,
-    found: T,
-    wanted: T,
-    message: &str,
-    number: u32,
-) {
-    assert_eq!(rt; found, wanted, "{message}: {number}");
-}
 
 pub(crate) fn event(rt: &impl Abort, number: u32) -> EventId
     ensures { result ≡ number }

@@ -1,7 +1,8 @@
 //! What an edit puts back, as the keeper by counts tells it.
 
+use crate::asserts::{same, same_at};
 use crate::changes::Change;
-use crate::made::{event, push, same, same_of};
+use crate::made::{event, push};
 use crate::unpushed::Counted;
 use pesp_counts::CountKeeper;
 use pesp_domains::{Keeper, Pair};
@@ -14,7 +15,7 @@ fn assert_among(rt: &impl Abort, restored: &[Pair], number: u32, residues: &[u16
         let found = restored
             .iter()
             .any(|pair| pair.event == event && pair.residue == *residue);
-        same_of(rt, found, true, message, u32::from(*residue));
+        same_at(rt, found, true, message, u32::from(*residue));
     }
 }
 

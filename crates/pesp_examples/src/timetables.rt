@@ -1,6 +1,7 @@
 //! Timetables, and how many times one may have.
 
-use crate::made::{event, hold, same, same_of};
+use crate::asserts::{hold, same, same_at};
+use crate::made::event;
 use pesp_base::{Period, Refusal, max_events};
 use pesp_tension::Timetable;
 use std::process::Abort;
@@ -21,7 +22,7 @@ fn assert_set(
 }
 
 fn assert_time(rt: &impl Abort, timetable: &Timetable, number: u32, time: Option<u16>) {
-    same_of(rt, timetable.get(event(rt, number)), time, "event", number);
+    same_at(rt, timetable.get(event(rt, number)), time, "event", number);
 }
 
 fn assert_times(rt: &(impl Abort + AllocGlobal), timetable: &Timetable, wanted: &[(u32, u16)]) {

@@ -1,7 +1,8 @@
 //! Keepers on which nothing is pushed, to try tables of edits on.
 
+use crate::asserts::{hold, same};
 use crate::changes::{Change, TWO_ACTIVITIES, edit_of};
-use crate::made::{event, hold, same};
+use crate::made::event;
 use pesp_base::Period;
 use pesp_counts::CountKeeper;
 use pesp_domains::Keeper;

@@ -1,7 +1,8 @@
 //! Workbenches over either keeper, and the steps that tests take on them.
 
+use crate::asserts::{hold, same};
 use crate::changes::{Change, edit_of};
-use crate::made::{event, hold, same};
+use crate::made::event;
 use crate::unpushed::Unpushed;
 use pesp_base::Refusal;
 use pesp_bench::Bench;

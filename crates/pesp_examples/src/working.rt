@@ -1,7 +1,8 @@
 //! A workbench's working timetable, and the domains of its events.
 
+use crate::asserts::{hold, same};
 use crate::changes::Change;
-use crate::made::{event, hold, id, same};
+use crate::made::{event, id};
 use crate::workbench::{assert_set, assert_times, bench, change};
 use pesp_base::Refusal;
 use pesp_bench::{Bench, EventDomain};

@@ -1,7 +1,8 @@
 //! What an edit takes, as the keeper by counts tells it.
 
+use crate::asserts::{hold, same};
 use crate::changes::Change;
-use crate::made::{activity, event, hold, push, same};
+use crate::made::{activity, event, push};
 use crate::unpushed::Counted;
 use pesp_base::{Activity, Period};
 use pesp_counts::{CountKeeper, Work};
