@@ -1,10 +1,11 @@
 //! Files of activities: the worked examples, the faults, and the limits.
 
+use crate::asserts::{refused, same};
 use crate::made::{assert_two_activities, period};
 use crate::reading::read;
 use pesp_base::Period;
 use pesplib_reader::{FaultKind, ReadFault};
-use std::alloc::Global;
+use std::alloc::{AllocError, Global};
 use std::test::Fail;
 
 /// Why a file of activities is refused.
@@ -83,16 +84,26 @@ fn first_faulty_activity_is_named(rt: HostRuntime) {
             FaultKind::DuplicateActivity,
         ),
     ] {
-        let fault = fault_of(rt.alloc(), period, text);
-        assert_eq!(rt; fault, Some(ReadFault { place, kind }), "{kind}");
+        refused(&rt, fault_of(rt.alloc(), period, text), place, kind);
     }
+}
+
+/// Puts the row of an activity behind a text.
+fn put_row(
+    text: &mut String,
+    number: u32,
+    from: u32,
+    to: u32,
+    rest: &str,
+) -> Result<(), AllocError> {
+    writeln!(text, "{number}; {from}; {to}; {rest}")
 }
 
 /// So many loops, each at an event of its own.
 fn loops(alloc: Global, count: u32) -> Result<String, Fail> {
     let mut text = String::new(alloc);
     for number in 0..count {
-        writeln!(text, "{number}; {number}; {number}; 0; 9; 1")?;
+        put_row(&mut text, number, number, number, "0; 9; 1")?;
     }
     Ok(text)
 }
@@ -101,7 +112,7 @@ fn loops(alloc: Global, count: u32) -> Result<String, Fail> {
 fn between_two_events(alloc: Global, count: u32) -> Result<String, Fail> {
     let mut text = String::new(alloc);
     for number in 0..count {
-        writeln!(text, "{number}; 1; 2; 3; 5; 2")?;
+        put_row(&mut text, number, 1, 2, "3; 5; 2")?;
     }
     Ok(text)
 }
@@ -112,18 +123,20 @@ fn limits_on_events_and_activities(rt: HostRuntime) -> Result<(), Fail> {
     let text = loops(rt.alloc(), 20_001)?;
     let fault = fault_of(rt.alloc(), period, text.as_bytes());
     let (place, kind) = (20_001, FaultKind::TooManyEvents);
-    assert_eq!(rt;
+    same(
+        &rt,
         fault,
         Some(ReadFault { place, kind }),
-        "loops at 20,001 events"
+        "loops at 20,001 events",
     );
     let text = between_two_events(rt.alloc(), 100_001)?;
     let fault = fault_of(rt.alloc(), period, text.as_bytes());
     let (place, kind) = (100_001, FaultKind::TooManyActivities);
-    assert_eq!(rt;
+    same(
+        &rt,
         fault,
         Some(ReadFault { place, kind }),
-        "100,001 activities between two events"
+        "100,001 activities between two events",
     );
     Ok(())
 }

@@ -1,7 +1,14 @@
 //! The texts of the faults of files.
 
+use crate::asserts::same_text;
 use pesplib_reader::FaultKind;
+use std::alloc::{AllocError, Global};
 use std::test::Fail;
+
+/// The text of a fault.
+fn shown(alloc: Global, kind: FaultKind) -> Result<String, AllocError> {
+    kind.to_string(alloc)
+}
 
 #[test]
 fn texts_of_faults(rt: HostRuntime) -> Result<(), Fail> {
@@ -19,8 +26,8 @@ fn texts_of_faults(rt: HostRuntime) -> Result<(), Fail> {
         (FaultKind::Memory, "out of memory"),
     ];
     for (kind, text) in texts {
-        let shown = kind.to_string(rt.alloc())?;
-        assert_eq!(rt; shown.as_str(), text);
+        let shown = shown(rt.alloc(), kind)?;
+        same_text(&rt, shown.as_bytes(), text, text);
     }
     Ok(())
 }

@@ -1,5 +1,6 @@
 //! Files written: the worked examples.
 
+use crate::asserts::same_text;
 use crate::made::lone_event;
 use crate::reading::{read_both, timetable};
 use pesplib_writer::{write_activities, write_fixed, write_times};
@@ -17,9 +18,19 @@ fn activities_written(rt: &(impl Abort + AllocGlobal), activities: &str) -> Resu
 }
 
 /// The fixed times of a file, written again.
-fn fixed_written(rt: &(impl Abort + AllocGlobal), fixed: &str) -> Result<Vec<u8>, Fail> {
-    let instance = read_both(rt, ACTIVITIES, fixed)?;
+fn fixed_written(
+    rt: &(impl Abort + AllocGlobal),
+    activities: &str,
+    fixed: &str,
+) -> Result<Vec<u8>, Fail> {
+    let instance = read_both(rt, activities, fixed)?;
     Ok(write_fixed(rt.alloc(), &instance)?)
+}
+
+/// The activities of an instance of one event and nothing else, written.
+fn lone_event_written(rt: &(impl Abort + AllocGlobal), number: u32) -> Result<Vec<u8>, Fail> {
+    let instance = lone_event(rt, number);
+    Ok(write_activities(rt.alloc(), &instance)?)
 }
 
 /// The times of a file, written again.
@@ -45,16 +56,15 @@ fn activities_are_written(rt: HostRuntime) -> Result<(), Fail> {
         ("", "", "no activities"),
     ] {
         let text = activities_written(&rt, given)?;
-        assert_eq!(rt; text.as_slice(), expected.as_bytes(), "{message}");
+        same_text(&rt, text.as_slice(), expected, message);
     }
     Ok(())
 }
 
 #[test]
 fn event_without_activities_has_no_row(rt: HostRuntime) -> Result<(), Fail> {
-    let instance = lone_event(&rt, 7);
-    let text = write_activities(rt.alloc(), &instance)?;
-    assert_eq!(rt; text.as_slice(), b"".as_slice());
+    let text = lone_event_written(&rt, 7)?;
+    same_text(&rt, text.as_slice(), "", "an event without activities");
     Ok(())
 }
 
@@ -69,8 +79,8 @@ fn fixed_times_are_written(rt: HostRuntime) -> Result<(), Fail> {
         ),
         ("", "", "none is fixed"),
     ] {
-        let text = fixed_written(&rt, given)?;
-        assert_eq!(rt; text.as_slice(), expected.as_bytes(), "{message}");
+        let text = fixed_written(&rt, ACTIVITIES, given)?;
+        same_text(&rt, text.as_slice(), expected, message);
     }
     Ok(())
 }
@@ -82,7 +92,7 @@ fn times_are_written(rt: HostRuntime) -> Result<(), Fail> {
         ("2; 4\n1; 0\n", "1; 0\n2; 4\n", "two times"),
     ] {
         let text = times_written(&rt, given)?;
-        assert_eq!(rt; text.as_slice(), expected.as_bytes(), "{message}");
+        same_text(&rt, text.as_slice(), expected, message);
     }
     Ok(())
 }

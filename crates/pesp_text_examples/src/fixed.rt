@@ -1,42 +1,64 @@
 //! Files of fixed times: the worked examples.
 
-use crate::made::event;
+use crate::asserts::{refused, same};
+use crate::made::assert_fixed;
 use crate::reading::{fix, read_both};
 use pesp_instance::Instance;
-use pesplib_reader::{FaultKind, ReadFault};
+use pesplib_reader::FaultKind;
 use std::process::Abort;
 use std::test::Fail;
 
-fn assert_fixed(
-    rt: &impl Abort,
-    instance: &Instance,
+/// A file is refused at this record, for this reason, and no event is fixed.
+fn assert_refused(
+    rt: &(impl Abort + AllocGlobal),
+    instance: &mut Instance,
+    text: &str,
+    place: u64,
+    kind: FaultKind,
+) {
+    let fixed = fix(rt.alloc(), instance, text.as_bytes());
+    refused(rt, fixed.err(), place, kind);
+    assert_fixed(
+        rt,
+        instance,
+        (None, None),
+        "no event is fixed after a fault",
+    );
+}
+
+/// A file is taken, and the events are then fixed at these times, or not at all.
+fn assert_taken(
+    rt: &(impl Abort + AllocGlobal),
+    instance: &mut Instance,
+    text: &str,
     times: (Option<u16>, Option<u16>),
     message: &str,
 ) {
-    let fixed = (instance.fixed(event(rt, 1)), instance.fixed(event(rt, 2)));
-    assert_eq!(rt; fixed, times, "{message}");
+    let fixed = fix(rt.alloc(), instance, text.as_bytes());
+    same(rt, fixed, Ok(()), message);
+    assert_fixed(rt, instance, times, message);
+}
+
+/// Faulty files first, and then two that are taken.
+fn assert_files(rt: &(impl Abort + AllocGlobal), instance: &mut Instance) {
+    for (text, place, kind) in [
+        ("7; 0", 1, FaultKind::NoEvent),
+        ("1; 0\n1; 0", 2, FaultKind::DuplicateEvent),
+        ("1; 0\n2; 3; 4", 2, FaultKind::FieldCount),
+    ] {
+        assert_refused(rt, instance, text, place, kind);
+    }
+    for (text, times, message) in [
+        ("1; 12", (Some(2), None), "one event"),
+        ("2; -1\n1; 3\n", (Some(3), Some(9)), "both events"),
+    ] {
+        assert_taken(rt, instance, text, times, message);
+    }
 }
 
 #[test]
 fn times_are_fixed_together_or_not_at_all(rt: HostRuntime) -> Result<(), Fail> {
     let mut instance = read_both(&rt, "1; 1; 2; 3; 5; 2\n2; 2; 1; 4; 6; 1\n", "")?;
-    for (text, place, kind) in [
-        (b"7; 0".as_slice(), 1, FaultKind::NoEvent),
-        (b"1; 0\n1; 0".as_slice(), 2, FaultKind::DuplicateEvent),
-        (b"1; 0\n2; 3; 4".as_slice(), 2, FaultKind::FieldCount),
-    ] {
-        let fault = fix(rt.alloc(), &mut instance, text).err();
-        assert_eq!(rt; fault, Some(ReadFault { place, kind }), "{kind}");
-        assert_fixed(
-            &rt,
-            &instance,
-            (None, None),
-            "no event is fixed after a fault",
-        );
-    }
-    fix(rt.alloc(), &mut instance, b"1; 12")?;
-    assert_fixed(&rt, &instance, (Some(2), None), "one event");
-    fix(rt.alloc(), &mut instance, b"2; -1\n1; 3\n")?;
-    assert_fixed(&rt, &instance, (Some(3), Some(9)), "both events");
+    assert_files(&rt, &mut instance);
     Ok(())
 }

@@ -7,6 +7,8 @@
 #[cfg(test)]
 mod activities;
 #[cfg(test)]
+mod asserts;
+#[cfg(test)]
 mod faults;
 #[cfg(test)]
 mod files;

@@ -1,5 +1,6 @@
 //! Devices that give their bytes in pieces, that fail, and that have no end.
 
+use crate::asserts::{same_at, same_text};
 use pesp_lines::{Failed, Front, LONGEST_LINE, LineReader, Noted};
 use std::alloc::{AllocError, Global};
 use std::io::{self, Read};
@@ -61,6 +62,17 @@ fn told(rt: &impl AllocGlobal, device: impl Read + Drop) -> Result<Vec<u8>, Allo
     Ok(text)
 }
 
+/// What is told of a text that comes in pieces of at most so many bytes.
+fn told_in_pieces(
+    rt: &impl AllocGlobal,
+    text: &str,
+    size: usize,
+    fails: bool,
+) -> Result<Vec<u8>, AllocError> {
+    let bytes = text.as_bytes();
+    told(rt, Pieces { bytes, size, fails })
+}
+
 #[test]
 fn lines_come_in_pieces(rt: HostRuntime) -> Result<(), Fail> {
     for size in [1, 2, 3, 7, 4_096] {
@@ -75,9 +87,8 @@ fn lines_come_in_pieces(rt: HostRuntime) -> Result<(), Fail> {
             ("cost\n\nfix 1", true, "cost//fix 1!"),
             ("cost\n", true, "cost/!"),
         ] {
-            let bytes = text.as_bytes();
-            let lines = told(&rt, Pieces { bytes, size, fails })?;
-            assert_eq!(rt; lines.as_slice(), wanted.as_bytes(), "pieces of {size}");
+            let lines = told_in_pieces(&rt, text, size, fails)?;
+            same_at(&rt, lines.as_slice(), wanted.as_bytes(), "pieces of", size);
         }
     }
     Ok(())
@@ -90,24 +101,24 @@ fn long_line(alloc: Global, length: usize) -> Result<Vec<u8>, AllocError> {
     Ok(text)
 }
 
-/// The first mark that is told of a device.
-fn first_mark(rt: &impl AllocGlobal, device: impl Read + Drop) -> Result<Option<u8>, AllocError> {
-    let lines = told(rt, device)?;
+/// The first mark that is told of a line of so many bytes that comes in pieces of at most `size` bytes.
+fn first_mark(rt: &impl AllocGlobal, length: usize, size: usize) -> Result<Option<u8>, AllocError> {
+    let text = long_line(rt.alloc(), length)?;
+    let bytes = text.as_slice();
+    let fails = false;
+    let lines = told(rt, Pieces { bytes, size, fails })?;
     Ok(lines.iter().find(|b| **b != b'#').copied())
 }
 
 #[test]
 fn long_lines(rt: HostRuntime) -> Result<(), Fail> {
     for size in [1, 7, 5_000] {
-        for (length, wanted) in [(LONGEST_LINE, b'/'), (LONGEST_LINE + 1, b'>')] {
-            let text = long_line(rt.alloc(), length)?;
-            let pieces = Pieces {
-                bytes: text.as_slice(),
-                size,
-                fails: false,
-            };
-            let mark = first_mark(&rt, pieces)?;
-            assert_eq!(rt; mark, Some(wanted), "{length} in pieces of {size}");
+        for (length, wanted, words) in [
+            (LONGEST_LINE, b'/', "the longest line in pieces of"),
+            (LONGEST_LINE + 1, b'>', "a line too long in pieces of"),
+        ] {
+            let mark = first_mark(&rt, length, size)?;
+            same_at(&rt, mark, Some(wanted), words, size);
         }
     }
     Ok(())
@@ -115,15 +126,9 @@ fn long_lines(rt: HostRuntime) -> Result<(), Fail> {
 
 #[test]
 fn devices_without_end(rt: HostRuntime) -> Result<(), Fail> {
-    assert_eq!(rt;
-        told(&rt, io::repeat(b'#'))?.as_slice(),
-        b">".as_slice(),
-        "one line"
-    );
-    assert_eq!(rt;
-        told(&rt, io::repeat(b'\n'))?.as_slice(),
-        b"/////////".as_slice(),
-        "empty lines"
-    );
+    for (byte, wanted, message) in [(b'#', ">", "one line"), (b'\n', "/////////", "empty lines")] {
+        let lines = told(&rt, io::repeat(byte))?;
+        same_text(&rt, lines.as_slice(), wanted, message);
+    }
     Ok(())
 }

@@ -1,5 +1,6 @@
 //! Devices that take few bytes at a time, that take no more, and that fail.
 
+use crate::asserts::same_at;
 use pesp_lines::{ByteSink, Failed, Noted, put_all};
 use std::io::{self, Write};
 use std::process::Abort;
@@ -28,6 +29,14 @@ impl Write for Narrow<'_> {
     }
 }
 
+/// Puts a text into a sink, and finishes it there. What the two answer.
+fn put_and_finish<W: ByteSink>(
+    sink: &mut W,
+    text: &[u8],
+) -> (Result<(), Failed>, Result<(), Failed>) {
+    (put_all(sink, text), sink.finish())
+}
+
 /// Puts a text into a device that takes so much, and finishes it there. What the two answer.
 fn put_into(
     taken: &mut Vec<u8>,
@@ -35,9 +44,7 @@ fn put_into(
     size: usize,
     room: usize,
 ) -> (Result<(), Failed>, Result<(), Failed>) {
-    let mut sink = Noted::new(Narrow { taken, size, room });
-    let put = put_all(&mut sink, text);
-    (put, sink.finish())
+    put_and_finish(&mut Noted::new(Narrow { taken, size, room }), text)
 }
 
 fn assert_taken(
@@ -49,9 +56,15 @@ fn assert_taken(
 ) {
     let mut taken = Vec::new(rt.alloc());
     let (put, finished) = put_into(&mut taken, b"cost 12\n", size, room);
-    assert_eq!(rt; put, answers.0, "put in room {room}");
-    assert_eq!(rt; finished, answers.1, "finished in room {room}");
-    assert_eq!(rt; taken.as_slice(), wanted.as_bytes(), "taken in room {room}");
+    same_at(rt, put, answers.0, "put in room", room);
+    same_at(rt, finished, answers.1, "finished in room", room);
+    same_at(
+        rt,
+        taken.as_slice(),
+        wanted.as_bytes(),
+        "taken in room",
+        room,
+    );
 }
 
 #[test]

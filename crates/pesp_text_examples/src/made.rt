@@ -1,7 +1,8 @@
 //! Numbers, spans and activities for the examples, and what more than one of them asserts.
 
+use crate::asserts::same;
 use pesp_base::{Activity, ActivityId, EventId, Period, Span, Weight};
-use pesp_instance::{Edit, Instance};
+use pesp_instance::{Edit, Event, Instance};
 use std::process::Abort;
 
 pub(crate) fn period(rt: &impl Abort, length: u16) -> Period {
@@ -42,7 +43,19 @@ pub(crate) fn activity(
 }
 
 pub(crate) fn apply(rt: &impl Abort, instance: &mut Instance, edit: Edit) {
-    assert_eq!(rt; instance.apply(&edit), Ok(()), "{edit:?}");
+    let applied = instance.apply(&edit);
+    assert_eq!(rt; applied, Ok(()), "{edit:?}");
+}
+
+/// Events 1 and 2 are fixed at these times, or not at all.
+pub(crate) fn assert_fixed(
+    rt: &impl Abort,
+    instance: &Instance,
+    times: (Option<u16>, Option<u16>),
+    message: &str,
+) {
+    let fixed = (instance.fixed(event(rt, 1)), instance.fixed(event(rt, 2)));
+    same(rt, fixed, times, message);
 }
 
 /// An instance at period 10 of one event and nothing else.
@@ -52,15 +65,23 @@ pub(crate) fn lone_event(rt: &(impl Abort + AllocGlobal), number: u32) -> Instan
     instance
 }
 
+/// An event of this number, without a fixed time.
+fn unfixed(rt: &impl Abort, number: u32) -> Event {
+    Event {
+        id: event(rt, number),
+        fixed: None,
+    }
+}
+
 fn assert_events(
     rt: &(impl Abort + AllocGlobal),
     instance: &Instance,
-    numbers: &[u32],
+    events: &[Event],
     message: &str,
 ) {
-    let walk = instance.events().map(|e| e.id.get());
-    let found = walk.collect::<Vec<u32>>(rt.alloc()).expect(rt, "memory");
-    assert_eq!(rt; found.as_slice(), numbers, "{message}");
+    let walk = instance.events().copied();
+    let found = walk.collect::<Vec<Event>>(rt.alloc()).expect(rt, "memory");
+    same(rt, found.as_slice(), events, message);
 }
 
 fn assert_activities(
@@ -73,7 +94,7 @@ fn assert_activities(
     let found = walk
         .collect::<Vec<Activity>>(rt.alloc())
         .expect(rt, "memory");
-    assert_eq!(rt; found.as_slice(), activities, "{message}");
+    same(rt, found.as_slice(), activities, message);
 }
 
 /// The instance has events 1 and 2, an activity each way between them, and nothing else.
@@ -82,7 +103,8 @@ pub(crate) fn assert_two_activities(
     instance: &Instance,
     message: &str,
 ) {
-    assert_events(rt, instance, &[1, 2], message);
+    let events = [unfixed(rt, 1), unfixed(rt, 2)];
+    assert_events(rt, instance, &events, message);
     let there = activity(rt, 1, (1, 2), (3, 5), 2);
     let back = activity(rt, 2, (2, 1), (4, 6), 1);
     assert_activities(rt, instance, &[there, back], message);

@@ -1,6 +1,7 @@
 //! Scripts, what a dump of them gives, their faults, and the limits.
 
-use crate::made::{assert_two_activities, event, period};
+use crate::asserts::{same, same_text};
+use crate::made::{assert_fixed, assert_two_activities, event, period};
 use pesp_base::Refusal;
 use pesp_commands::{ParseFault, ReplayFault, ReplayKind, replay};
 use pesp_instance::Instance;
@@ -14,10 +15,23 @@ fn replay_at_ten(rt: &(impl Abort + AllocGlobal), script: &[u8]) -> Result<Insta
     replay(rt.alloc(), period(rt, 10), script)
 }
 
+/// How long the period of an instance is.
+fn period_of(instance: &Instance) -> u16 {
+    instance.period().get()
+}
+
 /// What a script at period 10 makes, dumped.
 fn dumped(rt: &(impl Abort + AllocGlobal), script: &str) -> Result<Vec<u8>, Fail> {
     let instance = replay_at_ten(rt, script.as_bytes())?;
     Ok(dump(rt.alloc(), &instance)?)
+}
+
+/// A script makes the two activities at period 10.
+fn assert_script(rt: &(impl Abort + AllocGlobal), script: &str, message: &str) -> Result<(), Fail> {
+    let instance = replay_at_ten(rt, script.as_bytes())?;
+    same(rt, period_of(&instance), 10, message);
+    assert_two_activities(rt, &instance, message);
+    Ok(())
 }
 
 #[test]
@@ -36,9 +50,7 @@ fn scripts_make_instances(rt: HostRuntime) -> Result<(), Fail> {
             "blanks, comments, changes and a last line without a line feed",
         ),
     ] {
-        let instance = replay_at_ten(&rt, script.as_bytes())?;
-        assert_eq!(rt; instance.period().get(), 10, "{message}");
-        assert_two_activities(&rt, &instance, message);
+        assert_script(&rt, script, message)?;
     }
     Ok(())
 }
@@ -52,20 +64,26 @@ fn dumps_are_replayed(rt: HostRuntime) -> Result<(), Fail> {
         "# period 10 lines 5\nadd event 1\nadd event 2\nfix 1 5\nadd activity 1 1 2 3 5 2\nadd activity 2 2 1 -4 6 1\n",
     ] {
         let text = dumped(&rt, script)?;
-        assert_eq!(rt; text.as_slice(), script.as_bytes(), "{script}");
+        same_text(&rt, text.as_slice(), script, script);
     }
+    Ok(())
+}
+
+/// Events 1 and 2 are fixed by a script at these times, or not at all.
+fn assert_fixed_by(
+    rt: &(impl Abort + AllocGlobal),
+    script: &str,
+    times: (Option<u16>, Option<u16>),
+) -> Result<(), Fail> {
+    let instance = replay_at_ten(rt, script.as_bytes())?;
+    assert_fixed(rt, &instance, times, script);
     Ok(())
 }
 
 #[test]
 fn fixed_times_are_replayed(rt: HostRuntime) -> Result<(), Fail> {
     let script = "add event 1\nadd event 2\nfix 1 4\nfix 2 9\nunfix 1\n";
-    let instance = replay_at_ten(&rt, script.as_bytes())?;
-    for (number, time) in [(1, None), (2, Some(9))] {
-        let fixed = instance.fixed(event(&rt, number));
-        assert_eq!(rt; fixed, time, "event {number}");
-    }
-    Ok(())
+    assert_fixed_by(&rt, script, (None, Some(9)))
 }
 
 #[test]
@@ -100,7 +118,7 @@ fn first_faulty_line_is_named(rt: HostRuntime) {
         ),
     ] {
         let fault = replay_at_ten(&rt, script.as_bytes()).err();
-        assert_eq!(rt; fault, Some(ReplayFault { line, kind }), "{script}");
+        same(&rt, fault, Some(ReplayFault { line, kind }), script);
     }
 }
 
@@ -119,15 +137,15 @@ fn limits_on_lines(rt: HostRuntime) -> Result<(), Fail> {
         line: 1_000_001,
         kind: ReplayKind::TooManyLines,
     };
-    for (byte, count, wanted) in [
-        (b' ', 4_096, None),
-        (b' ', 4_097, Some(long_line)),
-        (b'\n', 1_000_000, None),
-        (b'\n', 1_000_001, Some(many_lines)),
+    for (byte, count, wanted, message) in [
+        (b' ', 4_096, None, "4,096 blanks"),
+        (b' ', 4_097, Some(long_line), "4,097 blanks"),
+        (b'\n', 1_000_000, None, "1,000,000 line feeds"),
+        (b'\n', 1_000_001, Some(many_lines), "1,000,001 line feeds"),
     ] {
         let script = repeated(rt.alloc(), byte, count)?;
         let fault = replay_at_ten(&rt, script.as_slice()).err();
-        assert_eq!(rt; fault, wanted, "{count} times byte {byte}");
+        same(&rt, fault, wanted, message);
     }
     Ok(())
 }

@@ -1,6 +1,7 @@
 //! Replies to lines: the worked examples, by the lines of commands.
 
-use pesp_base::Period;
+use crate::asserts::same_text;
+use crate::made::period;
 use pesp_bench::Bench;
 use pesp_domains::{Keeper, PlainKeeper};
 use pesp_instance::Instance;
@@ -15,24 +16,39 @@ const TWO_ACTIVITIES: &[(&str, &str)] = &[
     ("add activity 2 2 1 4 6 1", "ok\n"),
 ];
 
+/// The reply to a line.
+fn replied(rt: &(impl Abort + AllocGlobal), bench: &mut Bench<PlainKeeper>, line: &str) -> Vec<u8> {
+    let reply = reply_to_line(rt.alloc(), bench, line.as_bytes());
+    reply.ok().expect(rt, "memory")
+}
+
 fn assert_replies(
     rt: &(impl Abort + AllocGlobal),
     bench: &mut Bench<PlainKeeper>,
     lines: &[(&str, &str)],
 ) {
     for (line, wanted) in lines {
-        let reply = reply_to_line(rt.alloc(), bench, line.as_bytes());
-        let text = reply.ok().expect(rt, "memory");
-        assert_eq!(rt; text.as_slice(), wanted.as_bytes(), "{line}");
+        let reply = replied(rt, bench, line);
+        same_text(rt, reply.as_slice(), wanted, line);
     }
 }
 
+/// A workbench at period 10 without events.
+fn empty(rt: &(impl Abort + AllocGlobal)) -> Bench<PlainKeeper> {
+    let instance = Instance::new(rt.alloc(), period(rt, 10));
+    let kept = PlainKeeper::from_instance(rt.alloc(), instance);
+    Bench::new(rt.alloc(), kept.ok().expect(rt, "memory"))
+}
+
 fn two_activities(rt: &(impl Abort + AllocGlobal)) -> Bench<PlainKeeper> {
-    let period = Period::new(10).expect(rt, "a period");
-    let kept = PlainKeeper::from_instance(rt.alloc(), Instance::new(rt.alloc(), period));
-    let mut bench = Bench::new(rt.alloc(), kept.ok().expect(rt, "memory"));
+    let mut bench = empty(rt);
     assert_replies(rt, &mut bench, TWO_ACTIVITIES);
     bench
+}
+
+/// Replies to lines behind those of the two activities.
+fn assert_session(rt: &(impl Abort + AllocGlobal), lines: &[(&str, &str)]) {
+    assert_replies(rt, &mut two_activities(rt), lines);
 }
 
 /// Times that are set, taken away and adopted.
@@ -55,7 +71,7 @@ const WORKING_TIMETABLE: &[(&str, &str)] = &[
 
 #[test]
 fn working_timetable(rt: HostRuntime) {
-    assert_replies(&rt, &mut two_activities(&rt), WORKING_TIMETABLE);
+    assert_session(&rt, WORKING_TIMETABLE);
 }
 
 /// An activity and a fixed event that are violated.
@@ -68,7 +84,7 @@ const VIOLATIONS: &[(&str, &str)] = &[
 
 #[test]
 fn violations_with_a_fixed_event(rt: HostRuntime) {
-    assert_replies(&rt, &mut two_activities(&rt), VIOLATIONS);
+    assert_session(&rt, VIOLATIONS);
 }
 
 /// The optimum of the two activities.
@@ -88,7 +104,7 @@ const LIMITED_TRIES: &[(&str, &str)] = &[
 
 #[test]
 fn limited_tries(rt: HostRuntime) {
-    assert_replies(&rt, &mut two_activities(&rt), LIMITED_TRIES);
+    assert_session(&rt, LIMITED_TRIES);
 }
 
 /// The script of the two activities.
@@ -107,5 +123,5 @@ const REFUSALS_AND_DUMP: &[(&str, &str)] = &[
 
 #[test]
 fn refusals_and_dump(rt: HostRuntime) {
-    assert_replies(&rt, &mut two_activities(&rt), REFUSALS_AND_DUMP);
+    assert_session(&rt, REFUSALS_AND_DUMP);
 }

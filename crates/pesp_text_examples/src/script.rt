@@ -1,5 +1,6 @@
 //! Instances written as scripts: the worked examples.
 
+use crate::asserts::same_text;
 use crate::made::{apply, event, lone_event};
 use crate::reading::read_both;
 use pesp_instance::Edit;
@@ -28,21 +29,23 @@ fn lone_event_dumped(
 
 #[test]
 fn instances_are_dumped(rt: HostRuntime) -> Result<(), Fail> {
-    for (activities, fixed, script) in [
+    for (activities, fixed, script, message) in [
         (
             "1; 1; 2; 3; 5; 2\n2; 2; 1; 4; 6; 1\n",
             "",
             "# period 10 lines 4\nadd event 1\nadd event 2\nadd activity 1 1 2 3 5 2\nadd activity 2 2 1 4 6 1\n",
+            "two activities",
         ),
         (
             "7; 4; 3; -2; 5; 0\n",
             "4; 9\n3; 0\n",
             "# period 10 lines 5\nadd event 3\nadd event 4\nfix 3 0\nfix 4 9\nadd activity 7 4 3 -2 5 0\n",
+            "an activity between two fixed events",
         ),
-        ("", "", "# period 10 lines 0\n"),
+        ("", "", "# period 10 lines 0\n", "nothing"),
     ] {
         let text = dumped(&rt, activities, fixed)?;
-        assert_eq!(rt; text.as_slice(), script.as_bytes(), "{activities}{fixed}");
+        same_text(&rt, text.as_slice(), script, message);
     }
     Ok(())
 }
@@ -50,9 +53,7 @@ fn instances_are_dumped(rt: HostRuntime) -> Result<(), Fail> {
 #[test]
 fn lone_event_is_dumped(rt: HostRuntime) -> Result<(), Fail> {
     let text = lone_event_dumped(&rt, 7, 3)?;
-    assert_eq!(rt;
-        text.as_slice(),
-        b"# period 10 lines 2\nadd event 7\nfix 7 3\n".as_slice()
-    );
+    let script = "# period 10 lines 2\nadd event 7\nfix 7 3\n";
+    same_text(&rt, text.as_slice(), script, "a fixed event");
     Ok(())
 }
