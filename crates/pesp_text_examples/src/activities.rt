@@ -13,78 +13,59 @@ fn fault_of(alloc: Global, period: Period, text: &[u8]) -> Option<ReadFault> {
     read(alloc, period, text).err()
 }
 
+const READ: &[(&[u8], &str)] = &[
+    (b"1; 1; 2; 3; 5; 2\n2; 2; 1; 4; 6; 1\n", "a canonical text"),
+    (
+        b"activity; from; to; lower; upper; weight\r\n# note\r\n1; 1; 2; 3; 5; 2.0;\r\n2; 2; 1; 4; 6; 1\r\n",
+        "a header, a comment, a separator at the end and a weight with a point",
+    ),
+    (
+        b"\xEF\xBB\xBF1,1,2,3,5,2\n2,2,1,4,6,1",
+        "a byte order mark and commas",
+    ),
+    (
+        b"\xEF\xBB\xBFid,from\n\"2\",\" 2\",1,4,\t6,\"1\"\n\n \t \n+1,01,2,+3,05,2.\n",
+        "quotes, blank lines, signs and zeros, in no order",
+    ),
+];
+
 #[test]
 fn two_activities_are_read(rt: HostRuntime) -> Result<(), Fail> {
     let period = period(&rt, 10);
-    for (text, message) in [
-        (
-            b"1; 1; 2; 3; 5; 2\n2; 2; 1; 4; 6; 1\n".as_slice(),
-            "a canonical text",
-        ),
-        (
-            b"activity; from; to; lower; upper; weight\r\n# note\r\n1; 1; 2; 3; 5; 2.0;\r\n2; 2; 1; 4; 6; 1\r\n".as_slice(),
-            "a header, a comment, a separator at the end and a weight with a point",
-        ),
-        (
-            b"\xEF\xBB\xBF1,1,2,3,5,2\n2,2,1,4,6,1".as_slice(),
-            "a byte order mark and commas",
-        ),
-        (
-            b"\xEF\xBB\xBFid,from\n\"2\",\" 2\",1,4,\t6,\"1\"\n\n \t \n+1,01,2,+3,05,2.\n".as_slice(),
-            "quotes, blank lines, signs and zeros, in no order",
-        ),
-    ] {
+    for (text, message) in READ {
         let instance = read(rt.alloc(), period, text)?;
         assert_two_activities(&rt, &instance, message);
     }
     Ok(())
 }
 
+const FAULTY: &[(&[u8], u64, FaultKind)] = &[
+    (b"1; 1; 2; 3; 5; 2.5", 1, FaultKind::FractionalWeight),
+    (b"1; 1; 2; 3; 5", 1, FaultKind::FieldCount),
+    (b"1; 1; 2; 3; 5; 2; x", 1, FaultKind::FieldCount),
+    (b"1; 1; 2; 3; 5; 2; ;", 1, FaultKind::FieldCount),
+    (b"1; 1; 2; 5; 3; 2", 1, FaultKind::Crossed),
+    (b"1000000000; 1; 2; 3; 5; 2", 1, FaultKind::OutOfRange(1)),
+    (b"1; 1; 2; 3; 5; 2. 0", 1, FaultKind::BadNumber(6)),
+    (b"x\n# a; b\n1,1,2,3,5,2", 3, FaultKind::FieldCount),
+    (
+        b"1; 1; 2; 3; 5; 2\n1; 2; 1; 4; 6; 1",
+        2,
+        FaultKind::DuplicateActivity,
+    ),
+    (b"1; 1; 2; 3; 5; 2\n2; 2; 1; 4", 2, FaultKind::FieldCount),
+    (
+        b"1; 1; 2; 3; 5; 2\n1; 2; 1; 4; 6; 1\n2; 2; 1",
+        2,
+        FaultKind::DuplicateActivity,
+    ),
+];
+
 #[test]
 fn first_faulty_activity_is_named(rt: HostRuntime) {
     let period = period(&rt, 10);
-    for (text, place, kind) in [
-        (
-            b"1; 1; 2; 3; 5; 2.5".as_slice(),
-            1,
-            FaultKind::FractionalWeight,
-        ),
-        (b"1; 1; 2; 3; 5".as_slice(), 1, FaultKind::FieldCount),
-        (b"1; 1; 2; 3; 5; 2; x".as_slice(), 1, FaultKind::FieldCount),
-        (b"1; 1; 2; 3; 5; 2; ;".as_slice(), 1, FaultKind::FieldCount),
-        (b"1; 1; 2; 5; 3; 2".as_slice(), 1, FaultKind::Crossed),
-        (
-            b"1000000000; 1; 2; 3; 5; 2".as_slice(),
-            1,
-            FaultKind::OutOfRange(1),
-        ),
-        (
-            b"1; 1; 2; 3; 5; 2. 0".as_slice(),
-            1,
-            FaultKind::BadNumber(6),
-        ),
-        (
-            b"x\n# a; b\n1,1,2,3,5,2".as_slice(),
-            3,
-            FaultKind::FieldCount,
-        ),
-        (
-            b"1; 1; 2; 3; 5; 2\n1; 2; 1; 4; 6; 1".as_slice(),
-            2,
-            FaultKind::DuplicateActivity,
-        ),
-        (
-            b"1; 1; 2; 3; 5; 2\n2; 2; 1; 4".as_slice(),
-            2,
-            FaultKind::FieldCount,
-        ),
-        (
-            b"1; 1; 2; 3; 5; 2\n1; 2; 1; 4; 6; 1\n2; 2; 1".as_slice(),
-            2,
-            FaultKind::DuplicateActivity,
-        ),
-    ] {
-        refused(&rt, fault_of(rt.alloc(), period, text), place, kind);
+    for (text, place, kind) in FAULTY {
+        refused(&rt, fault_of(rt.alloc(), period, text), *place, *kind);
     }
 }
 

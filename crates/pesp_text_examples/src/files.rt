@@ -39,22 +39,24 @@ fn times_written(rt: &(impl Abort + AllocGlobal), times: &str) -> Result<Vec<u8>
     Ok(write_times(rt.alloc(), &timetable)?)
 }
 
+const ACTIVITY_FILES: &[(&str, &str, &str)] = &[
+    (ACTIVITIES, ACTIVITIES, "a canonical text"),
+    (
+        "id,from\n+2,2,01,4,6,1.0\n1,1,2,3,5,2",
+        ACTIVITIES,
+        "a header, commas and signs, in no order",
+    ),
+    (
+        "7; 3; 3; -2; 0; 1000000000\n",
+        "7; 3; 3; -2; 0; 1000000000\n",
+        "a loop with a negative lower bound and the greatest weight",
+    ),
+    ("", "", "no activities"),
+];
+
 #[test]
 fn activities_are_written(rt: HostRuntime) -> Result<(), Fail> {
-    for (given, expected, message) in [
-        (ACTIVITIES, ACTIVITIES, "a canonical text"),
-        (
-            "id,from\n+2,2,01,4,6,1.0\n1,1,2,3,5,2",
-            ACTIVITIES,
-            "a header, commas and signs, in no order",
-        ),
-        (
-            "7; 3; 3; -2; 0; 1000000000\n",
-            "7; 3; 3; -2; 0; 1000000000\n",
-            "a loop with a negative lower bound and the greatest weight",
-        ),
-        ("", "", "no activities"),
-    ] {
+    for (given, expected, message) in ACTIVITY_FILES {
         let text = activities_written(&rt, given)?;
         same_text(&rt, text.as_slice(), expected, message);
     }
@@ -68,29 +70,33 @@ fn event_without_activities_has_no_row(rt: HostRuntime) -> Result<(), Fail> {
     Ok(())
 }
 
+const FIXED_FILES: &[(&str, &str, &str)] = &[
+    ("1; 0", "1; 0\n", "one of two events is fixed"),
+    (
+        "2; -1\n1; 13\n",
+        "1; 3\n2; 9\n",
+        "both are, and their times are residues",
+    ),
+    ("", "", "none is fixed"),
+];
+
 #[test]
 fn fixed_times_are_written(rt: HostRuntime) -> Result<(), Fail> {
-    for (given, expected, message) in [
-        ("1; 0", "1; 0\n", "one of two events is fixed"),
-        (
-            "2; -1\n1; 13\n",
-            "1; 3\n2; 9\n",
-            "both are, and their times are residues",
-        ),
-        ("", "", "none is fixed"),
-    ] {
+    for (given, expected, message) in FIXED_FILES {
         let text = fixed_written(&rt, ACTIVITIES, given)?;
         same_text(&rt, text.as_slice(), expected, message);
     }
     Ok(())
 }
 
+const TIME_FILES: &[(&str, &str, &str)] = &[
+    ("", "", "no times"),
+    ("2; 4\n1; 0\n", "1; 0\n2; 4\n", "two times"),
+];
+
 #[test]
 fn times_are_written(rt: HostRuntime) -> Result<(), Fail> {
-    for (given, expected, message) in [
-        ("", "", "no times"),
-        ("2; 4\n1; 0\n", "1; 0\n2; 4\n", "two times"),
-    ] {
+    for (given, expected, message) in TIME_FILES {
         let text = times_written(&rt, given)?;
         same_text(&rt, text.as_slice(), expected, message);
     }

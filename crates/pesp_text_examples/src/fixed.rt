@@ -39,20 +39,24 @@ fn assert_taken(
     assert_fixed(rt, instance, times, message);
 }
 
+const TAKEN: &[(&str, (Option<u16>, Option<u16>), &str)] = &[
+    ("1; 12", (Some(2), None), "one event"),
+    ("2; -1\n1; 3\n", (Some(3), Some(9)), "both events"),
+];
+
+const REFUSED: &[(&str, u64, FaultKind)] = &[
+    ("7; 0", 1, FaultKind::NoEvent),
+    ("1; 0\n1; 0", 2, FaultKind::DuplicateEvent),
+    ("1; 0\n2; 3; 4", 2, FaultKind::FieldCount),
+];
+
 /// Faulty files first, and then two that are taken.
 fn assert_files(rt: &(impl Abort + AllocGlobal), instance: &mut Instance) {
-    for (text, place, kind) in [
-        ("7; 0", 1, FaultKind::NoEvent),
-        ("1; 0\n1; 0", 2, FaultKind::DuplicateEvent),
-        ("1; 0\n2; 3; 4", 2, FaultKind::FieldCount),
-    ] {
-        assert_refused(rt, instance, text, place, kind);
+    for (text, place, kind) in REFUSED {
+        assert_refused(rt, instance, text, *place, *kind);
     }
-    for (text, times, message) in [
-        ("1; 12", (Some(2), None), "one event"),
-        ("2; -1\n1; 3\n", (Some(3), Some(9)), "both events"),
-    ] {
-        assert_taken(rt, instance, text, times, message);
+    for (text, times, message) in TAKEN {
+        assert_taken(rt, instance, text, *times, message);
     }
 }
 

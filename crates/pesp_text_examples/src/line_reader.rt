@@ -73,21 +73,23 @@ fn told_in_pieces(
     told(rt, Pieces { bytes, size, fails })
 }
 
+const LINES: &[(&str, bool, &str)] = &[
+    ("", false, "."),
+    ("\n", false, "/."),
+    (
+        "cost\n\nfix 1 0\r\ntensions",
+        false,
+        "cost//fix 1 0\r/tensions.",
+    ),
+    ("cost\n\nfix 1", true, "cost//fix 1!"),
+    ("cost\n", true, "cost/!"),
+];
+
 #[test]
 fn lines_come_in_pieces(rt: HostRuntime) -> Result<(), Fail> {
     for size in [1, 2, 3, 7, 4_096] {
-        for (text, fails, wanted) in [
-            ("", false, "."),
-            ("\n", false, "/."),
-            (
-                "cost\n\nfix 1 0\r\ntensions",
-                false,
-                "cost//fix 1 0\r/tensions.",
-            ),
-            ("cost\n\nfix 1", true, "cost//fix 1!"),
-            ("cost\n", true, "cost/!"),
-        ] {
-            let lines = told_in_pieces(&rt, text, size, fails)?;
+        for (text, fails, wanted) in LINES {
+            let lines = told_in_pieces(&rt, text, size, *fails)?;
             same_at(&rt, lines.as_slice(), wanted.as_bytes(), "pieces of", size);
         }
     }

@@ -68,67 +68,71 @@ fn every_other_command_is_read(rt: HostRuntime) {
     }
 }
 
+const FAULTS: &[(&str, ParseFault, &str)] = &[
+    ("add", ParseFault::UnknownCommand, "no second word"),
+    (
+        "add time 1",
+        ParseFault::UnknownCommand,
+        "another second word",
+    ),
+    ("Fix 1 2", ParseFault::UnknownCommand, "a capital letter"),
+    ("fixe x", ParseFault::UnknownCommand, "one letter more"),
+    ("fix 1", ParseFault::WordCount, "a word missing"),
+    ("adopt it", ParseFault::WordCount, "a word too many"),
+    (
+        "add activity 1 1 2 3 5 2 9 9 9",
+        ParseFault::WordCount,
+        "eleven words",
+    ),
+    ("fix x 1", ParseFault::BadNumber(2), "no number"),
+    (
+        "fix x 70000",
+        ParseFault::BadNumber(2),
+        "two faulty numbers",
+    ),
+    ("fix 1 +", ParseFault::BadNumber(3), "a sign alone"),
+    (
+        "add event 1000000000",
+        ParseFault::OutOfRange(3),
+        "ten digits",
+    ),
+    ("fix 1 70000", ParseFault::OutOfRange(3), "a late time"),
+    ("fix 1 -1", ParseFault::OutOfRange(3), "a time below 0"),
+    (
+        "drop event 1234567890123456789012345678901234567890",
+        ParseFault::OutOfRange(3),
+        "forty digits",
+    ),
+    (
+        "try 1000000000001",
+        ParseFault::OutOfRange(2),
+        "one node too many",
+    ),
+    ("span 1 5 3", ParseFault::Crossed, "crossed bounds"),
+    (
+        "add activity 1 1 2 5 3 x",
+        ParseFault::BadNumber(8),
+        "a bad number behind crossed bounds",
+    ),
+];
+
 #[test]
 fn first_fault_is_named(rt: HostRuntime) {
-    for (line, fault, message) in [
-        ("add", ParseFault::UnknownCommand, "no second word"),
-        (
-            "add time 1",
-            ParseFault::UnknownCommand,
-            "another second word",
-        ),
-        ("Fix 1 2", ParseFault::UnknownCommand, "a capital letter"),
-        ("fixe x", ParseFault::UnknownCommand, "one letter more"),
-        ("fix 1", ParseFault::WordCount, "a word missing"),
-        ("adopt it", ParseFault::WordCount, "a word too many"),
-        (
-            "add activity 1 1 2 3 5 2 9 9 9",
-            ParseFault::WordCount,
-            "eleven words",
-        ),
-        ("fix x 1", ParseFault::BadNumber(2), "no number"),
-        (
-            "fix x 70000",
-            ParseFault::BadNumber(2),
-            "two faulty numbers",
-        ),
-        ("fix 1 +", ParseFault::BadNumber(3), "a sign alone"),
-        (
-            "add event 1000000000",
-            ParseFault::OutOfRange(3),
-            "ten digits",
-        ),
-        ("fix 1 70000", ParseFault::OutOfRange(3), "a late time"),
-        ("fix 1 -1", ParseFault::OutOfRange(3), "a time below 0"),
-        (
-            "drop event 1234567890123456789012345678901234567890",
-            ParseFault::OutOfRange(3),
-            "forty digits",
-        ),
-        (
-            "try 1000000000001",
-            ParseFault::OutOfRange(2),
-            "one node too many",
-        ),
-        ("span 1 5 3", ParseFault::Crossed, "crossed bounds"),
-        (
-            "add activity 1 1 2 5 3 x",
-            ParseFault::BadNumber(8),
-            "a bad number behind crossed bounds",
-        ),
-    ] {
-        assert_fault(&rt, line, fault, message);
+    for (line, fault, message) in FAULTS {
+        assert_fault(&rt, line, *fault, message);
     }
 }
 
+const NOTHING_SAID: &[(&str, &str)] = &[
+    ("", "an empty line"),
+    (" \t \r", "blanks alone"),
+    ("# text", "a comment"),
+    ("  #text", "a comment behind spaces"),
+];
+
 #[test]
 fn blank_lines_and_comments_say_nothing(rt: HostRuntime) {
-    for (line, message) in [
-        ("", "an empty line"),
-        (" \t \r", "blanks alone"),
-        ("# text", "a comment"),
-        ("  #text", "a comment behind spaces"),
-    ] {
+    for (line, message) in NOTHING_SAID {
         assert_nothing(&rt, line, message);
     }
 }

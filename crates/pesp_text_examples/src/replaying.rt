@@ -34,22 +34,24 @@ fn assert_script(rt: &(impl Abort + AllocGlobal), script: &str, message: &str) -
     Ok(())
 }
 
+const SCRIPTS: &[(&str, &str)] = &[
+    (
+        "# period 10 lines 4\nadd event 1\nadd event 2\nadd activity 1 1 2 3 5 2\nadd activity 2 2 1 4 6 1\n",
+        "a dump",
+    ),
+    (
+        "add event 1\r\nadd event 2\r\n\r\nadd activity 1 1 2 3 5 2\r\nadd activity 2 2 1 4 6 1\r\n",
+        "lines that end in a carriage return and a line feed",
+    ),
+    (
+        "\n add event 2\n#\n\tadd\tevent 1\n \nadd event 3\nadd activity 2 2 1 4 6 1\nadd activity 1 1 2 3 5 9\ndrop event 3\nweight 1 2",
+        "blanks, comments, changes and a last line without a line feed",
+    ),
+];
+
 #[test]
 fn scripts_make_instances(rt: HostRuntime) -> Result<(), Fail> {
-    for (script, message) in [
-        (
-            "# period 10 lines 4\nadd event 1\nadd event 2\nadd activity 1 1 2 3 5 2\nadd activity 2 2 1 4 6 1\n",
-            "a dump",
-        ),
-        (
-            "add event 1\r\nadd event 2\r\n\r\nadd activity 1 1 2 3 5 2\r\nadd activity 2 2 1 4 6 1\r\n",
-            "lines that end in a carriage return and a line feed",
-        ),
-        (
-            "\n add event 2\n#\n\tadd\tevent 1\n \nadd event 3\nadd activity 2 2 1 4 6 1\nadd activity 1 1 2 3 5 9\ndrop event 3\nweight 1 2",
-            "blanks, comments, changes and a last line without a line feed",
-        ),
-    ] {
+    for (script, message) in SCRIPTS {
         assert_script(&rt, script, message)?;
     }
     Ok(())

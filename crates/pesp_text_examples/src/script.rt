@@ -27,23 +27,25 @@ fn lone_event_dumped(
     Ok(dump(rt.alloc(), &instance)?)
 }
 
+const INSTANCES: &[(&str, &str, &str, &str)] = &[
+    (
+        "1; 1; 2; 3; 5; 2\n2; 2; 1; 4; 6; 1\n",
+        "",
+        "# period 10 lines 4\nadd event 1\nadd event 2\nadd activity 1 1 2 3 5 2\nadd activity 2 2 1 4 6 1\n",
+        "two activities",
+    ),
+    (
+        "7; 4; 3; -2; 5; 0\n",
+        "4; 9\n3; 0\n",
+        "# period 10 lines 5\nadd event 3\nadd event 4\nfix 3 0\nfix 4 9\nadd activity 7 4 3 -2 5 0\n",
+        "an activity between two fixed events",
+    ),
+    ("", "", "# period 10 lines 0\n", "nothing"),
+];
+
 #[test]
 fn instances_are_dumped(rt: HostRuntime) -> Result<(), Fail> {
-    for (activities, fixed, script, message) in [
-        (
-            "1; 1; 2; 3; 5; 2\n2; 2; 1; 4; 6; 1\n",
-            "",
-            "# period 10 lines 4\nadd event 1\nadd event 2\nadd activity 1 1 2 3 5 2\nadd activity 2 2 1 4 6 1\n",
-            "two activities",
-        ),
-        (
-            "7; 4; 3; -2; 5; 0\n",
-            "4; 9\n3; 0\n",
-            "# period 10 lines 5\nadd event 3\nadd event 4\nfix 3 0\nfix 4 9\nadd activity 7 4 3 -2 5 0\n",
-            "an activity between two fixed events",
-        ),
-        ("", "", "# period 10 lines 0\n", "nothing"),
-    ] {
+    for (activities, fixed, script, message) in INSTANCES {
         let text = dumped(&rt, activities, fixed)?;
         same_text(&rt, text.as_slice(), script, message);
     }

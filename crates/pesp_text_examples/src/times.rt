@@ -16,22 +16,26 @@ fn time_in(
     Ok(times.get(event(rt, number)))
 }
 
+const FAULTY_FILES: &[(&str, u64, FaultKind)] = &[
+    ("1; 0\n2", 2, FaultKind::FieldCount),
+    ("1; 1000000001", 1, FaultKind::OutOfRange(2)),
+    ("1; 0.0", 1, FaultKind::BadNumber(2)),
+    ("1; 0\n1; 0", 2, FaultKind::DuplicateEvent),
+];
+
+const TIMES: &[(u32, Option<u16>, &str)] = &[
+    (1, Some(9), "event 1"),
+    (7, Some(3), "event 7"),
+    (2, None, "event 2"),
+];
+
 #[test]
 fn times_are_taken_modulo_the_period(rt: HostRuntime) {
     let text = "event; time\n1; -1\n7; 23\n";
-    for (number, time, message) in [
-        (1, Some(9), "event 1"),
-        (7, Some(3), "event 7"),
-        (2, None, "event 2"),
-    ] {
-        same(&rt, time_in(&rt, text, number), Ok(time), message);
+    for (number, time, message) in TIMES {
+        same(&rt, time_in(&rt, text, *number), Ok(*time), message);
     }
-    for (text, place, kind) in [
-        ("1; 0\n2", 2, FaultKind::FieldCount),
-        ("1; 1000000001", 1, FaultKind::OutOfRange(2)),
-        ("1; 0.0", 1, FaultKind::BadNumber(2)),
-        ("1; 0\n1; 0", 2, FaultKind::DuplicateEvent),
-    ] {
-        refused(&rt, timetable(&rt, text.as_bytes()).err(), place, kind);
+    for (text, place, kind) in FAULTY_FILES {
+        refused(&rt, timetable(&rt, text.as_bytes()).err(), *place, *kind);
     }
 }
