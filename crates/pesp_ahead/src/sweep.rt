@@ -1,4 +1,4 @@
-//! Sweep that move what entries tell from event to event along arcs.
+//! Sweeps that move what entries tell from event to event along arcs.
 //!
 //! Bounds hold whatever the entries are, so nothing is proved of these: they make the bounds great. Events before the
 //! one that is looked at are settled: what is told at them is told at one residue, so it is moved off them once and
@@ -178,7 +178,7 @@ impl Sweep<'_> {
         }
     }
 
-    /// Sweep one way over all places from the first one on.
+    /// Sweeps one way over all places from the first one on.
     fn sweep_once(&self, way: Way, entries: &mut [Entry], sums: &mut [u64])
         requires entries { length entries.old ≡ length self.now.arcs.now * (2 * self.now.period) }
         requires sums { length sums.old ≡ self.now.places * self.now.period }
@@ -207,7 +207,7 @@ impl Sweep<'_> {
         }
     }
 
-    /// Sweep up and down over the places from the first one on; those before are settled.
+    /// Sweeps up and down over the places from the first one on; those before are settled.
     pub(crate) fn run(&self, entries: &mut [Entry], sums: &mut [u64])
         requires entries { length entries.old ≡ length self.now.arcs.now * (2 * self.now.period) }
         requires sums { length sums.old ≡ self.now.places * self.now.period }
