@@ -3,7 +3,7 @@
 use crate::{telling, working};
 use pesp_base::{EventId, Memory, Refusal};
 use pesp_bench::{Attempt, Bench, Domains};
-use pesp_calls::{Call, is_asked, is_wanted, made, showing, try_call};
+use pesp_calls::{Call, is_asked, is_wanted, made, showing, try_and_drop};
 use pesp_commands::Command;
 use pesp_counts::CountKeeper;
 use pesp_instance::Edit;
@@ -127,8 +127,7 @@ fn lend(alloc: Global, is_timed: bool, ask: Ask) -> Option<Lent> {
 }
 
 fn try_case<R: Print + AllocGlobal>(rt: &R, is_timed: bool, ask: Ask) -> Option<()> {
-    let mut lent = lend(rt.alloc(), is_timed, ask)?;
-    try_call(rt, &mut lent);
+    try_and_drop(rt, lend(rt.alloc(), is_timed, ask)?);
     Some(())
 }
 

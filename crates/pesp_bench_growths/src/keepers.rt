@@ -1,7 +1,7 @@
 //! Edits of what is kept.
 
 use crate::telling;
-use pesp_calls::made::{self, KINDS, MANY};
+use pesp_calls::made::{self, KINDS, Kind, MANY};
 use pesp_calls::{Call, is_asked, is_wanted, try_call};
 use pesp_domains::Keeper;
 use pesp_instance::Edit;
@@ -35,6 +35,25 @@ impl<K: Keeper> Call for Kept<K> {
     }
 }
 
+fn try_kind<K: Keeper, R: Print + AllocGlobal>(
+    rt: &R,
+    kept: &mut Kept<K>,
+    kind: Kind,
+) -> Option<()> {
+    for number in 3..MANY {
+        kept.edit = made::edit(kind, number)?;
+        try_call(rt, kept);
+    }
+    Some(())
+}
+
+fn try_kinds<K: Keeper, R: Print + AllocGlobal>(rt: &R, kept: &mut Kept<K>) -> Option<()> {
+    for kind in &KINDS {
+        try_kind(rt, kept, *kind)?;
+    }
+    Some(())
+}
+
 pub(crate) fn try_by<K: Keeper, R: Print + AllocGlobal>(
     rt: &R,
     words: &[String],
@@ -43,14 +62,7 @@ pub(crate) fn try_by<K: Keeper, R: Print + AllocGlobal>(
     if !is_asked(rt, words, name) {
         return Some(());
     }
-    let keeper = K::from_instance(rt.alloc(), made::two(rt.alloc())?).ok()?;
     let edit = made::edit(KINDS[0], 3)?;
-    let mut kept = Kept { keeper, edit };
-    for kind in KINDS {
-        for number in 3..MANY {
-            kept.edit = made::edit(kind, number)?;
-            try_call(rt, &mut kept);
-        }
-    }
-    Some(())
+    let keeper = K::from_instance(rt.alloc(), made::two(rt.alloc())?).ok()?;
+    try_kinds(rt, &mut Kept { keeper, edit })
 }

@@ -1,7 +1,7 @@
 //! Keepers that are made of an instance.
 
 use crate::telling;
-use pesp_calls::{Call, is_asked, made, showing, try_call};
+use pesp_calls::{Call, is_asked, made, showing, try_and_drop};
 use pesp_domains::{Keeper, NoRoom};
 use pesp_instance::Instance;
 use std::marker::PhantomData;
@@ -46,7 +46,7 @@ pub(crate) fn try_by<K: Keeper, R: Print + AllocGlobal>(
     if is_asked(rt, words, name) {
         let instance = Some(made::two(rt.alloc())?);
         let keeper = PhantomData;
-        try_call(rt, &mut Opened::<K> { instance, keeper });
+        try_and_drop(rt, Opened::<K> { instance, keeper });
     }
     Some(())
 }

@@ -5,7 +5,7 @@ ghost use Rattle.std.specs.Prelude.{◌≡◌, []};
 use crate::{telling, working};
 use pesp_base::{ActivityId, EventId, Span, Weight};
 use pesp_bench::Bench;
-use pesp_calls::{Call, is_asked, is_wanted, made, showing, try_call};
+use pesp_calls::{Call, is_asked, is_wanted, made, showing, try_and_drop};
 use pesp_commands::parse;
 use pesp_counts::CountKeeper;
 use pesp_domains::{Keeper, PlainKeeper, Side};
@@ -142,9 +142,9 @@ fn try_keeper<K: Keeper, R: Print + AllocGlobal>(rt: &R) -> Option<()> {
     let event = EventId::new(2)?;
     let edits = edits()?;
     let keeper = K::from_instance(rt.alloc(), made::two(rt.alloc())?).ok()?;
-    try_call(
+    try_and_drop(
         rt,
-        &mut Edited {
+        Edited {
             keeper,
             event,
             edits,
@@ -157,9 +157,9 @@ fn try_bench<R: Print + AllocGlobal>(rt: &R) -> Option<()> {
     let event = EventId::new(1)?;
     let edits = edits()?;
     let bench = working::searched(rt.alloc())?;
-    try_call(
+    try_and_drop(
         rt,
-        &mut Worked {
+        Worked {
             bench,
             event,
             edits,

@@ -3,7 +3,7 @@
 ghost use Rattle.std.specs.Prelude.{◌≡◌, []};
 
 use crate::telling;
-use pesp_calls::{Call, is_asked, made, showing, try_call};
+use pesp_calls::{Call, is_asked, made, showing, try_and_drop};
 use pesp_counts::CountKeeper;
 use pesp_domains::Keeper;
 use pesp_search::{Tried, best, best_within};
@@ -84,7 +84,7 @@ impl Call for Searched {
 
 fn try_case<R: Print + AllocGlobal>(rt: &R, limit: Option<u64>) -> Option<()> {
     let keeper = CountKeeper::from_instance(rt.alloc(), made::two(rt.alloc())?).ok()?;
-    try_call(rt, &mut Searched { keeper, limit });
+    try_and_drop(rt, Searched { keeper, limit });
     Some(())
 }
 

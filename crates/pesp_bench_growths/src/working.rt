@@ -29,15 +29,13 @@ fn find_optimum(alloc: Global, bench: &mut Bench<CountKeeper>) -> Option<()> {
 /// A workbench of two activities, with a time for each event where that is asked for.
 pub(crate) fn bench(alloc: Global, is_timed: bool) -> Option<Bench<CountKeeper>> {
     let mut bench = untimed(alloc)?;
-    if is_timed {
-        set_times(&mut bench)?;
-    }
-    Some(bench)
+    let is_made = !is_timed || set_times(&mut bench).is_some();
+    is_made.then_some(bench)
 }
 
 /// The same with times and its optimum known.
 pub(crate) fn searched(alloc: Global) -> Option<Bench<CountKeeper>> {
     let mut bench = bench(alloc, true)?;
-    find_optimum(alloc, &mut bench)?;
-    Some(bench)
+    let is_found = find_optimum(alloc, &mut bench).is_some();
+    is_found.then_some(bench)
 }

@@ -32,6 +32,11 @@ pub fn try_call<C: Call, R: Print + AllocGlobal>(rt: &R, call: &mut C) {
     }
 }
 
+/// Makes the call as [`try_call`] does, and lets go what it is lent.
+pub fn try_and_drop<C: Call + Drop, R: Print + AllocGlobal>(rt: &R, mut call: C) {
+    try_call(rt, &mut call);
+}
+
 /// Tells the answer. Whether it is want of memory.
 pub fn is_wanted(rt: &impl Print, answer: Result<(), Refusal>) -> bool {
     showing::line(rt, &answer);

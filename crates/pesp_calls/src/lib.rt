@@ -5,4 +5,4 @@ mod call;
 pub mod made;
 pub mod showing;
 
-pub use call::{Call, is_asked, is_wanted, try_call, words};
+pub use call::{Call, is_asked, is_wanted, try_and_drop, try_call, words};

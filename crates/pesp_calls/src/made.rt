@@ -17,14 +17,25 @@ pub fn activity(number: u32, from: u32, to: u32) -> Option<Activity> {
     })
 }
 
+/// The edits that make the instance of [`two`].
+fn first_edits() -> Option<[Edit; 5]> {
+    let first = EventId::new(1)?;
+    Some([
+        Edit::AddEvent(first),
+        Edit::AddEvent(EventId::new(2)?),
+        Edit::AddActivity(activity(1, 1, 2)?),
+        Edit::AddActivity(activity(2, 2, 1)?),
+        Edit::Fix(first, 7),
+    ])
+}
+
 /// An instance at period 10 of two events, the first of them fixed, and an activity each way between them.
 pub fn two(alloc: Global) -> Option<Instance> {
+    let edits = first_edits()?;
     let mut instance = Instance::new(alloc, Period::new(10)?);
-    instance.apply(&Edit::AddEvent(EventId::new(1)?)).ok()?;
-    instance.apply(&Edit::AddEvent(EventId::new(2)?)).ok()?;
-    instance.apply(&Edit::AddActivity(activity(1, 1, 2)?)).ok()?;
-    instance.apply(&Edit::AddActivity(activity(2, 2, 1)?)).ok()?;
-    instance.apply(&Edit::Fix(EventId::new(1)?, 7)).ok()?;
+    for edit in &edits {
+        instance.apply(edit).ok()?;
+    }
     Some(instance)
 }
 

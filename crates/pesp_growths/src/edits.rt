@@ -1,6 +1,6 @@
 //! Edits of an instance.
 
-use pesp_calls::made::{self, KINDS, MANY};
+use pesp_calls::made::{self, KINDS, Kind, MANY};
 use pesp_calls::{Call, is_asked, is_wanted, showing, try_call};
 use pesp_instance::{Edit, Instance};
 
@@ -20,18 +20,26 @@ impl Call for Edited {
     }
 }
 
+fn try_kind<R: Print + AllocGlobal>(rt: &R, edited: &mut Edited, kind: Kind) -> Option<()> {
+    for number in 3..MANY {
+        edited.edit = made::edit(kind, number)?;
+        try_call(rt, edited);
+    }
+    Some(())
+}
+
+fn try_kinds<R: Print + AllocGlobal>(rt: &R, edited: &mut Edited) -> Option<()> {
+    for kind in &KINDS {
+        try_kind(rt, edited, *kind)?;
+    }
+    Some(())
+}
+
 pub(crate) fn try_all<R: Print + AllocGlobal>(rt: &R, words: &[String]) -> Option<()> {
     if !is_asked(rt, words, "Instance::apply") {
         return Some(());
     }
-    let instance = made::two(rt.alloc())?;
     let edit = made::edit(KINDS[0], 3)?;
-    let mut edited = Edited { instance, edit };
-    for kind in KINDS {
-        for number in 3..MANY {
-            edited.edit = made::edit(kind, number)?;
-            try_call(rt, &mut edited);
-        }
-    }
-    Some(())
+    let instance = made::two(rt.alloc())?;
+    try_kinds(rt, &mut Edited { instance, edit })
 }

@@ -1,7 +1,7 @@
 //! Files that are read and written, and what a timetable answers.
 
-use pesp_base::{EventId, Memory, Refusal};
-use pesp_calls::{Call, is_asked, is_wanted, made, showing, try_call};
+use pesp_base::{EventId, Memory, Period, Refusal};
+use pesp_calls::{Call, is_asked, is_wanted, made, showing, try_and_drop};
 use pesp_instance::Instance;
 use pesp_tension::{Timetable, tensions, violations};
 use pesplib_reader::{FaultKind, ReadFault, read_activities, read_fixed, read_times};
@@ -131,38 +131,53 @@ impl Call for Lent {
     }
 }
 
-/// Two activities, and a timetable with the times that are given.
-fn two_with(alloc: Global, times: &[(u32, u16)], ask: Ask) -> Option<Lent> {
-    let instance = made::two(alloc)?;
-    let mut timetable = Timetable::new(alloc, instance.period());
+/// A timetable with these times.
+fn timetable(alloc: Global, period: Period, times: &[(u32, u16)]) -> Option<Timetable> {
+    let mut timetable = Timetable::new(alloc, period);
     for (event, time) in times {
         timetable.set(EventId::new(*event)?, *time).ok()?;
     }
+    Some(timetable)
+}
+
+/// Two activities, and a timetable with the times that are given.
+fn two_with(alloc: Global, times: &[(u32, u16)], ask: Ask) -> Option<Lent> {
+    let event = EventId::new(2)?;
+    let instance = made::two(alloc)?;
+    let times = timetable(alloc, instance.period(), times)?;
     Some(Lent {
         instance,
-        times: timetable,
-        event: EventId::new(2)?,
+        times,
+        event,
         ask,
     })
 }
 
+const BOTH_TIMES: &[(u32, u16)] = &[(1, 0), (2, 3)];
+
+/// The calls by name, with the times that they find.
+const CASES: &[(&str, &[(u32, u16)], Ask)] = &[
+    ("Timetable::set", &[], Ask::Set),
+    ("tensions", BOTH_TIMES, Ask::Tensions),
+    ("violations", BOTH_TIMES, Ask::Violations),
+    ("read_activities", BOTH_TIMES, Ask::ReadActivities),
+    ("read_fixed", BOTH_TIMES, Ask::ReadFixed),
+    ("read_times", BOTH_TIMES, Ask::ReadTimes),
+    ("write_activities", BOTH_TIMES, Ask::WriteActivities),
+    ("write_fixed", BOTH_TIMES, Ask::WriteFixed),
+    ("write_times", BOTH_TIMES, Ask::WriteTimes),
+    ("dump", BOTH_TIMES, Ask::Dump),
+];
+
+fn try_one<R: Print + AllocGlobal>(rt: &R, times: &[(u32, u16)], ask: Ask) -> Option<()> {
+    try_and_drop(rt, two_with(rt.alloc(), times, ask)?);
+    Some(())
+}
+
 pub(crate) fn try_all<R: Print + AllocGlobal>(rt: &R, words: &[String]) -> Option<()> {
-    let times: &[(u32, u16)] = &[(1, 0), (2, 3)];
-    for (name, times, ask) in [
-        ("Timetable::set", &times[..0], Ask::Set),
-        ("tensions", times, Ask::Tensions),
-        ("violations", times, Ask::Violations),
-        ("read_activities", times, Ask::ReadActivities),
-        ("read_fixed", times, Ask::ReadFixed),
-        ("read_times", times, Ask::ReadTimes),
-        ("write_activities", times, Ask::WriteActivities),
-        ("write_fixed", times, Ask::WriteFixed),
-        ("write_times", times, Ask::WriteTimes),
-        ("dump", times, Ask::Dump),
-    ] {
+    for (name, times, ask) in CASES {
         if is_asked(rt, words, name) {
-            let mut lent = two_with(rt.alloc(), times, ask)?;
-            try_call(rt, &mut lent);
+            try_one(rt, times, *ask)?;
         }
     }
     Some(())
