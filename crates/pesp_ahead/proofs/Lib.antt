@@ -3,6 +3,7 @@ mod Costs
 mod Events
 mod Filled
 mod Larger
+mod Parts
 mod Renewed
 mod Sound
 mod Steps

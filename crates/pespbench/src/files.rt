@@ -35,9 +35,9 @@ pub fn read_whole<R: Files + AllocGlobal>(
         return Err(Fault::TooLong(source));
     }
     // One byte of room beyond the end, so that the read that finds the end needs no more.
-    let mut bytes = Vec::with_capacity(rt.alloc(), length as usize + 1).map_err(
-        |_| Fault::EARLY_MEMORY,
-    )?;
+    let Ok(mut bytes) = Vec::with_capacity(rt.alloc(), length as usize + 1) else {
+        return Err(Fault::EARLY_MEMORY);
+    };
     file.take(LONGEST + 1)
         .read_to_end(&mut bytes)
         .map_err(|error| fault_of(source, &error))?;

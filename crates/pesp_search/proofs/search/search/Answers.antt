@@ -1,4 +1,6 @@
 -- What is told under the cost of a timetable from beforehand is told for the given bound.
+use Rattle.std.proofs.Common.{refl}
+use Rattle.std.proofs.lemmas.Result.{IfOk-from_err}
 use Rattle.pesp_search.proofs.Beforehand.{bound_of_before, outcome_told}
 use Rattle.pesp_search.proofs.search.search.Goals as goal
 
@@ -13,3 +15,104 @@ returns-clause-outcome g c =
     rw (c.told.ensures.best, c.told.ensures.stopped, c.told.ensures.nodes)
     (outcome_told I c.args.bound c.args.limit c.in_ok-before.before outcome.best outcome.is_stopped outcome.nodes c.in_ok-before.ensures.found c.in_ok-before.ensures.none
     (rw c.lowest-lowest.ensures at c.in_ok-outcome.ensures.outcome))
+
+-- ---- found by search, and named so that they are found at once
+
+pub returns-in_err-events-clause-outcome : goal.returns-in_err-events-clause-outcome
+returns-in_err-events-clause-outcome g c = IfOk-from_err c.from_residual.result _ c.from_residual.ensures.0
+
+pub returns-in_err-events-clause-nodes : goal.returns-in_err-events-clause-nodes
+returns-in_err-events-clause-nodes g c = IfOk-from_err c.from_residual.result _ c.from_residual.ensures.0
+
+pub returns-in_err-events-clause-is_network : goal.returns-in_err-events-clause-is_network
+returns-in_err-events-clause-is_network g c = rw c.instance.ensures at c.events_of.ensures.network
+
+pub returns-in_err-events-clause-network : goal.returns-in_err-events-clause-network
+returns-in_err-events-clause-network g c = refl
+
+pub returns-in_err-events-clause-pushes : goal.returns-in_err-events-clause-pushes
+returns-in_err-events-clause-pushes g c = c.requires.pushes
+
+pub returns-in_err-least-clause-outcome : goal.returns-in_err-least-clause-outcome
+returns-in_err-least-clause-outcome g c = IfOk-from_err c.from_residual-in_err-least.result _ c.from_residual-in_err-least.ensures.0
+
+pub returns-in_err-least-clause-nodes : goal.returns-in_err-least-clause-nodes
+returns-in_err-least-clause-nodes g c = IfOk-from_err c.from_residual-in_err-least.result _ c.from_residual-in_err-least.ensures.0
+
+pub returns-in_err-least-clause-is_network : goal.returns-in_err-least-clause-is_network
+returns-in_err-least-clause-is_network g c = rw c.instance.ensures at c.events_of.ensures.network
+
+pub returns-in_err-least-clause-network : goal.returns-in_err-least-clause-network
+returns-in_err-least-clause-network g c = refl
+
+pub returns-in_err-least-clause-pushes : goal.returns-in_err-least-clause-pushes
+returns-in_err-least-clause-pushes g c = c.requires.pushes
+
+pub returns-in_err-guide-clause-outcome : goal.returns-in_err-guide-clause-outcome
+returns-in_err-guide-clause-outcome g c = IfOk-from_err c.from_residual-in_err-guide.result _ c.from_residual-in_err-guide.ensures.0
+
+pub returns-in_err-guide-clause-nodes : goal.returns-in_err-guide-clause-nodes
+returns-in_err-guide-clause-nodes g c = IfOk-from_err c.from_residual-in_err-guide.result _ c.from_residual-in_err-guide.ensures.0
+
+pub returns-in_err-guide-clause-is_network : goal.returns-in_err-guide-clause-is_network
+returns-in_err-guide-clause-is_network g c = rw c.instance.ensures at c.events_of.ensures.network
+
+pub returns-in_err-guide-clause-network : goal.returns-in_err-guide-clause-network
+returns-in_err-guide-clause-network g c = refl
+
+pub returns-in_err-guide-clause-pushes : goal.returns-in_err-guide-clause-pushes
+returns-in_err-guide-clause-pushes g c = c.requires.pushes
+
+pub returns-in_err-before-clause-outcome : goal.returns-in_err-before-clause-outcome
+returns-in_err-before-clause-outcome g c = IfOk-from_err c.from_residual-in_err-before.result _ c.from_residual-in_err-before.ensures.0
+
+pub returns-in_err-before-clause-nodes : goal.returns-in_err-before-clause-nodes
+returns-in_err-before-clause-nodes g c = IfOk-from_err c.from_residual-in_err-before.result _ c.from_residual-in_err-before.ensures.0
+
+pub returns-in_err-before-clause-is_network : goal.returns-in_err-before-clause-is_network
+returns-in_err-before-clause-is_network g c = rw c.instance.ensures at c.events_of.ensures.network
+
+pub returns-in_err-before-clause-network : goal.returns-in_err-before-clause-network
+returns-in_err-before-clause-network g c = refl
+
+pub returns-in_err-before-clause-pushes : goal.returns-in_err-before-clause-pushes
+returns-in_err-before-clause-pushes g c = c.requires.pushes
+
+pub returns-in_err-outcome-clause-outcome : goal.returns-in_err-outcome-clause-outcome
+returns-in_err-outcome-clause-outcome g c = IfOk-from_err c.from_residual-in_err-outcome.result _ c.from_residual-in_err-outcome.ensures.0
+
+pub returns-in_err-outcome-clause-nodes : goal.returns-in_err-outcome-clause-nodes
+returns-in_err-outcome-clause-nodes g c = IfOk-from_err c.from_residual-in_err-outcome.result _ c.from_residual-in_err-outcome.ensures.0
+
+pub returns-in_err-outcome-clause-is_network : goal.returns-in_err-outcome-clause-is_network
+returns-in_err-outcome-clause-is_network g c = rw c.instance.ensures at c.events_of.ensures.network
+
+pub returns-in_err-outcome-clause-network : goal.returns-in_err-outcome-clause-network
+returns-in_err-outcome-clause-network g c = c.walk.ensures.network
+
+pub returns-in_err-outcome-clause-pushes : goal.returns-in_err-outcome-clause-pushes
+returns-in_err-outcome-clause-pushes g c = c.walk.ensures.pushes
+
+pub returns-clause-nodes : goal.returns-clause-nodes
+returns-clause-nodes g c = rw c.told.ensures.nodes c.in_ok-outcome.ensures.nodes
+
+pub returns-clause-is_network : goal.returns-clause-is_network
+returns-clause-is_network g c = rw c.instance.ensures at c.events_of.ensures.network
+
+pub returns-clause-network : goal.returns-clause-network
+returns-clause-network g c = c.walk.ensures.network
+
+pub returns-clause-pushes : goal.returns-clause-pushes
+returns-clause-pushes g c = c.walk.ensures.pushes
+
+pub walk-requires-clause-network : goal.walk-requires-clause-network
+walk-requires-clause-network g c = rw c.instance.ensures at c.events_of.ensures.network
+
+pub walk-requires-clause-pushes : goal.walk-requires-clause-pushes
+walk-requires-clause-pushes g c = c.requires.pushes
+
+pub walk-requires-clause-guide : goal.walk-requires-clause-guide
+walk-requires-clause-guide g c = c.in_ok-before.ensures.guide
+
+pub dived-requires-clause-network : goal.dived-requires-clause-network
+dived-requires-clause-network g c = rw c.instance.ensures at c.events_of.ensures.network

@@ -99,3 +99,37 @@ returns-in-Err-clause-err c =
     let count : c.activity_count.result ≡ length c.self.inside.activities.values = rw (← c.self.view_is) at c.activity_count.ensures.value in
     let few : length c.self.inside.activities.values < max_activities c.self.inside.period = omega (arith, count, c.if-activity_count-max_activities.false, c.max_activities.ensures.value) in
     rw (c.activity_exists_or-in-Err.ensures, c.in-Err.ensures.err, ← c.self.view_is) (add_without_memory (network_in c.self.inside) c.args.activity from to (lt-leb _ _ few))
+
+-- The rest is found by search too, and named so that it is found at once.
+pub invariant_of-self : goal.invariant_of-self
+invariant_of-self c = rw (c.in-Ok-false.ensures.known c.in-Ok-false.field-0-test) c.self.invariant
+
+pub returns-in-Ok-false-clause-unchanged : goal.returns-in-Ok-false-clause-unchanged
+returns-in-Ok-false-clause-unchanged c = rw (← c.self.view_is, c.in-Ok-false.ensures.known c.in-Ok-false.field-0-test) refl
+
+pub invariant_of-self-in-Err : goal.invariant_of-self-in-Err
+invariant_of-self-in-Err c = rw c.in-Err.ensures.err c.self.invariant
+
+pub returns-in-Err-clause-unchanged : goal.returns-in-Err-clause-unchanged
+returns-in-Err-clause-unchanged c = rw (← c.self.view_is, c.in-Err.ensures.err) refl
+
+pub link-requires-clause-from : goal.link-requires-clause-from
+link-requires-clause-from c = sym c.in-Some.ensures.slot
+
+pub link-requires-clause-to : goal.link-requires-clause-to
+link-requires-clause-to c = sym c.in-Some-event_slot.ensures.slot
+
+pub returns-in-Ok-false-clause-ok : goal.returns-in-Ok-false-clause-ok
+returns-in-Ok-false-clause-ok c = tt
+
+pub returns-in-Err-clause-ok : goal.returns-in-Err-clause-ok
+returns-in-Err-clause-ok c = tt
+
+pub returns-then-is_err-clause-ok : goal.returns-then-is_err-clause-ok
+returns-then-is_err-clause-ok c = tt
+
+pub returns-clause-err : goal.returns-clause-err
+returns-clause-err c = tt
+
+pub returns-clause-unchanged : goal.returns-clause-unchanged
+returns-clause-unchanged c = tt

@@ -1,5 +1,5 @@
 -- One more event, within the limits and with nothing listed at it, leaves an instance.
-use Rattle.std.proofs.Common.{◌≡◌, ◌<◌, true, false, None, is_some, length, sym, ap, ◌∙◌, arith, inl}
+use Rattle.std.proofs.Common.{◌≡◌, ◌<◌, true, false, None, is_some, length, refl, sym, ap, ◌∙◌, arith, inl}
 use Rattle.std.proofs.lemmas.Bool.{lt-leb}
 use Rattle.pesp_base.specs.Limits.{max_events}
 use Rattle.pesp_base.specs.Numbered.{with_number, put_in}
@@ -44,3 +44,28 @@ returns-in-Ok-false-clause-err c =
     let there : is_some (with_number vertex_number (vertex_number c.new.result) c.self.inside.vertices.values) ≡ true = some_is _ (sym c.in-Ok-false.ensures.added ∙ c.in-Ok-false.field-0-test) in
     let has : has_event (network_in c.self.inside) c.args.event ≡ true = is_event c.args.event c.self.inside.vertices.values ∙ ap (λ n. is_some (with_number vertex_number n c.self.inside.vertices.values)) (sym its) ∙ there in
     rw (← c.self.view_is) (inl (add_known_event (network_in c.self.inside) c.args.event has))
+
+-- The rest is found by search too, and named so that it is found at once.
+pub invariant_of-self-in-Ok-false : goal.invariant_of-self-in-Ok-false
+invariant_of-self-in-Ok-false c = rw (c.in-Ok-false.ensures.known c.in-Ok-false.field-0-test) c.self.invariant
+
+pub returns-in-Ok-false-clause-ok : goal.returns-in-Ok-false-clause-ok
+returns-in-Ok-false-clause-ok c = tt
+
+pub returns-in-Ok-false-clause-unchanged : goal.returns-in-Ok-false-clause-unchanged
+returns-in-Ok-false-clause-unchanged c = rw (← c.self.view_is, c.in-Ok-false.ensures.known c.in-Ok-false.field-0-test) refl
+
+pub invariant_of-self-in-Err : goal.invariant_of-self-in-Err
+invariant_of-self-in-Err c = rw c.in-Err.ensures.err c.self.invariant
+
+pub returns-in-Err-clause-ok : goal.returns-in-Err-clause-ok
+returns-in-Err-clause-ok c = tt
+
+pub returns-in-Err-clause-unchanged : goal.returns-in-Err-clause-unchanged
+returns-in-Err-clause-unchanged c = rw (← c.self.view_is, c.in-Err.ensures.err) refl
+
+pub returns-in-Ok-true-clause-err : goal.returns-in-Ok-true-clause-err
+returns-in-Ok-true-clause-err c = tt
+
+pub returns-in-Ok-true-clause-unchanged : goal.returns-in-Ok-true-clause-unchanged
+returns-in-Ok-true-clause-unchanged c = tt

@@ -4,9 +4,9 @@ use Rattle.pesp_base.specs.declared.activity.Activity.{Activity}
 use Rattle.pesp_base.specs.Numbered.{with_number, change_in}
 use Rattle.pesp_instance.specs.Network.{has_event}
 use Rattle.pesp_instance.specs.Stored.{network_in}
-use Rattle.pesp_instance.proofs.Effects.{changed_activity, changed-activities, on_ok}
+use Rattle.pesp_instance.proofs.Effects.{changed_activity, changed-activities, on_err, on_ok}
 use Rattle.pesp_instance.proofs.Rising.{number-with_number}
-use Rattle.pesp_instance.proofs.Relisted.{AreListed-moved}
+use Rattle.pesp_instance.proofs.Relisted.{AreListed-moved, AreListed-same}
 use Rattle.pesp_instance.proofs.instance.Instance.set_ends.Goals as goal
 
 pub at-requires : goal.at-requires
@@ -42,3 +42,30 @@ returns-clause-ok c =
 -- by search, and named so that a wrong body is refused here at once
 pub returns-in_default-event_slot-2-clause-err : goal.returns-in_default-event_slot-2-clause-err
 returns-in_default-event_slot-2-clause-err c = search rules
+
+-- The rest is found by search too, and named so that it is found at once.
+pub link-requires-clause-from : goal.link-requires-clause-from
+link-requires-clause-from c = sym c.in-Some-event_slot.ensures.slot
+
+pub link-requires-clause-to : goal.link-requires-clause-to
+link-requires-clause-to c = sym c.in-Some-event_slot-2.ensures.slot
+
+pub invariant_of-self : goal.invariant_of-self
+invariant_of-self c =
+    let listed = on_err c.link.result c.if-is_err.ensures.value c.link.ensures.err in
+    record {
+      network = rw c.link.ensures.kept.events c.self.invariant.network;
+      listed = AreListed-same c.self.inside.activities.values c.self.inside.vertices.values c.link.new.self.values listed c.self.invariant.listed;
+    }
+
+pub returns-then-is_err-clause-ok : goal.returns-then-is_err-clause-ok
+returns-then-is_err-clause-ok c = tt
+
+pub returns-then-is_err-clause-unchanged : goal.returns-then-is_err-clause-unchanged
+returns-then-is_err-clause-unchanged c = rw (← c.self.view_is, c.link.ensures.kept.events) refl
+
+pub returns-clause-err : goal.returns-clause-err
+returns-clause-err c = tt
+
+pub returns-clause-unchanged : goal.returns-clause-unchanged
+returns-clause-unchanged c = tt

@@ -1,5 +1,6 @@
 -- A new value in a slot of its own is put in at its number; a number that has a value keeps its slot.
 use Rattle.std.proofs.Common.{◌≡◌, true, None, is_some, refl, sym, ap, ◌∙◌}
+use Rattle.std.proofs.lemmas.Bool.{false≢true, true≢false}
 use Rattle.std.specs.BTreeMap.{insert_entry, is_at}
 use Rattle.std.specs.Map.{lookup}
 use Rattle.std.specs.Ordering.{nat_cmp}
@@ -40,3 +41,13 @@ pub returns-clause-known : goal.returns-clause-known
 returns-clause-known g c is =
     let back : c.insert-2.new.self.entries ≡ c.self.inside.numbers.entries = c.in_ok-insert.ensures.entries ∙ ap (λ es. insert_entry nat_cmp es c.number-number.result c.in-Some.slot) c.in_ok-slot.ensures.entries ∙ written_back c.number-number.result c.in-Some.slot c.vacant_key.result c.self.inside.numbers.entries c.self.invariant.rises (sym c.in_ok-slot.ensures.old ∙ c.in-Some.is) in
     rw (← c.self.view_is, back, c.in_ok-reserve.ensures.rest_kept) refl
+
+-- The rest is found by search too, and named so that it is found at once.
+pub insert_reserved-requires : goal.insert_reserved-requires
+insert_reserved-requires g c = c.in_ok-reserve.ensures.room
+
+pub returns-in_default-clause-known : goal.returns-in_default-clause-known
+returns-in_default-clause-known g c is = absurd (true≢false is)
+
+pub returns-clause-put : goal.returns-clause-put
+returns-clause-put g c is = absurd (false≢true is)

@@ -42,3 +42,10 @@ returns-clause-none g c = grind (arith, common_steps)
 
 pub returns-clause-mark : goal.returns-clause-mark
 returns-clause-mark g c = search rules
+
+-- by search too, and named so that they are found at once
+pub returns-clause-some : goal.returns-clause-some
+returns-clause-some g c = grind (arith, common_steps)
+
+pub returns-in_err-count-clause-taken : goal.returns-in_err-count-clause-taken
+returns-in_err-count-clause-taken g c = grind (arith, common_steps)

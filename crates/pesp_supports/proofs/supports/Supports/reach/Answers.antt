@@ -1,13 +1,13 @@
 -- The counts rise in the block of the mate alone, and what the window lacks comes to the row.
-use Rattle.std.proofs.Common.{◌≡◌, ◌+◌, ◌*◌, ◌<◌, ◌≤◌, ◌⊎◌, ℕ, [], length, slice_index_or, sym, ap, subst, ◌∙◌, inl, inr, arith, IsTrue}
+use Rattle.std.proofs.Common.{◌≡◌, ◌+◌, ◌*◌, ◌<◌, ◌≤◌, ◌⊎◌, ℕ, [], List, Bool, cond, length, slice_index_or, refl, sym, ap, subst, ◌∙◌, inl, inr, arith, IsTrue}
 use Rattle.std.proofs.lemmas.List.{get_or_read}
 use Rattle.pesp_domains.specs.Domains.{holds}
 use Rattle.pesp_links.specs.Ends.{passes}
-use Rattle.pesp_supports.specs.Counts.{has_at}
-use Rattle.pesp_supports.specs.Restored.{in_window, of_admitted, of_end}
+use Rattle.pesp_supports.specs.Counts.{count_at, has_at}
+use Rattle.pesp_supports.specs.Restored.{HasRoom, in_window, of_admitted, of_end}
 use Rattle.pesp_supports.specs.Supports.{Supports}
 use Rattle.pesp_supports.proofs.AlongEnds.{brought_from, window_end, window_full}
-use Rattle.pesp_supports.proofs.Brought.{brought_as, brought_none}
+use Rattle.pesp_supports.proofs.Brought.{brought_as, brought_none, in_window_below}
 use Rattle.pesp_supports.proofs.Raised.{block_out}
 use Rattle.pesp_supports.proofs.supports.Supports.reach.Goals as goal
 
@@ -89,3 +89,116 @@ returns-else-not-full-clause-brought c =
       room = ap (λ (s : Supports). s.room) c.self.view_is;
     })
     (brought_none may _ c.args.back.now (window_full T I links s end w rows c.requires.period passing all))
+
+-- a count that rose, where the block and the test have other names
+risen : (xs ys : List ℕ) (base base_is r : ℕ) (b b_is : Bool) → base ≡ base_is → b ≡ b_is → slice_index_or ys (base + r) 0 ≡ slice_index_or xs (base + r) 0 + cond b 1 0 → slice_index_or ys (base_is + r) 0 ≡ slice_index_or xs (base_is + r) 0 + cond b_is 1 0
+risen xs ys base base_is r b b_is at same h = rw (← at, ← same) h
+
+-- The others are found by search, and named so that they are found at once.
+pub base-base-requires : goal.base-base-requires
+base-base-requires c =
+    let period_is = c.get-period.ensures.value ∙ ap (λ (s : Supports). s.period) c.self.view_is in
+    let counts_is = ap (λ (s : Supports). length s.counts) c.self.view_is in
+    rw (period_is, counts_is) c.requires.block
+
+pub raise_window_beside-full-requires-clause-within : goal.raise_window_beside-full-requires-clause-within
+raise_window_beside-full-requires-clause-within c =
+    let T = c.args.self.now.period in
+    let k : ℕ = c.args.end.mate in
+    let period_is = c.get-period.ensures.value ∙ ap (λ (s : Supports). s.period) c.self.view_is in
+    let counts_is = ap (λ (s : Supports). length s.counts) c.self.view_is in
+    let base_is = c.base-base.ensures.base ∙ ap (λ n. k * n) period_is in
+    omega (arith, base_is, period_is, counts_is, c.window-window.ensures.below, c.requires.block)
+
+pub raise_window_beside-full-requires-clause-low : goal.raise_window_beside-full-requires-clause-low
+raise_window_beside-full-requires-clause-low c r h =
+    let T = c.args.self.now.period in
+    let k : ℕ = c.args.end.mate in
+    let s = c.args.residue in
+    let w = c.window-window.result in
+    let period_is = c.get-period.ensures.value ∙ ap (λ (s : Supports). s.period) c.self.view_is in
+    let base_is = c.base-base.ensures.base ∙ ap (λ n. k * n) period_is in
+    let passing = subst (λ n. (q : ℕ) → q < n → passes n c.args.end s q ≡ in_window w q) period_is c.window-window.ensures.passes in
+    let end : w.end ≤ T = omega (arith, c.window-window.ensures.below, period_is) in
+    let wrapped : w.wrapped ≤ T = omega (arith, c.window-window.ensures.order, c.window-window.ensures.wrapped, end) in
+    let below = in_window_below w T r end wrapped h in
+    let few : count_at T c.args.self.now.counts k r < T = c.requires.low r below (subst IsTrue (sym (passing r below)) h) in
+    let here : slice_index_or c.self.inside.counts (c.base-base.result + r) 0 ≡ count_at T c.args.self.now.counts k r =
+    ap (λ i. slice_index_or c.self.inside.counts (i + r) 0) base_is ∙ ap (λ (s : Supports). count_at T s.counts k r) c.self.view_is
+    in
+    omega (arith, few, here, c.get-period.ensures.limits.1, c.get-period.ensures.value, period_is)
+
+pub invariant_of-self : goal.invariant_of-self
+invariant_of-self c =
+    let v = c.self.invariant in
+    record {
+      period = v.period;
+      rows = v.rows;
+      counted = v.counted;
+      even = v.even;
+      room = v.room;
+      all_room = v.all_room;
+    }
+
+pub invariant_of-self-else-not-full : goal.invariant_of-self-else-not-full
+invariant_of-self-else-not-full c =
+    let v = c.self.invariant in
+    record {
+      period = v.period;
+      rows = v.rows;
+      counted = v.counted;
+      even = v.even;
+      room = v.room;
+      all_room = v.all_room;
+    }
+
+pub bring_admitted-requires-clause-lacks : goal.bring_admitted-requires-clause-lacks
+bring_admitted-requires-clause-lacks c =
+    let rows = c.self.inside.rows.items in
+    let looks = c.args.end.looks_at in
+    let w = c.window-window.result in
+    let lacking = c.if-not-full.ensures.lacks refl in
+    let within = subst (λ (s : Supports). looks < length s.rows) (sym c.self.view_is) c.requires.looks in
+    let row_is = get_or_read rows looks c.index-row.result.now within c.index-row.ensures [] in
+    (lacking.0, lacking.1, ap (λ row. holds row lacking.0) (sym row_is) ∙ lacking.2)
+
+pub bring_admitted-requires-clause-room : goal.bring_admitted-requires-clause-room
+bring_admitted-requires-clause-room c = subst (λ (s : Supports). HasRoom s c.args.back.now) (sym c.self.view_is) c.requires.room
+
+pub returns-then-not-full-clause-counts : goal.returns-then-not-full-clause-counts
+returns-then-not-full-clause-counts c r below =
+    let T = c.args.self.now.period in
+    let k : ℕ = c.args.end.mate in
+    let s = c.args.residue in
+    let w = c.window-window.result in
+    let period_is = c.get-period.ensures.value ∙ ap (λ (s : Supports). s.period) c.self.view_is in
+    let base_is = c.base-base.ensures.base ∙ ap (λ n. k * n) period_is in
+    let passing = subst (λ n. (q : ℕ) → q < n → passes n c.args.end s q ≡ in_window w q) period_is c.window-window.ensures.passes in
+    ap (λ xs. slice_index_or xs (k * T + r) 0) c.bring_admitted.ensures.counts
+    ∙ risen c.self.inside.counts c.raise_window_beside-full.new.counts c.base-base.result (k * T) r (in_window w r) (passes T c.args.end s r) base_is (sym (passing r below)) (c.raise_window_beside-full.ensures.here r)
+    ∙ ap (λ (s : Supports). slice_index_or s.counts (k * T + r) 0 + cond (passes T c.args.end c.args.residue r) 1 0) c.self.view_is
+
+pub returns-else-not-full-clause-counts : goal.returns-else-not-full-clause-counts
+returns-else-not-full-clause-counts c r below =
+    let T = c.args.self.now.period in
+    let k : ℕ = c.args.end.mate in
+    let s = c.args.residue in
+    let w = c.window-window.result in
+    let period_is = c.get-period.ensures.value ∙ ap (λ (s : Supports). s.period) c.self.view_is in
+    let base_is = c.base-base.ensures.base ∙ ap (λ n. k * n) period_is in
+    let passing = subst (λ n. (q : ℕ) → q < n → passes n c.args.end s q ≡ in_window w q) period_is c.window-window.ensures.passes in
+    risen c.self.inside.counts c.raise_window_beside-full.new.counts c.base-base.result (k * T) r (in_window w r) (passes T c.args.end s r) base_is (sym (passing r below)) (c.raise_window_beside-full.ensures.here r)
+    ∙ ap (λ (s : Supports). slice_index_or s.counts (k * T + r) 0 + cond (passes T c.args.end c.args.residue r) 1 0) c.self.view_is
+
+pub returns-then-not-full-clause-probes : goal.returns-then-not-full-clause-probes
+returns-then-not-full-clause-probes c =
+    let period_is = c.get-period.ensures.value ∙ ap (λ (s : Supports). s.period) c.self.view_is in
+    let probes_is = ap (λ (s : Supports). s.probes) c.self.view_is in
+    let paid = subst (λ n. c.bring_admitted.new.self.probes + n * length c.args.back.now.pairs ≤ c.raise_window_beside-full.new.probes + 1 + n * length c.bring_admitted.new.back.pairs) (ap (λ (s : Supports). s.period) c.self.view_is) c.bring_admitted.ensures.probes in
+    omega (arith, paid, period_is, probes_is, c.raise_window_beside-full.ensures.probes, c.window-window.ensures.below)
+
+pub returns-else-not-full-clause-probes : goal.returns-else-not-full-clause-probes
+returns-else-not-full-clause-probes c =
+    let period_is = c.get-period.ensures.value ∙ ap (λ (s : Supports). s.period) c.self.view_is in
+    let probes_is = ap (λ (s : Supports). s.probes) c.self.view_is in
+    omega (arith, period_is, probes_is, c.raise_window_beside-full.ensures.probes, c.window-window.ensures.below)
