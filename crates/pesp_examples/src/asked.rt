@@ -22,13 +22,20 @@ pub(crate) enum Step<'a> {
     Best(u64, Times<'a>),
     /// Nothing meets everything, with so many nodes where it is said.
     Infeasible(Option<u64>),
-    /// A search within a limit ends with the optimum.
-    Done(u64, u64, Times<'a>),
-    /// A search within a limit finds this, whether it ends there or stops.
-    Found(u64, u64, Times<'a>),
-    /// A search within limit 0 tells without a node that nothing meets everything.
-    DoneInfeasible,
-    /// A search within limit 0 stops with nothing.
+    /// A search that may visit so many nodes, and how it goes.
+    Within(u64, Outcome<'a>),
+}
+
+/// How a search within a limit goes.
+#[derive(Clone, Copy)]
+pub(crate) enum Outcome<'a> {
+    /// It ends with the optimum.
+    Done(u64, Times<'a>),
+    /// It finds this, whether it ends there or stops.
+    Found(u64, Times<'a>),
+    /// It tells that nothing meets everything.
+    Infeasible,
+    /// It stops with nothing.
     Stopped,
 }
 
@@ -115,16 +122,25 @@ fn assert_done_infeasible(rt: &impl Abort, tried: &Tried, message: &str) {
     );
 }
 
-/// What a search within the limit answers.
-fn tried<K: Keeper>(
+fn assert_outcome(rt: &impl Abort, tried: &Tried, outcome: Outcome<'_>, message: &str) {
+    match outcome {
+        Outcome::Done(cost, times) => assert_done(rt, tried, cost, times, message),
+        Outcome::Found(cost, times) => assert_found(rt, tried, cost, times, message),
+        Outcome::Infeasible => assert_done_infeasible(rt, tried, message),
+        Outcome::Stopped => assert_stopped(rt, tried, message),
+    }
+}
+
+fn assert_within<K: Keeper>(
     rt: &(impl Abort + AllocGlobal),
     kept: &mut Unpushed<K>,
     limit: u64,
+    outcome: Outcome<'_>,
     message: &str,
-) -> Tried {
+) {
     let (tried, nodes) = kept.tried(rt, limit);
     hold(rt, nodes <= limit, message);
-    tried
+    assert_outcome(rt, &tried, outcome, message);
 }
 
 fn take<K: Keeper>(
@@ -137,19 +153,18 @@ fn take<K: Keeper>(
         Step::Edit(change) => kept.change(rt, change),
         Step::Best(cost, times) => assert_best(rt, kept, cost, times, message),
         Step::Infeasible(nodes) => assert_infeasible(rt, kept, nodes, message),
-        Step::Done(limit, cost, times) => {
-            assert_done(rt, &tried(rt, kept, limit, message), cost, times, message);
-        }
-        Step::Found(limit, cost, times) => {
-            assert_found(rt, &tried(rt, kept, limit, message), cost, times, message);
-        }
-        Step::DoneInfeasible => assert_done_infeasible(rt, &tried(rt, kept, 0, message), message),
-        Step::Stopped => assert_stopped(rt, &tried(rt, kept, 0, message), message),
+        Step::Within(limit, outcome) => assert_within(rt, kept, limit, outcome, message),
     }
 }
 
 /// Steps, with a message each.
 pub(crate) type Steps<'a> = &'a [(Step<'a>, &'a str)];
+
+fn take_all<K: Keeper>(rt: &(impl Abort + AllocGlobal), kept: &mut Unpushed<K>, steps: Steps<'_>) {
+    for (step, message) in steps {
+        take(rt, kept, *step, message);
+    }
+}
 
 fn try_steps_by<K: Keeper>(
     rt: &(impl Abort + AllocGlobal),
@@ -158,9 +173,7 @@ fn try_steps_by<K: Keeper>(
     steps: Steps<'_>,
 ) {
     let mut kept: Unpushed<K> = Unpushed::made(rt, period, made);
-    for (step, message) in steps {
-        take(rt, &mut kept, *step, message);
-    }
+    take_all(rt, &mut kept, steps);
 }
 
 /// Takes the steps one after another on a keeper of either kind of what the edits make.

@@ -9,7 +9,7 @@ pub(crate) fn hold(rt: &impl Abort, holds: bool, message: &str) {
 }
 
 /// What was found is what is wanted.
-pub(crate) fn same<T: PartialEq + Debug + Drop>(
+pub(crate) fn same<T: Copy + PartialEq + Debug>(
     rt: &impl Abort,
     found: T,
     wanted: T,
@@ -19,7 +19,7 @@ pub(crate) fn same<T: PartialEq + Debug + Drop>(
 }
 
 /// What was found is what is wanted, and the message is words and a number.
-pub(crate) fn same_at<T: PartialEq + Debug + Drop>(
+pub(crate) fn same_at<T: Copy + PartialEq + Debug>(
     rt: &impl Abort,
     found: T,
     wanted: T,

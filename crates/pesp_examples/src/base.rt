@@ -31,62 +31,58 @@ fn limits_of_periods_and_spans(rt: HostRuntime) {
     assert_no_span(&rt, GREATEST_BOUND + 1, 0, SpanFault::OutOfRange);
 }
 
+/// Bounds of a span, a residue, what is listed, and a message.
+type Listed<'a> = ((i32, i32), u16, &'a [u16], &'a str);
+
 /// The partners at period 10.
-fn assert_partners(
-    rt: &(impl Abort + AllocGlobal),
-    span: Span,
-    from: u16,
-    wanted: &[u16],
-    message: &str,
-) {
+fn assert_partners(rt: &(impl Abort + AllocGlobal), listed: Listed<'_>) {
+    let (bounds, from, wanted, message) = listed;
     let period = Period::new(10).expect(rt, "a period");
     assert!(rt; from < period.get(), "a residue");
-    let listed = partners(period, span, from).collect::<Vec<u16>>(rt.alloc());
-    same(rt, listed.expect(rt, "memory").as_slice(), wanted, message);
+    let span = span(rt, bounds.0, bounds.1);
+    let found = partners(period, span, from).collect::<Vec<u16>>(rt.alloc());
+    same(rt, found.expect(rt, "memory").as_slice(), wanted, message);
 }
 
 /// The partners at period 10, from the back.
-fn assert_partners_back(
-    rt: &(impl Abort + AllocGlobal),
-    span: Span,
-    from: u16,
-    wanted: &[u16],
-    message: &str,
-) {
+fn assert_partners_back(rt: &(impl Abort + AllocGlobal), listed: Listed<'_>) {
+    let (bounds, from, wanted, message) = listed;
     let period = Period::new(10).expect(rt, "a period");
     assert!(rt; from < period.get(), "a residue");
-    let listed = partners(period, span, from)
+    let span = span(rt, bounds.0, bounds.1);
+    let found = partners(period, span, from)
         .rev()
         .collect::<Vec<u16>>(rt.alloc());
-    same(rt, listed.expect(rt, "memory").as_slice(), wanted, message);
+    same(rt, found.expect(rt, "memory").as_slice(), wanted, message);
 }
 
 /// The sources at period 10.
-fn assert_sources(
-    rt: &(impl Abort + AllocGlobal),
-    span: Span,
-    to: u16,
-    wanted: &[u16],
-    message: &str,
-) {
+fn assert_sources(rt: &(impl Abort + AllocGlobal), listed: Listed<'_>) {
+    let (bounds, to, wanted, message) = listed;
     let period = Period::new(10).expect(rt, "a period");
     assert!(rt; to < period.get(), "a residue");
-    let listed = sources(period, span, to).collect::<Vec<u16>>(rt.alloc());
-    same(rt, listed.expect(rt, "memory").as_slice(), wanted, message);
+    let span = span(rt, bounds.0, bounds.1);
+    let found = sources(period, span, to).collect::<Vec<u16>>(rt.alloc());
+    same(rt, found.expect(rt, "memory").as_slice(), wanted, message);
 }
+
+const PARTNERS: Listed<'_> = ((-2, 1), 0, &[8, 9, 0, 1], "partners of [-2, 1] from 0");
+
+const PARTNERS_BACK: Listed<'_> = ((-2, 1), 0, &[1, 0, 9, 8], "the same from the back");
+
+const ALL_PARTNERS: Listed<'_> = (
+    (7, 16),
+    0,
+    &[7, 8, 9, 0, 1, 2, 3, 4, 5, 6],
+    "partners of [7, 16] from 0",
+);
+
+const SOURCES: Listed<'_> = ((3, 5), 4, &[1, 0, 9], "sources of [3, 5] at 4");
 
 #[test]
 fn partners_and_sources_listed(rt: HostRuntime) {
-    let around = span(&rt, -2, 1);
-    assert_partners(&rt, around, 0, &[8, 9, 0, 1], "partners of [-2, 1] from 0");
-    assert_partners_back(&rt, around, 0, &[1, 0, 9, 8], "the same from the back");
-    let all: &[u16] = &[7, 8, 9, 0, 1, 2, 3, 4, 5, 6];
-    assert_partners(&rt, span(&rt, 7, 16), 0, all, "partners of [7, 16] from 0");
-    assert_sources(
-        &rt,
-        span(&rt, 3, 5),
-        4,
-        &[1, 0, 9],
-        "sources of [3, 5] at 4",
-    );
+    assert_partners(&rt, PARTNERS);
+    assert_partners_back(&rt, PARTNERS_BACK);
+    assert_partners(&rt, ALL_PARTNERS);
+    assert_sources(&rt, SOURCES);
 }

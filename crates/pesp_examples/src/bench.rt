@@ -47,11 +47,15 @@ fn assert_answered<K: Keeper>(
     assert_optimum_beside_seven(rt, bench, message);
 }
 
+fn answer_twice<K: Keeper>(rt: &(impl Abort + AllocGlobal), bench: &mut Bench<K>) {
+    assert_set(rt, bench, 1, 7, Ok(()));
+    assert_answered(rt, bench, false, "found");
+    assert_answered(rt, bench, true, "known before");
+}
+
 fn optimum_leaves_all_but_what_is_known_by<K: Keeper, R: Abort + AllocGlobal>(rt: &R) {
     let mut bench: Bench<K> = bench(rt);
-    assert_set(rt, &mut bench, 1, 7, Ok(()));
-    assert_answered(rt, &mut bench, false, "found");
-    assert_answered(rt, &mut bench, true, "known before");
+    answer_twice(rt, &mut bench);
 }
 
 #[test]
@@ -62,7 +66,8 @@ fn optimum_leaves_all_but_what_is_known(rt: HostRuntime) {
 
 /// Whether a search with a limit on its nodes ends.
 fn is_done<K: Keeper>(rt: &(impl Abort + AllocGlobal), bench: &mut Bench<K>, limit: u64) -> bool {
-    matches!(bench.try_optimum(rt.alloc(), limit), Ok(Attempt::Done))
+    let tried = bench.try_optimum(rt.alloc(), limit);
+    matches!(tried, Ok(Attempt::Done))
 }
 
 /// Whether a search with a limit on its nodes stops before it has found a timetable.
@@ -71,10 +76,8 @@ fn is_stopped<K: Keeper>(
     bench: &mut Bench<K>,
     limit: u64,
 ) -> bool {
-    matches!(
-        bench.try_optimum(rt.alloc(), limit),
-        Ok(Attempt::Stopped(None))
-    )
+    let tried = bench.try_optimum(rt.alloc(), limit);
+    matches!(tried, Ok(Attempt::Stopped(None)))
 }
 
 fn assert_done<K: Keeper>(
@@ -87,12 +90,16 @@ fn assert_done<K: Keeper>(
     assert_knows(rt, bench, FIRST, message);
 }
 
+fn try_within_limits<K: Keeper>(rt: &(impl Abort + AllocGlobal), bench: &mut Bench<K>) {
+    hold(rt, is_stopped(rt, bench, 0), "limit 0");
+    assert_done(rt, bench, 1_000_000, "limit 1,000,000");
+    assert_done(rt, bench, 0, "limit 0 again");
+    assert_no_nodes(rt, bench, "limit 0 again");
+}
+
 fn limited_tries_by<K: Keeper, R: Abort + AllocGlobal>(rt: &R) {
     let mut bench: Bench<K> = bench(rt);
-    hold(rt, is_stopped(rt, &mut bench, 0), "limit 0");
-    assert_done(rt, &mut bench, 1_000_000, "limit 1,000,000");
-    assert_done(rt, &mut bench, 0, "limit 0 again");
-    assert_no_nodes(rt, &bench, "limit 0 again");
+    try_within_limits(rt, &mut bench);
 }
 
 #[test]

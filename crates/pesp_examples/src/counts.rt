@@ -41,6 +41,7 @@ const POPPED: &[Count] = &[(Side::Tail, 0, Some(3))];
 fn counts_are_read_by_support(rt: HostRuntime) {
     let mut kept = Counted::two_activities(&rt);
     assert_pushed(&rt, &mut kept, PUSHED, POPPED);
+    drop(kept);
 }
 
 /// The rows of the four events, which are the same by either keeper.

@@ -40,6 +40,13 @@ fn assert_rows<K: Keeper>(rt: &impl Abort, keeper: &K, rows: Rows<'_>, message: 
     }
 }
 
+fn assert_edits<K: Keeper>(rt: &impl Abort, kept: &mut Unpushed<K>, edits: Edits<'_>) {
+    for (change, rows, message) in edits {
+        kept.change(rt, *change);
+        assert_rows(rt, &kept.keeper, rows, message);
+    }
+}
+
 fn edited_by<K: Keeper>(
     rt: &(impl Abort + AllocGlobal),
     made: &[Change],
@@ -48,17 +55,14 @@ fn edited_by<K: Keeper>(
 ) -> Unpushed<K> {
     let mut kept: Unpushed<K> = Unpushed::made(rt, 10, made);
     assert_rows(rt, &kept.keeper, first, "before the edits");
-    for (change, rows, message) in edits {
-        kept.change(rt, *change);
-        assert_rows(rt, &kept.keeper, rows, message);
-    }
+    assert_edits(rt, &mut kept, edits);
     kept
 }
 
 /// A keeper of either kind of what the first edits make has the first rows, and behind each of the others these.
 fn try_edits(rt: &(impl Abort + AllocGlobal), made: &[Change], first: Rows<'_>, edits: Edits<'_>) {
-    edited_by::<PlainKeeper>(rt, made, first, edits);
-    edited_by::<CountKeeper>(rt, made, first, edits);
+    drop(edited_by::<PlainKeeper>(rt, made, first, edits));
+    drop(edited_by::<CountKeeper>(rt, made, first, edits));
 }
 
 const FIXED_EVENT_NARROWS_DOMAINS: Edits<'_> = &[
@@ -105,11 +109,15 @@ const INFEASIBLE_INSTANCES: Edits<'_> = &[
     (Change::DropEvent(3), &[(1, &[]), (2, &[])], "it goes"),
 ];
 
+fn assert_no_third_event<K: Keeper>(rt: &impl Abort, keeper: &K) {
+    let three = event(rt, 3);
+    hold(rt, keeper.row(three).is_none(), "no event, no row");
+    hold(rt, !keeper.holds(three, 0), "no event, no residue");
+}
+
 fn infeasible_instances_by<K: Keeper, R: Abort + AllocGlobal>(rt: &R) {
     let kept: Unpushed<K> = edited_by(rt, TWO_ACTIVITIES, BOTH, INFEASIBLE_INSTANCES);
-    let three = event(rt, 3);
-    hold(rt, kept.keeper.row(three).is_none(), "no event, no row");
-    hold(rt, !kept.keeper.holds(three, 0), "no event, no residue");
+    assert_no_third_event(rt, &kept.keeper);
 }
 
 #[test]

@@ -1,6 +1,7 @@
 //! Edits of instances, their refusals, look-ups and walks, and the limits.
 
 use crate::asserts::{hold, same, same_at};
+use crate::changes::{Change, edit_of};
 use crate::made::{self, event, id};
 use pesp_base::{Activity, Period, Refusal, max_activities, max_events};
 use pesp_instance::{Edit, Instance};
@@ -22,83 +23,114 @@ fn refused(rt: &impl Abort, instance: &mut Instance, edit: Edit, refusal: Refusa
     same(rt, instance.apply(&edit), Err(refusal), message);
 }
 
+/// What an edit is answered, by the numbers of events and activities.
+#[derive(Clone, Copy)]
+enum Answer {
+    Accepted,
+    /// The event is used by the activity.
+    EventInUse(u32, u32),
+    EventExists(u32),
+    NotFixed(u32),
+}
+
+fn answer_of(rt: &impl Abort, answer: Answer) -> Result<(), Refusal> {
+    match answer {
+        Answer::Accepted => Ok(()),
+        Answer::EventInUse(number, by) => Err(Refusal::EventInUse(event(rt, number), id(rt, by))),
+        Answer::EventExists(number) => Err(Refusal::EventExists(event(rt, number))),
+        Answer::NotFixed(number) => Err(Refusal::NotFixed(event(rt, number))),
+    }
+}
+
+/// Edits, what each is answered, and a message.
+type Edits<'a> = &'a [(Change, Answer, &'a str)];
+
+fn assert_answer(
+    rt: &impl Abort,
+    instance: &mut Instance,
+    change: Change,
+    answer: Answer,
+    message: &str,
+) {
+    let found = instance.apply(&edit_of(rt, change));
+    same(rt, found, answer_of(rt, answer), message);
+}
+
+fn try_edits(rt: &impl Abort, instance: &mut Instance, edits: Edits<'_>) {
+    for (change, answer, message) in edits {
+        assert_answer(rt, instance, *change, *answer, message);
+    }
+}
+
 /// Two events and an activity each way between them, added in no order.
-fn two_activities(rt: &(impl Abort + AllocGlobal)) -> Instance {
-    let mut instance = empty(rt, 10);
-    accepted(
-        rt,
-        &mut instance,
-        Edit::AddEvent(event(rt, 2)),
-        "event 2 is new",
-    );
-    accepted(
-        rt,
-        &mut instance,
-        Edit::AddEvent(event(rt, 1)),
-        "event 1 is new",
-    );
-    accepted(
-        rt,
-        &mut instance,
-        Edit::AddActivity(activity(rt, 2, 2, 1)),
+const TWO_ACTIVITIES: Edits<'_> = &[
+    (Change::AddEvent(2), Answer::Accepted, "event 2 is new"),
+    (Change::AddEvent(1), Answer::Accepted, "event 1 is new"),
+    (
+        Change::AddActivity(2, (2, 1), (3, 5), 2),
+        Answer::Accepted,
         "activity 2 is new",
-    );
-    accepted(
-        rt,
-        &mut instance,
-        Edit::AddActivity(activity(rt, 1, 1, 2)),
+    ),
+    (
+        Change::AddActivity(1, (1, 2), (3, 5), 2),
+        Answer::Accepted,
         "activity 1 is new",
-    );
+    ),
+];
+
+/// The two activities after these edits.
+fn edited(rt: &(impl Abort + AllocGlobal), edits: Edits<'_>) -> Instance {
+    let mut instance = empty(rt, 10);
+    try_edits(rt, &mut instance, TWO_ACTIVITIES);
+    try_edits(rt, &mut instance, edits);
     instance
+}
+
+const REFUSALS: Edits<'_> = &[
+    (
+        Change::DropEvent(1),
+        Answer::EventInUse(1, 1),
+        "event 1 is used by activity 1",
+    ),
+    (
+        Change::AddEvent(1),
+        Answer::EventExists(1),
+        "event 1 exists",
+    ),
+    (
+        Change::Unfix(1),
+        Answer::NotFixed(1),
+        "event 1 is not fixed",
+    ),
+];
+
+/// Each edit of the two activities. The instance is let go by a call, which is proved in one step.
+fn try_edited(rt: &(impl Abort + AllocGlobal), edits: Edits<'_>) {
+    drop(edited(rt, edits));
 }
 
 #[test]
 fn refusals(rt: HostRuntime) {
-    let mut instance = two_activities(&rt);
-    let one = event(&rt, 1);
-    let used = Refusal::EventInUse(one, id(&rt, 1));
-    refused(
-        &rt,
-        &mut instance,
-        Edit::DropEvent(one),
-        used,
-        "event 1 is used by activity 1",
-    );
-    refused(
-        &rt,
-        &mut instance,
-        Edit::AddEvent(one),
-        Refusal::EventExists(one),
-        "event 1 exists",
-    );
-    refused(
-        &rt,
-        &mut instance,
-        Edit::Unfix(one),
-        Refusal::NotFixed(one),
-        "event 1 is not fixed",
-    );
+    try_edited(&rt, REFUSALS);
 }
+
+const ENDS_CHANGED: Edits<'_> = &[
+    (Change::AddEvent(3), Answer::Accepted, "event 3 is new"),
+    (
+        Change::SetEnds(2, 3, 1),
+        Answer::Accepted,
+        "activity 2 has new ends",
+    ),
+    (
+        Change::DropEvent(2),
+        Answer::EventInUse(2, 1),
+        "event 2 is used by activity 1",
+    ),
+];
 
 #[test]
 fn ends_changed(rt: HostRuntime) {
-    let mut instance = two_activities(&rt);
-    let (one, two, three) = (event(&rt, 1), event(&rt, 2), event(&rt, 3));
-    accepted(&rt, &mut instance, Edit::AddEvent(three), "event 3 is new");
-    accepted(
-        &rt,
-        &mut instance,
-        Edit::SetEnds(id(&rt, 2), three, one),
-        "activity 2 has new ends",
-    );
-    let used = Refusal::EventInUse(two, id(&rt, 1));
-    refused(
-        &rt,
-        &mut instance,
-        Edit::DropEvent(two),
-        used,
-        "event 2 is used by activity 1",
-    );
+    try_edited(&rt, ENDS_CHANGED);
 }
 
 /// Period 10, two events and two activities.
@@ -113,15 +145,25 @@ fn assert_activity(rt: &impl Abort, instance: &Instance, activity: Activity) {
     same(rt, found, Some(activity), "an activity");
 }
 
+const SECOND_FIXED: Edits<'_> = &[(Change::Fix(2, 7), Answer::Accepted, "event 2 is fixed")];
+
+/// Event 1 is there, and event 2 is fixed at 7.
+fn assert_second_fixed(rt: &impl Abort, instance: &Instance) {
+    hold(rt, instance.has_event(event(rt, 1)), "event 1");
+    same(rt, instance.fixed(event(rt, 2)), Some(7), "event 2");
+}
+
+fn assert_looked_up(rt: &impl Abort, instance: &Instance) {
+    assert_two_of_each(rt, instance);
+    assert_second_fixed(rt, instance);
+    assert_activity(rt, instance, activity(rt, 1, 1, 2));
+}
+
 #[test]
 fn look_ups(rt: HostRuntime) {
-    let mut instance = two_activities(&rt);
-    let (one, two) = (event(&rt, 1), event(&rt, 2));
-    accepted(&rt, &mut instance, Edit::Fix(two, 7), "event 2 is fixed");
-    assert_two_of_each(&rt, &instance);
-    hold(&rt, instance.has_event(one), "event 1");
-    same(&rt, instance.fixed(two), Some(7), "event 2");
-    assert_activity(&rt, &instance, activity(&rt, 1, 1, 2));
+    let instance = edited(&rt, SECOND_FIXED);
+    assert_looked_up(&rt, &instance);
+    drop(instance);
 }
 
 fn assert_events(rt: &(impl Abort + AllocGlobal), instance: &Instance, numbers: &[u32]) {
@@ -142,73 +184,84 @@ fn assert_around(rt: &(impl Abort + AllocGlobal), instance: &Instance, at: u32, 
     same_at(rt, found.as_slice(), numbers, "around event", at);
 }
 
+/// Events and the activities around each.
+type Around<'a> = &'a [(u32, &'a [u32])];
+
+fn assert_all_around(rt: &(impl Abort + AllocGlobal), instance: &Instance, around: Around<'_>) {
+    for (at, numbers) in around {
+        assert_around(rt, instance, *at, numbers);
+    }
+}
+
+const LOOP_ADDED: Edits<'_> = &[(
+    Change::AddActivity(3, (2, 2), (3, 5), 2),
+    Answer::Accepted,
+    "a loop at event 2",
+)];
+
+const WITH_A_LOOP: Around<'_> = &[(1, &[1, 2]), (2, &[1, 2, 3])];
+
+fn assert_walks(rt: &(impl Abort + AllocGlobal), instance: &Instance) {
+    assert_events(rt, instance, &[1, 2]);
+    assert_activities(rt, instance, &[1, 2, 3]);
+    assert_all_around(rt, instance, WITH_A_LOOP);
+}
+
+const FIRST_DROPPED: Edits<'_> = &[(Change::DropActivity(1), Answer::Accepted, "activity 1 goes")];
+
+const WITHOUT_THE_FIRST: Around<'_> = &[(2, &[2, 3])];
+
 #[test]
 fn walks(rt: HostRuntime) {
-    let mut instance = two_activities(&rt);
-    accepted(
-        &rt,
-        &mut instance,
-        Edit::AddActivity(activity(&rt, 3, 2, 2)),
-        "a loop at event 2",
-    );
-    assert_events(&rt, &instance, &[1, 2]);
-    assert_activities(&rt, &instance, &[1, 2, 3]);
-    assert_around(&rt, &instance, 1, &[1, 2]);
-    assert_around(&rt, &instance, 2, &[1, 2, 3]);
-    accepted(
-        &rt,
-        &mut instance,
-        Edit::DropActivity(id(&rt, 1)),
-        "activity 1 goes",
-    );
-    assert_around(&rt, &instance, 2, &[2, 3]);
+    let mut instance = edited(&rt, LOOP_ADDED);
+    assert_walks(&rt, &instance);
+    try_edits(&rt, &mut instance, FIRST_DROPPED);
+    assert_all_around(&rt, &instance, WITHOUT_THE_FIRST);
+    drop(instance);
+}
+
+/// As many events as there may be, and one more, which is refused.
+fn fill_events(rt: &impl Abort, instance: &mut Instance) {
+    let most = max_events(instance.period()) as u32;
+    for number in 0..most {
+        accepted(rt, instance, Edit::AddEvent(event(rt, number)), "an event");
+    }
+    let one_more = Edit::AddEvent(event(rt, most));
+    let full = Refusal::TooManyEvents;
+    refused(rt, instance, one_more, full, "one event too many");
+}
+
+/// As many activities among the events as there may be, and one more, which is refused.
+fn fill_activities(rt: &impl Abort, instance: &mut Instance) {
+    let events = max_events(instance.period()) as u32;
+    let most = max_activities(instance.period()) as u32;
+    for number in 0..most {
+        let one = activity(rt, number, number % events, number / 5);
+        accepted(rt, instance, Edit::AddActivity(one), "an activity");
+    }
+    let one_more = Edit::AddActivity(activity(rt, most, 1, 2));
+    let full = Refusal::TooManyActivities;
+    refused(rt, instance, one_more, full, "one activity too many");
 }
 
 #[test]
 fn limits(rt: HostRuntime) {
     let mut instance = empty(&rt, 60);
-    let most_events = max_events(instance.period()) as u32;
-    let most_activities = max_activities(instance.period()) as u32;
-    for number in 0..most_events {
-        accepted(
-            &rt,
-            &mut instance,
-            Edit::AddEvent(event(&rt, number)),
-            "an event",
-        );
-    }
-    let one_more = Edit::AddEvent(event(&rt, most_events));
-    refused(
-        &rt,
-        &mut instance,
-        one_more,
-        Refusal::TooManyEvents,
-        "one event too many",
-    );
-    for number in 0..most_activities {
-        let one = activity(&rt, number, number % most_events, number / 5);
-        accepted(&rt, &mut instance, Edit::AddActivity(one), "an activity");
-    }
-    let one_more = Edit::AddActivity(activity(&rt, most_activities, 1, 2));
-    refused(
-        &rt,
-        &mut instance,
-        one_more,
-        Refusal::TooManyActivities,
-        "one activity too many",
-    );
+    fill_events(&rt, &mut instance);
+    fill_activities(&rt, &mut instance);
 }
+
+const THE_SAME_ENDS: Edits<'_> = &[(
+    Change::SetEnds(1, 1, 2),
+    Answer::Accepted,
+    "activity 1 stays where it is",
+)];
+
+const BOTH_AROUND_BOTH: Around<'_> = &[(1, &[1, 2]), (2, &[1, 2])];
 
 #[test]
 fn the_same_ends(rt: HostRuntime) {
-    let mut instance = two_activities(&rt);
-    let (one, two) = (event(&rt, 1), event(&rt, 2));
-    accepted(
-        &rt,
-        &mut instance,
-        Edit::SetEnds(id(&rt, 1), one, two),
-        "activity 1 stays where it is",
-    );
-    assert_around(&rt, &instance, 1, &[1, 2]);
-    assert_around(&rt, &instance, 2, &[1, 2]);
+    let instance = edited(&rt, THE_SAME_ENDS);
+    assert_all_around(&rt, &instance, BOTH_AROUND_BOTH);
+    drop(instance);
 }

@@ -222,18 +222,21 @@ fn assert_no_candidate<K: Keeper>(
     assert_unknown(rt, bench, message);
 }
 
-/// A workbench of the two activities of which the optimum was found before this edit.
-fn found_before<K: Keeper>(rt: &(impl Abort + AllocGlobal), edit: Change) -> Bench<K> {
-    let mut bench: Bench<K> = bench(rt);
-    same(rt, find(rt, &mut bench), Ok(()), "found before");
-    change(rt, &mut bench, edit);
-    bench
+/// The optimum is found before this edit.
+fn find_before<K: Keeper>(rt: &(impl Abort + AllocGlobal), bench: &mut Bench<K>, edit: Change) {
+    same(rt, find(rt, bench), Ok(()), "found before");
+    change(rt, bench, edit);
+}
+
+fn hand_out<K: Keeper>(rt: &(impl Abort + AllocGlobal), bench: &mut Bench<K>) {
+    find_before(rt, bench, Change::SetWeight(1, 3));
+    assert_handed_out(rt, bench, 5);
+    assert_no_candidate(rt, bench, "it was handed out");
 }
 
 fn candidate_is_handed_out_by<K: Keeper, R: Abort + AllocGlobal>(rt: &R) {
-    let mut bench: Bench<K> = found_before(rt, Change::SetWeight(1, 3));
-    assert_handed_out(rt, &mut bench, 5);
-    assert_no_candidate(rt, &mut bench, "it was handed out");
+    let mut bench: Bench<K> = bench(rt);
+    hand_out(rt, &mut bench);
 }
 
 #[test]
@@ -242,11 +245,16 @@ fn candidate_is_handed_out(rt: HostRuntime) {
     candidate_is_handed_out_by::<CountKeeper, _>(&rt);
 }
 
+fn keep_no_member<K: Keeper>(rt: &(impl Abort + AllocGlobal), bench: &mut Bench<K>) {
+    find_before(rt, bench, Change::Fix(1, 3));
+    assert_no_candidate(rt, bench, "fixed elsewhere");
+    change(rt, bench, Change::Unfix(1));
+    assert_handed_out(rt, bench, 4);
+}
+
 fn candidate_that_is_no_member_by<K: Keeper, R: Abort + AllocGlobal>(rt: &R) {
-    let mut bench: Bench<K> = found_before(rt, Change::Fix(1, 3));
-    assert_no_candidate(rt, &mut bench, "fixed elsewhere");
-    change(rt, &mut bench, Change::Unfix(1));
-    assert_handed_out(rt, &mut bench, 4);
+    let mut bench: Bench<K> = bench(rt);
+    keep_no_member(rt, &mut bench);
 }
 
 #[test]
@@ -276,10 +284,21 @@ fn timetable(
 /// Times, and what they cost where they are of a timetable that meets everything.
 type Costs<'a> = &'a [(&'a [(u32, u16)], Option<u64>, &'a str)];
 
-fn assert_costs(rt: &(impl Abort + AllocGlobal), instance: &Instance, cases: Costs<'_>) {
+fn assert_member_cost(
+    rt: &(impl Abort + AllocGlobal),
+    instance: &Instance,
+    times: &[(u32, u16)],
+    cost: Option<u64>,
+    message: &str,
+) {
+    let timetable = timetable(rt, instance, times);
+    same(rt, member_cost(instance, &timetable), cost, message);
+}
+
+fn assert_costs<K: Keeper>(rt: &(impl Abort + AllocGlobal), kept: &Unpushed<K>, cases: Costs<'_>) {
+    let instance = kept.keeper.instance();
     for (times, cost, message) in cases {
-        let timetable = timetable(rt, instance, times);
-        same(rt, member_cost(instance, &timetable), *cost, message);
+        assert_member_cost(rt, instance, times, *cost, message);
     }
 }
 
@@ -295,7 +314,8 @@ const COST_OF_A_MEMBER: Costs<'_> = &[
 #[test]
 fn cost_of_a_member(rt: HostRuntime) {
     let kept: Unpushed<PlainKeeper> = Unpushed::two_activities(&rt);
-    assert_costs(&rt, kept.keeper.instance(), COST_OF_A_MEMBER);
+    assert_costs(&rt, &kept, COST_OF_A_MEMBER);
+    drop(kept);
 }
 
 const COST_OF_A_MEMBER_WITH_A_FIXED_TIME: Costs<'_> = &[
@@ -305,15 +325,22 @@ const COST_OF_A_MEMBER_WITH_A_FIXED_TIME: Costs<'_> = &[
 
 const COST_OF_NO_MEMBER: Costs<'_> = &[(&[(1, 0), (2, 4)], None, "infeasible")];
 
+/// What these times cost behind an edit.
+fn assert_costs_after<K: Keeper>(
+    rt: &(impl Abort + AllocGlobal),
+    kept: &mut Unpushed<K>,
+    edit: Change,
+    cases: Costs<'_>,
+) {
+    kept.change(rt, edit);
+    assert_costs(rt, kept, cases);
+}
+
 #[test]
 fn cost_of_a_member_with_a_fixed_time(rt: HostRuntime) {
     let mut kept: Unpushed<PlainKeeper> = Unpushed::two_activities(&rt);
-    kept.change(&rt, Change::Fix(1, 0));
-    assert_costs(
-        &rt,
-        kept.keeper.instance(),
-        COST_OF_A_MEMBER_WITH_A_FIXED_TIME,
-    );
-    kept.change(&rt, Change::SetSpan(1, 3, 3));
-    assert_costs(&rt, kept.keeper.instance(), COST_OF_NO_MEMBER);
+    let fixed = COST_OF_A_MEMBER_WITH_A_FIXED_TIME;
+    assert_costs_after(&rt, &mut kept, Change::Fix(1, 0), fixed);
+    assert_costs_after(&rt, &mut kept, Change::SetSpan(1, 3, 3), COST_OF_NO_MEMBER);
+    drop(kept);
 }

@@ -37,14 +37,23 @@ fn assert_restored(
 /// Edits, and the residues of both events that each puts back.
 type Edits<'a> = &'a [(Change, &'a [u16], &'a [u16], &'a str)];
 
-/// The two activities after these edits.
-fn edited(rt: &(impl Abort + AllocGlobal), edits: Edits<'_>) -> Counted {
-    let mut kept = Counted::two_activities(rt);
+fn take(rt: &impl Abort, kept: &mut Counted, edits: Edits<'_>) {
     for (change, first, second, message) in edits {
         kept.change(rt, *change);
         assert_restored(rt, &kept.keeper, first, second, message);
     }
+}
+
+/// The two activities after these edits.
+fn edited(rt: &(impl Abort + AllocGlobal), edits: Edits<'_>) -> Counted {
+    let mut kept = Counted::two_activities(rt);
+    take(rt, &mut kept, edits);
     kept
+}
+
+/// Each edit of the two activities. The keeper is let go by a call, which is proved in one step.
+fn try_edits(rt: &(impl Abort + AllocGlobal), edits: Edits<'_>) {
+    drop(edited(rt, edits));
 }
 
 const A_FIXED_TIME_IS_MOVED: Edits<'_> = &[
@@ -56,7 +65,7 @@ const A_FIXED_TIME_IS_MOVED: Edits<'_> = &[
 
 #[test]
 fn a_fixed_time_is_moved(rt: HostRuntime) {
-    edited(&rt, A_FIXED_TIME_IS_MOVED);
+    try_edits(&rt, A_FIXED_TIME_IS_MOVED);
 }
 
 const A_FIXED_TIME_IS_TAKEN_AWAY: Edits<'_> = &[
@@ -73,7 +82,7 @@ const A_FIXED_TIME_IS_TAKEN_AWAY: Edits<'_> = &[
 
 #[test]
 fn a_fixed_time_is_taken_away(rt: HostRuntime) {
-    edited(&rt, A_FIXED_TIME_IS_TAKEN_AWAY);
+    try_edits(&rt, A_FIXED_TIME_IS_TAKEN_AWAY);
 }
 
 /// The residues of the second event that come back where the second activity joins nothing.
@@ -86,7 +95,7 @@ const AN_ACTIVITY_IS_DROPPED: Edits<'_> = &[
 
 #[test]
 fn an_activity_is_dropped(rt: HostRuntime) {
-    edited(&rt, AN_ACTIVITY_IS_DROPPED);
+    try_edits(&rt, AN_ACTIVITY_IS_DROPPED);
 }
 
 const THE_SAME_ENDS_ARE_GIVEN_AGAIN: Edits<'_> = &[
@@ -96,7 +105,7 @@ const THE_SAME_ENDS_ARE_GIVEN_AGAIN: Edits<'_> = &[
 
 #[test]
 fn the_same_ends_are_given_again(rt: HostRuntime) {
-    edited(&rt, THE_SAME_ENDS_ARE_GIVEN_AGAIN);
+    try_edits(&rt, THE_SAME_ENDS_ARE_GIVEN_AGAIN);
 }
 
 const A_WIDER_SPAN_IS_GIVEN: Edits<'_> = &[
@@ -106,13 +115,14 @@ const A_WIDER_SPAN_IS_GIVEN: Edits<'_> = &[
 
 #[test]
 fn a_wider_span_is_given(rt: HostRuntime) {
-    edited(&rt, A_WIDER_SPAN_IS_GIVEN);
+    try_edits(&rt, A_WIDER_SPAN_IS_GIVEN);
 }
 
 #[test]
 fn no_edit_puts_nothing_back(rt: HostRuntime) {
     let kept = edited(&rt, &[]);
     assert_restored(&rt, &kept.keeper, &[], &[], "no edit that restores");
+    drop(kept);
 }
 
 /// A push and a pop leave the list as it was.
@@ -124,10 +134,10 @@ fn assert_pushed(rt: &impl Abort, kept: &mut Counted, first: &[u16], second: &[u
 }
 
 /// A refused edit, a push and a pop leave the list as it was.
-fn assert_kept(rt: &impl Abort, mut kept: Counted, first: &[u16], second: &[u16]) {
+fn assert_kept(rt: &impl Abort, kept: &mut Counted, first: &[u16], second: &[u16]) {
     kept.refuse_a_time(rt);
     assert_restored(rt, &kept.keeper, first, second, "a refused edit");
-    assert_pushed(rt, &mut kept, first, second);
+    assert_pushed(rt, kept, first, second);
 }
 
 const TWO_FIXED_TIMES: Edits<'_> = &[
@@ -137,6 +147,7 @@ const TWO_FIXED_TIMES: Edits<'_> = &[
 
 #[test]
 fn nothing_but_an_accepted_edit_changes_the_list(rt: HostRuntime) {
-    let kept = edited(&rt, TWO_FIXED_TIMES);
-    assert_kept(&rt, kept, &[1], &[6, 7]);
+    let mut kept = edited(&rt, TWO_FIXED_TIMES);
+    assert_kept(&rt, &mut kept, &[1], &[6, 7]);
+    drop(kept);
 }

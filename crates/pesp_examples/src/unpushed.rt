@@ -49,15 +49,19 @@ impl<K: Keeper> Unpushed<K> {
     ) -> Unpushed<K> {
         let period = Period::new(period).expect(rt, "a period");
         let mut kept: Unpushed<K> = Unpushed::of(rt, Instance::new(rt.alloc(), period));
-        for edit in edits {
-            kept.change(rt, *edit);
-        }
+        kept.change_all(rt, edits);
         kept
     }
 
     /// Two events and an activity each way between them.
     pub(crate) fn two_activities(rt: &(impl Abort + AllocGlobal)) -> Unpushed<K> {
         Unpushed::made(rt, 10, TWO_ACTIVITIES)
+    }
+
+    fn change_all(&mut self, rt: &impl Abort, edits: &[Change]) {
+        for edit in edits {
+            self.change(rt, *edit);
+        }
     }
 
     /// The edit is accepted.

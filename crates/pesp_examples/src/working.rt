@@ -28,12 +28,16 @@ fn assert_cost<K: Keeper>(rt: &impl Abort, bench: &Bench<K>, cost: Result<u64, R
     same(rt, bench.cost(), cost, "the cost");
 }
 
-/// Both activities have a tension, and the second is violated.
-fn assert_second_violated<K: Keeper>(rt: &(impl Abort + AllocGlobal), bench: &Bench<K>) {
+/// Both activities have a tension.
+fn assert_two_tensions<K: Keeper>(rt: &(impl Abort + AllocGlobal), bench: &Bench<K>) {
     let tensions = bench.tensions(rt.alloc()).ok().expect(rt, "memory");
     same(rt, tensions.len(), 2, "tensions");
-    let violations = bench.violations(rt.alloc()).ok().expect(rt, "memory");
+}
+
+/// The second activity is violated.
+fn assert_second_violated<K: Keeper>(rt: &(impl Abort + AllocGlobal), bench: &Bench<K>) {
     let wanted = [Violation::Activity(id(rt, 2))];
+    let violations = bench.violations(rt.alloc()).ok().expect(rt, "memory");
     same(rt, violations.as_slice(), &wanted, "violations");
 }
 
@@ -46,20 +50,27 @@ fn assert_cleared<K: Keeper>(
     same(rt, clear_time(rt, bench, number), answer, "no time");
 }
 
-fn working_timetable_by<K: Keeper, R: Abort + AllocGlobal>(rt: &R) {
-    let mut bench: Bench<K> = bench(rt);
-    let (two, three) = (event(rt, 2), event(rt, 3));
-    assert_set(rt, &mut bench, 1, 0, Ok(()));
-    assert_set(rt, &mut bench, 2, 12, Err(Refusal::TimeOutOfRange(12)));
-    assert_set(rt, &mut bench, 3, 12, Err(Refusal::NoEvent(three)));
-    assert_cost(rt, &bench, Err(Refusal::MissingTime(two)));
-    assert_set(rt, &mut bench, 2, 3, Ok(()));
-    assert_cost(rt, &bench, Ok(3));
-    assert_second_violated(rt, &bench);
-    assert_cleared(rt, &mut bench, 2, Ok(()));
-    assert_cleared(rt, &mut bench, 2, Err(Refusal::MissingTime(two)));
-    assert_cleared(rt, &mut bench, 3, Err(Refusal::NoEvent(three)));
-    adopted_optimum_stays(rt, &mut bench);
+fn times_are_set<K: Keeper>(rt: &(impl Abort + AllocGlobal), bench: &mut Bench<K>) {
+    assert_set(rt, bench, 1, 0, Ok(()));
+    assert_set(rt, bench, 2, 12, Err(Refusal::TimeOutOfRange(12)));
+    assert_set(rt, bench, 3, 12, Err(Refusal::NoEvent(event(rt, 3))));
+    assert_cost(rt, bench, Err(Refusal::MissingTime(event(rt, 2))));
+    assert_set(rt, bench, 2, 3, Ok(()));
+    assert_cost(rt, bench, Ok(3));
+}
+
+fn times_are_cleared<K: Keeper>(rt: &impl Abort, bench: &mut Bench<K>) {
+    assert_cleared(rt, bench, 2, Ok(()));
+    assert_cleared(rt, bench, 2, Err(Refusal::MissingTime(event(rt, 2))));
+    assert_cleared(rt, bench, 3, Err(Refusal::NoEvent(event(rt, 3))));
+}
+
+fn set_clear_and_adopt<K: Keeper>(rt: &(impl Abort + AllocGlobal), bench: &mut Bench<K>) {
+    times_are_set(rt, bench);
+    assert_two_tensions(rt, bench);
+    assert_second_violated(rt, bench);
+    times_are_cleared(rt, bench);
+    adopted_optimum_stays(rt, bench);
 }
 
 fn assert_adopted<K: Keeper>(
@@ -80,6 +91,11 @@ fn adopted_optimum_stays<K: Keeper>(rt: &(impl Abort + AllocGlobal), bench: &mut
     assert_adopted(rt, bench, Err(Refusal::Infeasible), "infeasible");
 }
 
+fn working_timetable_by<K: Keeper, R: Abort + AllocGlobal>(rt: &R) {
+    let mut bench: Bench<K> = bench(rt);
+    set_clear_and_adopt(rt, &mut bench);
+}
+
 #[test]
 fn working_timetable(rt: HostRuntime) {
     working_timetable_by::<PlainKeeper, _>(&rt);
@@ -93,15 +109,28 @@ fn assert_in_use<K: Keeper>(rt: &impl Abort, bench: &mut Bench<K>) {
     same(rt, dropped, refused, "event 2 is dropped");
 }
 
+/// No event has a time.
+fn assert_no_times<K: Keeper>(rt: &impl Abort, bench: &Bench<K>, message: &str) {
+    assert_times(rt, bench.timetable(), &[], message);
+}
+
+fn assert_three_events<K: Keeper>(rt: &impl Abort, bench: &Bench<K>) {
+    same(rt, bench.instance().event_count(), 3, "events");
+}
+
+fn drop_and_add_an_event<K: Keeper>(rt: &impl Abort, bench: &mut Bench<K>) {
+    change(rt, bench, Change::AddEvent(3));
+    assert_set(rt, bench, 3, 5, Ok(()));
+    change(rt, bench, Change::DropEvent(3));
+    change(rt, bench, Change::AddEvent(3));
+    assert_no_times(rt, bench, "event 3 is another one");
+    assert_in_use(rt, bench);
+    assert_three_events(rt, bench);
+}
+
 fn dropped_event_has_no_time_by<K: Keeper, R: Abort + AllocGlobal>(rt: &R) {
     let mut bench: Bench<K> = bench(rt);
-    change(rt, &mut bench, Change::AddEvent(3));
-    assert_set(rt, &mut bench, 3, 5, Ok(()));
-    change(rt, &mut bench, Change::DropEvent(3));
-    change(rt, &mut bench, Change::AddEvent(3));
-    assert_times(rt, bench.timetable(), &[], "event 3 is another one");
-    assert_in_use(rt, &mut bench);
-    same(rt, bench.instance().event_count(), 3, "events");
+    drop_and_add_an_event(rt, &mut bench);
 }
 
 #[test]
@@ -159,15 +188,19 @@ fn assert_looked_up<K: Keeper>(rt: &impl Abort, bench: &Bench<K>) {
 /// The residues at period 10.
 const ALL: &[u16] = &[0, 1, 2, 3, 4, 5, 6, 7, 8, 9];
 
+fn fix_and_unfix<K: Keeper>(rt: &(impl Abort + AllocGlobal), bench: &mut Bench<K>) {
+    change(rt, bench, Change::Fix(1, 0));
+    assert_domain(rt, bench, 1, &[0], "event 1 at 0");
+    assert_domain(rt, bench, 2, &[4, 5], "event 2 with it");
+    assert_looked_up(rt, bench);
+    change(rt, bench, Change::Unfix(1));
+    assert_domain(rt, bench, 1, ALL, "unfixed");
+    assert_domain(rt, bench, 2, ALL, "unfixed");
+}
+
 fn fixed_event_narrows_domains_by<K: Keeper, R: Abort + AllocGlobal>(rt: &R) {
     let mut bench: Bench<K> = bench(rt);
-    change(rt, &mut bench, Change::Fix(1, 0));
-    assert_domain(rt, &bench, 1, &[0], "event 1 at 0");
-    assert_domain(rt, &bench, 2, &[4, 5], "event 2 with it");
-    assert_looked_up(rt, &bench);
-    change(rt, &mut bench, Change::Unfix(1));
-    assert_domain(rt, &bench, 1, ALL, "unfixed");
-    assert_domain(rt, &bench, 2, ALL, "unfixed");
+    fix_and_unfix(rt, &mut bench);
 }
 
 #[test]

@@ -25,14 +25,23 @@ fn assert_taken(rt: &impl Abort, keeper: &CountKeeper, taken: Taken, message: &s
 /// Edits, and what each takes.
 type Edits<'a> = &'a [(Change, Taken, &'a str)];
 
-/// The two activities after these edits.
-fn edited(rt: &(impl Abort + AllocGlobal), edits: Edits<'_>) -> Counted {
-    let mut kept = Counted::two_activities(rt);
+fn take(rt: &impl Abort, kept: &mut Counted, edits: Edits<'_>) {
     for (change, taken, message) in edits {
         kept.change(rt, *change);
         assert_taken(rt, &kept.keeper, *taken, message);
     }
+}
+
+/// The two activities after these edits.
+fn edited(rt: &(impl Abort + AllocGlobal), edits: Edits<'_>) -> Counted {
+    let mut kept = Counted::two_activities(rt);
+    take(rt, &mut kept, edits);
     kept
+}
+
+/// Each edit of the two activities. The keeper is let go by a call, which is proved in one step.
+fn try_edits(rt: &(impl Abort + AllocGlobal), edits: Edits<'_>) {
+    drop(edited(rt, edits));
 }
 
 const BOTH_ROWS_ARE_FILLED_AGAIN: Edits<'_> = &[
@@ -43,7 +52,7 @@ const BOTH_ROWS_ARE_FILLED_AGAIN: Edits<'_> = &[
 
 #[test]
 fn both_rows_are_filled_again(rt: HostRuntime) {
-    edited(&rt, BOTH_ROWS_ARE_FILLED_AGAIN);
+    try_edits(&rt, BOTH_ROWS_ARE_FILLED_AGAIN);
 }
 
 const A_FIXED_TIME_IS_MOVED: Edits<'_> = &[
@@ -53,7 +62,7 @@ const A_FIXED_TIME_IS_MOVED: Edits<'_> = &[
 
 #[test]
 fn a_fixed_time_is_moved(rt: HostRuntime) {
-    edited(&rt, A_FIXED_TIME_IS_MOVED);
+    try_edits(&rt, A_FIXED_TIME_IS_MOVED);
 }
 
 const THE_SAME_TIME_IS_GIVEN_AGAIN: Edits<'_> = &[
@@ -63,7 +72,7 @@ const THE_SAME_TIME_IS_GIVEN_AGAIN: Edits<'_> = &[
 
 #[test]
 fn the_same_time_is_given_again(rt: HostRuntime) {
-    edited(&rt, THE_SAME_TIME_IS_GIVEN_AGAIN);
+    try_edits(&rt, THE_SAME_TIME_IS_GIVEN_AGAIN);
 }
 
 const AN_ACTIVITY_IS_DROPPED: Edits<'_> = &[
@@ -77,7 +86,7 @@ const AN_ACTIVITY_IS_DROPPED: Edits<'_> = &[
 
 #[test]
 fn an_activity_is_dropped(rt: HostRuntime) {
-    edited(&rt, AN_ACTIVITY_IS_DROPPED);
+    try_edits(&rt, AN_ACTIVITY_IS_DROPPED);
 }
 
 const THE_SAME_ENDS_ARE_GIVEN_AGAIN: Edits<'_> = &[
@@ -87,7 +96,7 @@ const THE_SAME_ENDS_ARE_GIVEN_AGAIN: Edits<'_> = &[
 
 #[test]
 fn the_same_ends_are_given_again(rt: HostRuntime) {
-    edited(&rt, THE_SAME_ENDS_ARE_GIVEN_AGAIN);
+    try_edits(&rt, THE_SAME_ENDS_ARE_GIVEN_AGAIN);
 }
 
 fn accept(rt: &impl Abort, instance: &mut Instance, edit: Edit) {
@@ -98,19 +107,28 @@ fn join(rt: &impl Abort, instance: &mut Instance, activity: Activity) {
     accept(rt, instance, Edit::AddActivity(activity));
 }
 
-/// Events 1001 to 3000 one after another beside events 1 and 2, with activities of the numbers 1, 2 and 1001 to 2999.
+/// Events 1001 to 3000 beside events 1 and 2.
+fn add_events(rt: &impl Abort, instance: &mut Instance) {
+    for number in (1..3).chain(1001..3001) {
+        accept(rt, instance, Edit::AddEvent(event(rt, number)));
+    }
+}
+
+/// Activities of the numbers 1 and 2 between events 1 and 2, and of 1001 to 2999 from each other event to the next.
+fn join_events(rt: &impl Abort, instance: &mut Instance) {
+    join(rt, instance, activity(rt, 1, (1, 2), (3, 5), 2));
+    join(rt, instance, activity(rt, 2, (2, 1), (4, 6), 1));
+    for number in 1001..3000 {
+        let next = activity(rt, number, (number, number + 1), (2, 4), 1);
+        join(rt, instance, next);
+    }
+}
+
 fn chain(rt: &(impl Abort + AllocGlobal)) -> Instance {
     let period = Period::new(10).expect(rt, "a period");
     let mut instance = Instance::new(rt.alloc(), period);
-    for number in (1..3).chain(1001..3001) {
-        accept(rt, &mut instance, Edit::AddEvent(event(rt, number)));
-    }
-    join(rt, &mut instance, activity(rt, 1, (1, 2), (3, 5), 2));
-    join(rt, &mut instance, activity(rt, 2, (2, 1), (4, 6), 1));
-    for number in 1001..3000 {
-        let next = activity(rt, number, (number, number + 1), (2, 4), 1);
-        join(rt, &mut instance, next);
-    }
+    add_events(rt, &mut instance);
+    join_events(rt, &mut instance);
     instance
 }
 
@@ -119,6 +137,7 @@ fn a_long_chain(rt: HostRuntime) {
     let mut kept = Counted::of(&rt, chain(&rt));
     kept.change(&rt, Change::SetSpan(1, 3, 6));
     assert_taken(&rt, &kept.keeper, (0, 0, Some(400)), "a wider span");
+    drop(kept);
 }
 
 /// The work of the last edit is this one.
@@ -135,6 +154,7 @@ fn no_edit_takes_nothing(rt: HostRuntime) {
         probes: 0,
     };
     assert_work(&rt, &kept.keeper, none, "no edit");
+    drop(kept);
 }
 
 /// A push and a pop leave the work as it was.
@@ -146,15 +166,18 @@ fn assert_pushed(rt: &impl Abort, kept: &mut Counted, work: Work) {
 }
 
 /// A refused edit, a push and a pop leave the work as it was.
-fn assert_kept(rt: &impl Abort, mut kept: Counted) {
+fn assert_kept(rt: &impl Abort, kept: &mut Counted) {
     let work = kept.keeper.last_work();
     kept.refuse_a_time(rt);
     assert_work(rt, &kept.keeper, work, "a refused edit");
-    assert_pushed(rt, &mut kept, work);
+    assert_pushed(rt, kept, work);
 }
+
+const A_FIRST_TIME: Edits<'_> = &[(Change::Fix(1, 0), (0, 17, None), "a first time")];
 
 #[test]
 fn nothing_but_an_accepted_edit_changes_the_work(rt: HostRuntime) {
-    let kept = edited(&rt, &[(Change::Fix(1, 0), (0, 17, None), "a first time")]);
-    assert_kept(&rt, kept);
+    let mut kept = edited(&rt, A_FIRST_TIME);
+    assert_kept(&rt, &mut kept);
+    drop(kept);
 }

@@ -1,6 +1,7 @@
 -- What is told under the cost of a timetable from beforehand is told for the given bound.
-use Rattle.std.proofs.Common.{refl}
+use Rattle.std.proofs.Common.{refl, sym, ap, ◌∙◌}
 use Rattle.std.proofs.lemmas.Result.{IfOk-from_err}
+use Rattle.pesp_instance.specs.Network.{event_ids}
 use Rattle.pesp_search.proofs.Beforehand.{bound_of_before, outcome_told}
 use Rattle.pesp_search.proofs.search.search.Goals as goal
 
@@ -116,3 +117,25 @@ walk-requires-clause-guide g c = c.in_ok-before.ensures.guide
 
 pub dived-requires-clause-network : goal.dived-requires-clause-network
 dived-requires-clause-network g c = rw c.instance.ensures at c.events_of.ensures.network
+
+pub least_of_parts-requires-clause-network : goal.least_of_parts-requires-clause-network
+least_of_parts-requires-clause-network g c = rw (c.instance-2.ensures, ← c.instance.ensures) c.events_of.ensures.network
+
+pub least_of_parts-requires-clause-events : goal.least_of_parts-requires-clause-events
+least_of_parts-requires-clause-events g c = c.deref.ensures.value ∙ c.in_ok-events.ensures.events ∙ ap event_ids (c.instance.ensures ∙ sym c.instance-2.ensures)
+
+pub new-requires : goal.new-requires
+new-requires g c =
+    record { events = c.deref-2.ensures.value ∙ c.in_ok-events.ensures.events ∙ ap event_ids (c.instance.ensures ∙ sym c.instance-3.ensures) }
+
+pub dived-requires-clause-events : goal.dived-requires-clause-events
+dived-requires-clause-events g c = c.deref-3.ensures.value ∙ c.in_ok-events.ensures.events ∙ ap event_ids c.instance.ensures
+
+pub dived-requires-clause-guide : goal.dived-requires-clause-guide
+dived-requires-clause-guide g c = rw c.instance-3.ensures at c.in_ok-guide.ensures.of
+
+pub walk-requires-clause-events : goal.walk-requires-clause-events
+walk-requires-clause-events g c = c.deref-5.ensures.value ∙ c.in_ok-events.ensures.events ∙ ap event_ids c.instance.ensures
+
+pub walk-requires-clause-least : goal.walk-requires-clause-least
+walk-requires-clause-least g c = rw c.deref-6.ensures.value (rw c.instance-2.ensures at c.in_ok-least.ensures)

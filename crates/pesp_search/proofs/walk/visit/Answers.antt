@@ -209,3 +209,90 @@ returns-in-Back-clause-next g c =
     let path = c.args.branch.now.times.items in
     let spent : IsSpent Nothing I path c.args.from = rw c.deref.ensures.value at c.in-Back.ensures.0 in
     record { passes = λ times full extends behind. absurd (spent.passes times full extends behind) }
+
+pub returns-then-cuts-clause-path : goal.returns-then-cuts-clause-path
+returns-then-cuts-clause-path g c = refl
+
+pub returns-then-cuts-clause-branch : goal.returns-then-cuts-clause-branch
+returns-then-cuts-clause-branch g c = c.requires.branch
+
+pub returns-then-cuts-clause-at : goal.returns-then-cuts-clause-at
+returns-then-cuts-clause-at g c = c.requires.at
+
+pub returns-then-cuts-clause-times : goal.returns-then-cuts-clause-times
+returns-then-cuts-clause-times g c = c.requires.times
+
+pub returns-then-cuts-clause-guide : goal.returns-then-cuts-clause-guide
+returns-then-cuts-clause-guide g c = c.requires.guide
+
+pub returns-then-cuts-clause-seen : goal.returns-then-cuts-clause-seen
+returns-then-cuts-clause-seen g c = tt
+
+pub returns-then-cuts-clause-best : goal.returns-then-cuts-clause-best
+returns-then-cuts-clause-best g c = λ _ best. best
+
+pub returns-then-cuts-clause-same : goal.returns-then-cuts-clause-same
+returns-then-cuts-clause-same g c = tt
+
+pub returns-in-Back-clause-path : goal.returns-in-Back-clause-path
+returns-in-Back-clause-path g c = refl
+
+pub returns-in-Back-clause-branch : goal.returns-in-Back-clause-branch
+returns-in-Back-clause-branch g c = c.requires.branch
+
+pub returns-in-Back-clause-at : goal.returns-in-Back-clause-at
+returns-in-Back-clause-at g c = c.requires.at
+
+pub returns-in-Back-clause-times : goal.returns-in-Back-clause-times
+returns-in-Back-clause-times g c = c.requires.times
+
+pub returns-in-Back-clause-guide : goal.returns-in-Back-clause-guide
+returns-in-Back-clause-guide g c = c.requires.guide
+
+pub returns-in-Back-clause-seen : goal.returns-in-Back-clause-seen
+returns-in-Back-clause-seen g c = tt
+
+pub returns-in-Back-clause-best : goal.returns-in-Back-clause-best
+returns-in-Back-clause-best g c = λ _ best. best
+
+pub returns-in-Back-clause-same : goal.returns-in-Back-clause-same
+returns-in-Back-clause-same g c = tt
+
+pub returns-then-is_behind_first-clause-path : goal.returns-then-is_behind_first-clause-path
+returns-then-is_behind_first-clause-path g c = refl
+
+pub returns-then-is_behind_first-clause-branch : goal.returns-then-is_behind_first-clause-branch
+returns-then-is_behind_first-clause-branch g c = c.requires.branch
+
+pub returns-then-is_behind_first-clause-at : goal.returns-then-is_behind_first-clause-at
+returns-then-is_behind_first-clause-at g c = c.requires.at
+
+pub returns-then-is_behind_first-clause-times : goal.returns-then-is_behind_first-clause-times
+returns-then-is_behind_first-clause-times g c = c.requires.times
+
+pub returns-then-is_behind_first-clause-guide : goal.returns-then-is_behind_first-clause-guide
+returns-then-is_behind_first-clause-guide g c = c.requires.guide
+
+pub returns-then-is_behind_first-clause-seen : goal.returns-then-is_behind_first-clause-seen
+returns-then-is_behind_first-clause-seen g c = tt
+
+pub returns-then-is_behind_first-clause-best : goal.returns-then-is_behind_first-clause-best
+returns-then-is_behind_first-clause-best g c = λ _ best. best
+
+pub returns-then-is_behind_first-clause-same : goal.returns-then-is_behind_first-clause-same
+returns-then-is_behind_first-clause-same g c = tt
+
+pub returns-in-Full-clause-path : goal.returns-in-Full-clause-path
+returns-in-Full-clause-path g c = refl
+
+pub returns-in-Full-clause-branch : goal.returns-in-Full-clause-branch
+returns-in-Full-clause-branch g c = c.requires.branch
+
+pub returns-in-Full-clause-guide : goal.returns-in-Full-clause-guide
+returns-in-Full-clause-guide g c = c.requires.guide
+
+pub returns-in-Full-clause-seen : goal.returns-in-Full-clause-seen
+returns-in-Full-clause-seen g c = tt
+
+pub returns-in-Full-clause-same : goal.returns-in-Full-clause-same
+returns-in-Full-clause-same g c = tt

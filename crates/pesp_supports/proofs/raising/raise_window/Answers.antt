@@ -1,5 +1,5 @@
 -- The two ranges have no residue in common.
-use Rattle.std.proofs.Common.{◌≡◌, ◌+◌, ◌-◌, ◌<◌, ◌≤◌, ◌||◌, nat_le, nat_lt, Bool, true, false, ℕ, slice_index_or, refl, subst, ◌∙◌, arith}
+use Rattle.std.proofs.Common.{◌≡◌, ◌+◌, ◌-◌, ◌<◌, ◌≤◌, ◌||◌, nat_le, nat_lt, Bool, true, false, ℕ, slice_index_or, refl, subst, ◌∙◌, arith, rules}
 use Rattle.pesp_base.specs.Limits.{greatest_period}
 use Rattle.pesp_links.specs.Ends.{is_from_to}
 use Rattle.pesp_supports.proofs.raising.raise_window.Goals as goal
@@ -44,3 +44,7 @@ raise_range-requires-2-clause-low c i low high =
     let out : is_from_to (c.args.base + t.start) (c.args.base + t.end) i ≡ false = not_in_range _ (c.args.base + t.end) i (omega (arith, high, w.wrapped)) in
     let same : slice_index_or c.raise_range.new.counts i 0 ≡ slice_index_or c.args.counts.now i 0 + 0 = rw out at (c.raise_range.ensures.counts i) in
     omega (arith, same, before)
+
+-- by search, and named so that a wrong body is refused here at once
+pub returns-clause-here : goal.returns-clause-here
+returns-clause-here c = search rules

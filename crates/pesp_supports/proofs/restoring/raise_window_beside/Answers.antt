@@ -64,3 +64,9 @@ returns-then-first-clause-full c = search rules
 
 pub returns-else-first-clause-full : goal.returns-else-first-clause-full
 returns-else-first-clause-full c = search rules
+
+pub returns-then-first-clause-here : goal.returns-then-first-clause-here
+returns-then-first-clause-here c = search rules
+
+pub returns-else-first-clause-here : goal.returns-else-first-clause-here
+returns-else-first-clause-here c = search rules

@@ -94,3 +94,33 @@ take_off-requires-in-Head c =
     let fits = within k (length s.arcs.now) (2 * n) _ _ c.loop-k-test.true same (c.loop-k.auto.entries ∙ c.requires.entries) in
     let long = part (k * (2 * n)) (2 * n) c.loop-k.entries fits in
     second_half n _ long ∙ period_is ∙ sym c.requires.shares
+
+pub overflow_mul-from-then-leads : goal.overflow_mul-from-then-leads
+overflow_mul-from-then-leads c =
+    let s = c.args.self.now in
+    let k = c.loop-k.k in
+    let n = c.from-width.result in
+    let period_is = c.from-width.ensures ∙ c.get.ensures.value in
+    let same = ap (λ t. 2 * t) period_is in
+    let fits = within k (length s.arcs.now) (2 * n) _ _ c.loop-k-test.true same (c.loop-k.auto.entries ∙ c.requires.entries) in
+    omega (arith, fits)
+
+pub overflow_add-pair : goal.overflow_add-pair
+overflow_add-pair c =
+    let s = c.args.self.now in
+    let k = c.loop-k.k in
+    let n = c.from-width.result in
+    let period_is = c.from-width.ensures ∙ c.get.ensures.value in
+    let same = ap (λ t. 2 * t) period_is in
+    let fits = within k (length s.arcs.now) (2 * n) _ _ c.loop-k-test.true same (c.loop-k.auto.entries ∙ c.requires.entries) in
+    omega (arith, fits)
+
+pub offset_bounds-entries-from : goal.offset_bounds-entries-from
+offset_bounds-entries-from c =
+    let s = c.args.self.now in
+    let k = c.loop-k.k in
+    let n = c.from-width.result in
+    let period_is = c.from-width.ensures ∙ c.get.ensures.value in
+    let same = ap (λ t. 2 * t) period_is in
+    let fits = within k (length s.arcs.now) (2 * n) _ _ c.loop-k-test.true same (c.loop-k.auto.entries ∙ c.requires.entries) in
+    omega (arith, fits)

@@ -125,3 +125,8 @@ returns-clause-others c k r apart below =
     ∙ c.tell_bounds.ensures.others k r apart (subst (λ n. r < n) (sym of.period) below)
     ∙ ap (λ xs. slice_index_or xs (k * a.period + r) 0) c.deref_mut-2.ensures.value
     ∙ ap (λ (s : Sight). bound_at s k r) view
+
+pub settle-requires-clause-place : goal.settle-requires-clause-place
+settle-requires-clause-place c =
+    let of = subst (IsSightOf c.args.instance.now) (sym c.descend.ensures) c.requires.of in
+    subst (λ n. c.args.place < n) (sym of.places) c.requires.place

@@ -1,5 +1,5 @@
 -- The rows follow the instance, what was added goes again where it finds no room, and what was put back is told by number.
-use Rattle.std.proofs.Common.{◌≡◌, ◌∙◌, ap, sym, subst, [], Ok, length, map, vec_capacity, arith}
+use Rattle.std.proofs.Common.{◌≡◌, ◌∙◌, ap, sym, subst, [], Ok, length, map, vec_capacity, arith, rules}
 use Rattle.std.specs.Result.{is_err}
 use Rattle.std.proofs.lemmas.Bool.{false≢true}
 use Rattle.pesp_instance.specs.Edited.{edited}
@@ -341,3 +341,6 @@ returns-clause-work c =
 
 pub returns-in_err-apply-clause-still : goal.returns-in_err-apply-clause-still
 returns-in_err-apply-clause-still c = to_err c.from_residual.result (ap (λ (v : Seen). v.restored) c.self.view_is, ap (λ (v : Seen). v.work) c.self.view_is)
+
+pub returns-then-is_err-clause-still : goal.returns-then-is_err-clause-still
+returns-then-is_err-clause-still c = search rules

@@ -1,5 +1,5 @@
 -- What the push took out is put back.
-use Rattle.std.proofs.Common.{◌≡◌, ◌<◌, ◌-◌, ◌∷◌, [], ◌++◌, arith, get_or, length, ap, subst, sym, ◌∙◌}
+use Rattle.std.proofs.Common.{◌≡◌, ◌<◌, ◌-◌, ◌∷◌, [], ◌++◌, arith, get_or, length, ap, subst, sym, ◌∙◌, rules}
 use Rattle.std.specs.Option.{option_to_list}
 use Rattle.std.specs.Vec.{vec_capacity, vec_len}
 use Rattle.pesp_domains.specs.declared.pair.Pair.{Pair}
@@ -27,3 +27,7 @@ invariant_of-self c =
     rw (c.pop.ensures.capacity, c.pop-2.ensures.capacity)
     (keeping_pop i.instance i.pushed.items c.pop.new.self.items x i.links i.supports c.put_back.new.self i.marks.items c.pop-2.new.self.items c.in-Some.mark (vec_capacity i.pushed) (vec_capacity i.marks) i.back.room (vec_capacity i.restored) c.self.invariant pushes_is c.in-Some.ensures.items
     c.put_back.ensures.rows c.put_back.ensures.exact c.put_back.ensures.level c.put_back.ensures.trail c.put_back.ensures.shape)
+
+-- by search, and named so that a wrong body is refused here at once
+pub returns-in-Some-clause-restored : goal.returns-in-Some-clause-restored
+returns-in-Some-clause-restored c = search rules

@@ -1,5 +1,5 @@
 -- A pair more goes on from the domains that there are.
-use Rattle.std.proofs.Common.{IsTrue, ap, subst, sym, arith}
+use Rattle.std.proofs.Common.{IsTrue, ap, subst, sym, arith, rules}
 use Rattle.std.specs.Vec.{vec_capacity}
 use Rattle.pesp_instance.specs.Network.{has_event}
 use Rattle.pesp_domains.specs.declared.pair.Pair.{Pair}
@@ -40,3 +40,7 @@ invariant_of-self c =
 
 pub returns-clause-work : goal.returns-clause-work
 returns-clause-work c = ap (λ (v : Seen). v.work) c.self.view_is
+
+-- by search, and named so that a wrong body is refused here at once
+pub returns-clause-restored : goal.returns-clause-restored
+returns-clause-restored c = search rules

@@ -1,5 +1,5 @@
 -- The counts are exact at all ends but those of the activity, which are counted anew.
-use Rattle.std.proofs.Common.{◌+◌, ◌*◌, ◌≤◌, length, subst}
+use Rattle.std.proofs.Common.{◌+◌, ◌*◌, ◌≤◌, length, subst, rules}
 use Rattle.pesp_supports.specs.Counts.{has_at}
 use Rattle.pesp_supports.specs.Spent.{ends_at}
 use Rattle.pesp_counts.proofs.Gone.{gone_placed, rejoined_probes, worked_is}
@@ -43,3 +43,7 @@ returns-clause-worked c =
     worked_is links s m n back c.requires.rest.trail r.trail r.rows c.narrow_ends.ensures.taken
     (gone_placed c.args.instance.now links m.period (has_at m.rows) (has_at n.rows) c.requires.fits.stand c.narrow_ends.ensures.keeps)
     (rejoined_probes s.period m.period s.probes m.probes n.probes (ends_at links back) (length back) (ends_at links n.trail) r.shape.period c.restore.ensures.probes spent)
+
+-- by search, and named so that a wrong body is refused here at once
+pub returns-clause-back : goal.returns-clause-back
+returns-clause-back c = search rules

@@ -1,7 +1,8 @@
 -- The counts are exact at all ends, and what has no partner is among the pairs that came.
-use Rattle.std.proofs.Common.{◌+◌, ◌*◌, ◌≤◌, ◌∷◌, [], length, subst, ◌∙◌}
+use Rattle.std.proofs.Common.{◌+◌, ◌*◌, ◌≤◌, ◌∷◌, [], length, subst, sym, ◌∙◌}
 use Rattle.pesp_counts.proofs.Keeping.{for_linked}
-use Rattle.pesp_supports.proofs.Marks.{fit_same}
+use Rattle.pesp_domains.proofs.Pushes.{limited}
+use Rattle.pesp_supports.proofs.Marks.{fit_same, keeps_like}
 use Rattle.pesp_counts.proofs.Reopened.{reopened_pending}
 use Rattle.pesp_supports.proofs.Taken.{kept_shape, shape_then, taken_then}
 use Rattle.pesp_counts.proofs.Gone.{limited_placed, reopened_probes, worked_is}
@@ -46,3 +47,18 @@ returns-clause-worked c =
     worked_is links s m n back c.requires.trail r.trail r.rows (taken_then m l n c.limit.ensures.taken c.settle_back.ensures.taken)
     (limited_placed c.args.instance.now links l.period e.0 c.args.place c.args.time (has_at m.rows) (has_at l.rows) (has_at n.rows) c.requires.fits.stand e.1 c.limit.ensures.rows c.settle_back.ensures.keeps)
     (reopened_probes s.period l.period s.probes m.probes n.probes (ends_at links back) (length back) (ends_at links n.trail) same c.restore.ensures.probes spent)
+
+-- the rows after the limit are the limited ones, of which those settle that have a partner
+pub returns-clause-back : goal.returns-clause-back
+returns-clause-back c =
+    let s = c.args.supports.now in
+    let m = c.restore.new.self in
+    let l = c.limit.new.self in
+    let n = c.settle_back.new.self in
+    record {
+      middle = m;
+      restored = c.restore.ensures.restored;
+      keeps = keeps_like c.args.links.now n.period l.period (limited (has_at m.rows) c.args.place c.args.time) (has_at l.rows) (has_at n.rows) (sym c.settle_back.ensures.shape.period) c.limit.ensures.rows c.settle_back.ensures.keeps;
+      rest = c.settle_back.ensures.rest;
+      shape = shape_then s l n (shape_then s m l c.restore.ensures.restored.shape (kept_shape m l c.limit.ensures.keeps)) c.settle_back.ensures.shape;
+    }

@@ -4,3 +4,6 @@ use Rattle.pesp_counts.proofs.keeper.restores.restores.Goals as goal
 
 pub returns-in_default : goal.returns-in_default
 returns-in_default c = search rules
+
+pub returns-in-Unfix : goal.returns-in-Unfix
+returns-in-Unfix c = search rules

@@ -4,3 +4,6 @@ use Rattle.pesp_supports.proofs.supports.Supports.forget.Goals as goal
 
 pub returns-clause-trail : goal.returns-clause-trail
 returns-clause-trail c = search rules
+
+pub returns-clause-probes : goal.returns-clause-probes
+returns-clause-probes c = search rules

@@ -1,5 +1,6 @@
 -- Rows that are opened hold no more than there is room for.
 use Rattle.std.proofs.Common.{◌<◌, ◌*◌, length, slice_set, subst, sym, ap, ◌∙◌, arith}
+use Rattle.std.proofs.lemmas.Grind.{common_steps}
 use Rattle.std.proofs.lemmas.List.{length-set}
 use Rattle.pesp_supports.specs.Supports.{Supports}
 use Rattle.pesp_supports.proofs.Grown.{held_le, long_set}
@@ -26,3 +27,7 @@ invariant_of-self c =
       room = omega (arith, few, area, v.all_room, none);
       all_room = omega (arith, area, v.all_room);
     }
+
+-- by search, and named so that a wrong body is refused here at once
+pub returns-clause-counted : goal.returns-clause-counted
+returns-clause-counted c = grind (arith, common_steps)

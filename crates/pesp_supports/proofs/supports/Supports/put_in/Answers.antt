@@ -1,5 +1,5 @@
 -- The rows hold one pair more, and the counts are those of the rows with it.
-use Rattle.std.proofs.Common.{◌≡◌, ◌*◌, ◌<◌, length, slice_set, subst, sym, ap, ◌∙◌, refl, arith}
+use Rattle.std.proofs.Common.{◌≡◌, ◌*◌, ◌<◌, ◌==◌, ◌&&◌, ◌||◌, length, slice_set, subst, sym, ap, ◌∙◌, refl, arith}
 use Rattle.std.proofs.lemmas.List.{length-set}
 use Rattle.std.proofs.lemmas.List.Elements.{All-get_or}
 use Rattle.pesp_links.specs.Ends.{end_at, passes}
@@ -55,3 +55,19 @@ returns-clause-exact c p k is r rl =
     exact p k is r rl
     ∙ sym (supporters_same n (S at) (has_at (slice_set counted place c.put_in.new.self) at) (passes n (end_at ends k) r) (passes n (end_at ends k) r)
     (λ q ql. put at q ∙ ap (λ xs. joined (has_at xs) place residue at q) counted_is) (λ q ql. refl))
+
+-- both lists of rows held the same pairs, and hold the one pair more
+pub returns-clause-level : goal.returns-clause-level
+returns-clause-level c p r =
+    let place = c.args.pair.place in
+    let residue = c.args.pair.residue in
+    let rows = c.self.inside.rows.items in
+    let counted = c.self.inside.counted.items in
+    let rows_is = ap (λ (s : Supports). s.rows) c.self.view_is ∙ c.count_in.ensures.rows in
+    let counted_is = ap (λ (s : Supports). s.counted) c.self.view_is ∙ c.count_in.ensures.counted in
+    let here = subst (λ xs. place < length xs) (sym rows_is) c.requires.rows in
+    let there = subst (λ xs. place < length xs) (sym counted_is) c.requires.counted in
+    let same : has_at counted p r ≡ has_at rows p r = ap (λ xs. has_at xs p r) counted_is ∙ c.requires.level p r ∙ sym (ap (λ xs. has_at xs p r) rows_is) in
+    has_put counted place residue c.put_in.new.self c.index_mut.result.now there c.index_mut.ensures.value c.put_in.ensures.holds p r
+    ∙ ap (λ b. b || (place == p && residue == r)) same
+    ∙ sym (has_put rows place residue c.put_in-2.new.self c.index_mut-2.result.now here c.index_mut-2.ensures.value c.put_in-2.ensures.holds p r)

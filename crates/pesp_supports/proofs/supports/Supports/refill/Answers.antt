@@ -1,5 +1,6 @@
 -- Over full rows each count is the width of its end.
 use Rattle.std.proofs.Common.{◌≡◌, ◌*◌, ◌<◌, nat_lt, length, slice_index_or, [], subst, sym, ap, ◌∙◌, arith}
+use Rattle.std.proofs.lemmas.Grind.{common_steps}
 use Rattle.std.proofs.lemmas.Bool.{lt-ltb}
 use Rattle.std.proofs.lemmas.List.Elements.{All-get_or}
 use Rattle.pesp_links.specs.Ends.{AreLinked, end_at}
@@ -49,3 +50,7 @@ returns-clause-exact c p k l =
     exact_full n ends c.widen_all.new.counts (has_at c.fill-2.new.rows.items) k (omega (arith, at.first)) at.width
     (λ s sl. c.fill-2.ensures.full (end_at ends k).looks_at s ∙ ap (nat_lt s) long ∙ lt-ltb s n sl)
     wide
+
+-- by search, and named so that a wrong body is refused here at once
+pub returns-clause-counted : goal.returns-clause-counted
+returns-clause-counted c = grind (arith, common_steps)

@@ -1,5 +1,5 @@
 -- The next pair of the list is followed, until none is left.
-use Rattle.std.proofs.Common.{◌≡◌, ◌<◌, ◌≤◌, ◌+◌, ◌*◌, length, ap, subst, ◌∙◌, arith}
+use Rattle.std.proofs.Common.{◌≡◌, ◌<◌, ◌≤◌, ◌+◌, ◌*◌, length, ap, subst, ◌∙◌, arith, rules}
 use Rattle.std.proofs.lemmas.List.{take_all}
 use Rattle.pesp_supports.specs.Restored.{HasRoom, IsBrought, of_ends}
 use Rattle.pesp_links.specs.Ends.{ends_of}
@@ -79,3 +79,7 @@ returns-clause-probes c =
     let over : length c.loop-next.back.pairs ≤ c.loop-next.next = omega (arith, c.loop-next-test.false, c.len.ensures.count) in
     let all = ap (λ xs. (c.args.self.now.period + 1) * ends_at c.args.links.now xs) (take_all c.loop-next.next c.loop-next.back.pairs over) in
     omega (arith, all, c.loop-next.invariant.probes)
+
+-- by search, and named so that a wrong body is refused here at once
+pub overflow_add-next : goal.overflow_add-next
+overflow_add-next c = search rules

@@ -1,5 +1,5 @@
 -- A residue without a partner goes, if it is there.
-use Rattle.std.proofs.Common.{◌≡◌, ◌≤◌, ◌+◌, ◌-◌, ◌==◌, ◌&&◌, not, nat_lt, ℕ, Bool, true, false, vec_capacity, refl, sym, ap, ◌∙◌, arith}
+use Rattle.std.proofs.Common.{◌≡◌, ◌≤◌, ◌+◌, ◌-◌, ◌==◌, ◌&&◌, not, nat_lt, ℕ, Bool, true, false, vec_capacity, refl, sym, ap, ◌∙◌, arith, rules}
 use Rattle.std.proofs.lemmas.Bool.{eq-eqb}
 use Rattle.pesp_domains.specs.Removals.{without}
 use Rattle.pesp_supports.specs.Counts.{count_at, has_at}
@@ -60,3 +60,7 @@ loop-residue-preserved-then-count-eq0 c =
       keeps = kept_then start now after inv.keeps c.take_out.ensures.keeps;
       probes = omega (arith, c.take_out.ensures.probes, inv.probes);
     })
+
+-- by search, and named so that a wrong body is refused here at once
+pub loop-residue-preserved : goal.loop-residue-preserved
+loop-residue-preserved c = search rules

@@ -1,0 +1,6 @@
+-- Found by search, and named so that a wrong body is refused here at once.
+use Rattle.std.proofs.Common.{rules}
+use Rattle.pesp_search.proofs.parts.mark.Goals as goal
+
+pub returns-else-place-label-clause-marked : goal.returns-else-place-label-clause-marked
+returns-else-place-label-clause-marked c = search rules
