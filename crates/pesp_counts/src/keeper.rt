@@ -102,12 +102,8 @@ impl Keeper for CountKeeper {
         ensures work { IfOk result (λ keeper. keeper.work ≡ record { restored = 0; removed = 0; probes = 0 }) }
         ensures back { IfErr result (λ no_room. no_room.instance ≡ instance) }
     {
-        let Ok(pushed) = Vec::with_capacity(alloc, instance.event_count()) else {
-            return Err(NoRoom { instance });
-        };
-        let Ok(marks) = Vec::with_capacity(alloc, instance.event_count()) else {
-            return Err(NoRoom { instance });
-        };
+        let mut pushed = Vec::new(alloc);
+        let mut marks = Vec::new(alloc);
         let mut links = Links::new(alloc);
         let mut supports = Supports::new(alloc, instance.period());
         let mut back = Back::new(alloc);
@@ -115,6 +111,8 @@ impl Keeper for CountKeeper {
         if house(
             alloc,
             &instance,
+            &mut pushed,
+            &mut marks,
             &mut links,
             &mut supports,
             &mut back,

@@ -1,13 +1,13 @@
 //! Places, rows and counts for all events and activities of an instance.
 
-ghost use Rattle.std.specs.Prelude.{◌≡◌, [], OnOk, length, vec_capacity};
+ghost use Rattle.std.specs.Prelude.{◌≡◌, ◌≤◌, [], OnOk, length, vec_capacity};
 ghost use Rattle.pesp_instance.specs.Network.{Network};
 ghost use Rattle.pesp_counts.specs.Keeping.{AreFor};
 ghost use Rattle.pesp_supports.specs.Resting.{HaveRoom};
 ghost use Rattle.pesp_links.specs.Links.{no_links};
 ghost use Rattle.pesp_supports.specs.Supports.{Supports};
 
-use super::grown::{house_activity, house_event};
+use super::grown::{house_activity, house_event, make_room};
 use pesp_domains::Pair;
 use pesp_instance::Instance;
 use pesp_links::Links;
@@ -51,20 +51,28 @@ fn house_activities(
     Ok(())
 }
 
-/// Gives each event and each activity a place, and room in rows and counts.
+/// Gives each event and each activity a place, with room in rows and counts, and for a push and a mark for each event.
 pub fn house(
     alloc: Global,
     instance: &Instance,
+    pushed: &mut Vec<Pair>,
+    marks: &mut Vec<usize>,
     links: &mut Links,
     supports: &mut Supports,
     back: &mut Back,
     restored: &mut Vec<Pair>,
 ) -> Result<(), AllocError>
-    requires { AreFor (record instance.now { events = []; activities = [] }) links.old supports.old }
+    requires pushed { pushed.old.items ≡ [] }
+    requires marks { marks.old.items ≡ [] }
+    requires start { AreFor (record instance.now { events = []; activities = [] }) links.old supports.old }
     ensures ok { OnOk result (AreFor instance.now links.new supports.new) }
+    ensures many { OnOk result ((length instance.now.events ≤ vec_capacity pushed.new) × (length instance.now.events ≤ vec_capacity marks.new)) }
+    ensures pushed { pushed.new.items ≡ [] }
+    ensures marks { marks.new.items ≡ [] }
     ensures room { HaveRoom supports.old back.old.room (vec_capacity restored.old) → HaveRoom supports.new back.new.room (vec_capacity restored.new) }
     ensures restored { restored.new.items ≡ restored.old.items }
 {
+    make_room(pushed, marks, instance.event_count())?;
     house_events(alloc, instance, links, supports, back, restored)?;
     house_activities(instance, links, supports)
 }

@@ -46,7 +46,7 @@ pub fn house_event(
 }
 
 /// Makes room for a push and a mark for each event.
-fn make_room(
+pub fn make_room(
     pushed: &mut Vec<Pair>,
     marks: &mut Vec<usize>,
     events: usize,

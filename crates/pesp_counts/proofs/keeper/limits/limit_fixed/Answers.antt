@@ -64,7 +64,7 @@ loop-event-preserved-in_default-event c =
     let among = rw c.in-Some.ensures.steps at c.loop-event.invariant.among in
     let is : Contains I.events x = All-head (Contains I.events) x c.next.new.self among in
     let p = place_is I c.args.links.now c.requires.fits.stand x.id (event_found I.events x is) in
-    absurd (c.in_default-event.not-Some p.0 (c.event.ensures ∙ p.1))
+    absurd (c.in_default-event.not-Some p.0 (◌∙◌ {c = Some p.0} c.event.ensures p.1))
 
 pub loop-event-preserved : goal.loop-event-preserved
 loop-event-preserved c =

@@ -1,0 +1,10 @@
+//! The program but for its `main`.
+#![tactic(auto)]
+
+mod answering;
+mod ending;
+mod fault;
+mod files;
+mod program;
+
+pub use program::status;
