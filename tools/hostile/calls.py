@@ -1,12 +1,11 @@
-"""The public calls that two programs make, with each of their requests for memory refused in turn."""
+"""The public calls that a program makes one by one, with each of its requests for memory refused in turn."""
 
 import re
 
 from hostile.served import Order, Served
 from tests.harness import TOP
 
-# Of the store, files and scripts; of keepers, searches, workbenches and replies.
-PROGRAMS = ["pesp_growths", "pesp_bench_growths"]
+CALLER = "pesp_growths"
 OUTSIDE = (1, b"no room\n")
 # Want of memory in the form of each call; that of most is refusal 10.
 REFUSAL = rb"Err\(Memory\)\n"
@@ -113,7 +112,7 @@ def refuse_in_case(suite, folder, program, name):
 
 
 def calls(suite, given):
-    """Each case of a program, as it names them itself."""
+    """Each case of the program, as it names them itself."""
     program = TOP / f"crates/{given.name}/out/{given.name}"
     if not program.exists():
         suite.holds(f"there is a program at {program} (made by `rt run` in its crate)", False)

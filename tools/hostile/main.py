@@ -7,7 +7,7 @@ import pathlib
 import tempfile
 import time
 
-from hostile.calls import PROGRAMS, calls
+from hostile.calls import CALLER, calls
 from hostile.damage import damage
 from hostile.failing import devices
 from hostile.growths import growths
@@ -71,7 +71,7 @@ def tasks(parts, folder):
     given = list(inputs(folder))
     own = {
         "judges": [Input("wrong runs", [], folder)],
-        "calls": [Input(name, [], folder) for name in PROGRAMS],
+        "calls": [Input(CALLER, [], folder)],
         "damage": map(example, folders()),
     }
     for part in parts:

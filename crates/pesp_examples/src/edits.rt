@@ -104,7 +104,7 @@ const REFUSALS: Edits<'_> = &[
     ),
 ];
 
-/// Each edit of the two activities. The instance is let go by a call, which is proved in one step.
+/// Each edit of the two activities. The instance is let go by a call: where it goes at the end, the proof takes longer.
 fn try_edited(rt: &(impl Abort + AllocGlobal), edits: Edits<'_>) {
     drop(edited(rt, edits));
 }

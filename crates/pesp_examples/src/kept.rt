@@ -1,8 +1,7 @@
-//! Known answers that edits keep or forget, and timetables that meet everything or not.
+//! Known answers that edits keep or forget.
 
 use crate::asserts::{hold, same};
 use crate::changes::Change;
-use crate::made::event;
 use crate::unpushed::Unpushed;
 use crate::workbench::{
     FIRST, Known, Step, Steps, assert_times, assert_unknown, bench, bench_of, change, find,
@@ -11,9 +10,7 @@ use crate::workbench::{
 use pesp_bench::{Attempt, Bench};
 use pesp_counts::CountKeeper;
 use pesp_domains::{Keeper, PlainKeeper};
-use pesp_instance::Instance;
-use pesp_search::{Best, member_cost};
-use pesp_tension::Timetable;
+use pesp_search::Best;
 use std::process::Abort;
 
 const EDITS_THAT_KEEP_THE_ANSWER: Steps<'_> = &[
@@ -261,86 +258,4 @@ fn candidate_that_is_no_member_by<K: Keeper, R: Abort + AllocGlobal>(rt: &R) {
 fn candidate_that_is_no_member(rt: HostRuntime) {
     candidate_that_is_no_member_by::<PlainKeeper, _>(&rt);
     candidate_that_is_no_member_by::<CountKeeper, _>(&rt);
-}
-
-/// A timetable of the instance's period with these times.
-fn timetable(
-    rt: &(impl Abort + AllocGlobal),
-    instance: &Instance,
-    times: &[(u32, u16)],
-) -> Timetable {
-    let mut timetable = Timetable::new(rt.alloc(), instance.period());
-    for (number, time) in times {
-        same(
-            rt,
-            timetable.set(event(rt, *number), *time),
-            Ok(()),
-            "a time",
-        );
-    }
-    timetable
-}
-
-/// Times, and what they cost where they are of a timetable that meets everything.
-type Costs<'a> = &'a [(&'a [(u32, u16)], Option<u64>, &'a str)];
-
-fn assert_member_cost(
-    rt: &(impl Abort + AllocGlobal),
-    instance: &Instance,
-    times: &[(u32, u16)],
-    cost: Option<u64>,
-    message: &str,
-) {
-    let timetable = timetable(rt, instance, times);
-    same(rt, member_cost(instance, &timetable), cost, message);
-}
-
-fn assert_costs<K: Keeper>(rt: &(impl Abort + AllocGlobal), kept: &Unpushed<K>, cases: Costs<'_>) {
-    let instance = kept.keeper.instance();
-    for (times, cost, message) in cases {
-        assert_member_cost(rt, instance, times, *cost, message);
-    }
-}
-
-const COST_OF_A_MEMBER: Costs<'_> = &[
-    (&[(1, 0), (2, 4)], Some(4), "the optimum"),
-    (&[(1, 5), (2, 9)], Some(4), "the optimum, five later"),
-    (&[(1, 0), (2, 5)], Some(5), "another one"),
-    (&[(1, 0), (2, 3)], None, "activity 2 is not met"),
-    (&[(1, 0)], None, "event 2 has no time"),
-    (&[(1, 0), (2, 4), (3, 0)], None, "event 3 is none"),
-];
-
-#[test]
-fn cost_of_a_member(rt: HostRuntime) {
-    let kept: Unpushed<PlainKeeper> = Unpushed::two_activities(&rt);
-    assert_costs(&rt, &kept, COST_OF_A_MEMBER);
-    drop(kept);
-}
-
-const COST_OF_A_MEMBER_WITH_A_FIXED_TIME: Costs<'_> = &[
-    (&[(1, 0), (2, 4)], Some(4), "fixed there"),
-    (&[(1, 5), (2, 9)], None, "fixed elsewhere"),
-];
-
-const COST_OF_NO_MEMBER: Costs<'_> = &[(&[(1, 0), (2, 4)], None, "infeasible")];
-
-/// What these times cost behind an edit.
-fn assert_costs_after<K: Keeper>(
-    rt: &(impl Abort + AllocGlobal),
-    kept: &mut Unpushed<K>,
-    edit: Change,
-    cases: Costs<'_>,
-) {
-    kept.change(rt, edit);
-    assert_costs(rt, kept, cases);
-}
-
-#[test]
-fn cost_of_a_member_with_a_fixed_time(rt: HostRuntime) {
-    let mut kept: Unpushed<PlainKeeper> = Unpushed::two_activities(&rt);
-    let fixed = COST_OF_A_MEMBER_WITH_A_FIXED_TIME;
-    assert_costs_after(&rt, &mut kept, Change::Fix(1, 0), fixed);
-    assert_costs_after(&rt, &mut kept, Change::SetSpan(1, 3, 3), COST_OF_NO_MEMBER);
-    drop(kept);
 }

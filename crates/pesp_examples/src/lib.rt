@@ -25,6 +25,8 @@ mod kept;
 #[cfg(test)]
 mod made;
 #[cfg(test)]
+mod members;
+#[cfg(test)]
 mod parts;
 #[cfg(test)]
 mod restored;

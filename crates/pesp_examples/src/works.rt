@@ -39,7 +39,7 @@ fn edited(rt: &(impl Abort + AllocGlobal), edits: Edits<'_>) -> Counted {
     kept
 }
 
-/// Each edit of the two activities. The keeper is let go by a call, which is proved in one step.
+/// Each edit of the two activities. The keeper is let go by a call: where it goes at the end, the proof takes longer.
 fn try_edits(rt: &(impl Abort + AllocGlobal), edits: Edits<'_>) {
     drop(edited(rt, edits));
 }

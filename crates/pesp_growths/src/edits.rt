@@ -1,7 +1,8 @@
 //! Edits of an instance.
 
-use pesp_calls::made::{self, KINDS, Kind, MANY};
-use pesp_calls::{Call, is_asked, is_wanted, showing, try_call};
+use crate::call::{Call, is_asked, is_wanted, try_call};
+use crate::made::{self, KINDS, Kind, MANY};
+use crate::showing;
 use pesp_instance::{Edit, Instance};
 
 #[derive(Drop)]

@@ -1,7 +1,8 @@
 //! Files that are read and written, and what a timetable answers.
 
+use crate::call::{Call, is_asked, is_wanted, try_and_drop};
+use crate::{made, showing};
 use pesp_base::{EventId, Memory, Period, Refusal};
-use pesp_calls::{Call, is_asked, is_wanted, made, showing, try_and_drop};
 use pesp_instance::Instance;
 use pesp_tension::{Timetable, tensions, violations};
 use pesplib_reader::{FaultKind, ReadFault, read_activities, read_fixed, read_times};

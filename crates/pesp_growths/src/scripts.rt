@@ -1,7 +1,8 @@
 //! Scripts.
 
+use crate::call::{Call, is_asked, try_call};
+use crate::showing;
 use pesp_base::{Period, Refusal};
-use pesp_calls::{Call, is_asked, showing, try_call};
 use pesp_commands::{ReplayFault, ReplayKind, replay};
 use pesp_instance::Instance;
 use std::alloc::Global;

@@ -1,25 +1,35 @@
 //! Keepers, answers and workbenches, as lines. To print takes no memory.
 
+use crate::showing;
+use pesp_base::EventId;
 use pesp_bench::Bench;
-use pesp_calls::showing;
 use pesp_counts::CountKeeper;
 use pesp_domains::Keeper;
 use pesp_search::{Answer, Best};
 use pesp_tension::Timetable;
 
+/// A line for each residue that the event can take.
+fn residues<K: Keeper>(rt: &impl Print, keeper: &K, event: EventId) {
+    for residue in 0..keeper.instance().period().get() {
+        if keeper.holds(event, residue) {
+            let _ = println!(rt; "{} can take {residue}", event.get());
+        }
+    }
+}
+
+/// A line for how many residues the event can take, and one for each.
+fn domain<K: Keeper>(rt: &impl Print, keeper: &K, event: EventId) {
+    if let Some(row) = keeper.row(event) {
+        let _ = println!(rt; "{} can take {} residues", event.get(), row.len());
+    }
+    residues(rt, keeper, event);
+}
+
 /// The instance, and a line for each pair of the domains.
 pub(crate) fn keeper<K: Keeper>(rt: &impl Print, keeper: &K) {
     showing::instance(rt, keeper.instance());
-    let period = keeper.instance().period().get();
     for event in keeper.instance().events() {
-        if let Some(row) = keeper.row(event.id) {
-            let _ = println!(rt; "{} can take {} residues", event.id.get(), row.len());
-        }
-        for residue in 0..period {
-            if keeper.holds(event.id, residue) {
-                let _ = println!(rt; "{} can take {residue}", event.id.get());
-            }
-        }
+        domain(rt, keeper, event.id);
     }
 }
 

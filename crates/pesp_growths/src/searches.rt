@@ -2,8 +2,8 @@
 
 ghost use Rattle.std.specs.Prelude.{◌≡◌, []};
 
-use crate::telling;
-use pesp_calls::{Call, is_asked, made, showing, try_and_drop};
+use crate::call::{Call, is_asked, try_and_drop};
+use crate::{made, showing, telling};
 use pesp_counts::CountKeeper;
 use pesp_domains::Keeper;
 use pesp_search::{Tried, best, best_within};

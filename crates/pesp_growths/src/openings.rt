@@ -1,7 +1,7 @@
 //! Keepers that are made of an instance.
 
-use crate::telling;
-use pesp_calls::{Call, is_asked, made, showing, try_and_drop};
+use crate::call::{Call, is_asked, try_and_drop};
+use crate::{made, showing, telling};
 use pesp_domains::{Keeper, NoRoom};
 use pesp_instance::Instance;
 use std::marker::PhantomData;

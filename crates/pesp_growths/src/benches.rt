@@ -1,9 +1,9 @@
 //! What a workbench is asked for.
 
-use crate::{telling, working};
+use crate::call::{Call, is_asked, is_wanted, try_and_drop};
+use crate::{made, showing, telling, working};
 use pesp_base::{EventId, Memory, Refusal};
 use pesp_bench::{Attempt, Bench, Domains};
-use pesp_calls::{Call, is_asked, is_wanted, made, showing, try_and_drop};
 use pesp_commands::Command;
 use pesp_counts::CountKeeper;
 use pesp_instance::Edit;

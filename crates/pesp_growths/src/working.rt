@@ -1,8 +1,8 @@
 //! Workbenches, made step by step: a function for each step, which tells its callers nothing, is soon proved.
 
+use crate::made;
 use pesp_base::EventId;
 use pesp_bench::Bench;
-use pesp_calls::made;
 use pesp_counts::CountKeeper;
 use pesp_domains::Keeper;
 use std::alloc::Global;

@@ -1,8 +1,8 @@
 //! Edits of what is kept.
 
+use crate::call::{Call, is_asked, is_wanted, try_call};
+use crate::made::{self, KINDS, Kind, MANY};
 use crate::telling;
-use pesp_calls::made::{self, KINDS, Kind, MANY};
-use pesp_calls::{Call, is_asked, is_wanted, try_call};
 use pesp_domains::Keeper;
 use pesp_instance::Edit;
 use std::marker::Model;

@@ -8,7 +8,7 @@ use std::rt::Env;
 /// A call that may want memory, with what it is lent.
 ///
 /// Nothing but the call itself takes memory.
-pub trait Call {
+pub(crate) trait Call {
     /// Tells what the call is lent.
     fn show<R: Print>(&self, rt: &R);
 
@@ -17,7 +17,7 @@ pub trait Call {
 }
 
 /// Makes the call, and once more where it wants memory.
-pub fn try_call<C: Call, R: Print + AllocGlobal>(rt: &R, call: &mut C) {
+pub(crate) fn try_call<C: Call, R: Print + AllocGlobal>(rt: &R, call: &mut C) {
     let _ = rt.println("before");
     call.show(rt);
     let _ = rt.println("answer");
@@ -33,23 +33,23 @@ pub fn try_call<C: Call, R: Print + AllocGlobal>(rt: &R, call: &mut C) {
 }
 
 /// Makes the call as [`try_call`] does, and lets go what it is lent.
-pub fn try_and_drop<C: Call + Drop, R: Print + AllocGlobal>(rt: &R, mut call: C) {
+pub(crate) fn try_and_drop<C: Call + Drop, R: Print + AllocGlobal>(rt: &R, mut call: C) {
     try_call(rt, &mut call);
 }
 
 /// Tells the answer. Whether it is want of memory.
-pub fn is_wanted(rt: &impl Print, answer: Result<(), Refusal>) -> bool {
+pub(crate) fn is_wanted(rt: &impl Print, answer: Result<(), Refusal>) -> bool {
     showing::line(rt, &answer);
     answer == Err(Refusal::Memory)
 }
 
 /// The words of the command line: the program, and behind it the cases that are asked for. Where none is, all of them are.
-pub fn words<R: Env + AllocGlobal>(rt: &R) -> Option<Vec<String>> {
+pub(crate) fn words<R: Env + AllocGlobal>(rt: &R) -> Option<Vec<String>> {
     env::args(rt).ok()?.collect::<Vec<String>>(rt.alloc()).ok()
 }
 
 /// Whether the case is asked for, of which the name is then told.
-pub fn is_asked(rt: &impl Print, words: &[String], name: &str) -> bool {
+pub(crate) fn is_asked(rt: &impl Print, words: &[String], name: &str) -> bool {
     let is_asked = words.len() < 2 || words.iter().any(|word| word.as_str() == name);
     if is_asked {
         let _ = println!(rt; "case {name}");

@@ -5,9 +5,9 @@ use pesp_instance::{Edit, Instance};
 use std::alloc::Global;
 
 /// How many events and activities are there or come.
-pub const MANY: u32 = 14;
+pub(crate) const MANY: u32 = 14;
 
-pub fn activity(number: u32, from: u32, to: u32) -> Option<Activity> {
+pub(crate) fn activity(number: u32, from: u32, to: u32) -> Option<Activity> {
     Some(Activity {
         id: ActivityId::new(number)?,
         from: EventId::new(from)?,
@@ -30,7 +30,7 @@ fn first_edits() -> Option<[Edit; 5]> {
 }
 
 /// An instance at period 10 of two events, the first of them fixed, and an activity each way between them.
-pub fn two(alloc: Global) -> Option<Instance> {
+pub(crate) fn two(alloc: Global) -> Option<Instance> {
     let edits = first_edits()?;
     let mut instance = Instance::new(alloc, Period::new(10)?);
     for edit in &edits {
@@ -40,7 +40,7 @@ pub fn two(alloc: Global) -> Option<Instance> {
 }
 
 /// The edits that take memory, each of a number: an event more, an activity more, an activity that leads to another event.
-pub fn edit(kind: Kind, number: u32) -> Option<Edit> {
+pub(crate) fn edit(kind: Kind, number: u32) -> Option<Edit> {
     Some(match kind {
         Kind::Event => Edit::AddEvent(EventId::new(number)?),
         Kind::Activity => Edit::AddActivity(activity(number, 1, 2)?),
@@ -53,11 +53,11 @@ pub fn edit(kind: Kind, number: u32) -> Option<Edit> {
 }
 
 #[derive(Clone, Copy)]
-pub enum Kind {
+pub(crate) enum Kind {
     Event,
     Activity,
     Ends,
 }
 
 /// Each kind, in an order in which all are accepted.
-pub const KINDS: [Kind; 3] = [Kind::Event, Kind::Activity, Kind::Ends];
+pub(crate) const KINDS: [Kind; 3] = [Kind::Event, Kind::Activity, Kind::Ends];

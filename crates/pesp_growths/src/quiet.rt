@@ -2,10 +2,10 @@
 
 ghost use Rattle.std.specs.Prelude.{◌≡◌, []};
 
-use crate::{telling, working};
+use crate::call::{Call, is_asked, is_wanted, try_and_drop};
+use crate::{made, showing, telling, working};
 use pesp_base::{ActivityId, EventId, Span, Weight};
 use pesp_bench::Bench;
-use pesp_calls::{Call, is_asked, is_wanted, made, showing, try_and_drop};
 use pesp_commands::parse;
 use pesp_counts::CountKeeper;
 use pesp_domains::{Keeper, PlainKeeper, Side};

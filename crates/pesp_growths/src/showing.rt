@@ -5,7 +5,7 @@ use pesp_tension::Timetable;
 use std::fmt::Debug;
 
 /// A line for each event and each activity.
-pub fn instance(rt: &impl Print, instance: &Instance) {
+pub(crate) fn instance(rt: &impl Print, instance: &Instance) {
     for event in instance.events() {
         let _ = println!(rt; "{event:?}");
     }
@@ -15,12 +15,12 @@ pub fn instance(rt: &impl Print, instance: &Instance) {
 }
 
 /// A line for each event with its time.
-pub fn timetable(rt: &impl Print, timetable: &Timetable) {
+pub(crate) fn timetable(rt: &impl Print, timetable: &Timetable) {
     for entry in timetable.walk() {
         let _ = println!(rt; "{entry:?}");
     }
 }
 
-pub fn line<T: Debug>(rt: &impl Print, item: &T) {
+pub(crate) fn line<T: Debug>(rt: &impl Print, item: &T) {
     let _ = println!(rt; "{item:?}");
 }
