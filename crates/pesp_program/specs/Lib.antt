@@ -1,3 +1,4 @@
 pub mod Checks
 pub mod Endings
 pub mod Faults
+pub mod Files

@@ -2,7 +2,7 @@
 
 ghost use Rattle.std.specs.Prelude.{◌≡◌, ◌≤◌, Contains, IfErr, IfOk, nat_lt, vec_len};
 ghost use Rattle.pesp_program.specs.Faults.{faults_of_file};
-ghost use Rattle.pesp_program.specs.declared.files.TheConstants.{LONGEST};
+ghost use Rattle.pesp_program.specs.Files.{longest_file};
 
 use crate::fault::Fault;
 use pesp_shell::Source;
@@ -15,7 +15,7 @@ use std::{fs, io};
 const LONGEST: u64 = 67_108_864;
 
 fn is_too_long(length: u64) -> bool
-    ensures { result ≡ nat_lt LONGEST length }
+    ensures { result ≡ nat_lt longest_file length }
 {
     length > LONGEST
 }
@@ -29,7 +29,7 @@ pub fn read_whole<R: Files + AllocGlobal>(
     source: Source,
     path: &str,
 ) -> Result<Vec<u8>, Fault>
-    ensures limit { IfOk result (λ bytes. vec_len bytes ≤ LONGEST) }
+    ensures limit { IfOk result (λ bytes. vec_len bytes ≤ longest_file) }
     ensures named { IfErr result (Contains (faults_of_file source)) }
 {
     let file = fs::open(rt, path).map_err(|error| fault_of(source, &error))?;
