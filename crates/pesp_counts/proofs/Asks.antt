@@ -13,11 +13,12 @@ use Rattle.pesp_base.specs.Numbered.{change_in, put_in, take_out, with_number}
 use Rattle.pesp_base.specs.Refusals.{unless_refused, when}
 use Rattle.pesp_base.specs.Tensions.{IsMet, is_met, residue}
 use Rattle.pesp_base.proofs.Laws.{met_is, quotient, residue_below, residue_is, spread}
+use Rattle.pesp_base.specs.Windows.{Interval, at_time}
 use Rattle.pesp_instance.specs.declared.edit.Edit.{Edit}
-use Rattle.pesp_instance.specs.declared.edit.Edit.TheVariants.{AddEvent, DropEvent, Fix, Unfix, AddActivity, DropActivity, SetSpan, SetWeight, SetEnds}
+use Rattle.pesp_instance.specs.declared.edit.Edit.TheVariants.{AddEvent, DropEvent, Fix, SetWindow, Unfix, AddActivity, DropActivity, SetSpan, SetWeight, SetEnds}
 use Rattle.pesp_instance.specs.declared.event.Event.{Event}
-use Rattle.pesp_instance.specs.Edited.{edited, effect, refixed}
-use Rattle.pesp_instance.specs.Network.{IsNetwork, Network, activity_of, admits, agrees_with, event_of, fixed_of, has_event}
+use Rattle.pesp_instance.specs.Edited.{edited, effect, rewindowed}
+use Rattle.pesp_instance.specs.Network.{IsNetwork, Network, activity_of, admits, agrees_with, event_of, window_of, has_event}
 use Rattle.pesp_instance.proofs.Rising.{All-found, IfSome-with_number, number-with_number, Rises-from_increasing, with_number-change_in, with_number-put_in, with_number-take_out}
 use Rattle.pesp_domains.specs.declared.side.Side.{Side}
 use Rattle.pesp_domains.specs.declared.side.Side.TheVariants.{Tail, Head}
@@ -124,22 +125,22 @@ other_same : (side : Side) (a b : Activity) → b.from ≡ a.from → b.to ≡ a
 other_same Tail a b from to = to
 other_same Head a b from to = from
 
--- ---- fixed times
+-- ---- windows
 
-fixed_stays : (period : ℕ) (o p : Option Event) → p ≡ o → (r : ℕ) → IsTrue (agrees_with period (option_and_then (λ x. x.fixed) p) r) → IsTrue (agrees_with period (option_and_then (λ x. x.fixed) o) r)
-fixed_stays period o p same r h = subst (λ q. IsTrue (agrees_with period (option_and_then (λ x. x.fixed) q) r)) same h
+fixed_stays : (period : ℕ) (o p : Option Event) → p ≡ o → (r : ℕ) → IsTrue (agrees_with period (option_and_then (λ x. x.window) p) r) → IsTrue (agrees_with period (option_and_then (λ x. x.window) o) r)
+fixed_stays period o p same r h = subst (λ q. IsTrue (agrees_with period (option_and_then (λ x. x.window) q) r)) same h
 
-pub refixed_elsewhere : (I : Network) (n e : ℕ) (fixed : Option ℕ) → e ≢ n → event_of (refixed I n fixed) e ≡ event_of I e
-refixed_elsewhere I n e fixed apart = with_number-change_in number e n (λ x. record x { fixed = fixed }) (λ x. refl) I.events ∙ still (event_of I e) (λ x. number-with_number number e I.events x)
+pub rewindowed_elsewhere : (I : Network) (n e : ℕ) (window : Option Interval) → e ≢ n → event_of (rewindowed I n window) e ≡ event_of I e
+rewindowed_elsewhere I n e window apart = with_number-change_in number e n (λ x. record x { window = window }) (λ x. refl) I.events ∙ still (event_of I e) (λ x. number-with_number number e I.events x)
   where
-    still : (o : Option Event) → ((x : Event) → o ≡ Some x → number x ≡ e) → option_map (λ x. cond (number x == n) (record x { fixed = fixed }) x) o ≡ o
+    still : (o : Option Event) → ((x : Event) → o ≡ Some x → number x ≡ e) → option_map (λ x. cond (number x == n) (record x { window = window }) x) o ≡ o
     still None at = refl
     still (Some x) at = rw (ne_eqb (number x) n (λ same. apart (sym (at x refl) ∙ same))) refl
 
-pub refixed_here : (I : Network) (n : ℕ) (fixed : Option ℕ) → IsTrue (has_event I n) → fixed_of (refixed I n fixed) n ≡ fixed
-refixed_here I n fixed event = ap (option_and_then (λ x. x.fixed)) (with_number-change_in number n n (λ x. record x { fixed = fixed }) (λ x. refl) I.events) ∙ at (event_of I n) event (λ x. number-with_number number n I.events x)
+pub rewindowed_here : (I : Network) (n : ℕ) (window : Option Interval) → IsTrue (has_event I n) → window_of (rewindowed I n window) n ≡ window
+rewindowed_here I n window event = ap (option_and_then (λ x. x.window)) (with_number-change_in number n n (λ x. record x { window = window }) (λ x. refl) I.events) ∙ at (event_of I n) event (λ x. number-with_number number n I.events x)
   where
-    at : (o : Option Event) → IsTrue (is_some o) → ((x : Event) → o ≡ Some x → number x ≡ n) → option_and_then (λ x. x.fixed) (option_map (λ x. cond (number x == n) (record x { fixed = fixed }) x) o) ≡ fixed
+    at : (o : Option Event) → IsTrue (is_some o) → ((x : Event) → o ≡ Some x → number x ≡ n) → option_and_then (λ x. x.window) (option_map (λ x. cond (number x == n) (record x { window = window }) x) o) ≡ window
     at None event is = absurd (false≢true event)
     at (Some x) event is = rw (eq-eqb (number x) n (is x refl)) refl
 
@@ -160,16 +161,16 @@ asks_again I J (AddEvent v) network ok =
     let new : has_event I v ≡ false = first_fails _ _ _ _ J ok in
     record {
       period = refl;
-      fixed = λ e r below event event' agrees.
+      window = λ e r below event event' agrees.
           let apart : v ≢ e = λ same. false≢true (sym new ∙ ap (has_event I) same ∙ event) in
-          let same : event_of (effect I (AddEvent v)) e ≡ event_of I e = with_number-put_in number e (record { id = v; fixed = None }) I.events ∙ rw (ne_eqb v e apart) refl in
+          let same : event_of (effect I (AddEvent v)) e ≡ event_of I e = with_number-put_in number e (record { id = v; window = None }) I.events ∙ rw (ne_eqb v e apart) refl in
           inl (fixed_stays I.period (event_of I e) (event_of (effect I (AddEvent v)) e) same r agrees);
       activities = λ side a is. inr (itself I (AddEvent v) side a is refl);
     }
 asks_again I J (DropEvent n) network ok =
     record {
       period = refl;
-      fixed = λ e r below event event' agrees.
+      window = λ e r below event event' agrees.
           let found = with_number-take_out number e n I.events in
           let apart : (e == n) ≡ false =
           elim (cases_Bool (e == n)) [
@@ -184,19 +185,29 @@ asks_again I J (DropEvent n) network ok =
 asks_again I J (Fix n t) network ok =
     record {
       period = refl;
-      fixed = λ e r below event event' agrees.
+      window = λ e r below event event' agrees.
           elim (cases_eq e n) [
-            | inr apart ↦ inl (fixed_stays I.period (event_of I e) (event_of (effect I (Fix n t)) e) (refixed_elsewhere I n e (Some t) apart) r agrees)
+            | inr apart ↦ inl (fixed_stays I.period (event_of I e) (event_of (effect I (Fix n t)) e) (rewindowed_elsewhere I n e (Some (at_time t)) apart) r agrees)
             | inl same ↦ before_or_start I (effect I (Fix n t)) n e r same below agrees
           ];
       activities = λ side a is. inr (itself I (Fix n t) side a is refl);
     }
+asks_again I J (SetWindow n first length) network ok =
+    record {
+      period = refl;
+      window = λ e r below event event' agrees.
+          elim (cases_eq e n) [
+            | inr apart ↦ inl (fixed_stays I.period (event_of I e) (event_of (effect I (SetWindow n first length)) e) (rewindowed_elsewhere I n e (Some (record { first = first; length = length })) apart) r agrees)
+            | inl same ↦ before_or_start I (effect I (SetWindow n first length)) n e r same below agrees
+          ];
+      activities = λ side a is. inr (itself I (SetWindow n first length) side a is refl);
+    }
 asks_again I J (Unfix n) network ok =
     record {
       period = refl;
-      fixed = λ e r below event event' agrees.
+      window = λ e r below event event' agrees.
           elim (cases_eq e n) [
-            | inr apart ↦ inl (fixed_stays I.period (event_of I e) (event_of (effect I (Unfix n)) e) (refixed_elsewhere I n e None apart) r agrees)
+            | inr apart ↦ inl (fixed_stays I.period (event_of I e) (event_of (effect I (Unfix n)) e) (rewindowed_elsewhere I n e None apart) r agrees)
             | inl same ↦ before_or_start I (effect I (Unfix n)) n e r same below agrees
           ];
       activities = λ side a is. inr (itself I (Unfix n) side a is refl);
@@ -205,7 +216,7 @@ asks_again I J (AddActivity b) network ok =
     let new : is_some (activity_of I b.id) ≡ false = first_fails _ _ _ _ J ok in
     record {
       period = refl;
-      fixed = λ e r below event event' agrees. inl agrees;
+      window = λ e r below event event' agrees. inl agrees;
       activities = λ side a is.
           let found = activity_found I a network is in
           let apart : b.id ≢ a.id = λ same. false≢true (sym new ∙ ap (λ n. is_some (activity_of I n)) same ∙ ap is_some found) in
@@ -215,7 +226,7 @@ asks_again I J (AddActivity b) network ok =
 asks_again I J (DropActivity n) network ok =
     record {
       period = refl;
-      fixed = λ e r below event event' agrees. inl agrees;
+      window = λ e r below event event' agrees. inl agrees;
       activities = λ side a is.
           elim (cases_Bool (a.id == n)) [
             | inl same ↦ inl (at_start I n side a network is same)
@@ -227,7 +238,7 @@ asks_again I J (SetSpan n span) network ok =
     let set : Activity → Activity = λ a. record a { span = span } in
     record {
       period = refl;
-      fixed = λ e r below event event' agrees. inl agrees;
+      window = λ e r below event event' agrees. inl agrees;
       activities = λ side a is.
           elim (cases_Bool (a.id == n)) [
             | inr apart ↦ inr (itself I (SetSpan n span) side a (others_stay I n set (λ b. refl) a network is apart) apart)
@@ -252,7 +263,7 @@ asks_again I J (SetWeight n weight) network ok =
     let set : Activity → Activity = λ a. record a { weight = weight } in
     record {
       period = refl;
-      fixed = λ e r below event event' agrees. inl agrees;
+      window = λ e r below event event' agrees. inl agrees;
       activities = λ side a is.
           elim (cases_Bool (a.id == n)) [
             | inr apart ↦ inr (itself I (SetWeight n weight) side a (others_stay I n set (λ b. refl) a network is apart) refl)
@@ -271,7 +282,7 @@ asks_again I J (SetEnds n from to) network ok =
     let set : Activity → Activity = λ a. record a { from = from; to = to } in
     record {
       period = refl;
-      fixed = λ e r below event event' agrees. inl agrees;
+      window = λ e r below event event' agrees. inl agrees;
       activities = λ side a is.
           elim (cases_Bool (a.id == n)) [
             | inl same ↦ inl (at_start I n side a network is same)

@@ -120,8 +120,8 @@ agrees_is pushes p =
 admitted_is : (I : Network) (pushes : List Pair) (p : Pair) → Decides (is_admitted I pushes p) (IsAdmitted I pushes p.event p.residue)
 admitted_is I pushes p =
     Decides-like (is_admitted I pushes p)
-    (λ h. record { of_event = h.0.0.0; below = h.0.0.1; fixed = h.0.1; pushed = h.1 })
-    (λ h. (((h.of_event, h.below), h.fixed), h.pushed))
+    (λ h. record { of_event = h.0.0.0; below = h.0.0.1; window = h.0.1; pushed = h.1 })
+    (λ h. (((h.of_event, h.below), h.window), h.pushed))
     (Decides-and _ _ (Decides-and _ _ (Decides-and _ _ (itself (has_event I p.event)) (Decides-ltb p.residue I.period)) (itself (admits I p.event p.residue))) (agrees_is pushes p))
 
 module _ (period : ℕ) (some : 0 < period) where

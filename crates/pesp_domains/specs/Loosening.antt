@@ -1,4 +1,4 @@
--- Whether a change of a fixed time or of a span lets in what was not let in before.
+-- Whether a change of a window or of a span lets in what was not let in before.
 use Rattle.std.specs.Prelude.{ℕ, Bool, false, ◌&&◌, not}
 use Rattle.std.specs.List.{list_any, range_with_len}
 use Rattle.std.specs.Option.{option_map_or}

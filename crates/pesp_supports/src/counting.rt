@@ -118,7 +118,7 @@ fn fill(rows: &mut Vec<Row>)
     ensures full { (p r : ℕ) → has_at rows.new.items p r ≡ nat_lt r (length (slice_index_or rows.old.items p [])) }
 {
     for place in 0..rows.len() {
-        rows[place].open(None);
+        rows[place].fill();
     }
 }
 

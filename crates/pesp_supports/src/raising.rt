@@ -26,7 +26,7 @@ fn raise_range(counts: &mut Counts, from: usize, to: usize)
 
 /// Counts a residue in at the other end of an activity, whose counts begin at `base`: the residues there that go with it have one
 /// partner more.
-fn raise_window(counts: &mut Counts, period: u16, base: usize, end: End, residue: u16)
+fn raise_ranges(counts: &mut Counts, period: u16, base: usize, end: End, residue: u16)
     requires period { 2 * period < 65536 }
     requires residue { residue < period }
     requires first { end.first < period }
@@ -38,13 +38,13 @@ fn raise_window(counts: &mut Counts, period: u16, base: usize, end: End, residue
     ensures here { (r : ℕ) → r < period → slice_index_or counts.new (base + r) 0 ≡ slice_index_or counts.old (base + r) 0 + cond (passes period end residue r) 1 0 }
     ensures elsewhere { (i : ℕ) → i < base ⊎ base + period ≤ i → slice_index_or counts.new i 0 ≡ slice_index_or counts.old i 0 }
 {
-    let window = end.window(period, residue);
+    let ranges = end.ranges(period, residue);
     raise_range(
         counts,
-        base + window.start as usize,
-        base + window.end as usize,
+        base + ranges.start as usize,
+        base + ranges.end as usize,
     );
-    raise_range(counts, base, base + window.wrapped as usize);
+    raise_range(counts, base, base + ranges.wrapped as usize);
 }
 
 impl Supports {
@@ -108,7 +108,7 @@ impl Supports {
         for number in links.at(pair.place) {
             let end = links.end(number);
             let base = self.counts.base(end.mate, period);
-            raise_window(&mut self.counts, period, base, end, pair.residue);
+            raise_ranges(&mut self.counts, period, base, end, pair.residue);
         }
     }
 }

@@ -5,7 +5,7 @@ use Rattle.std.proofs.lemmas.List.{get_or-set_other, get_or-set_same, length-set
 use Rattle.std.proofs.Math.Nat.{mod-lt}
 use Rattle.pesp_domains.specs.Domains.{holds}
 use Rattle.pesp_supports.proofs.Supporters.{one}
-use Rattle.pesp_supports.proofs.Windowed.{around_le, byte_is, count_on, left_counts, mod_next, one_le}
+use Rattle.pesp_supports.proofs.Partners.{around_le, byte_is, count_on, left_counts, mod_next, one_le}
 use Rattle.pesp_supports.proofs.counting.recount_block.Goals as goal
 
 pub set-requires-clause-low : goal.set-requires-clause-low

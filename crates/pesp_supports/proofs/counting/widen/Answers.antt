@@ -3,7 +3,7 @@ use Rattle.std.proofs.Common.{inl, inr, subst, sym, ap, ◌∙◌, arith}
 use Rattle.std.specs.List.{Contains}
 use Rattle.pesp_domains.proofs.Families.{here, here_or_there, not_in_none, there}
 use Rattle.pesp_links.specs.declared.end.End.{End}
-use Rattle.pesp_supports.proofs.Windowed.{wide_here, wide_still}
+use Rattle.pesp_supports.proofs.Partners.{wide_here, wide_still}
 use Rattle.pesp_supports.proofs.counting.widen.Goals as goal
 
 pub end-requires : goal.end-requires

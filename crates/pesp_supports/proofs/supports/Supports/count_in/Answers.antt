@@ -45,30 +45,30 @@ base-base-requires c =
     let fit = c.requires.fit.counts _ _ at.mate_there in
     rw (is, c.end-end.ensures) (omega (arith, fit, c.loop-number.invariant.long))
 
-pub raise_window-requires-clause-first : goal.raise_window-requires-clause-first
-raise_window-requires-clause-first c =
+pub raise_ranges-requires-clause-first : goal.raise_ranges-requires-clause-first
+raise_ranges-requires-clause-first c =
     let is : c.get-period.result ≡ c.args.self.now.period = c.get-period.ensures.value ∙ ap (λ (s : Supports). s.period) c.self.view_is in
     let listed = c.loop-number.invariant.listed c.in-Some.number (subst (λ xs. Contains xs c.in-Some.number) (sym c.in-Some.ensures.steps) (here c.in-Some.number c.next.new.self)) in
     let at = c.requires.linked.each c.args.pair.place c.in-Some.number listed in
     rw (is, c.end-end.ensures) at.first
 
-pub raise_window-requires-clause-width : goal.raise_window-requires-clause-width
-raise_window-requires-clause-width c =
+pub raise_ranges-requires-clause-width : goal.raise_ranges-requires-clause-width
+raise_ranges-requires-clause-width c =
     let is : c.get-period.result ≡ c.args.self.now.period = c.get-period.ensures.value ∙ ap (λ (s : Supports). s.period) c.self.view_is in
     let listed = c.loop-number.invariant.listed c.in-Some.number (subst (λ xs. Contains xs c.in-Some.number) (sym c.in-Some.ensures.steps) (here c.in-Some.number c.next.new.self)) in
     let at = c.requires.linked.each c.args.pair.place c.in-Some.number listed in
     rw (is, c.end-end.ensures) at.width
 
-pub raise_window-requires-clause-within : goal.raise_window-requires-clause-within
-raise_window-requires-clause-within c =
+pub raise_ranges-requires-clause-within : goal.raise_ranges-requires-clause-within
+raise_ranges-requires-clause-within c =
     let is : c.get-period.result ≡ c.args.self.now.period = c.get-period.ensures.value ∙ ap (λ (s : Supports). s.period) c.self.view_is in
     let listed = c.loop-number.invariant.listed c.in-Some.number (subst (λ xs. Contains xs c.in-Some.number) (sym c.in-Some.ensures.steps) (here c.in-Some.number c.next.new.self)) in
     let at = c.requires.linked.each c.args.pair.place c.in-Some.number listed in
     let fit = c.requires.fit.counts _ _ at.mate_there in
     rw (c.base-base.ensures.base, is, c.end-end.ensures) (omega (arith, fit, c.loop-number.invariant.long))
 
-pub raise_window-requires-clause-low : goal.raise_window-requires-clause-low
-raise_window-requires-clause-low c r rl pass =
+pub raise_ranges-requires-clause-low : goal.raise_ranges-requires-clause-low
+raise_ranges-requires-clause-low c r rl pass =
     let is : c.get-period.result ≡ c.args.self.now.period = c.get-period.ensures.value ∙ ap (λ (s : Supports). s.period) c.self.view_is in
     let linked = subst (λ n. AreLinked n c.args.links.now.ends c.args.links.now.lists) (sym is) c.requires.linked in
     let below = subst (λ n. c.args.pair.residue < n) (sym is) c.requires.residue in
@@ -97,10 +97,10 @@ loop-number-preserved c =
       finite = tt;
       listed = λ j k. i.listed j (subst (λ xs. Contains xs j) (sym c.in-Some.ensures.steps) (there j m rest k));
       once = rest_apart m rest once;
-      same = ap (with_counts c.raise_window.new.counts) i.same;
-      long = c.raise_window.ensures.long ∙ i.long;
+      same = ap (with_counts c.raise_ranges.new.counts) i.same;
+      long = c.raise_ranges.ensures.long ∙ i.long;
       counts = next_more c.get-period.result c.args.links.now.ends c.args.links.now.lists linked (has_at c.args.self.now.counted) c.args.pair.place c.args.pair.residue below c.requires.absent
-          c.loop-number.self-inside.counts m rest listed c.end-end.result c.end-end.ensures c.base-base.result c.base-base.ensures.base so_far c.raise_window.new.counts (next_once m rest once) c.raise_window.ensures.here c.raise_window.ensures.elsewhere;
+          c.loop-number.self-inside.counts m rest listed c.end-end.result c.end-end.ensures c.base-base.result c.base-base.ensures.base so_far c.raise_ranges.new.counts (next_once m rest once) c.raise_ranges.ensures.here c.raise_ranges.ensures.elsewhere;
     }
 
 pub invariant_of-self : goal.invariant_of-self

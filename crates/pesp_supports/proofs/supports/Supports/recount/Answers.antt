@@ -4,7 +4,7 @@ use Rattle.std.proofs.lemmas.List.{get_or_read}
 use Rattle.pesp_domains.specs.Domains.{holds}
 use Rattle.pesp_supports.specs.Supports.{Supports, around}
 use Rattle.pesp_supports.proofs.Raised.{block_out}
-use Rattle.pesp_supports.proofs.Windowed.{supporters_around}
+use Rattle.pesp_supports.proofs.Partners.{supporters_around}
 use Rattle.pesp_supports.proofs.supports.Supports.recount.Goals as goal
 
 pub returns-clause-exact : goal.returns-clause-exact

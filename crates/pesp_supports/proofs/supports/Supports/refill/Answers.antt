@@ -7,7 +7,7 @@ use Rattle.pesp_links.specs.Ends.{AreLinked, end_at}
 use Rattle.pesp_supports.specs.Counts.{has_at}
 use Rattle.pesp_supports.specs.Supports.{IsWide, Supports}
 use Rattle.pesp_supports.proofs.Grown.{held_le, long_as}
-use Rattle.pesp_supports.proofs.Windowed.{exact_full}
+use Rattle.pesp_supports.proofs.Partners.{exact_full}
 use Rattle.pesp_supports.proofs.supports.Supports.refill.Goals as goal
 
 pub widen_all-requires-clause-within : goal.widen_all-requires-clause-within
