@@ -11,8 +11,7 @@ use Rattle.pesp_base.specs.declared.refusal.Refusal.{Refusal}
 use Rattle.pesp_base.specs.Bounds.{Bounds}
 use Rattle.pesp_base.specs.Numbered.{change_in, put_in, take_out, with_number}
 use Rattle.pesp_base.specs.Refusals.{unless_refused, when}
-use Rattle.pesp_base.specs.Tensions.{IsMet, is_met, residue}
-use Rattle.pesp_base.proofs.Laws.{met_is, quotient, residue_below, residue_is, spread}
+use Rattle.pesp_base.specs.Tensions.{IsMet}
 use Rattle.pesp_base.specs.Windows.{Interval, at_time}
 use Rattle.pesp_instance.specs.declared.edit.Edit.{Edit}
 use Rattle.pesp_instance.specs.declared.edit.Edit.TheVariants.{AddEvent, DropEvent, Fix, SetWindow, Unfix, AddActivity, DropActivity, SetSpan, SetWeight, SetEnds}
@@ -28,6 +27,7 @@ use Rattle.pesp_counts.specs.Loosened.{AsksAgain, HasHeir}
 use Rattle.pesp_domains.specs.Loosening.{admits_anew, admits_more, is_looser}
 use Rattle.pesp_counts.specs.Reached.{ends_of, is_edited}
 use Rattle.pesp_domains.proofs.Anew.{anew_at}
+use Rattle.pesp_domains.proofs.Wider.{no_more_met}
 
 abbrev id_of : Activity → ℕ
 id_of a = a.id
@@ -80,38 +80,6 @@ at_start I n side a network is same =
     subst (λ o. Contains (ends_of o) (own side a)) (sym (activity_found I a network is) ∙ ap (activity_of I) (eqb_is a.id n same)) (own_of_ends side a)
 
 -- ---- spans
-
--- whole periods change nothing of what meets
-met_ahead : (period : ℕ) (span : Bounds) (r s d : ℕ) (q : ℤ) → pos s -ℤ pos r ≡ pos period *ℤ q +ℤ pos d → IsMet period span r s → IsMet period span 0 d
-met_ahead period span r s d q is m =
-    let e : pos d -ℤ pos 0 +ℤ pos period *ℤ (m.0 +ℤ q) ≡ pos s -ℤ pos r +ℤ pos period *ℤ m.0 = omega (arith, ints, is, spread period m.0 q) in
-    (m.0 +ℤ q, subst (λ x. span.lower ≤ℤ x) (sym e) m.1, subst (λ x. x ≤ℤ span.upper) (sym e) m.2)
-
-met_back : (period : ℕ) (span : Bounds) (r s d : ℕ) (q : ℤ) → pos s -ℤ pos r ≡ pos period *ℤ q +ℤ pos d → IsMet period span 0 d → IsMet period span r s
-met_back period span r s d q is m =
-    let e : pos s -ℤ pos r +ℤ pos period *ℤ (m.0 +ℤ neg_ℤ q) ≡ pos d -ℤ pos 0 +ℤ pos period *ℤ m.0 = omega (arith, ints, is, spread period (m.0 +ℤ neg_ℤ q) q, back) in
-    (m.0 +ℤ neg_ℤ q, subst (λ x. span.lower ≤ℤ x) (sym e) m.1, subst (λ x. x ≤ℤ span.upper) (sym e) m.2)
-  where
-    whole : (m.0 +ℤ neg_ℤ q) +ℤ q ≡ m.0
-    whole = omega (arith, ints)
-
-    back : pos period *ℤ ((m.0 +ℤ neg_ℤ q) +ℤ q) ≡ pos period *ℤ m.0
-    back = ap (λ k. pos period *ℤ k) whole
-
--- where a span admits no more than another, what it joins the other one joins
-no_more_met : (period : ℕ) (old new : Bounds) → 0 < period → admits_more period old new ≡ false → (r s : ℕ) → IsMet period new r s → IsMet period old r s
-no_more_met period old new some less r s m =
-    let d : ℕ = residue period (pos s -ℤ pos r) in
-    let q : ℤ = quotient period (pos s -ℤ pos r) in
-    let is = residue_is period (pos s -ℤ pos r) some in
-    let met : is_met period new 0 d ≡ true = (met_is period new 0 d some).1 (met_ahead period new r s d q is m) in
-    elim (cases_Bool (is_met period old 0 d)) [
-      | inl old_met ↦ met_back period old r s d q is ((met_is period old 0 d some).0 old_met)
-      | inr not_met ↦
-          absurd (none_passes (λ d. is_met period new 0 d && not (is_met period old 0 d)) (range_with_len 0 period) less d
-          (in_range 0 period d (omega arith) (let l = residue_below period (pos s -ℤ pos r) some in omega (arith, l)))
-          (and_from _ _ met (ap not not_met)))
-    ]
 
 joins_less : (side : Side) (period : ℕ) (a b : Activity) → ((r s : ℕ) → IsMet period b.span r s → IsMet period a.span r s) → (r s : ℕ) → Joins side period b r s → Joins side period a r s
 joins_less Tail period a b less r s m = less r s m

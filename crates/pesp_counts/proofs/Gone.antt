@@ -5,9 +5,8 @@ use Rattle.std.proofs.lemmas.Bool.{and_from, and_parts, cases_eq, eq-eqb, falseâ
 use Rattle.std.proofs.Math.Nat.{add-mul}
 use Rattle.pesp_instance.specs.Network.{Network}
 use Rattle.pesp_domains.specs.Domains.{own}
-use Rattle.pesp_domains.specs.Sweeps.{Of, Pairs}
+use Rattle.pesp_domains.specs.Sweeps.{Of, Pairs, narrowed_to}
 use Rattle.pesp_domains.proofs.Families.{here}
-use Rattle.pesp_domains.proofs.Pushes.{narrowed_to}
 use Rattle.pesp_supports.specs.declared.trail.Placed.{Placed}
 use Rattle.pesp_links.specs.Ends.{ends_of}
 use Rattle.pesp_supports.specs.Counts.{IsClosed, KeepsClosed, has_at}

@@ -11,8 +11,8 @@ use Rattle.pesp_instance.specs.Network.{Network, has_event}
 use Rattle.pesp_domains.specs.declared.pair.Pair.{Pair}
 use Rattle.pesp_domains.specs.Domains.{In, InDomains, IsDomain}
 use Rattle.pesp_domains.specs.Kept.{ArePushed}
-use Rattle.pesp_domains.specs.Sweeps.{AreDomains, Pairs}
-use Rattle.pesp_domains.proofs.Pushes.{limited, narrowed_to, push_settles, pushed_more}
+use Rattle.pesp_domains.specs.Sweeps.{AreDomains, Pairs, limited, narrowed_to}
+use Rattle.pesp_domains.proofs.Pushes.{push_settles, pushed_more}
 use Rattle.pesp_supports.specs.declared.trail.Placed.{Placed}
 use Rattle.pesp_links.specs.Ends.{AreLinked}
 use Rattle.pesp_supports.specs.Counts.{has_at}

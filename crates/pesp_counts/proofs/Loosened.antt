@@ -8,11 +8,11 @@ use Rattle.pesp_instance.specs.declared.event.Event.{Event}
 use Rattle.pesp_instance.specs.Edited.{edited, rewindowed}
 use Rattle.pesp_instance.specs.Network.{IsNetwork, Network, admits, agrees_with, window_of, has_event}
 use Rattle.pesp_domains.specs.Domains.{InDomains, IsAdmitted}
-use Rattle.pesp_domains.specs.Sweeps.{Of, Pairs, Settles}
+use Rattle.pesp_domains.specs.Sweeps.{Of, Pairs, Settles, narrowed_to}
 use Rattle.pesp_domains.proofs.Edits.{effect_is}
 use Rattle.pesp_domains.proofs.Families.{and_left}
 use Rattle.pesp_domains.proofs.Laws.{InDomains-admitted}
-use Rattle.pesp_domains.proofs.Pushes.{narrowed_keeps, narrowed_passes, narrowed_to}
+use Rattle.pesp_domains.proofs.Pushes.{narrowed_keeps, narrowed_passes}
 use Rattle.pesp_supports.specs.declared.trail.Placed.{Placed}
 use Rattle.pesp_supports.specs.Counts.{KeepsClosed, has_at}
 use Rattle.pesp_counts.specs.Keeping.{AreFor, AreSettled, rows_of}

@@ -8,9 +8,9 @@ use Rattle.pesp_base.specs.Numbered.{with_number}
 use Rattle.pesp_instance.specs.declared.event.Event.{Event}
 use Rattle.pesp_instance.specs.Network.{IsNetwork, Network, admits, agrees_with, event_of, has_event}
 use Rattle.pesp_instance.proofs.Rising.{All-found, Rises, Rises-from_increasing, with_number-above}
-use Rattle.pesp_domains.specs.Sweeps.{AreOpen, Pairs}
+use Rattle.pesp_domains.specs.Sweeps.{AreOpen, Pairs, narrowed_to}
 use Rattle.pesp_domains.proofs.Opened.{opened}
-use Rattle.pesp_domains.proofs.Pushes.{narrowed_to, open_settles}
+use Rattle.pesp_domains.proofs.Pushes.{open_settles}
 use Rattle.pesp_links.specs.Ends.{end_at, passes}
 use Rattle.pesp_supports.specs.Counts.{ArePending, KeepsClosed, has_at}
 use Rattle.pesp_counts.specs.Keeping.{AreFor, AreSettled, rows_of}

@@ -12,10 +12,10 @@ use Rattle.pesp_instance.specs.declared.event.Event.{Event}
 use Rattle.pesp_instance.specs.Edited.{edited, rewindowed}
 use Rattle.pesp_instance.specs.Network.{IsNetwork, Network, activity_of, admits, agrees_with, event_of, window_of, has_event}
 use Rattle.pesp_instance.proofs.Rising.{with_number-take_out}
-use Rattle.pesp_domains.specs.Sweeps.{Pairs}
+use Rattle.pesp_domains.specs.Sweeps.{Pairs, narrowed_to}
 use Rattle.pesp_domains.proofs.Edits.{effect_is}
 use Rattle.pesp_domains.proofs.Laws.{InDomains-admitted}
-use Rattle.pesp_domains.proofs.Pushes.{narrowed_keeps, narrowed_passes, narrowed_to}
+use Rattle.pesp_domains.proofs.Pushes.{narrowed_keeps, narrowed_passes}
 use Rattle.pesp_domains.proofs.Families.{and_left}
 use Rattle.pesp_supports.specs.Counts.{KeepsClosed, has_at}
 use Rattle.pesp_counts.specs.Keeping.{AreFor, AreSettled, adds, rows_of}

@@ -14,17 +14,9 @@ use Rattle.pesp_domains.specs.declared.pair.Pair.{Pair}
 use Rattle.pesp_domains.specs.Domains.{In, IsAdmitted}
 use Rattle.pesp_domains.specs.Kept.{ArePushed, IsKept}
 use Rattle.pesp_domains.specs.Rows.{AreRowsOf, Rows, has}
-use Rattle.pesp_domains.specs.Sweeps.{AreDomains, AreOpen, Pairs, Settles}
+use Rattle.pesp_domains.specs.Sweeps.{AreDomains, AreOpen, Pairs, Settles, limited, narrowed_to}
 use Rattle.pesp_domains.proofs.Families.{and_left, and_right}
 use Rattle.pesp_domains.proofs.Laws.{InDomains-admitted, InDomains-fewer}
-
--- the set with of one event's residues those alone that pass a test
-abbrev pub narrowed_to : Pairs → ℕ → (ℕ → Bool) → Pairs
-narrowed_to S event test e r = S e r && (not (e == event) || test r)
-
--- and with one alone
-abbrev pub limited : Pairs → ℕ → ℕ → Pairs
-limited S event residue = narrowed_to S event (λ r. r == residue)
 
 both_true : (a b : Bool) → IsTrue a → IsTrue b → IsTrue (a && b)
 both_true true b p q = q

@@ -1,12 +1,13 @@
-//! Whether a change of a window lets in what was not let in before.
+//! Whether a change of a window or of a span lets in what was not let in before.
 
-ghost use Rattle.std.specs.Prelude.{◌≡◌, None, Some};
+ghost use Rattle.std.specs.Prelude.{◌≡◌, ℕ, ◌<◌, ◌↔◌, IsTrue, None, Some};
+ghost use Rattle.pesp_base.specs.Bounds.{Bounds};
 ghost use Rattle.pesp_base.specs.Windows.{is_held};
 ghost use Rattle.pesp_instance.specs.Edited.{rewindowed};
 ghost use Rattle.pesp_instance.specs.Network.{IsNetwork, window_of};
-ghost use Rattle.pesp_domains.specs.Loosening.{admits_anew};
+ghost use Rattle.pesp_domains.specs.Loosening.{AdmitsNewPair, admits_anew, admits_more};
 
-use pesp_base::{EventId, Period};
+use pesp_base::{EventId, Period, Span, allows};
 use pesp_instance::{Event, Instance};
 
 /// Whether the residue is one of these, `length` from `first` on, which need not be a window of the period.
@@ -47,3 +48,15 @@ pub fn is_limited(instance: &Instance, event: EventId) -> bool
     let old = event_now(instance, event);
     (0..period.get()).any(|residue| !old.admits(period, residue))
 }
+
+/// Whether the second span admits a pair of residues that the first one does not.
+pub fn span_admits_more(period: Period, old: Span, new: Span) -> bool
+    ensures { result ≡ admits_more period old new }
+{
+    (0..period.get()).any(|ahead| allows(period, new, 0, ahead) && !allows(period, old, 0, ahead))
+}
+
+/// A span admits more than another exactly where some residues of the two events are admitted by it, and not by the other one.
+pub fn law_of_wider_spans()
+    ensures { (period : ℕ) (old new : Bounds) → 0 < period → IsTrue (admits_more period old new) ↔ AdmitsNewPair period old new }
+{}

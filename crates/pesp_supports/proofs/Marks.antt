@@ -5,8 +5,7 @@ use Rattle.std.proofs.lemmas.Bool.{cases_Bool, cases_lt, false≢true}
 use Rattle.std.proofs.lemmas.List.Elements.{All-append, Contains-get_or}
 use Rattle.std.proofs.lemmas.List.{get_or_past, get_or-append_right, length-append}
 use Rattle.std.proofs.lemmas.List.Folds.{list_any-append}
-use Rattle.pesp_domains.proofs.Pushes.{narrowed_to}
-use Rattle.pesp_domains.specs.Sweeps.{Of, Pairs}
+use Rattle.pesp_domains.specs.Sweeps.{Of, Pairs, narrowed_to}
 use Rattle.pesp_supports.specs.declared.trail.Placed.{Placed}
 use Rattle.pesp_supports.specs.Counts.{ArePending, KeepsClosed, has_at}
 use Rattle.pesp_supports.specs.Resting.{AreAtRest, AreLive, IsNarrowed}

@@ -1,8 +1,7 @@
 -- Rows at rest, with nothing waiting to be counted out, and rows of which some pairs wait.
 use Rattle.std.specs.Prelude.{◌≡◌, ℕ, ◌*◌, ◌<◌, ◌≤◌, Bool, false, IsTrue, List, length}
 use Rattle.std.specs.List.{Contains}
-use Rattle.pesp_domains.proofs.Pushes.{narrowed_to}
-use Rattle.pesp_domains.specs.Sweeps.{Of}
+use Rattle.pesp_domains.specs.Sweeps.{Of, narrowed_to}
 use Rattle.pesp_supports.specs.declared.trail.Placed.{Placed}
 use Rattle.pesp_links.specs.Ends.{ends_of}
 use Rattle.pesp_links.specs.Links.{Links}

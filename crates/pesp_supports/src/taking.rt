@@ -3,9 +3,8 @@
 ghost use Rattle.std.specs.Prelude.{◌≡◌, ◌<◌, ◌≤◌, ◌*◌, ◌+◌, ◌==◌, ◌&&◌, not, cond, ℕ, false, [], IsTrue, drop, length, slice_index_or};
 ghost use Rattle.std.specs.List.{Contains};
 ghost use Rattle.pesp_base.specs.Windows.{is_held};
-ghost use Rattle.pesp_domains.specs.Sweeps.{Of};
+ghost use Rattle.pesp_domains.specs.Sweeps.{Of, limited, narrowed_to};
 ghost use Rattle.pesp_domains.specs.Removals.{without};
-ghost use Rattle.pesp_domains.proofs.Pushes.{limited, narrowed_to};
 ghost use Rattle.pesp_links.specs.Ends.{AreLinked, end_at, ends_of, is_from_to, passes};
 ghost use Rattle.pesp_supports.specs.Counts.{ArePending, IsLiveAt, KeepsClosed, count_at, has_at};
 ghost use Rattle.pesp_supports.specs.Ranges.{Fall, Thins};

@@ -2,8 +2,7 @@
 
 ghost use Rattle.std.specs.Prelude.{◌≡◌, ◌<◌, ◌≤◌, ◌+◌, ◌*◌, ◌==◌, ◌&&◌, ℕ, [], Some, IsSome, drop, length, nat_lt};
 ghost use Rattle.pesp_instance.specs.Network.{IsNetwork, admits};
-ghost use Rattle.pesp_domains.proofs.Pushes.{narrowed_to};
-ghost use Rattle.pesp_domains.specs.Sweeps.{AreOpen};
+ghost use Rattle.pesp_domains.specs.Sweeps.{AreOpen, narrowed_to};
 ghost use Rattle.pesp_links.specs.Ends.{AreLinked};
 ghost use Rattle.pesp_supports.specs.Counts.{has_at};
 ghost use Rattle.pesp_counts.specs.Keeping.{AreFor, rows_of};

@@ -6,7 +6,7 @@ ghost use Rattle.pesp_instance.specs.declared.edit.Edit.TheVariants as edits;
 ghost use Rattle.pesp_instance.specs.Network.{Network, admits};
 ghost use Rattle.pesp_base.specs.Windows.{Interval};
 ghost use Rattle.pesp_instance.specs.declared.edit.Edit.{Edit as SomeEdit};
-ghost use Rattle.pesp_domains.proofs.Pushes.{narrowed_to};
+ghost use Rattle.pesp_domains.specs.Sweeps.{narrowed_to};
 ghost use Rattle.pesp_links.specs.Ends.{ends_of};
 ghost use Rattle.pesp_counts.specs.Keeping.{AreAtRestBut, AreFor};
 ghost use Rattle.pesp_supports.specs.Resting.{AreAtRest};

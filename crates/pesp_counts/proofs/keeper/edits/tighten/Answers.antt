@@ -22,7 +22,7 @@ use Rattle.pesp_counts.proofs.Keeping.{for_linked}
 use Rattle.pesp_supports.proofs.Taken.{keeps_none}
 use Rattle.pesp_counts.proofs.Tightened.{only_weight, settled_dropped, settled_even, settled_window, stands_rewindowed}
 use Rattle.std.proofs.lemmas.Bool.{false≢true}
-use Rattle.pesp_domains.proofs.Pushes.{narrowed_to}
+use Rattle.pesp_domains.specs.Sweeps.{narrowed_to}
 use Rattle.pesp_supports.specs.Supports.{HaveSameShape, Supports, is_in}
 use Rattle.pesp_supports.specs.Spent.{ends_at}
 use Rattle.pesp_counts.proofs.Gone.{keep_same, narrowed_placed, worked_none, worked_tight}

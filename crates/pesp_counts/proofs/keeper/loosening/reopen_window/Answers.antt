@@ -2,7 +2,7 @@
 use Rattle.std.proofs.Common.{◌+◌, ◌*◌, ◌≤◌, ◌∷◌, [], length, subst, sym, ◌∙◌}
 use Rattle.pesp_instance.specs.Network.{admits}
 use Rattle.pesp_counts.proofs.Keeping.{for_linked}
-use Rattle.pesp_domains.proofs.Pushes.{narrowed_to}
+use Rattle.pesp_domains.specs.Sweeps.{narrowed_to}
 use Rattle.pesp_supports.proofs.Marks.{fit_same, keeps_like}
 use Rattle.pesp_counts.proofs.Reopened.{reopened_pending}
 use Rattle.pesp_supports.proofs.Taken.{kept_shape, shape_then, taken_then}

@@ -3,7 +3,7 @@ use Rattle.std.proofs.Common.{◌&&◌, not, rules, tests, arith}
 use Rattle.std.proofs.lemmas.Iterator.{YieldsList-from_range}
 use Rattle.std.proofs.lemmas.Iterator.Search.{any_from_yields_List}
 use Rattle.pesp_base.specs.Tensions.{is_met}
-use Rattle.pesp_bench.proofs.loosening.admits_more.Goals as goal
+use Rattle.pesp_domains.proofs.loosening.span_admits_more.Goals as goal
 
 pub returns : goal.returns
 returns c =
