@@ -9,7 +9,7 @@ use std::marker::Model;
 /// Counts, each of which is at most the greatest period. This type alone knows how wide a count is.
 #[derive(Drop)]
 pub(crate) struct Counts {
-    values: Vec<u8>,
+    values: Vec<u16>,
 }
 
 impl Model for Counts {
@@ -36,7 +36,7 @@ impl Counts {
         requires { at < length self.now }
         ensures { result ≡ slice_index_or self.now at 0 }
     {
-        self.values[at] as u16
+        self.values[at]
     }
 
     /// Where the counts of an end begin, which has one for each residue.
@@ -75,7 +75,7 @@ impl Counts {
         requires low { count ≤ greatest_period }
         ensures { self.new ≡ slice_set self.old at count }
     {
-        self.values[at] = count as u8;
+        self.values[at] = count;
     }
 
     /// Makes sure of so many counts. Those that come are 0; without the memory for them, nothing changes.
