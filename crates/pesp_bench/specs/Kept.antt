@@ -70,7 +70,7 @@ pub record IsKeptBy (I : Network) (edit : Edit) (before after : Option Answer) :
 abbrev pub EachKeptAnswerHolds : Type 0
 EachKeptAnswerHolds = (I J : Network) (edit : Edit) (answer : Answer) → IsNetwork I → edited I edit ≡ Ok J → Keeps I edit answer → IsAnswer I answer → IsAnswer J answer
 
--- what the words say of fixed times: to fix an event admits anew but for an event without a window or at a time of its window; to unfix it does where its time was fixed, and does not where its window was of all residues
+-- what the words say of windows: to fix an event admits anew but for an event without a window or at a time of its window; to unfix it does where its time was fixed, and does not where its window was of all residues
 abbrev pub WindowsThatAdmit : Type 0
 WindowsThatAdmit =
     ((I : Network) (e t : ℕ) → t < I.period → admits_anew I (effect I (Fix e t)) e ≡ not (agrees_with I.period (window_of I e) t))

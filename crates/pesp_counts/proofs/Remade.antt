@@ -93,7 +93,7 @@ remade I links s m n network fits rest all taken keeps pending closed more shape
           (counts_settle I links fits.stand (has_at m.rows) n after.period at_rest (keeps_like links n.period m.period (has_at m.rows) (has_at m.rows) (has_at n.rows) (sym shape.period) (λ p r. refl) closed));
     }
 
--- ---- fixed events
+-- ---- windows
 
 abbrev id_of : Event → ℕ
 id_of x = x.id

@@ -46,7 +46,7 @@ abbrev agrees_with_all : List Pair → Pair → Bool
 agrees_with_all pushes p = list_all (λ q. not (q.event == p.event) || q.residue == p.residue) pushes
 
 module _ (I : Network) (pushes : List Pair) where
-  -- whether the pair is of the instance, and agrees with the fixed time and the pushed residue of its event
+  -- whether the pair is of the instance, and is in the window and agrees with the pushed residue of its event
   abbrev is_admitted : Pair → Bool
   is_admitted p = has_event I p.event && nat_lt p.residue I.period && admits I p.event p.residue && agrees_with_all pushes p
 

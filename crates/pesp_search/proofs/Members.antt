@@ -93,7 +93,7 @@ path_is_full I path ok long below live =
 meets_is : (I : Network) (times : List ℕ) (a : Activity) → IsNetwork I → IsTrue (meets (timetable_of I times) a) ↔ IsMet I.period a.span (at I times a.from) (at I times a.to)
 meets_is I times a ok = met_is I.period a.span (at I times a.from) (at I times a.to) (omega (arith, ok.period_low))
 
--- a timetable that agrees with each event agrees with the fixed time of each number
+-- a timetable that agrees with each event has a time in the window of each number
 agreed : (I : Network) (m : Times) (e : ℕ) → All (λ x. IsTrue (agrees m x)) I.events → IsTrue (agrees_with m.period (window_of I e) (time_at m e))
 agreed I m e all =
     elim (event_of I e) as (λ o. event_of I e ≡ o → IsTrue (agrees_with m.period (option_and_then (λ x. x.window) o) (time_at m e))) [

@@ -117,7 +117,7 @@ above_windowless : (n : ℕ) (done events : List Event) → IsAbove number n (do
 above_windowless n [] events above = windowless_above n events above
 above_windowless n (d ∷ done) events above = (above.0, above_windowless n done events above.1)
 
--- what is to be fixed yet rises behind what is fixed
+-- the events whose windows are yet to be set rise behind those whose windows are
 rises_windowless : (done events : List Event) → Rises number (done ++ events) → Rises number (done ++ map without_window events)
 rises_windowless [] events rises = windowless_rise events rises
 rises_windowless (d ∷ done) events rises = (above_windowless d.id done events rises.0, rises_windowless done events rises.1)
