@@ -61,6 +61,6 @@ returns-clause-taken c = taken_then c.args.self.now c.lower.new.self c.lower-2.n
 
 pub returns-clause-probes : goal.returns-clause-probes
 returns-clause-probes c =
-    let window = c.ranges-ranges.ensures in
+    let ranges = c.ranges-ranges.ensures in
     let period : c.get.result ≡ c.args.self.now.period = c.get.ensures.value ∙ ap (λ (x : Supports). x.period) c.self.view_is in
-    omega (arith, c.lower.ensures.probes, c.lower-2.ensures.probes, window.order, window.below, ranges.wrapped, period)
+    omega (arith, c.lower.ensures.probes, c.lower-2.ensures.probes, ranges.order, ranges.below, ranges.wrapped, period)
