@@ -43,6 +43,11 @@ fn optimum_of(alloc: Global, answer: &Answer) -> Result<Timetable, Refusal>
 }
 
 impl<K: Keeper> Bench<K> {
+    ghost use Rattle.std.specs.Prelude.{⊤};
+    ghost use Rattle.std.specs.Borrow.{follows_so, sem};
+    ghost use Rattle.pesp_bench.specs.contracts.bench.Bench.{the_row};
+    ghost use mathlib.Core.Option.{none};
+
     /// Finds the optimum, where it is not known, or refusal 10.
     #[tactic(auto, using(pesp_search::proofs::Sizes::no_nodes))]
     pub fn find_optimum(&mut self, alloc: Global) -> Result<(), Refusal>
@@ -66,10 +71,9 @@ impl<K: Keeper> Bench<K> {
         Ok(())
     }
 
-    /// The optimum, or refusal 10: what [`Bench::find_optimum`] makes known, and a known one as it is.
-    ///
-    /// No clause says what this leaves, since the answer is borrowed from the workbench.
+    /// The optimum, or refusal 10: what [`Bench::find_optimum`] makes known, and a known one as it is. The working timetable stays.
     pub fn optimum(&mut self, alloc: Global) -> Result<&Answer, Refusal>
+        ensures* leaves { sem 𝓛 (follows_so (the_row K.row) (the_row K.row) self.entry.ghost_name none (λ _ _. ⊤) (λ after. IsSearched self.old after × (after.times ≡ self.old.times))) }
         ensures ok { IfOk result (λ answer. IsAnswer self.old.instance answer.now) }
         ensures kept { IfSome self.old.known (λ known. IsOkAnd result (λ answer. answer.now ≡ known)) }
         ensures refused { IfErr result (λ refusal. (refusal ≡ no.Memory) × (self.old.known ≡ None)) }

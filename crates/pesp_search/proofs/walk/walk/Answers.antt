@@ -1,5 +1,5 @@
 -- The search goes from place to place, each with the branch pushed and what comes before it passed over.
-use Rattle.std.proofs.Common.{◌≡◌, ◌+◌, ◌<◌, length, get_or, is_some, refl, sym, ap, ◌∙◌, arith}
+use Rattle.std.proofs.Common.{◌≡◌, true, ◌+◌, ◌<◌, length, get_or, is_some, refl, sym, ap, ◌∙◌, arith}
 use Rattle.std.proofs.lemmas.Bool.{false≢true}
 use Rattle.std.proofs.lemmas.List.{get_or_read, length_push, nil_from_length}
 use Rattle.pesp_instance.specs.Network.{event_ids}
@@ -17,7 +17,7 @@ pub places-init : goal.places-init
 places-init g c =
     let I = g.K.Keeper.network c.args.keeper.now in
     let none = c.requires.start in
-    let unfound = λ found. false≢true (sym c.requires.none ∙ found) in
+    let unfound : c.args.incumbent.is_found ≡ true → ⊥ = λ found. false≢true (sym c.requires.none ∙ found) in
     record {
       network = refl;
       branch = c.requires.branch;
@@ -70,19 +70,19 @@ unwind-requires g c =
     omega (arith, long)
 
 pub best_of-best-requires-clause-network : goal.best_of-best-requires-clause-network
-best_of-best-requires-clause-network g c = rw (c.instance-then-is_spent.ensures, c.unwind.ensures.network, c.places.invariant.network) c.requires.network
+best_of-best-requires-clause-network g c = rw (c.instance.ensures, c.unwind.ensures.network, c.places.invariant.network) c.requires.network
 
 pub best_of-best-requires-clause-events : goal.best_of-best-requires-clause-events
-best_of-best-requires-clause-events g c = c.requires.events ∙ ap event_ids (sym (c.instance-then-is_spent.ensures ∙ c.unwind.ensures.network ∙ c.places.invariant.network))
+best_of-best-requires-clause-events g c = c.requires.events ∙ ap event_ids (sym (c.instance.ensures ∙ c.unwind.ensures.network ∙ c.places.invariant.network))
 
 pub best_of-best-requires-clause-front : goal.best_of-best-requires-clause-front
 best_of-best-requires-clause-front g c =
-    rw (c.instance-then-is_spent.ensures, c.unwind.ensures.network, c.places.invariant.network) (front_none (g.K.Keeper.network c.args.keeper.now) c.visit.new.branch.times.items c.visit.new.branch.timetable (rw c.places.invariant.network at c.visit.ensures.branch).front)
+    rw (c.instance.ensures, c.unwind.ensures.network, c.places.invariant.network) (front_none (g.K.Keeper.network c.args.keeper.now) c.visit.new.branch.times.items c.visit.new.branch.timetable (rw c.places.invariant.network at c.visit.ensures.branch).front)
 
 pub best_of-best-requires-clause-below : goal.best_of-best-requires-clause-below
 best_of-best-requires-clause-below g c found =
     let best = (rw c.places.invariant.network at c.visit.ensures.best) c.args.incumbent.limit c.places.invariant.best in
-    rw (c.instance-then-is_spent.ensures, c.unwind.ensures.network, c.places.invariant.network) ((best.full found).below)
+    rw (c.instance.ensures, c.unwind.ensures.network, c.places.invariant.network) ((best.full found).below)
 
 pub best_of-best-requires-clause-costs : goal.best_of-best-requires-clause-costs
 best_of-best-requires-clause-costs g c found =
@@ -95,7 +95,7 @@ returns-then-is_spent-clause-outcome g c bound under is_bound =
     let at = rw c.places.invariant.network at c.visit.ensures.at in
     let next = rw c.places.invariant.network at c.in-Some.ensures.next in
     let best = (rw c.places.invariant.network at c.visit.ensures.best) c.args.incumbent.limit c.places.invariant.best in
-    let told = rw (c.instance-then-is_spent.ensures, c.unwind.ensures.network, c.places.invariant.network) at c.best_of-best.ensures in
+    let told = rw (c.instance.ensures, c.unwind.ensures.network, c.places.invariant.network) at c.best_of-best.ensures in
     let is = c.is_spent.ensures.yes c.if-is_spent.true in
     stop_outcome I bound c.args.limit c.visit.new.incumbent.limit c.visit.new.incumbent.is_found c.visit.new.incumbent.times.items c.best_of-best.result _ c.visit.new.branch.times.items c.places.from c.in-Some.residue c.places.nodes c.requires.network is
     at next (rw under at best) (rw (← c.visit.ensures.path) at c.places.invariant.counted) (λ zero. c.in-Some.ensures.same.1 ∙ (c.places.invariant.start zero).3) told
