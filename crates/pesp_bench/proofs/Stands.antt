@@ -203,10 +203,13 @@ pub window_told : (I : Network) (e first length : ℕ) (m : Times) (b : Bool)
     → ((s : ℕ) → Some s ≡ time_of m e → IsWindow I.period (record { first = first; length = length }) → b ≡ is_held I.period (record { first = first; length = length }) s) → TellsStay I (SetWindow e first length) m b
 window_told I e first length m b told K cost ok is none member costs =
     let new = effect I (SetWindow e first length) in
-    let has = there_is (has_event I e) (not_refused (not (has_event I e)) _ _ new K is) in
-    let below = below_from I.period first (second_passes _ _ _ _ _ new K is) in
-    let long = length_from I.period length (third_passes _ _ _ _ _ _ new K is) in
-    window_tells I e (record { first = first; length = length }) m b cost has member costs (record { first = below; some = long.0; once = long.1 }) told
+    let none = not (has_event I e) in
+    let late = nat_le I.period first in
+    let long = length == 0 || nat_lt I.period length in
+    let has = there_is (has_event I e) (not_refused none _ _ new K is) in
+    let below = below_from I.period first (second_passes none late _ _ _ new K is) in
+    let within = length_from I.period length (third_passes none late long _ _ _ new K is) in
+    window_tells I e (record { first = first; length = length }) m b cost has member costs (record { first = below; some = within.0; once = within.1 }) told
 
 -- ---- what is kept
 

@@ -73,7 +73,7 @@ impl<K: Keeper> Bench<K> {
 
     /// The optimum, or refusal 10: what [`Bench::find_optimum`] makes known, and a known one as it is. The working timetable stays.
     pub fn optimum(&mut self, alloc: Global) -> Result<&Answer, Refusal>
-        ensures* leaves { sem 𝓛 (follows_so (the_row K.row) (the_row K.row) self.entry.ghost_name none (λ _ _. ⊤) (λ after. IsSearched self.old after × (after.times ≡ self.old.times))) }
+        ensures* leaves { sem 𝓛 (follows_so (the_row K.row K.Keeper) (the_row K.row K.Keeper) self.entry.ghost_name none (λ _ _. ⊤) (λ after. IsSearched self.old after × (after.times ≡ self.old.times))) }
         ensures ok { IfOk result (λ answer. IsAnswer self.old.instance answer.now) }
         ensures kept { IfSome self.old.known (λ known. IsOkAnd result (λ answer. answer.now ≡ known)) }
         ensures refused { IfErr result (λ refusal. (refusal ≡ no.Memory) × (self.old.known ≡ None)) }
