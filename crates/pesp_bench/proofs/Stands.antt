@@ -195,8 +195,11 @@ module _ (I : Network) (e : ℕ) (w : Interval) (m : Times) (b : Bool) (cost : �
 -- by the time that the event has
 pub fixed_told : (I : Network) (e t : ℕ) (m : Times) (b : Bool) → ((s : ℕ) → Some s ≡ time_of m e → IsWindow I.period (at_time t) → b ≡ is_held I.period (at_time t) s) → TellsStay I (Fix e t) m b
 fixed_told I e t m b told K cost ok is none member costs =
-    let has = there_is (has_event I e) (not_refused (not (has_event I e)) _ _ (effect I (Fix e t)) K is) in
-    let below = below_from I.period t (second_passes _ _ _ _ _ (effect I (Fix e t)) K is) in
+    let new = effect I (Fix e t) in
+    let none = not (has_event I e) in
+    let late = nat_le I.period t in
+    let has = there_is (has_event I e) (not_refused none _ _ new K is) in
+    let below : t < I.period = below_from I.period t (second_passes none late _ _ _ new K is) in
     window_tells I e (at_time t) m b cost has member costs (record { first = below; some = omega arith; once = omega (arith, below) }) told
 
 pub window_told : (I : Network) (e first length : ℕ) (m : Times) (b : Bool)
