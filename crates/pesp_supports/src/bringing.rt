@@ -140,13 +140,7 @@ impl Supports {
     }
 
     /// Brings of the residues of an event's window those that are in the ranges of an end, which are looked at along an activity.
-    fn bring_within_along(
-        &mut self,
-        place: usize,
-        ranges: Ranges,
-        window: Window,
-        back: &mut Back,
-    )
+    fn bring_within_along(&mut self, place: usize, ranges: Ranges, window: Window, back: &mut Back)
         requires place { place < length (self.old).rows }
         requires first { window.first < (self.old).period }
         requires length { window.length ≤ (self.old).period }

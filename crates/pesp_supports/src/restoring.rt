@@ -2,7 +2,6 @@
 
 ghost use Rattle.std.specs.Prelude.{◌≡◌, ◌≢◌, ◌<◌, ◌≤◌, ◌*◌, ◌+◌, ◌-◌, ◌⊎◌, cond, ℕ, [], false, All, IsTrue, length, slice_index_or};
 ghost use Rattle.std.specs.List.{Contains};
-ghost use Rattle.pesp_base.specs.Limits.{greatest_period};
 ghost use Rattle.pesp_domains.specs.Domains.{holds};
 ghost use Rattle.pesp_links.specs.Ends.{AreLinked, end_at, ends_of, is_from_to, passes};
 ghost use Rattle.pesp_supports.specs.Counts.{IsExactAt, count_at, has_at};
@@ -30,18 +29,19 @@ fn raise_beside(
     probes: &mut Probes,
 ) -> bool
     requires order { low ≤ high }
-    requires within { base + high ≤ length counts.old }
+    requires within { base + high ≤ length (counts.old).values }
     requires small { base + high < 18446744073709551616 }
-    requires low { (i : ℕ) → IsTrue (is_from_to (base + low) (base + high) i) → slice_index_or counts.old i 0 < greatest_period }
-    ensures long { length counts.new ≡ length counts.old }
-    ensures counts { (i : ℕ) → slice_index_or counts.new i 0 ≡ slice_index_or counts.old i 0 + cond (is_from_to (base + low) (base + high) i) 1 0 }
+    requires low { (i : ℕ) → IsTrue (is_from_to (base + low) (base + high) i) → slice_index_or (counts.old).values i 0 < (counts.old).most }
+    ensures most { (counts.new).most ≡ (counts.old).most }
+    ensures long { length (counts.new).values ≡ length (counts.old).values }
+    ensures counts { (i : ℕ) → slice_index_or (counts.new).values i 0 ≡ slice_index_or (counts.old).values i 0 + cond (is_from_to (base + low) (base + high) i) 1 0 }
     ensures full { IsTrue result → (r : ℕ) → IsTrue (is_from_to low high r) → IsTrue (holds row.now r) }
     ensures lacks { result ≡ false → (r : ℕ) × IsTrue (is_from_to low high r) × (holds row.now r ≡ false) }
     ensures probes { probes.new + low ≤ probes.old + high }
 {
     let mut full = true;
+    counts.raise_range(base + low as usize, base + high as usize);
     for residue in probes.over(low, high) {
-        counts.raise(base + residue as usize);
         full = full && row.holds(residue);
     }
     full
@@ -57,12 +57,13 @@ fn raise_ranges_beside(
 ) -> bool
     requires order { ranges.start ≤ ranges.end }
     requires wrapped { ranges.wrapped ≤ ranges.start }
-    requires within { base + ranges.end ≤ length counts.old }
+    requires within { base + ranges.end ≤ length (counts.old).values }
     requires small { base + ranges.end < 18446744073709551616 }
-    requires low { (r : ℕ) → IsTrue (in_ranges ranges r) → slice_index_or counts.old (base + r) 0 < greatest_period }
-    ensures long { length counts.new ≡ length counts.old }
-    ensures here { (r : ℕ) → slice_index_or counts.new (base + r) 0 ≡ slice_index_or counts.old (base + r) 0 + cond (in_ranges ranges r) 1 0 }
-    ensures elsewhere { (i : ℕ) → i < base ⊎ base + ranges.end ≤ i → slice_index_or counts.new i 0 ≡ slice_index_or counts.old i 0 }
+    requires low { (r : ℕ) → IsTrue (in_ranges ranges r) → slice_index_or (counts.old).values (base + r) 0 < (counts.old).most }
+    ensures most { (counts.new).most ≡ (counts.old).most }
+    ensures long { length (counts.new).values ≡ length (counts.old).values }
+    ensures here { (r : ℕ) → slice_index_or (counts.new).values (base + r) 0 ≡ slice_index_or (counts.old).values (base + r) 0 + cond (in_ranges ranges r) 1 0 }
+    ensures elsewhere { (i : ℕ) → i < base ⊎ base + ranges.end ≤ i → slice_index_or (counts.new).values i 0 ≡ slice_index_or (counts.old).values i 0 }
     ensures full { IsTrue result → (r : ℕ) → IsTrue (in_ranges ranges r) → IsTrue (holds row.now r) }
     ensures lacks { result ≡ false → (r : ℕ) × IsTrue (in_ranges ranges r) × (holds row.now r ≡ false) }
     ensures probes { probes.new ≤ probes.old + ranges.end }

@@ -36,9 +36,9 @@ impl Model for Supports {
 
     ghost Value = { words.Supports };
 
-    ghost view = { λ a. record { period = a.period; counts = a.counts; counted = a.counted.items; rows = a.rows.items; trail = a.trail.items; room = vec_capacity a.trail; probes = a.probes } };
+    ghost view = { λ a. record { period = a.period; counts = a.counts.values; counted = a.counted.items; rows = a.rows.items; trail = a.trail.items; room = vec_capacity a.trail; probes = a.probes } };
 
-    ghost invariant = { λ a. words.AreSupports (record { period = a.period; counts = a.counts; counted = a.counted.items; rows = a.rows.items; trail = a.trail.items; room = vec_capacity a.trail; probes = a.probes }) };
+    ghost invariant = { λ a. words.AreSupports (record { period = a.period; counts = a.counts.values; counted = a.counted.items; rows = a.rows.items; trail = a.trail.items; room = vec_capacity a.trail; probes = a.probes }) a.counts.most };
 }
 
 impl Supports {
@@ -48,7 +48,7 @@ impl Supports {
     {
         Supports {
             period,
-            counts: Counts::new(alloc),
+            counts: Counts::new(alloc, period),
             counted: Vec::new(alloc),
             rows: Vec::new(alloc),
             trail: Vec::new(alloc),

@@ -1,7 +1,6 @@
 -- The two ranges have no residue in common.
 use Rattle.std.proofs.Common.{◌≡◌, ◌+◌, ◌-◌, ◌<◌, ◌≤◌, ◌||◌, nat_le, nat_lt, Bool, true, false, ℕ, IsTrue, slice_index_or, refl, sym, subst, ◌∙◌, inl, inr, arith, rules}
 use Rattle.std.proofs.lemmas.Bool.{cases_lt, false≢true}
-use Rattle.pesp_base.specs.Limits.{greatest_period}
 use Rattle.pesp_domains.proofs.Families.{and_left, and_right}
 use Rattle.pesp_links.specs.Ends.{is_from_to}
 use Rattle.pesp_supports.proofs.Ranges.{range_from_to}
@@ -40,7 +39,7 @@ raise_beside-first-requires-clause-low c i h =
     let r : ℕ = i - base in
     let here : is_from_to w.start w.end r ≡ true = range_from_to w.start w.end r (omega (arith, low)) (omega (arith, high, low)) in
     let is : base + r ≡ i = omega (arith, low) in
-    subst (λ j. slice_index_or c.args.counts.now j 0 < greatest_period) is (c.requires.low r (true_or _ (is_from_to 0 w.wrapped r) here))
+    subst (λ j. slice_index_or c.args.counts.now.values j 0 < c.args.counts.now.most) is (c.requires.low r (true_or _ (is_from_to 0 w.wrapped r) here))
 
 pub raise_beside-second-requires-clause-low : goal.raise_beside-second-requires-clause-low
 raise_beside-second-requires-clause-low c i h =
@@ -51,12 +50,12 @@ raise_beside-second-requires-clause-low c i h =
     let r : ℕ = i - base in
     let here : is_from_to 0 w.wrapped r ≡ true = range_from_to 0 w.wrapped r (omega arith) (omega (arith, high, low)) in
     let is : base + r ≡ i = omega (arith, low) in
-    let before : slice_index_or c.args.counts.now i 0 < greatest_period =
-    subst (λ j. slice_index_or c.args.counts.now j 0 < greatest_period) is (c.requires.low r (or_true (is_from_to w.start w.end r) _ here))
+    let before : slice_index_or c.args.counts.now.values i 0 < c.args.counts.now.most =
+    subst (λ j. slice_index_or c.args.counts.now.values j 0 < c.args.counts.now.most) is (c.requires.low r (or_true (is_from_to w.start w.end r) _ here))
     in
     let out : is_from_to (base + w.start) (base + w.end) i ≡ false = not_in_range _ (base + w.end) i (omega (arith, high, c.requires.wrapped)) in
-    let same : slice_index_or c.raise_beside-first.new.counts i 0 ≡ slice_index_or c.args.counts.now i 0 + 0 = rw out at (c.raise_beside-first.ensures.counts i) in
-    omega (arith, same, before)
+    let same : slice_index_or c.raise_beside-first.new.counts.values i 0 ≡ slice_index_or c.args.counts.now.values i 0 + 0 = rw out at (c.raise_beside-first.ensures.counts i) in
+    omega (arith, same, before, c.raise_beside-first.ensures.most)
 
 -- by search, and named so that a wrong body is refused here at once
 pub returns-then-first-clause-full : goal.returns-then-first-clause-full

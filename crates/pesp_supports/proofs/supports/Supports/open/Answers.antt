@@ -26,6 +26,7 @@ invariant_of-self c =
       even = length-set counted c.args.place c.fill-2.new.self ∙ v.even ∙ sym many;
       room = omega (arith, few, area, v.all_room, none);
       all_room = omega (arith, area, v.all_room);
+      fits = v.fits;
     }
 
 -- by search, and named so that a wrong body is refused here at once

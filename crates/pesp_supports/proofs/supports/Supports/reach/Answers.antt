@@ -123,10 +123,10 @@ raise_ranges_beside-full-requires-clause-low c r h =
     let wrapped : w.wrapped ≤ T = omega (arith, c.ranges-ranges.ensures.order, c.ranges-ranges.ensures.wrapped, end) in
     let below = in_ranges_below w T r end wrapped h in
     let few : count_at T c.args.self.now.counts k r < T = c.requires.low r below (subst IsTrue (sym (passing r below)) h) in
-    let here : slice_index_or c.self.inside.counts (c.base-base.result + r) 0 ≡ count_at T c.args.self.now.counts k r =
-    ap (λ i. slice_index_or c.self.inside.counts (i + r) 0) base_is ∙ ap (λ (s : Supports). count_at T s.counts k r) c.self.view_is
+    let here : slice_index_or c.self.inside.counts.values (c.base-base.result + r) 0 ≡ count_at T c.args.self.now.counts k r =
+    ap (λ i. slice_index_or c.self.inside.counts.values (i + r) 0) base_is ∙ ap (λ (s : Supports). count_at T s.counts k r) c.self.view_is
     in
-    omega (arith, few, here, c.get-period.ensures.limits.1, c.get-period.ensures.value, period_is)
+    omega (arith, few, here, c.self.invariant.fits, c.get-period.ensures.value, period_is)
 
 pub invariant_of-self : goal.invariant_of-self
 invariant_of-self c =
@@ -138,6 +138,7 @@ invariant_of-self c =
       even = v.even;
       room = v.room;
       all_room = v.all_room;
+      fits = omega (arith, v.fits, c.raise_ranges_beside-full.ensures.most);
     }
 
 pub invariant_of-self-else-not-full : goal.invariant_of-self-else-not-full
@@ -150,6 +151,7 @@ invariant_of-self-else-not-full c =
       even = v.even;
       room = v.room;
       all_room = v.all_room;
+      fits = omega (arith, v.fits, c.raise_ranges_beside-full.ensures.most);
     }
 
 pub bring_admitted-requires-clause-lacks : goal.bring_admitted-requires-clause-lacks
@@ -175,7 +177,7 @@ returns-then-not-full-clause-counts c r below =
     let base_is = c.base-base.ensures.base ∙ ap (λ n. k * n) period_is in
     let passing = subst (λ n. (q : ℕ) → q < n → passes n c.args.end s q ≡ in_ranges w q) period_is c.ranges-ranges.ensures.passes in
     ap (λ xs. slice_index_or xs (k * T + r) 0) c.bring_admitted.ensures.counts
-    ∙ risen c.self.inside.counts c.raise_ranges_beside-full.new.counts c.base-base.result (k * T) r (in_ranges w r) (passes T c.args.end s r) base_is (sym (passing r below)) (c.raise_ranges_beside-full.ensures.here r)
+    ∙ risen c.self.inside.counts.values c.raise_ranges_beside-full.new.counts.values c.base-base.result (k * T) r (in_ranges w r) (passes T c.args.end s r) base_is (sym (passing r below)) (c.raise_ranges_beside-full.ensures.here r)
     ∙ ap (λ (s : Supports). slice_index_or s.counts (k * T + r) 0 + cond (passes T c.args.end c.args.residue r) 1 0) c.self.view_is
 
 pub returns-else-not-full-clause-counts : goal.returns-else-not-full-clause-counts
@@ -187,7 +189,7 @@ returns-else-not-full-clause-counts c r below =
     let period_is = c.get-period.ensures.value ∙ ap (λ (s : Supports). s.period) c.self.view_is in
     let base_is = c.base-base.ensures.base ∙ ap (λ n. k * n) period_is in
     let passing = subst (λ n. (q : ℕ) → q < n → passes n c.args.end s q ≡ in_ranges w q) period_is c.ranges-ranges.ensures.passes in
-    risen c.self.inside.counts c.raise_ranges_beside-full.new.counts c.base-base.result (k * T) r (in_ranges w r) (passes T c.args.end s r) base_is (sym (passing r below)) (c.raise_ranges_beside-full.ensures.here r)
+    risen c.self.inside.counts.values c.raise_ranges_beside-full.new.counts.values c.base-base.result (k * T) r (in_ranges w r) (passes T c.args.end s r) base_is (sym (passing r below)) (c.raise_ranges_beside-full.ensures.here r)
     ∙ ap (λ (s : Supports). slice_index_or s.counts (k * T + r) 0 + cond (passes T c.args.end c.args.residue r) 1 0) c.self.view_is
 
 pub returns-then-not-full-clause-probes : goal.returns-then-not-full-clause-probes
