@@ -104,7 +104,11 @@ const FAULTS: &[(&str, ParseFault, &str)] = &[
     ("fix 1 70000", ParseFault::OutOfRange(3), "a late time"),
     ("fix 1 -1", ParseFault::OutOfRange(3), "a time below 0"),
     ("window 7 9", ParseFault::WordCount, "no length"),
-    ("windows 7 9 3", ParseFault::UnknownCommand, "one letter more"),
+    (
+        "windows 7 9 3",
+        ParseFault::UnknownCommand,
+        "one letter more",
+    ),
     ("window 7 x 3", ParseFault::BadNumber(3), "no first residue"),
     (
         "window 7 9 65536",
