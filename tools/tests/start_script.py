@@ -1,72 +1,139 @@
 """The script that builds the program where it has to, and starts it."""
 
 import os
+import pathlib
 import shutil
+import signal
+import subprocess
 import time
 
-from tests.harness import TOP, run
+from tests.harness import SECONDS, TOP, Suite, run
+from tests.start_tree import SYSTEM, Tree
 
-FAKE_RT = """#!/bin/sh
-echo built >>"$FAKE_LOG"
-echo "crate pesp_base is proved" >&2
-echo "a line of the toolchain"
-[ -e "$FAKE_FAILS" ] && { echo "an open goal"; exit 1; }
-printf '#!/bin/sh\\necho ran in "$PWD" with "$@"\\n' >out/pespbench && chmod +x out/pespbench
-"""
+FIRST = ["building the program; the first time takes about", "minutes of a processor", "crate pesp_base is proved"]
+ANEW = ["building the program anew, since a source changed", "a line of the toolchain"]
+BROKEN = ["an open goal", "tools/pespbench: the program does not build"]
+WAITS = "another start is building the program; this one waits for it"
 
 
 def start_script(suite):
-    """The script that builds and runs, in a tree of its own with a toolchain that only notes that it was called."""
-    top = suite.folder / "tree"
-    source = top / "crates/pespbench/src/main.rt"
-    for folder in [source.parent, top / "tools", top / "fake"]:
-        folder.mkdir(parents=True)
-    source.write_text("")
-    (top / "crates.txt").write_text("pespbench:\n")
-    shutil.copy(TOP / "tools/pespbench", top / "tools/pespbench")
-    (top / "fake/rt").write_text(FAKE_RT)
-    (top / "fake/rt").chmod(0o755)
-    link = suite.folder / "link"
-    link.symlink_to(top / "tools/pespbench")
-    log, fails = top / "log", top / "fails"
-    system = "/usr/bin:/bin"
-    environment = {"PATH": f"{top / 'fake'}:{system}", "FAKE_LOG": str(log), "FAKE_FAILS": str(fails)}
-    ran = f"ran in {suite.folder} with a  b\n".encode()
-
-    def start(name, builds, status=0, output=ran, tells=(), **others):
-        """Starts the script; standard error has the lines of `tells`, in this order, and nothing if there are none."""
-        come = run([link, "a ", "b"], cwd=suite.folder, env={**environment, **others})
-        told = come["standard error"].decode()
-        places = [told.find(text) for text in tells]
-        come |= {"builds": len(log.read_text().splitlines()) if log.exists() else 0, "told": told}
-        wanted = {"status": status, "standard output": output, "builds": builds}
-        wanted["told"] = told if bool(told) == bool(tells) and -1 not in places and places == sorted(places) else tells
-        suite.note(f"tools/pespbench: {name}", wanted, come)
-
-    def touch(path):
-        # A change lies a whole second after what was built, since a file system may count in seconds.
-        at = time.time() + 1
-        path.write_text("changed")
-        os.utime(path, (at, at))
-
-    first = ["building the program; the first time takes about 12 minutes", "crate pesp_base is proved"]
-    anew = ["building the program anew, since a source changed", "a line of the toolchain"]
-    broken = ["an open goal", "tools/pespbench: the program does not build"]
+    """When the script builds, and what it says."""
+    tree = Tree(suite)
     no_toolchain = ["tools/pespbench: the program is not built, and there is no command rt to build it"]
-    start("no toolchain", 0, status=70, output=b"", tells=no_toolchain, PATH=system)
-    fails.write_text("")
-    start("a build that fails", 1, status=70, output=b"", tells=first + broken)
-    fails.unlink()
-    start("the first start builds", 2, tells=first)
-    start("the second start does not", 2)
-    start("a start without the toolchain", 2, PATH=system)
-    touch(source)
-    fails.write_text("")
-    start("a change that does not build", 3, status=70, output=b"", tells=anew + broken)
-    fails.unlink()
-    time.sleep(1.1)
-    start("a start after a change builds", 4, tells=anew)
-    start("the start after that does not", 4)
+    tree.start("no toolchain", 0, status=70, output=b"", tells=no_toolchain, PATH=SYSTEM)
+    tree.say("fails", True)
+    tree.start("a build that fails", 1, status=70, output=b"", tells=FIRST + BROKEN)
+    tree.say("fails", False)
+    tree.start("the first start builds", 2, tells=FIRST)
+    tree.start("the second start does not", 2)
+    tree.start("a start without the toolchain", 2, PATH=SYSTEM)
+    tree.change("src/main.rt")
+    tree.say("fails", True)
+    tree.start("a change that does not build", 3, status=70, output=b"", tells=ANEW + BROKEN)
+    tree.say("fails", False)
+    tree.start("a start after a change builds", 4, tells=ANEW)
+    tree.start("the start after that does not", 4)
+    tree.change("specs/Rules.antt")
+    tree.start("a start after a change of a definition builds", 5, tells=ANEW)
+    tree.change("proofs/Lemmas.antt")
+    tree.start("a start after a change of a proof does not", 5)
+    tree.change("src/main.rt")
+    tree.say("edits", True)
+    tree.start("a start during whose build a source changes builds", 6, tells=ANEW)
+    tree.say("edits", False)
+    tree.start("the start after that builds too", 7, tells=ANEW)
+    tree.start("and the one after that does not", 7)
 
 
-GROUPS = [start_script]
+def shared_build(suite):
+    """Two starts at once: the second waits for the build of the first."""
+    tree = Tree(suite)
+    tree.say("waits", True)
+    first = tree.begin()
+    tree.is_half_made()
+    second = tree.begin()
+    told = second.stderr.readline().decode()
+    suite.note("the second of two starts says that it waits", {"told": f"tools/pespbench: {WAITS}\n"}, {"told": told})
+    tree.say("waits", False)
+    for name, process in {"first": first, "second": second}.items():
+        output, _ = process.communicate(timeout=SECONDS)
+        come = {"status": process.returncode, "output": output}
+        suite.note(f"the {name} of two starts", {"status": 0, "output": tree.ran()}, come)
+    suite.holds("two starts at once share one build", len(tree.calls()) == 1)
+    suite.holds("a program that runs keeps nobody waiting", not is_waited_for(tree))
+
+
+def is_waited_for(tree):
+    """Whether a start that builds waits for one whose program still runs."""
+    program = tree.crate / "out/pespbench"
+    program.write_text('#!/bin/sh\n[ "$1" ] || exec sleep 60\n')
+    running = subprocess.Popen([tree.link], env=tree.environment, stdin=subprocess.DEVNULL)
+    while b"sleep" not in pathlib.Path(f"/proc/{running.pid}/cmdline").read_bytes():
+        time.sleep(0.01)
+    tree.change("src/main.rt")
+    told = run([tree.link, "a"], env=tree.environment)["standard error"].decode()
+    running.kill()
+    running.wait()
+    return WAITS in told
+
+
+def is_alive(process):
+    try:
+        os.kill(process, 0)
+    except ProcessLookupError:
+        return False
+    return True
+
+
+def broken_builds(suite):
+    """A build that is broken off ends its toolchain, and leaves nothing but what was there before."""
+    for name in ["SIGINT", "SIGTERM", "SIGHUP"]:
+        for has_program in (False, True):
+            broken_off(suite, name, has_program)
+
+
+def broken_off(suite, name, has_program):
+    """A signal to a start whose toolchain has made a part of the program, in the place of an older one or of none."""
+    folder = suite.folder / f"{name} {has_program}"
+    folder.mkdir()
+    tree = Tree(Suite(suite.program, folder, suite.tally))
+    if has_program:
+        tree.start("the start before", 1, tells=FIRST)
+        tree.change("src/main.rt")
+    tree.say("waits", True)
+    process = tree.begin()
+    tree.is_half_made()
+    process.send_signal(getattr(signal, name))
+    output, _ = process.communicate(timeout=SECONDS)
+    toolchain = int(tree.calls()[-1].split()[1])
+    files = [path.name for path in (tree.crate / "out").iterdir()]
+    wanted = {"status": 128 + getattr(signal, name), "output": b"", "toolchain": False, "files": []}
+    come = {"status": process.returncode, "output": output, "toolchain": is_alive(toolchain), "files": files}
+    suite.note(f"tools/pespbench: a build that {name} ends", wanted, come)
+    tree.say("waits", False)
+    tree.start("the start after a build that was broken off", 2 + has_program, tells=FIRST)
+
+
+def look_for_sources(suite):
+    """A start takes less than 20 ms more than the program, over as many files as there are sources here.
+
+    Others work on the machine too, so the least of some starts is taken.
+    """
+    tree = Tree(suite)
+    for name in ["src", "specs", "proofs"]:
+        for path in (TOP / "crates").glob(f"*/{name}"):
+            shutil.copytree(path, tree.top / path.relative_to(TOP), dirs_exist_ok=True)
+    tree.start("the first start over all sources", 1, tells=FIRST)
+    least = [min(time_of(tree, command) for _ in range(20)) for command in (tree.link, tree.crate / "out/pespbench")]
+    look = 1_000 * (least[0] - least[1])
+    suite.note("the look for newer sources", {"below 20 ms": True}, {"below 20 ms": look < 20 or f"{look:.1f} ms"})
+
+
+def time_of(tree, command):
+    """The seconds that a start takes."""
+    began = time.perf_counter()
+    run([command], cwd=tree.suite.folder, env=tree.environment)
+    return time.perf_counter() - began
+
+
+GROUPS = [start_script, shared_build, broken_builds, look_for_sources]

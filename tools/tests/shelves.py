@@ -1,0 +1,121 @@
+"""The two shelves of wrong bodies, and the tool that tries the second one, with a toolchain that only says what it is told."""
+
+import re
+import shutil
+import sys
+
+from tests.harness import TOP, run
+from tests.start_tree import SYSTEM
+from wrong_bodies import FIRST, SECOND, Unread, applied, breaks_of, edits
+
+# The gate tries each edit of the first shelf in each run, and a change at the bottom pays for all of them.
+MOST_ON_THE_FIRST = 240
+# So many there were on one shelf. An edit that leaves the first goes to the second, and none is lost.
+LEAST_ON_BOTH = 492
+
+# It proves all crates but one, and says of each edit that stands where it looks what the edit's own last line says.
+FAKE_RT = """#!/bin/sh
+echo "$@" in "$PWD" >>"$FAKE/log"
+if [ "$1" = check ]; then
+    case $PWD in */unproved) echo "an open goal"; exit 1 ;; esac
+    exit 0
+fi
+echo "rt: a line of the toolchain"
+for edit in crates/$2/must-fail/*.edit; do
+    told=$(tail -n 1 "$edit")
+    [ -z "$told" ] || echo "rt: must-fail $2/$(basename "$edit"): $told"
+done
+exit 1
+"""
+
+PLAIN = "refused, as it must be: src/lib.rt:3:1: error: open goal"
+BRACKETS = "refused, as it must be (only by a limit of the prover): src/lib.rt:3:1"
+BAD = "BAD EDIT: an 'old:' text is in src/lib.rt 0 times, and not once"
+PROVED = "NOT REFUSED: the crate is still proved with this edit"
+# What the toolchain says of each edit, by crate, shelf and name.
+SHELVES = {
+    ("low", FIRST, "gate"): PROVED,
+    ("low", SECOND, "plain"): PLAIN,
+    ("low", SECOND, "remark"): BRACKETS,
+    ("high", SECOND, "bad"): BAD,
+    ("high", SECOND, "no_word"): "",
+    ("high", SECOND, "passes"): PROVED,
+    ("high", SECOND, "plain"): PLAIN,
+    ("unproved", SECOND, "plain"): PLAIN,
+    ("bare", FIRST, "gate"): PROVED,
+}
+
+
+def shelves(suite):
+    """What the shelves hold, which no proof says."""
+    first, second = edits(TOP, FIRST), edits(TOP, SECOND)
+    suite.holds(f"the first shelf has at most {MOST_ON_THE_FIRST} wrong bodies", len(first) <= MOST_ON_THE_FIRST)
+    suite.holds(f"both shelves have at least {LEAST_ON_BOTH}", len(first) + len(second) >= LEAST_ON_BOTH)
+    twice = {path.parts[-3:] for path in second} & {(*path.parts[-3:-2], SECOND, path.name) for path in first}
+    suite.note("no wrong body is on both", {"on both": set()}, {"on both": twice})
+    silent = [str(path.relative_to(TOP)) for path in first if not breaks_of(path)]
+    suite.note("each of the first says what it breaks", {"without a line": []}, {"without a line": silent})
+    faults = {str(path.relative_to(TOP)): fault for path in first + second for fault in faults_of(path)}
+    suite.note("each can be applied", {"faults": {}}, {"faults": faults})
+
+
+def faults_of(edit):
+    """Why the edit cannot be applied, if it cannot. The gate tells that of the first shelf alone, and fails nothing for it."""
+    try:
+        applied(edit)
+    except Unread as fault:
+        return [str(fault)]
+    return []
+
+
+def tree_of(suite):
+    """A tree with the tool, crates with edits, and the toolchain that says what it is told."""
+    top = suite.folder / "tree"
+    for (crate, shelf, name), told in SHELVES.items():
+        folder = top / "crates" / crate / shelf
+        folder.mkdir(parents=True, exist_ok=True)
+        (folder / f"{name}.edit").write_text(f"{told}\n")
+    (top / "crates.txt").write_text("low:\nhigh: low\nunproved:\nbare:\n")
+    (top / "HANDLES").write_text("Handles allowed: none.\n")
+    for folder in [top / "tools", top / "fake"]:
+        folder.mkdir()
+    for name in ["try_wrong_bodies", "wrong_bodies.py"]:
+        shutil.copy(TOP / "tools" / name, top / "tools" / name)
+    (top / "fake/rt").write_text(FAKE_RT)
+    (top / "fake/rt").chmod(0o755)
+    return top
+
+
+def tried(suite, top, name, names, wanted, status):
+    """A run of the tool: its lines without their seconds, and its status."""
+    environment = {"PATH": f"{top / 'fake'}:{SYSTEM}", "FAKE": str(top)}
+    come = run([sys.executable, top / "tools/try_wrong_bodies", *names], env=environment)
+    lines = re.sub(r", \d+ s$", "", come["standard output"].decode(), flags=re.M).splitlines()
+    come = {"status": come["status"], "lines": lines}
+    suite.note(f"tools/try_wrong_bodies: {name}", {"status": status, "lines": wanted}, come)
+
+
+def second_shelf(suite):
+    """What the tool prints and counts; what it tries stands on a copy, and the tree is as it was."""
+    top = tree_of(suite)
+    before = files_of(top)
+    low = [f"low/remark.edit: {BRACKETS}", "low: 2 of 2 refused"]
+    high = [f"high/bad.edit: {BAD}", "high/no_word.edit: NOT TRIED: no word of it", f"high/passes.edit: {PROVED}"]
+    high += ["high: 1 of 4 refused"]
+    none = ["unproved/plain.edit: NOT TRIED: the crate itself is not proved: an open goal", "unproved: 0 of 1 refused"]
+    tried(suite, top, "a crate of which all are refused", ["low"], [*low, "2 passed, 0 failed"], 0)
+    tried(suite, top, "a crate of which some are not", ["high"], [*high, "1 passed, 3 failed"], 1)
+    tried(suite, top, "a crate that is not proved", ["unproved"], [*none, "0 passed, 1 failed"], 1)
+    tried(suite, top, "all crates", [], [*high, *low, *none, "3 passed, 4 failed"], 1)
+    tried(suite, top, "a crate without a second shelf", ["low", "bare"], [], 2)
+    suite.note("the tree of the second shelf", {"files": before}, {"files": files_of(top)})
+    calls = [line for line in (top / "log").read_text().splitlines() if line.startswith("must-fail ")]
+    here = [line for line in calls if f" in {top}" in line]
+    suite.note("what is tried is a copy", {"calls": True, "in the tree": []}, {"calls": bool(calls), "in the tree": here})
+
+
+def files_of(top):
+    return sorted(str(path.relative_to(top)) for path in (top / "crates").rglob("*"))
+
+
+GROUPS = [shelves, second_shelf]

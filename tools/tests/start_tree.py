@@ -1,0 +1,109 @@
+"""A tree for the script that builds and starts the program, with a toolchain that only notes what it is asked."""
+
+import os
+import shutil
+import subprocess
+import sys
+import time
+
+from tests.harness import SECONDS, TOP, run
+
+SYSTEM = "/usr/bin:/bin"
+
+# It notes that it was called, and waits as long as it is told to, with a program that is half made.
+FAKE_RT = """#!/bin/sh
+echo "$1 $$" >>"$FAKE/log"
+[ "$1" = try ] && { shift; exec "$FAKE/try" "$@"; }
+echo "crate pesp_base is proved" >&2
+echo "a line of the toolchain"
+[ -e "$FAKE/fails" ] && { echo "an open goal"; exit 1; }
+sleep 0.02
+[ -e "$FAKE/waits" ] && printf '#!/bin/sh\\necho half' >out/pespbench && chmod +x out/pespbench
+while [ -e "$FAKE/waits" ]; do sleep 0.01; done
+[ -e "$FAKE/edits" ] && touch src/main.rt
+printf '#!/bin/sh\\necho ran in "$PWD" with "$@"\\n' >out/pespbench && chmod +x out/pespbench
+"""
+
+# The stand-in in a folder of its own, with the words behind those of the toolchain, and the toolchain's last line.
+FAKE_TRY = """#!/bin/sh
+while [ "$1" != -- ]; do shift; done
+shift
+folder=$(mktemp -d) && cd "$folder" || exit 2
+"{python}" "{stand_in}" "$@"
+status=$?
+rmdir "$folder"
+echo "run=ended status=$status runners=1 proved=no" >&2
+exit $status
+"""
+
+
+class Tree:
+    """A tree of its own with the script, a link to it, and the toolchain that notes."""
+
+    def __init__(self, suite):
+        self.suite = suite
+        self.top = suite.folder / "tree"
+        self.crate = self.top / "crates/pespbench"
+        self.fake = self.top / "fake"
+        for name in ["src", "specs", "proofs", "out"]:
+            (self.crate / name).mkdir(parents=True)
+        for folder in [self.top / "tools", self.fake]:
+            folder.mkdir()
+        (self.crate / "src/main.rt").write_text("")
+        (self.top / "crates.txt").write_text("pespbench:\n")
+        shutil.copy(TOP / "tools/pespbench", self.top / "tools/pespbench")
+        self.tool("rt", FAKE_RT)
+        self.tool("try", FAKE_TRY.format(python=sys.executable, stand_in=TOP / "tools/tests/stand_in.py"))
+        self.link = suite.folder / "link"
+        self.link.symlink_to(self.top / "tools/pespbench")
+        self.environment = {"PATH": f"{self.fake}:{SYSTEM}", "FAKE": str(self.fake)}
+
+    def tool(self, name, text):
+        (self.fake / name).write_text(text)
+        (self.fake / name).chmod(0o755)
+
+    def say(self, word, is_said):
+        """Lets the toolchain do otherwise, or no more: a build fails, waits, or has a source changed meanwhile."""
+        if is_said:
+            (self.fake / word).write_text("")
+        else:
+            (self.fake / word).unlink()
+
+    def calls(self):
+        """Each call of the toolchain, with the number of its process."""
+        log = self.fake / "log"
+        return log.read_text().splitlines() if log.exists() else []
+
+    def change(self, name):
+        """Changes a file of the program's crate, some time after what was built."""
+        path = self.crate / name
+        path.write_text("changed")
+        at = time.time() + 0.02
+        os.utime(path, (at, at))
+        time.sleep(0.04)
+
+    def start(self, name, builds, status=0, output=None, tells=(), **others):
+        """Starts the script; standard error has the texts of `tells`, in this order, and nothing if there are none."""
+        come = run([self.link, "a ", "b"], cwd=self.suite.folder, env={**self.environment, **others})
+        told = come["standard error"].decode()
+        places = [told.find(text) for text in tells]
+        come |= {"builds": len(self.calls()), "told": told}
+        wanted = {"status": status, "standard output": self.ran() if output is None else output, "builds": builds}
+        wanted["told"] = told if bool(told) == bool(tells) and -1 not in places and places == sorted(places) else tells
+        self.suite.note(f"tools/pespbench: {name}", wanted, come)
+
+    def ran(self):
+        return f"ran in {self.suite.folder} with a  b\n".encode()
+
+    def begin(self):
+        """A start that goes on beside the test."""
+        how = {"cwd": self.suite.folder, "env": self.environment, "stdin": subprocess.DEVNULL, "stdout": subprocess.PIPE}
+        return subprocess.Popen([self.link, "a ", "b"], stderr=subprocess.PIPE, **how)
+
+    def is_half_made(self):
+        """Waits until the toolchain has made a part of the program."""
+        program, end = self.crate / "out/pespbench", time.monotonic() + SECONDS
+        while not (program.exists() and b"half" in program.read_bytes()):
+            if time.monotonic() > end:
+                raise TimeoutError("the toolchain makes no program")
+            time.sleep(0.01)

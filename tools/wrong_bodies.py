@@ -1,0 +1,122 @@
+"""The two shelves of wrong bodies of each crate, and how those of the second one are tried.
+
+The gate tries `must-fail/` itself. Those of `wrong-bodies/` are tried in its place on a copy of the tree, by the
+toolchain's `rt must-fail`, which keeps on the machine what it has tried.
+"""
+
+import pathlib
+import re
+import shutil
+import subprocess
+
+FIRST, SECOND = "must-fail", "wrong-bodies"
+# The toolchain's line on an edit; what is in brackets behind the first words takes from what a refusal shows.
+LINE = re.compile(r"(?:rt: )?must-fail (?P<crate>\w+)/(?P<name>[\w.-]+\.edit): (?P<told>.*)")
+REFUSED = "refused, as it must be"
+
+
+class Missing(Exception):
+    """A name that is no crate with a second shelf."""
+
+
+class Unread(Exception):
+    """Why an edit cannot be applied."""
+
+
+def edits(top, shelf, crate="*"):
+    """The edits of a shelf, of one crate or of all, ascending by path."""
+    return sorted(pathlib.Path(top).glob(f"crates/{crate}/{shelf}/*.edit"))
+
+
+def applied(edit):
+    """The texts of the files that an edit changes, by their paths, with its changes.
+
+    Raises Unread where it names no file, where a text that it changes does not stand there once, or if nothing changes.
+    """
+    texts, path, old = {}, None, None
+    for line in edit.read_text().splitlines():
+        kind, _, rest = line.partition(": ")
+        if kind == "file":
+            path = edit.parents[1] / rest
+            if not path.is_file():
+                raise Unread(f"there is no file {rest}")
+            texts.setdefault(path, path.read_text())
+        elif kind == "old":
+            old = rest
+        elif line.startswith("new:"):
+            if not path or not old or texts[path].count(old) != 1:
+                raise Unread(f"this text does not stand there once: {old}")
+            texts[path] = texts[path].replace(old, rest)
+    if all(text == path.read_text() for path, text in texts.items()):
+        raise Unread("it changes nothing")
+    return texts
+
+
+def breaks_of(edit):
+    """The clause that an edit breaks and an input that shows it, as its line `breaks:` says; empty where it has none."""
+    found = [line[len("breaks:") :].strip() for line in edit.read_text().splitlines() if line.startswith("breaks:")]
+    return found[0] if found else ""
+
+
+def crates_of(top, names):
+    """The crates that are tried: those named, or all with a second shelf.
+
+    Raises Missing where a name is no crate with one.
+    """
+    found = list(dict.fromkeys(path.parts[-3] for path in edits(top, SECOND)))
+    for name in names:
+        if name not in found:
+            raise Missing(f"{name} is no crate with a folder {SECOND}")
+    return names or found
+
+
+def copy_tree(top, to, crate):
+    """Copies what a check of the crate reads, with the second shelf of that crate where the gate looks for the first."""
+    shutil.copytree(top / "crates", to / "crates", ignore=shutil.ignore_patterns("out", FIRST, SECOND))
+    for name in ["crates.txt", "HANDLES"]:
+        shutil.copy(top / name, to / name)
+    shutil.copytree(top / "crates" / crate / SECOND, to / "crates" / crate / FIRST)
+
+
+def called(words, folder):
+    """The status of a command of the toolchain, and the lines that it wrote."""
+    done = subprocess.run(words, cwd=folder, stdin=subprocess.DEVNULL, stdout=subprocess.PIPE, stderr=subprocess.STDOUT)
+    return done.returncode, done.stdout.decode(errors="replace").splitlines()
+
+
+def told_of(lines):
+    """What the toolchain said of each edit, by its file's name; further lines are of the edit before them."""
+    told, name = {}, None
+    for line in lines:
+        match = LINE.fullmatch(line)
+        name = match["name"] if match else None if line.startswith("rt: ") else name
+        if match:
+            told[name] = match["told"]
+        elif name:
+            told[name] += f"\n  {line}"
+    return told
+
+
+def try_crate(top, room, crate):
+    """What is told of each edit of the crate's second shelf, by its file's name.
+
+    A crate that is not proved would refuse whatever is tried, so it is checked first, where the tree itself stands:
+    what that keeps serves the copy, and later runs too.
+    """
+    names = [path.name for path in edits(top, SECOND, crate)]
+    status, lines = called(["rt", "check"], top / "crates" / crate)
+    if status:
+        return dict.fromkeys(names, f"NOT TRIED: the crate itself is not proved: {(lines or ['no word'])[-1]}")
+    copy_tree(top, room, crate)
+    _, lines = called(["rt", "must-fail", crate], room)
+    told = told_of(lines)
+    return {name: told.get(name, "NOT TRIED: no word of it") for name in names}
+
+
+def is_refused(told):
+    return told.startswith(REFUSED)
+
+
+def is_plain(told):
+    """Whether the edit is refused, and without a remark in brackets, which says that this shows less."""
+    return is_refused(told) and not told[len(REFUSED) :].lstrip().startswith("(")
