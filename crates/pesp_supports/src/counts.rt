@@ -79,15 +79,10 @@ impl Counts {
         ensures none { IsTrue result ↔ (slice_index_or (self.old).values at 0 ≡ 1) }
     {
         match &mut self.values {
-            Values::Narrow(values) => {
-                values[at] -= 1;
-                values[at] == 0
-            }
-            Values::Wide(values) => {
-                values[at] -= 1;
-                values[at] == 0
-            }
+            Values::Narrow(values) => values[at] -= 1,
+            Values::Wide(values) => values[at] -= 1,
         }
+        self.get(at) == 0
     }
 
     /// Makes each count of a range one more.
