@@ -36,8 +36,8 @@ pub fn window_admits_anew(instance: &Instance, event: EventId, first: u16, lengt
 {
     let period = instance.period();
     let old = event_now(instance, event);
-    (0..period.get())
-        .any(|residue| is_held(period, first, length, residue) && !old.admits(period, residue))
+    (0..period.get()).any(|residue| is_held(period, first, length, residue)
+        && !old.admits(period, residue))
 }
 
 /// Whether there is a residue at which the event may not stand now.
