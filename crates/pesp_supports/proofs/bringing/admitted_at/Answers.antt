@@ -1,5 +1,5 @@
 -- An event beyond the limit is none of the instance, and so has no window; a window as long as the period leaves each residue.
-use Rattle.std.proofs.Common.{◌≡◌, ◌<◌, nat_lt, true, arith, refl, sym, subst, rules}
+use Rattle.std.proofs.Common.{◌≡◌, ◌<◌, nat_lt, true, arith, refl, sym, subst}
 use Rattle.pesp_base.specs.Limits.{greatest_number}
 use Rattle.pesp_base.specs.Windows.{Interval}
 use Rattle.pesp_supports.proofs.Brought.{unwindowed_beyond, window_within}

@@ -1,5 +1,5 @@
 -- The row is asked for one residue more: it is the last of the range that is now passed.
-use Rattle.std.proofs.Common.{◌≡◌, ℕ, ◌+◌, ◌<◌, Bool, List, IsTrue, length, slice_index_or, inl, inr, sym, ap, subst, ◌∙◌, rules, arith}
+use Rattle.std.proofs.Common.{◌≡◌, ℕ, ◌+◌, Bool, List, IsTrue, inl, inr, sym, ap, ◌∙◌, rules, arith}
 use Rattle.std.proofs.lemmas.Bool.{cases_eq, false≢true}
 use Rattle.pesp_domains.specs.Domains.{holds}
 use Rattle.pesp_links.specs.Ends.{is_from_to}
