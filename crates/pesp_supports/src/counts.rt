@@ -41,7 +41,7 @@ impl Counts {
         ensures none { result.values ≡ [] }
         ensures fits { period ≤ result.most }
     {
-        let values = if period.get() <= 255 {
+        let values = if period.get() <= u16::from(u8::MAX) {
             Values::Narrow(Vec::new(alloc))
         } else {
             Values::Wide(Vec::new(alloc))
@@ -55,8 +55,8 @@ impl Counts {
         ensures { result ≡ slice_index_or (self.now).values at 0 }
     {
         match &self.values {
-            Values::Narrow(values) => u16::from(values[at]),
-            Values::Wide(values) => values[at],
+            Values::Narrow(bytes) => u16::from(bytes[at]),
+            Values::Wide(words) => words[at],
         }
     }
 
@@ -79,10 +79,17 @@ impl Counts {
         ensures none { IsTrue result ↔ (slice_index_or (self.old).values at 0 ≡ 1) }
     {
         match &mut self.values {
-            Values::Narrow(values) => values[at] -= 1,
-            Values::Wide(values) => values[at] -= 1,
+            Values::Narrow(bytes) => {
+                let left = bytes[at] - 1;
+                bytes[at] = left;
+                left == 0
+            }
+            Values::Wide(words) => {
+                let left = words[at] - 1;
+                words[at] = left;
+                left == 0
+            }
         }
-        self.get(at) == 0
     }
 
     /// Makes each count of a range one more.
@@ -95,8 +102,8 @@ impl Counts {
         ensures counts { (i : ℕ) → slice_index_or (self.new).values i 0 ≡ slice_index_or (self.old).values i 0 + cond (is_from_to from to i) 1 0 }
     {
         match &mut self.values {
-            Values::Narrow(values) => raise_bytes(values, from, to),
-            Values::Wide(values) => raise_words(values, from, to),
+            Values::Narrow(bytes) => raise_bytes(bytes, from, to),
+            Values::Wide(words) => raise_words(words, from, to),
         }
     }
 
@@ -108,8 +115,8 @@ impl Counts {
         ensures count { (self.new).values ≡ slice_set (self.old).values at count }
     {
         match &mut self.values {
-            Values::Narrow(values) => values[at] = count as u8,
-            Values::Wide(values) => values[at] = count,
+            Values::Narrow(bytes) => bytes[at] = count as u8,
+            Values::Wide(words) => words[at] = count,
         }
     }
 
@@ -124,8 +131,8 @@ impl Counts {
         ensures elsewhere { (i : ℕ) → i < from ⊎ to ≤ i → slice_index_or (self.new).values i 0 ≡ slice_index_or (self.old).values i 0 }
     {
         match &mut self.values {
-            Values::Narrow(values) => fill_bytes(values, from, to, count as u8),
-            Values::Wide(values) => fill_words(values, from, to, count),
+            Values::Narrow(bytes) => fill_bytes(bytes, from, to, count as u8),
+            Values::Wide(words) => fill_words(words, from, to, count),
         }
     }
 
@@ -138,14 +145,14 @@ impl Counts {
         ensures err { OnErr result (self.new ≡ self.old) }
     {
         match &mut self.values {
-            Values::Narrow(values) => {
-                if values.len() < long {
-                    values.resize(long, 0)?;
+            Values::Narrow(bytes) => {
+                if bytes.len() < long {
+                    bytes.resize(long, 0)?;
                 }
             }
-            Values::Wide(values) => {
-                if values.len() < long {
-                    values.resize(long, 0)?;
+            Values::Wide(words) => {
+                if words.len() < long {
+                    words.resize(long, 0)?;
                 }
             }
         }

@@ -6,6 +6,6 @@ use Rattle.pesp_supports.proofs.widths.raise_bytes.Given as goal
 abbrev pub invariant-loop-at : goal.invariant-loop-at
 invariant-loop-at l =
     record {
-      long : length l.values ≡ length l.fn.values;
-      counts : (i : ℕ) → slice_index_or l.values i 0 ≡ slice_index_or l.fn.values i 0 + cond (is_from_to l.from l.at i) 1 0;
+      long : length l.bytes ≡ length l.fn.bytes;
+      counts : (i : ℕ) → slice_index_or l.bytes i 0 ≡ slice_index_or l.fn.bytes i 0 + cond (is_from_to l.from l.at i) 1 0;
     }
