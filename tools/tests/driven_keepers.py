@@ -1,0 +1,185 @@
+"""What both keepers have to tell when they are driven, drawn lines that drive them, and what of their lines is wrong.
+
+The lines are those that the program crates/pesp_keepers takes: edits as commands, `push fix E T`, which pushes the
+pair of an event and a time, and `pop`. A model follows them, by the plain rules of tests/network.py.
+"""
+
+import copy
+import re
+
+from tests.changes import restored
+from tests.network import Network, Refused
+from tests.parsing import parse
+
+# The numbers of events and activities of which the program tells something are below this.
+NUMBERS = 8
+
+
+class Kept:
+    """A network, the pushed times by event, the last push last, and what the last accepted edit took."""
+
+    def __init__(self, period):
+        self.network = Network(period)
+        self.pushed = {}
+        self.restored = set()
+        self.removed = 0
+        self.most_probes = 0
+
+    def follow(self, line):
+        """Does what the line asks for. What the program answers."""
+        if line == "pop":
+            self.pushed.popitem()
+            return "ok"
+        name, numbers = parse(line.removeprefix("push ").encode())
+        if line.startswith("push "):
+            self.pushed[numbers[0]] = numbers[1]
+            return "ok"
+        return self.edit(name, numbers)
+
+    def edit(self, name, numbers):
+        before = copy.deepcopy(self.network)
+        try:
+            getattr(self.network, name.replace(" ", "_"))(*numbers)
+        except Refused as refusal:
+            return f"refused {str(refusal).split()[0]}"
+        self.restored = restored(before, self.network, name, numbers)
+        gone = pairs_of(before.rows()) | self.restored
+        gone = {pair for pair in gone - pairs_of(self.network.rows()) if pair[0] in self.network.events}
+        self.removed = len(gone)
+        self.most_probes = most_probes(before, self.network, [*self.restored, *gone])
+        return "ok"
+
+    def rows(self):
+        """A line for each number of an event: how many residues its row has, and a mark for each residue."""
+        rows = self.network.rows(self.pushed)
+        return [f"row {number} {row_text(rows.get(number), self.network.period)}" for number in range(NUMBERS)]
+
+    def counts(self):
+        """A line for each number of an activity: for each residue at both ends, how many of the other end go with it."""
+        rows = self.network.rows(self.pushed)
+        return [f"counts {number}{self.counts_of(number, rows)}" for number in range(NUMBERS)]
+
+    def counts_of(self, number, rows):
+        row = self.network.activities.get(number)
+        residues = range(self.network.period)
+        if row is None:
+            return " -" * len(residues) + " /" + " -" * len(residues)
+        first, last = rows[row[0]], rows[row[1]]
+        tail = [sum(self.network.allows(row, r, s) for s in last) if r in first else "-" for r in residues]
+        head = [sum(self.network.allows(row, r, s) for r in first) if s in last else "-" for s in residues]
+        return "".join(f" {count}" for count in [*tail, "/", *head])
+
+
+def pairs_of(rows):
+    return {(event, residue) for event, row in rows.items() for residue in row}
+
+
+def row_text(row, period):
+    if row is None:
+        return f"0 {'-' * period}"
+    return f"{len(row)} {''.join('#' if residue in row else '.' for residue in range(period))}"
+
+
+def degree(network, event):
+    """How many ends of activities are at the event."""
+    return sum((row[0] == event) + (row[1] == event) for row in network.activities.values())
+
+
+def most_probes(before, after, pairs):
+    """The most looks at one residue along one activity that an edit may take which moves these pairs."""
+    period = before.period
+    weight = sum(max(degree(before, event), degree(after, event)) + 1 for event, _ in pairs)
+    return 4 * period * period + 2 * period * weight
+
+
+# The lines of the program, and what is wrong with them
+
+
+def first_lines(kept, answer):
+    """What the program tells behind a line of input, but for the two lines on the last edit."""
+    rows = [answer, *kept.rows()]
+    return ["plain", *rows, "counted", *rows, *kept.counts()]
+
+
+def right_lines(kept, answer):
+    """What a program tells that takes as many probes as it may."""
+    pairs = "".join(f" {event}:{residue}" for event, residue in sorted(kept.restored))
+    work = f"work {len(kept.restored)} {kept.removed} {kept.most_probes}"
+    return [*first_lines(kept, answer), f"restored{pairs}", work]
+
+
+def damaged(draw, lines):
+    """The lines with one number, one more, or one mark of them changed, or a line left out."""
+    place = draw.randrange(len(lines))
+    parts = list(re.finditer(r"\d+|[#.-]", lines[place]))
+    if not parts or draw.randrange(10) == 0:
+        return lines[:place] + lines[place + 1 :]
+    part = draw.choice(parts)
+    other = str(int(part[0]) + 1) if part[0].isdigit() else {"#": ".", ".": "#", "-": "#"}[part[0]]
+    return [*lines[:place], lines[place][: part.start()] + other + lines[place][part.end() :], *lines[place + 1 :]]
+
+
+def fault(kept, answer, lines):
+    """What is wrong with the lines behind one line of input, once the model has followed it; None where nothing is."""
+    wanted = first_lines(kept, answer)
+    for place, line in enumerate(wanted):
+        came = lines[place] if place < len(lines) else "nothing"
+        if came != line:
+            return f"'{line}' is wanted, and '{came}' came"
+    return fault_of_work(kept, lines[len(wanted) :])
+
+
+def fault_of_work(kept, lines):
+    """What is wrong with the restored pairs, each of which is told once, and with the work of the last edit."""
+    if [line.split()[0] for line in lines] != ["restored", "work"]:
+        return f"a line on restored pairs and one on work are wanted, and these came: {lines}"
+    told = [tuple(map(int, pair.split(":"))) for pair in lines[0].split()[1:]]
+    if sorted(told) != sorted(kept.restored):
+        return f"these pairs are restored: {sorted(kept.restored)}, and these are told: {told}"
+    came, removed, probes = map(int, lines[1].split()[1:])
+    if (came, removed) != (len(told), kept.removed):
+        return f"{len(told)} pairs came and {kept.removed} went, and this is told: {lines[1]}"
+    return None if probes <= kept.most_probes else f"at most {kept.most_probes} probes are taken, and {probes} are told"
+
+
+# Drawn lines
+
+
+def drawn_edit(draw, period):
+    """An edit of few events and activities, most of which are there."""
+    event, activity = draw.randint(0, 5), draw.randint(0, 6)
+    ends = [draw.randint(1, 5), draw.randint(1, 5)]
+    lower = draw.randint(-period, period)
+    bounds = [lower, lower + draw.choice([0, 1, 2, draw.randrange(period), period])]
+    time, length = draw.randrange(period + 1), draw.randint(0, period + 1)
+    numbers = {
+        "add event": [event],
+        "drop event": [event],
+        "fix": [event, time],
+        "window": [event, time, length],
+        "unfix": [event],
+        "add activity": [activity, *ends, *bounds, 1],
+        "drop activity": [activity],
+        "span": [activity, *bounds],
+        "weight": [activity, draw.randrange(9)],
+        "ends": [activity, *ends],
+    }
+    name = draw.choice([*numbers, "add event", "add activity", "add activity", "window", "span"])
+    return " ".join(map(str, [name, *numbers[name]]))
+
+
+def drawn_line(draw, kept):
+    """A line that both keepers can follow: no edit where something is pushed, and no event twice."""
+    free = sorted(kept.network.events - kept.pushed.keys())
+    if kept.pushed and (not free or draw.randrange(3) == 0):
+        return "pop"
+    if free and draw.randrange(2 if kept.pushed else 4) == 0:
+        return f"push fix {draw.choice(free)} {draw.randrange(kept.network.period)}"
+    return "pop" if kept.pushed else drawn_edit(draw, kept.network.period)
+
+
+def network_lines(draw, period):
+    """Events and activities with which most streams begin, so that later edits have something to change."""
+    lines = [f"add event {event}" for event in range(1, draw.randint(2, 6))]
+    edits = [drawn_edit(draw, period) for _ in range(40)]
+    return [*lines, *[edit for edit in edits if edit.startswith("add activity")][:6]]
