@@ -1,5 +1,6 @@
 mod Cases
 pub mod DomainLemmas
+pub mod Refused
 pub mod TranscriptLemmas
 pub mod UniqueLemmas
 pub mod Written
