@@ -1,5 +1,5 @@
 -- Each edit is told by what it edits.
-use Rattle.std.proofs.Common.{◌==◌, true, false, refl, sym, subst}
+use Rattle.std.proofs.Common.{◌==◌, true, refl, sym, subst}
 use Rattle.pesp_tension.specs.Answers.{IsTimed}
 use Rattle.pesp_bench.specs.Kept.{TellsStay}
 use Rattle.pesp_bench.proofs.Stands.{added_tells, fixed_told, member_timed_at, spanned_tells, unfixed_tells, weighted_tells, window_told}
