@@ -1,14 +1,12 @@
 -- Each accepted edit asks again what was asked before, but where chains begin.
-use Rattle.std.proofs.Common.{◌≡◌, ◌≢◌, ℕ, ◌<◌, ◌==◌, ◌&&◌, not, cond, if◌then◌else◌, Bool, true, false, List, [], ◌∷◌, Option, Some, None, is_some, option_map, Ok, ℤ, pos, neg_ℤ, ◌+ℤ◌, ◌-ℤ◌, ◌*ℤ◌, ◌≤ℤ◌, refl, sym, ap, subst, ◌∙◌, inl, inr, ◌⊎◌, arith, IsTrue, eqb→eq, T}
-use Rattle.std.specs.List.{Contains, range_with_len}
+use Rattle.std.proofs.Common.{◌≡◌, ◌≢◌, ℕ, ◌<◌, ◌==◌, cond, if◌then◌else◌, Bool, true, false, List, [], ◌∷◌, Option, Some, None, is_some, option_map, Ok, refl, sym, ap, subst, ◌∙◌, inl, inr, ◌⊎◌, arith, IsTrue, eqb→eq, T}
+use Rattle.std.specs.List.{Contains}
 use Rattle.std.specs.Option.{option_and_then, option_map_or}
 use Rattle.std.specs.Result.{is_ok}
-use Rattle.std.proofs.lemmas.Bool.{and_from, cases_Bool, cases_eq, eq-eqb, ne_eqb, false≢true}
-use Rattle.std.proofs.lemmas.Int.{ints}
+use Rattle.std.proofs.lemmas.Bool.{cases_Bool, cases_eq, eq-eqb, ne_eqb, false≢true}
 use Rattle.std.proofs.lemmas.List.Elements.{All-contains, All-contains_itself}
 use Rattle.pesp_base.specs.declared.activity.Activity.{Activity}
 use Rattle.pesp_base.specs.declared.refusal.Refusal.{Refusal}
-use Rattle.pesp_base.specs.Bounds.{Bounds}
 use Rattle.pesp_base.specs.Numbered.{change_in, put_in, take_out, with_number}
 use Rattle.pesp_base.specs.Refusals.{unless_refused, when}
 use Rattle.pesp_base.specs.Tensions.{IsMet}
@@ -22,7 +20,7 @@ use Rattle.pesp_instance.proofs.Rising.{All-found, IfSome-with_number, number-wi
 use Rattle.pesp_domains.specs.declared.side.Side.{Side}
 use Rattle.pesp_domains.specs.declared.side.Side.TheVariants.{Tail, Head}
 use Rattle.pesp_domains.specs.Domains.{Joins, other, own}
-use Rattle.pesp_domains.proofs.Families.{here, in_range, none_passes, there}
+use Rattle.pesp_domains.proofs.Families.{here, there}
 use Rattle.pesp_counts.specs.Loosened.{AsksAgain, HasHeir}
 use Rattle.pesp_domains.specs.Loosening.{admits_anew, admits_more, is_looser}
 use Rattle.pesp_counts.specs.Reached.{ends_of, is_edited}

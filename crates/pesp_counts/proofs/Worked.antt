@@ -2,7 +2,7 @@
 use Rattle.std.proofs.Common.{◌≡◌, ◌≢◌, ℕ, ◌+◌, ◌*◌, ◌<◌, ◌≤◌, List, [], ◌∷◌, Some, is_some, Ok, get_or, length, map, unwrap_or, AllPairs, sym, ap, subst, ◌∙◌, inl, inr, ◌⊎◌, arith, IsTrue}
 use Rattle.std.specs.Prelude.{max}
 use Rattle.std.specs.List.{Contains}
-use Rattle.std.proofs.Math.Nat.{add-mul, le-max_right, mul-add, mul_assoc, mul-le-mul_left, mul-le-mul_right}
+use Rattle.std.proofs.Math.Nat.{le-max_right, mul-add, mul_assoc, mul-le-mul_left, mul-le-mul_right}
 use Rattle.std.proofs.lemmas.Bool.{cases_Bool}
 use Rattle.std.proofs.lemmas.List.{get_or-map, length-map}
 use Rattle.std.proofs.lemmas.List.Elements.{Contains-get_or}

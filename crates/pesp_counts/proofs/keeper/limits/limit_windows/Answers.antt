@@ -1,5 +1,5 @@
 -- An event more is done.
-use Rattle.std.proofs.Common.{◌≡◌, ℕ, ◌∙◌, sym, Option, Some, None, refl}
+use Rattle.std.proofs.Common.{◌∙◌, sym, Some}
 use Rattle.std.specs.List.{Contains}
 use Rattle.std.proofs.lemmas.List.Elements.{All-head, All-tail, All-contains_itself}
 use Rattle.pesp_instance.specs.declared.event.Event.{Event}

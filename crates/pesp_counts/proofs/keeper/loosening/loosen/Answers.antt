@@ -1,6 +1,6 @@
 -- Each edit of a window is followed by the window alone, and no other edit brings pairs back.
 use Rattle.std.proofs.Common.{None, Some, subst, sym}
-use Rattle.pesp_base.specs.Windows.{Interval, at_time}
+use Rattle.pesp_base.specs.Windows.{at_time}
 use Rattle.pesp_counts.specs.Reached.{IsOfWindow}
 use Rattle.pesp_counts.proofs.EditStarts.{of_fix, of_unfix, of_window, only_loose}
 use Rattle.pesp_counts.proofs.keeper.loosening.loosen.Goals as goal
