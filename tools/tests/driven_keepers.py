@@ -6,6 +6,7 @@ pair of an event and a time, and `pop`. A model follows them, by the plain rules
 
 import copy
 import re
+from typing import List, NamedTuple, Set, Tuple
 
 from tests.changes import restored
 from tests.network import Network, Refused
@@ -13,6 +14,15 @@ from tests.parsing import parse
 
 # The numbers of events and activities of which the program tells something are below this.
 NUMBERS = 8
+
+
+class Wanted(NamedTuple):
+    """What is to be told behind a line: most of it word for word, and what the last accepted edit took."""
+
+    lines: List[str]
+    restored: Set[Tuple[int, int]]
+    removed: int
+    most_probes: int
 
 
 class Kept:
@@ -26,7 +36,12 @@ class Kept:
         self.most_probes = 0
 
     def follow(self, line):
-        """Does what the line asks for. What the program answers."""
+        """Does what the line asks for. What the program is to tell then."""
+        rows = [self.answer(line), *self.rows()]
+        lines = ["plain", *rows, "counted", *rows, *self.counts()]
+        return Wanted(lines, self.restored, self.removed, self.most_probes)
+
+    def answer(self, line):
         if line == "pop":
             self.pushed.popitem()
             return "ok"
@@ -95,17 +110,11 @@ def most_probes(before, after, pairs):
 # The lines of the program, and what is wrong with them
 
 
-def first_lines(kept, answer):
-    """What the program tells behind a line of input, but for the two lines on the last edit."""
-    rows = [answer, *kept.rows()]
-    return ["plain", *rows, "counted", *rows, *kept.counts()]
-
-
-def right_lines(kept, answer):
+def right_lines(wanted):
     """What a program tells that takes as many probes as it may."""
-    pairs = "".join(f" {event}:{residue}" for event, residue in sorted(kept.restored))
-    work = f"work {len(kept.restored)} {kept.removed} {kept.most_probes}"
-    return [*first_lines(kept, answer), f"restored{pairs}", work]
+    pairs = "".join(f" {event}:{residue}" for event, residue in sorted(wanted.restored))
+    work = f"work {len(wanted.restored)} {wanted.removed} {wanted.most_probes}"
+    return [*wanted.lines, f"restored{pairs}", work]
 
 
 def damaged(draw, lines):
@@ -119,27 +128,26 @@ def damaged(draw, lines):
     return [*lines[:place], lines[place][: part.start()] + other + lines[place][part.end() :], *lines[place + 1 :]]
 
 
-def fault(kept, answer, lines):
-    """What is wrong with the lines behind one line of input, once the model has followed it; None where nothing is."""
-    wanted = first_lines(kept, answer)
-    for place, line in enumerate(wanted):
+def fault(wanted, lines):
+    """What is wrong with the lines behind one line of input; None where nothing is."""
+    for place, line in enumerate(wanted.lines):
         came = lines[place] if place < len(lines) else "nothing"
         if came != line:
             return f"'{line}' is wanted, and '{came}' came"
-    return fault_of_work(kept, lines[len(wanted) :])
+    return fault_of_work(wanted, lines[len(wanted.lines) :])
 
 
-def fault_of_work(kept, lines):
+def fault_of_work(wanted, lines):
     """What is wrong with the restored pairs, each of which is told once, and with the work of the last edit."""
     if [line.split()[0] for line in lines] != ["restored", "work"]:
         return f"a line on restored pairs and one on work are wanted, and these came: {lines}"
     told = [tuple(map(int, pair.split(":"))) for pair in lines[0].split()[1:]]
-    if sorted(told) != sorted(kept.restored):
-        return f"these pairs are restored: {sorted(kept.restored)}, and these are told: {told}"
-    came, removed, probes = map(int, lines[1].split()[1:])
-    if (came, removed) != (len(told), kept.removed):
-        return f"{len(told)} pairs came and {kept.removed} went, and this is told: {lines[1]}"
-    return None if probes <= kept.most_probes else f"at most {kept.most_probes} probes are taken, and {probes} are told"
+    if sorted(told) != sorted(wanted.restored):
+        return f"these pairs are restored: {sorted(wanted.restored)}, and these are told: {told}"
+    restored_pairs, removed, probes = map(int, lines[1].split()[1:])
+    if (restored_pairs, removed) != (len(told), wanted.removed):
+        return f"{len(told)} pairs came and {wanted.removed} went, and this is told: {lines[1]}"
+    return None if probes <= wanted.most_probes else f"at most {wanted.most_probes} probes are taken, and {probes} are told"
 
 
 # Drawn lines
