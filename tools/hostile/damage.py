@@ -22,9 +22,10 @@ FILE_FAULT = re.compile(
 REPLY_LINE = re.compile(
     rb"ok|infeasible|stopped none|cost \d+|(domains|tensions|violations) \d+|(optimum|stopped) \d+ \d+"
     rb"|(activity|event) \d+|\d+:( \d+)*|\d+ -?\d+ \d+|\d+ \d+"
-    rb"|# period \d+ lines \d+|add event \d+|fix \d+ \d+|add activity \d+ \d+ \d+ -?\d+ -?\d+ \d+"
+    rb"|# period \d+ lines \d+|add event \d+|fix \d+ \d+|window \d+ \d+ \d+|add activity \d+ \d+ \d+ -?\d+ -?\d+ \d+"
     rb"|refused (1 event \d+ exists|2 no event \d+|3 event \d+ is used by activity \d+|4 time \d+ is out of range"
-    rb"|5 activity \d+ exists|6 no activity \d+|9 event \d+ is not fixed|11 event \d+ has no time|12 infeasible)"
+    rb"|5 activity \d+ exists|6 no activity \d+|9 event \d+ is not fixed|11 event \d+ has no time|12 infeasible"
+    rb"|13 length \d+ is out of range)"
     rb"|fault (unknown command|wrong number of words|word [1-9] is (not a number|out of range)"
     rb"|lower bound above upper bound)"
 )

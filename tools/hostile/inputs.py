@@ -31,6 +31,20 @@ domains
 optimum
 adopt
 cost
+window 1 9 3
+window 1 10 1
+window 1 9 11
+window 9 0 1
+domains
+violations
+optimum
+window 1 0 2
+optimum
+dump
+window 1 0 10
+unfix 1
+unfix 1
+fix 1 0
 weight 1 5
 try 2
 try 1000
@@ -54,6 +68,7 @@ quit
 weight 1 x
 span 1 5 3
 fix 1 70000
+window 1 0
 span 1 4 4
 fix 2 9
 optimum

@@ -1,5 +1,6 @@
 """What it takes to build the domains, to keep them through edits, and to visit a node of a search."""
 
+import math
 import sys
 
 from measuring.counting import count, peak, run
@@ -9,6 +10,9 @@ EDITS = 20
 EVENTS_OF_A_FREE_ONE = 10
 ACTIVITIES_OF_A_SEARCHED_EVENT = 2
 NODES = 2_000
+# Lengths of windows.
+NARROW = 2
+WIDE = 40
 
 
 class Network:
@@ -53,6 +57,23 @@ def some_of(items):
     return items[:: max(1, len(items) // EDITS)][:EDITS]
 
 
+def window_of(network, event, length):
+    """A line that gives an event a window around its time."""
+    return f"window {event} {(network.times[event] - length // 2) % PERIOD} {length}"
+
+
+def measure_windows(network, events, built):
+    """What windows take: a narrow one where there was none, and then a wide one. NaN where the program knows none."""
+    narrow, wide = ([window_of(network, event, length) for event in events] for length in [NARROW, WIDE])
+    if network.answers(narrow + wide) != "ok\n" * (len(narrow) + len(wide)):
+        return {"window": math.nan, "wider": math.nan}
+    narrowed = network.takes(narrow)
+    return {
+        "window": (narrowed - built) / len(events),
+        "wider": (network.takes(narrow + wide) - narrowed) / len(events),
+    }
+
+
 def measure_edits(program, folder, rows):
     """What edits of one network take, above building it. But for each tenth event all have fixed times."""
     network = Network(program, folder, rows, events_of(rows), lambda event: event % EVENTS_OF_A_FREE_ONE)
@@ -81,6 +102,7 @@ def measure_edits(program, folder, rows):
         "pairs": pairs / len(free),
         "fix": (fixed - built) / len(free),
         "unfix": (network.takes(fix + unfix) - fixed) / len(free),
+        **measure_windows(network, free, built),
         "memory": peak(network.words, network.memory),
     }
 
@@ -96,10 +118,10 @@ def measure_search(program, folder, events):
 def print_edits(table):
     print("\ninstructions of a building for each activity, and of each edit")
     print(
-        f"{'rows':>7} {'events':>7} {'building':>9} {'span':>9} {'weight':>9} {'drop':>9} {'add':>9} {'fix':>9} {'unfix':>11} {'residues moved':>15} {'peak kB':>9}"
+        f"{'rows':>7} {'events':>7} {'building':>9} {'span':>9} {'weight':>9} {'drop':>9} {'add':>9} {'window':>9} {'wider':>9} {'fix':>9} {'unfix':>11} {'residues moved':>15} {'peak kB':>9}"
     )
     for row in table:
-        edits = "".join(f" {row[name]:>9.0f}" for name in ["span", "weight", "drop", "add", "fix"])
+        edits = "".join(f" {row[name]:>9.0f}" for name in ["span", "weight", "drop", "add", "window", "wider", "fix"])
         figures = f"{row['building']:>9.0f}{edits} {row['unfix']:>11.0f}"
         print(f"{row['rows']:>7} {row['events']:>7} {figures} {row['pairs']:>15.1f} {row['memory']:>9}")
 

@@ -1,8 +1,13 @@
 """Commands by the table, and the model beside them."""
 
+import copy
+
 from tests import model
+from tests.change_cases import RESTORED
+from tests.changes import restored
 from tests.command_cases import CASES, FAULTS, REFUSALS, SILENT, SPELLINGS, TWO
 from tests.file_cases import TWO as TWO_FILE
+from tests.parsing import parse
 from tests.rules import read_activities
 
 
@@ -40,6 +45,23 @@ def model_cases(suite):
             wrong += [] if rest[: len(wanted)] == wanted else [line]
             rest = rest[len(wanted) :]
         suite.note(f"the model: {name}", {"wrong": [], "left": []}, {"wrong": wrong, "left": rest})
+
+
+def pairs_of(rows):
+    """The pairs of rows as the tables write them: ` / ` stands between events."""
+    events = [row.split(": ") for row in rows.split(" / ") if row]
+    return {(int(event), int(residue)) for event, residues in events for residue in residues.split()}
+
+
+def model_restores(suite):
+    """The model by a table of edits with what each restores."""
+    for edits in RESTORED:
+        bench = model_of(10, TWO_FILE)
+        for line, rows in edits:
+            before = copy.deepcopy(bench)
+            bench.reply(line.encode())
+            came = restored(before, bench, *parse(line.encode()))
+            suite.note(f"the model restores: {line}", {"pairs": pairs_of(rows)}, {"pairs": came})
 
 
 def refused_lines(suite):
@@ -97,4 +119,4 @@ def files_and_commands(suite):
     suite.case("activities from standard input, and no commands behind them", ["/dev/stdin"], given=TWO_FILE)
 
 
-GROUPS = [command_cases, model_cases, refused_lines, faulty_lines, files_and_commands]
+GROUPS = [command_cases, model_cases, model_restores, refused_lines, faulty_lines, files_and_commands]

@@ -98,7 +98,7 @@ def documents(suite):
 
 # What the documents have to name: the faults of files, refusals, faults of lines, and what ends a run.
 TEXTS = [FIELDS, bad("k"), out("k"), FRACTION, CROSSED, TWICE, EVENT_TWICE, ABSENT, EVENTS, ACTIVITIES, "out of memory"]
-TEXTS += [f"refused {number} " for number in (1, 2, 3, 4, 5, 6, 7, 8, 9, 11, 12)]
+TEXTS += [f"refused {number} " for number in (1, 2, 3, 4, 5, 6, 7, 8, 9, 11, 12, 13)]
 TEXTS += ["is used by activity", "is not fixed", "has no time", "refused 12 infeasible", "stopped none"]
 TEXTS += ["unknown command", "wrong number of words", "fault lower bound above upper bound", "commands cannot be read"]
 TEXTS += ["replies cannot be written", "is longer than 4096 bytes", "more than 1000000 lines", "out of memory at line"]

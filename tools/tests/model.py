@@ -1,30 +1,26 @@
 """The commands, as docs/FORMATS.md and docs/RULES.md say them, computed here without the program.
 
-It is slow and plain: domains are found by taking pairs away until nothing changes, and the optimum by trying every
-time of every event in order. `reply` gives the one legal reply to a line; to `try N` several are legal, and `may_try`
-tells whether a given one is.
+`reply` gives the one legal reply to a line; to `try N` several are legal, and `may_try` tells whether a given one is.
 """
 
-from tests.limits import most_activities, most_events
+from tests.network import Network, Refused
 from tests.parsing import Fault, parse
-
-
-class Refused(Exception):
-    """Why a command is not done."""
 
 
 def listed(name, lines):
     return [f"{name} {len(lines)}", *lines]
 
 
-class Model:
-    """A period, events, fixed times, activities, and a working timetable."""
+def window_line(event, first, length):
+    """The line of a script that gives an event its window."""
+    return f"fix {event} {first}" if length == 1 else f"window {event} {first} {length}"
+
+
+class Model(Network):
+    """A network and a working timetable."""
 
     def __init__(self, period, activities=(), fixed=None, times=None):
-        self.period = period
-        self.activities = {row[0]: tuple(row[1:]) for row in activities}
-        self.events = {event for row in self.activities.values() for event in row[:2]}
-        self.fixed = {event: time % period for event, time in (fixed or {}).items()}
+        super().__init__(period, activities, fixed)
         self.times = {event: time % period for event, time in (times or {}).items() if event in self.events}
 
     def reply(self, line):
@@ -40,85 +36,16 @@ class Model:
     def answer(self, name, numbers):
         return getattr(self, name.replace(" ", "_").replace("try", "optimum_within"))(*numbers) or ["ok"]
 
-    # Refusals
+    def drop_event(self, event):
+        super().drop_event(event)
+        self.times.pop(event, None)
 
-    def no_event(self, *events):
-        for event in events:
-            if event not in self.events:
-                raise Refused(f"2 no event {event}")
-
-    def no_activity(self, activity):
-        if activity not in self.activities:
-            raise Refused(f"6 no activity {activity}")
-
-    def late(self, time):
-        if time >= self.period:
-            raise Refused(f"4 time {time} is out of range")
+    # The working timetable
 
     def untimed(self):
         for event in sorted(self.events):
             if event not in self.times:
                 raise Refused(f"11 event {event} has no time")
-
-    # Edits
-
-    def add_event(self, event):
-        if event in self.events:
-            raise Refused(f"1 event {event} exists")
-        if len(self.events) == most_events(self.period):
-            raise Refused("7 too many events")
-        self.events.add(event)
-
-    def drop_event(self, event):
-        self.no_event(event)
-        users = [activity for activity, row in self.activities.items() if event in row[:2]]
-        if users:
-            raise Refused(f"3 event {event} is used by activity {min(users)}")
-        self.events.remove(event)
-        self.fixed.pop(event, None)
-        self.times.pop(event, None)
-
-    def fix(self, event, time):
-        self.no_event(event)
-        self.late(time)
-        self.fixed[event] = time
-
-    def unfix(self, event):
-        self.no_event(event)
-        if event not in self.fixed:
-            raise Refused(f"9 event {event} is not fixed")
-        del self.fixed[event]
-
-    def add_activity(self, activity, first, last, lower, upper, weight):
-        if activity in self.activities:
-            raise Refused(f"5 activity {activity} exists")
-        self.no_event(first, last)
-        if len(self.activities) == most_activities(self.period):
-            raise Refused("8 too many activities")
-        self.activities[activity] = (first, last, lower, upper, weight)
-
-    def drop_activity(self, activity):
-        self.no_activity(activity)
-        del self.activities[activity]
-
-    def change(self, activity, place, values):
-        row = self.activities[activity]
-        self.activities[activity] = row[:place] + values + row[place + len(values) :]
-
-    def span(self, activity, lower, upper):
-        self.no_activity(activity)
-        self.change(activity, 2, (lower, upper))
-
-    def weight(self, activity, weight):
-        self.no_activity(activity)
-        self.change(activity, 4, (weight,))
-
-    def ends(self, activity, first, last):
-        self.no_activity(activity)
-        self.no_event(first, last)
-        self.change(activity, 0, (first, last))
-
-    # The working timetable
 
     def time(self, event, time):
         self.no_event(event)
@@ -151,7 +78,7 @@ class Model:
         self.untimed()
         activities = sorted(self.activities.items())
         unmet = [f"activity {activity}" for activity, row in activities if not self.met(row, self.times)]
-        moved = [f"event {event}" for event, time in sorted(self.fixed.items()) if self.times[event] != time]
+        moved = [f"event {event}" for event in sorted(self.windows) if not self.admits(event, self.times[event])]
         return listed("violations", unmet + moved)
 
     def cost(self):
@@ -181,59 +108,9 @@ class Model:
 
     def dump(self):
         lines = [f"add event {event}" for event in sorted(self.events)]
-        lines += [f"fix {event} {time}" for event, time in sorted(self.fixed.items())]
+        lines += [window_line(event, *window) for event, window in sorted(self.windows.items())]
         lines += [" ".join(map(str, ["add activity", name, *row])) for name, row in sorted(self.activities.items())]
         return [f"# period {self.period} lines {len(lines)}", *lines]
-
-    # The rules
-
-    def slack(self, row, times):
-        first, last, lower, _, _ = row
-        return (times[last] - times[first] - lower) % self.period
-
-    def met(self, row, times):
-        return self.slack(row, times) <= row[3] - row[2]
-
-    def cost_of(self, times):
-        return sum(row[4] * self.slack(row, times) for row in self.activities.values())
-
-    def allows(self, row, first_time, last_time):
-        return (last_time - first_time - row[2]) % self.period <= row[3] - row[2]
-
-    def rows(self, pushed=None):
-        """The domains: pairs are taken away as long as one of them lacks a partner."""
-        rows = {event: set(range(self.period)) for event in self.events}
-        for event, time in [*self.fixed.items(), *(pushed or {}).items()]:
-            rows[event] &= {time}
-        changed = True
-        while changed:
-            changed = False
-            for row in self.activities.values():
-                first, last = rows[row[0]], rows[row[1]]
-                lone = {r for r in first if not any(self.allows(row, r, s) for s in last)}
-                first -= lone
-                lonely = {s for s in last if not any(self.allows(row, r, s) for r in first)}
-                last -= lonely
-                changed = changed or lone or lonely
-        return rows
-
-    def members(self, times=None):
-        """The timetables that meet everything, in order: event by event ascending, the smaller time first."""
-        times = times or {}
-        if len(times) == len(self.events):
-            yield dict(times)
-            return
-        event = sorted(self.events)[len(times)]
-        for time in [self.fixed[event]] if event in self.fixed else range(self.period):
-            times[event] = time
-            timed = [row for row in self.activities.values() if row[0] in times and row[1] in times]
-            if all(self.met(row, times) for row in timed):
-                yield from self.members(times)
-            del times[event]
-
-    def best(self):
-        """The first timetable of least cost, with its cost, or None."""
-        return min(((self.cost_of(times), times) for times in self.members()), key=lambda pair: pair[0], default=None)
 
     # What `try` may answer
 
@@ -281,8 +158,3 @@ class Model:
         cost = self.cost_of(times)
         cheaper = any(self.cost_of(other) < cost for other in found)
         return reply == self.timetable("stopped", cost, times) and not cheaper
-
-    def is_member(self, times):
-        kept = all(times[event] == time for event, time in self.fixed.items())
-        below = all(time in range(self.period) for time in times.values())
-        return below and kept and all(self.met(row, times) for row in self.activities.values())

@@ -16,6 +16,7 @@ COMMANDS = {
     "add event": [NUMBER],
     "drop event": [NUMBER],
     "fix": [NUMBER, TIME],
+    "window": [NUMBER, TIME, TIME],
     "unfix": [NUMBER],
     "add activity": [NUMBER, NUMBER, NUMBER, BOUND, BOUND, WEIGHT],
     "drop activity": [NUMBER],
@@ -35,7 +36,7 @@ COMMANDS = {
     "dump": [],
 }
 SPANS = {"add activity": (3, 4), "span": (1, 2)}
-EDITS = list(COMMANDS)[:9]
+EDITS = list(COMMANDS)[:10]
 
 
 class Fault(Exception):

@@ -6,29 +6,36 @@ from tests.harness import rows_of, within
 from tests.limits import GREATEST_PERIOD, LEAST_PERIOD, MOST_ACTIVITIES, MOST_EVENTS
 
 
-def script_of(period, events, fixed, activities):
-    """The script of an instance, by its own account of the form."""
+def script_of(period, events, windows, activities):
+    """The script of an instance, by its own account of the form; a window is a first residue and a length, by event."""
     lines = [f"add event {event}" for event in sorted(events)]
-    lines += [f"fix {event} {time}" for event, time in sorted(fixed.items())]
+    for event, (first, length) in sorted(windows.items()):
+        lines.append(f"fix {event} {first}" if length == 1 else f"window {event} {first} {length}")
     lines += [" ".join(map(str, ["add activity", *row])) for row in sorted(activities)]
     return "".join(f"{line}\n" for line in [f"# period {period} lines {len(lines)}", *lines])
+
+
+def drawn_window(draw, event, first, length):
+    """A line that gives an event its window; one of length 1 is written as a fixed time too."""
+    return f"fix {event} {first}" if length == 1 and draw.randrange(2) else f"window {event} {first} {length}"
 
 
 def drawn_script(draw):
     """A script that builds an instance of a few events in some order, and the script of that instance."""
     period = draw.choice([LEAST_PERIOD, 10, 60, GREATEST_PERIOD])
     events = draw.sample(range(1_000_000_000), draw.randrange(1, 9))
-    fixed = {event: draw.randrange(period) for event in events if draw.randrange(3) == 0}
+    chosen = [event for event in events if draw.randrange(2)]
+    windows = {event: (draw.randrange(period), draw.choice([1, draw.randint(1, period), period])) for event in chosen}
     activities = []
     for number in draw.sample(range(1_000_000_000), draw.randrange(12)):
         bounds = sorted(draw.choices(range(-1_000_000, 1_000_001), k=2))
         ends = draw.choices(events, k=2)
         activities.append((number, *ends, *bounds, draw.randrange(1_000_000_001)))
     lines = [f"add event {event}" for event in events]
-    behind = [f"fix {event} {time}" for event, time in fixed.items()]
+    behind = [drawn_window(draw, event, *window) for event, window in windows.items()]
     behind += ["\t".join(map(str, ["add activity", *row])) for row in activities]
     draw.shuffle(behind)
-    return period, "\r\n".join([*lines, "", *behind]), script_of(period, events, fixed, activities)
+    return period, "\r\n".join([*lines, "", *behind]), script_of(period, events, windows, activities)
 
 
 def dumped(suite, name, period, script, wanted):
@@ -49,6 +56,7 @@ def scripts(suite):
         "no number behind a comment": (b"# x\nfix x 1\n", b"fault word 2 is not a number\n"),
         "the same edit twice": (b"add event 1\nadd event 1\n", b"ok\nrefused 1 event 1 exists\n"),
         "a fixed time at the period": (b"add event 1\nfix 1 60", b"ok\nrefused 4 time 60 is out of range\n"),
+        "a window past the period": (b"add event 1\nwindow 1 0 61", b"ok\nrefused 13 length 61 is out of range\n"),
     }
     for name, (text, output) in faults.items():
         suite.case(f"a script with {name}", [], given=text, output=output)

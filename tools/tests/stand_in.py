@@ -7,6 +7,7 @@ It is test code and slow. It is no part of the product, and nothing is proved of
 """
 
 import argparse
+import copy
 import os
 import pathlib
 import stat
@@ -16,6 +17,7 @@ sys.dont_write_bytecode = True
 sys.path.insert(0, str(pathlib.Path(__file__).resolve().parents[1]))
 
 from tests import model, parsing, rules  # noqa: E402
+from tests.changes import keeps  # noqa: E402
 from tests.harness import NAMES  # noqa: E402
 from tests.limits import GREATEST_PERIOD, LEAST_PERIOD  # noqa: E402
 
@@ -130,9 +132,10 @@ class StandIn:
             name, numbers = parsing.parse(line) or ("", [])
         except parsing.Fault:
             name, numbers = "", []
+        before = copy.deepcopy(self.bench) if self.is_known else None
         lines = self.attempt(*numbers) if name == "try" else self.bench.reply(line)
         if lines == ["ok"] and name in parsing.EDITS:
-            self.is_known = False
+            self.is_known = self.is_known and keeps(before, self.bench, name, numbers)
         elif name in ("optimum", "adopt"):
             self.is_known = True
         return lines

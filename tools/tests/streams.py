@@ -1,12 +1,14 @@
 """Whole streams: the longest line, the greatest number of lines, and drawn lines beside the model."""
 
+import copy
 import random
 
 from tests import model
+from tests.changes import keeps
 from tests.commands import model_of
 from tests.file_cases import TWO
 from tests.harness import run, within
-from tests.parsing import COMMANDS, EDITS, LONGEST_LINE, MOST_LINES
+from tests.parsing import COMMANDS, EDITS, LONGEST_LINE, MOST_LINES, Fault, parse
 
 COUNTED = {"domains": 1, "tensions": 1, "violations": 1, "optimum": 2, "stopped": 2, "#": 4}
 
@@ -77,6 +79,11 @@ def drawn_number(draw, count):
     return draw.randint(1, count) if draw.randrange(12) else draw.choice([0, 9, 77, 999_999_999])
 
 
+def drawn_length(draw, period):
+    """The length of a window: of every length that there is, and now and then of none."""
+    return draw.randint(1, period) if draw.randrange(10) else draw.choice([0, period + 1, 65_535])
+
+
 def drawn_command(draw, period, name):
     event, activity = drawn_number(draw, 4), drawn_number(draw, 6)
     lower = draw.choice([draw.randint(-period, period), draw.randint(0, period)])
@@ -90,6 +97,7 @@ def drawn_command(draw, period, name):
         "weight": [activity, weight],
         "ends": [activity, *ends],
         "fix": [event, time],
+        "window": [event, time, drawn_length(draw, period)],
         "time": [event, time],
         "drop activity": [activity],
         "try": [draw.choice([0, 1, 2, 3, 5, 10, 50, 200])],
@@ -100,7 +108,7 @@ def drawn_command(draw, period, name):
 
 def drawn_line(draw, period):
     # The events and activities that are there stay few, and few of them are fixed, so that there is often an optimum.
-    often = ["add event", "add activity", "span", "weight", "time", "try", "optimum", "adopt", "domains"]
+    often = ["add event", "add activity", "span", "weight", "window", "time", "try", "optimum", "adopt", "domains"]
     name = draw.choice([*COMMANDS, *often, "add event", "add activity"])
     line = drawn_command(draw, period, name)
     if draw.randrange(20) == 0:
@@ -110,7 +118,7 @@ def drawn_line(draw, period):
 
 
 def drawn_lines(draw, period, count):
-    """Lines that most often begin with a network of a few events and activities."""
+    """Lines that most often begin with a network of a few events and activities, one of which may have a window."""
     lines = [drawn_line(draw, period) for _ in range(count)]
     if draw.randrange(10) == 0:
         return lines
@@ -120,6 +128,8 @@ def drawn_lines(draw, period, count):
         ends, lower = draw.choices(events, k=2), draw.randint(-period, period)
         upper = lower + draw.choice([0, 1, 2, draw.randrange(period)])
         network.append(f"add activity {activity} {ends[0]} {ends[1]} {lower} {upper} {draw.randrange(5)}")
+    if draw.randrange(2):
+        network.append(f"window {draw.choice(events)} {draw.randrange(period)} {draw.randint(1, period)}")
     return [*(line.encode() for line in network), *lines]
 
 
@@ -128,6 +138,7 @@ def compared(bench, lines, output):
     rest = output.decode("latin-1").split("\n")[:-1]
     is_known = False
     for place, line in enumerate(lines, 1):
+        before = copy.deepcopy(bench) if is_known else None
         wanted = bench.reply(line)
         came = rest[: 1 + followed(rest[0])] if wanted and rest and rest[0] else []
         is_try = came and line.split()[:1] == [b"try"] and came[0].startswith("stopped")
@@ -135,19 +146,20 @@ def compared(bench, lines, output):
         if not legal:
             return {"line": place, "given": line, "wanted": wanted, "came": came}
         rest = rest[len(came) :]
-        is_known = knows(is_known, line, came)
+        is_known = knows(before, bench, line, came)
     return {"left": rest} if rest else None
 
 
-def knows(is_known, line, reply):
-    """Whether the optimum is known behind a line: the program may know it longer, but not less long."""
-    name = b" ".join(line.split()[:2]).decode("latin-1") if line[:3] in (b"add", b"dro") else line.split()[:1]
-    name = name if isinstance(name, str) else b"".join(name).decode("latin-1")
-    if not reply or reply[0].startswith("fault"):
-        return is_known
+def knows(before, after, line, reply):
+    """Whether the optimum is known behind a line; `before` is the model before it where it was known there, and else None."""
+    try:
+        name, numbers = parse(line) or ("", [])
+    except Fault:
+        name, numbers = "", []
     if name in ("optimum", "adopt") or name == "try" and not reply[0].startswith("stopped"):
         return True
-    return is_known and not (name in EDITS and reply == ["ok"])
+    is_edited = name in EDITS and reply == ["ok"]
+    return before is not None and (not is_edited or keeps(before, after, name, numbers))
 
 
 def play(suite, name, bench, words, lines):
@@ -161,7 +173,7 @@ def play(suite, name, bench, words, lines):
 def drawn_streams(suite):
     draw = random.Random(1825)
     for number in range(120):
-        period = draw.choice([2, 3, 4, 5, 7, 10, 12])
+        period = draw.randint(2, 12)
         lines = drawn_lines(draw, period, 60)
         play(suite, f"drawn stream {number} at period {period}", model.Model(period), ["--period", str(period)], lines)
     for number in range(30):

@@ -7,7 +7,7 @@ abbrev pub least_period : ℕ
 least_period = 2
 
 abbrev pub greatest_period : ℕ
-greatest_period = 120
+greatest_period = 1440
 
 -- ---- events and activities
 

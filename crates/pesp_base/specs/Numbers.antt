@@ -3,12 +3,15 @@ use Rattle.std.specs.Prelude.{ℕ, suc, min, ◌||◌, if◌then◌else◌, List
 use Rattle.pesp_base.specs.Texts.{number_value}
 use Rattle.pesp_base.specs.declared.number.NumberFault.{NumberFault}
 use Rattle.pesp_base.specs.declared.number.NumberFault.TheVariants as fault
-use Rattle.pesp_base.specs.declared.number.TheConstants.{NUMBER_CAP}
+
+-- numbers as far from 0 as this are read alike, since every limit is nearer
+abbrev pub number_cap : ℕ
+number_cap = 10000000000000
 
 -- a number, or the cap with its sign where it is farther from 0
 abbrev pub capped : ℤ → ℤ
-capped (pos n) = pos (min NUMBER_CAP n)
-capped (negsuc n) = neg_ℤ (pos (min NUMBER_CAP (suc n)))
+capped (pos n) = pos (min number_cap n)
+capped (negsuc n) = neg_ℤ (pos (min number_cap (suc n)))
 
 -- a number where it is within the limits, or why it is not
 abbrev pub within : ℤ → ℤ → Option ℤ → Result ℤ NumberFault

@@ -12,10 +12,11 @@ number_of (no.ActivityExists a) = 5
 number_of (no.NoActivity a) = 6
 number_of no.TooManyEvents = 7
 number_of no.TooManyActivities = 8
-number_of (no.NotFixed e) = 9
+number_of (no.NoWindow e) = 9
 number_of no.Memory = 10
 number_of (no.MissingTime e) = 11
 number_of no.Infeasible = 12
+number_of (no.LengthOutOfRange n) = 13
 
 -- a refusal or a fault, where its condition holds
 abbrev pub when : {E : Type 0} → Bool → E → Option E

@@ -15,6 +15,7 @@ mod refusal;
 mod residues;
 mod span;
 mod weight;
+mod window;
 
 pub use activity::Activity;
 pub use activity_id::ActivityId;
@@ -31,3 +32,4 @@ pub use refusal::Refusal;
 pub use residues::{Residues, partners, sources};
 pub use span::{Span, SpanFault};
 pub use weight::Weight;
+pub use window::Window;

@@ -9,7 +9,7 @@ use crate::Period;
 pub const LEAST_PERIOD: u16 = 2;
 
 /// The greatest period.
-pub const GREATEST_PERIOD: u16 = 120;
+pub const GREATEST_PERIOD: u16 = 1_440;
 
 /// The greatest number of an event or an activity.
 pub const GREATEST_NUMBER: u32 = 999_999_999;

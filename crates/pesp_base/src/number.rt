@@ -2,7 +2,7 @@
 
 ghost use Rattle.std.specs.Prelude.{◌≡◌, ◌<ℤ◌, ◌≤ℤ◌, pos, neg_ℤ, min, option_map, IfOk};
 ghost use Rattle.pesp_base.specs.Texts.{digits_value, number_value};
-ghost use Rattle.pesp_base.specs.Numbers.{capped, number_in};
+ghost use Rattle.pesp_base.specs.Numbers.{capped, number_cap, number_in};
 
 /// Why a text is no number within the limits.
 #[derive(Clone, Copy, Debug, PartialEq, Eq)]
@@ -19,7 +19,7 @@ pub const NUMBER_CAP: u64 = 10_000_000_000_000;
 
 /// The number that the digits write, or [`NUMBER_CAP`] where it is greater.
 fn capped_digits(digits: &[u8]) -> Option<u64>
-    ensures { result ≡ option_map (min NUMBER_CAP) (digits_value digits.now) }
+    ensures { result ≡ option_map (min number_cap) (digits_value digits.now) }
 {
     if digits.is_empty() {
         return None;
@@ -50,8 +50,8 @@ fn capped_number(text: &[u8]) -> Option<i64>
 /// A number is one or more digits behind a `+`, a `-` or neither, as many digits as there may be; it
 /// takes no memory to read it. Errors: `NotANumber`, then `OutOfRange`.
 pub fn number_between(text: &[u8], low: i64, high: i64) -> Result<i64, NumberFault>
-    requires low { neg_ℤ (pos NUMBER_CAP) <ℤ low }
-    requires high { high <ℤ pos NUMBER_CAP }
+    requires low { neg_ℤ (pos number_cap) <ℤ low }
+    requires high { high <ℤ pos number_cap }
     ensures number { result ≡ number_in low high text.now }
     ensures within { IfOk result (λ number. (low ≤ℤ number) × (number ≤ℤ high)) }
 {

@@ -24,14 +24,16 @@ pub enum Refusal {
     TooManyEvents,
     /// There are as many activities as there may be.
     TooManyActivities,
-    /// The event has no fixed time.
-    NotFixed(EventId),
+    /// The event has no window.
+    NoWindow(EventId),
     /// The allocator refused.
     Memory,
     /// The event has no time.
     MissingTime(EventId),
     /// No timetable exists.
     Infeasible,
+    /// The length is not from 1 to the period.
+    LengthOutOfRange(u16),
 }
 
 impl Refusal {
@@ -48,10 +50,11 @@ impl Refusal {
             Refusal::NoActivity(_) => 6,
             Refusal::TooManyEvents => 7,
             Refusal::TooManyActivities => 8,
-            Refusal::NotFixed(_) => 9,
+            Refusal::NoWindow(_) => 9,
             Refusal::Memory => 10,
             Refusal::MissingTime(_) => 11,
             Refusal::Infeasible => 12,
+            Refusal::LengthOutOfRange(_) => 13,
         }
     }
 }

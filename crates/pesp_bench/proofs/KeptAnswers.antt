@@ -16,10 +16,11 @@ use Rattle.pesp_base.specs.Tensions.{is_met, residue, slack_of, tension_of}
 use Rattle.pesp_base.proofs.Laws.{residue_below}
 use Rattle.pesp_base.proofs.ResidueLaws.{residue-residue_sub}
 use Rattle.pesp_instance.specs.declared.edit.Edit.{Edit}
-use Rattle.pesp_instance.specs.declared.edit.Edit.TheVariants.{AddEvent, DropEvent, Fix, Unfix, AddActivity, DropActivity, SetSpan, SetWeight, SetEnds}
+use Rattle.pesp_instance.specs.declared.edit.Edit.TheVariants.{AddEvent, DropEvent, Fix, SetWindow, Unfix, AddActivity, DropActivity, SetSpan, SetWeight, SetEnds}
 use Rattle.pesp_instance.specs.declared.event.Event.{Event}
-use Rattle.pesp_instance.specs.Edited.{edited, effect, refixed}
-use Rattle.pesp_instance.specs.Network.{HasEnds, IsNetwork, Network, activity_of, admits, agrees_with, fixed_of, has_event, new_event}
+use Rattle.pesp_base.specs.Windows.{Interval, at_time}
+use Rattle.pesp_instance.specs.Edited.{edited, effect, rewindowed}
+use Rattle.pesp_instance.specs.Network.{HasEnds, IsNetwork, Network, activity_of, admits, agrees_with, window_of, has_event, new_event}
 use Rattle.pesp_instance.proofs.Numbers.{activity_number as id_of, event_number as number}
 use Rattle.pesp_instance.proofs.Rising.{All-found, Rises, Rises-from_increasing, Rises-put_in, take_out-above, with_number-change_in}
 use Rattle.pesp_instance.proofs.Tables.{same_test}
@@ -72,7 +73,7 @@ added_activity I J a ok is = record {
     events = member.events;
     below = member.below;
     met = subst (All (λ b. IsTrue (meets m b))) before (All-filter (λ b. not (b.id == a.id)) (λ b. IsTrue (meets m b)) (put_in id_of a I.activities) member.met);
-    fixed = member.fixed;
+    window = member.window;
   };
   costs = λ m member. subst (λ list. cost_among m list ≤ cost_of (effect I (AddActivity a)) m) before (sum_by-filter (cost_in m) (λ b. not (b.id == a.id)) (put_in id_of a I.activities));
 }
@@ -98,7 +99,7 @@ weighted_members I n weight m member = record {
   events = member.events;
   below = member.below;
   met = All-before_change id_of (λ a. IsTrue (meets m a)) n (λ a. record a { weight = weight }) I.activities (λ k d l same is. is) member.met;
-  fixed = member.fixed;
+  window = member.window;
 }
 
 weighted : (I : Network) (n weight : ℕ) → IsNetwork I → is_lighter I n weight ≡ false → Tightens I (effect I (SetWeight n weight))
@@ -137,7 +138,7 @@ spanned_members I n span m each member = record {
   events = member.events;
   below = member.below;
   met = All-before_change id_of (λ a. IsTrue (meets m a)) n (λ a. record a { span = span }) I.activities each member.met;
-  fixed = member.fixed;
+  window = member.window;
 }
 
 looser_members : (I : Network) (n : ℕ) (span : Bounds) (m : Times) → IsNetwork I → is_looser I n span ≡ false → IsMember (effect I (SetSpan n span)) m → IsMember I m
@@ -180,7 +181,7 @@ moved I n span ok none = record {
       (λ k d l same. let w = kept_bounds I n span ok none k d l same in rw w.0 (omega arith));
 }
 
--- ---- another fixed time, or none
+-- ---- another window, or none
 
 -- each time is below the period
 time_below : (T : ℕ) (es : List (ℕ × ℕ)) (e : ℕ) → 0 < T → All (λ t. t < T) (values_of es) → unwrap_or (lookup (is_at (nat_cmp e)) es) 0 < T
@@ -191,42 +192,42 @@ time_below T (x ∷ es) e some below =
       | false ↦ time_below T es e some (All-tail (λ t. t < T) x.1 (values_of es) below)
     ]
 
-abbrev pub refix : Option ℕ → Event → Event
-refix fixed x = record x { fixed = fixed }
+abbrev pub rewindow : Option Interval → Event → Event
+rewindow window x = record x { window = window }
 
--- the fixed times before and after
+-- the windows before and after
 fixed_before : (I : Network) (e k : ℕ) (d : Event) → IsNetwork I → k < length I.events → (get_or I.events k d).id ≡ e → with_number number e I.events ≡ Some (get_or I.events k d)
 fixed_before I e k d ok l same = ap (λ i. with_number number i I.events) (sym same) ∙ All-found number I.events (events_rise I ok) k d l
 
-fixed_after : (I : Network) (e k : ℕ) (d : Event) (fixed : Option ℕ) → IsNetwork I → k < length I.events → (get_or I.events k d).id ≡ e → fixed_of (refixed I e fixed) e ≡ fixed
-fixed_after I e k d fixed ok l same =
-    rw (with_number-change_in number e e (refix fixed) (λ x. refl) I.events, fixed_before I e k d ok l same, eq-eqb (get_or I.events k d).id e same) refl
+fixed_after : (I : Network) (e k : ℕ) (d : Event) (window : Option Interval) → IsNetwork I → k < length I.events → (get_or I.events k d).id ≡ e → window_of (rewindowed I e window) e ≡ window
+fixed_after I e k d window ok l same =
+    rw (with_number-change_in number e e (rewindow window) (λ x. refl) I.events, fixed_before I e k d ok l same, eq-eqb (get_or I.events k d).id e same) refl
 
-refixed_members : (I : Network) (e : ℕ) (fixed : Option ℕ) (m : Times) → IsNetwork I → admits_anew I (refixed I e fixed) e ≡ false → IsMember (refixed I e fixed) m → IsMember I m
-refixed_members I e fixed m ok none member = record {
+rewindowed_members : (I : Network) (e : ℕ) (window : Option Interval) (m : Times) → IsNetwork I → admits_anew I (rewindowed I e window) e ≡ false → IsMember (rewindowed I e window) m → IsMember I m
+rewindowed_members I e window m ok none member = record {
   period = member.period;
-  events = member.events ∙ numbers_stay number e (refix fixed) (λ x. refl) I.events;
+  events = member.events ∙ numbers_stay number e (rewindow window) (λ x. refl) I.events;
   below = member.below;
   met = member.met;
-  fixed = All-before_change number (λ x. IsTrue (agrees m x)) e (refix fixed) I.events each member.fixed;
+  window = All-before_change number (λ x. IsTrue (agrees m x)) e (rewindow window) I.events each member.window;
 }
   where
-    each : All (λ x. x.id ≡ e → IsTrue (agrees_with m.period fixed (time_at m x.id)) → IsTrue (agrees_with m.period x.fixed (time_at m x.id))) I.events
+    each : All (λ x. x.id ≡ e → IsTrue (agrees_with m.period window (time_at m x.id)) → IsTrue (agrees_with m.period x.window (time_at m x.id))) I.events
     each k d l same is =
         let x : Event = get_or I.events k d in
         let t : ℕ = time_at m x.id in
-        let old : fixed_of I e ≡ x.fixed = ap (option_and_then (λ y. y.fixed)) (fixed_before I e k d ok l same) in
-        let new : fixed_of (refixed I e fixed) e ≡ fixed = fixed_after I e k d fixed ok l same in
+        let old : window_of I e ≡ x.window = ap (option_and_then (λ y. y.window)) (fixed_before I e k d ok l same) in
+        let new : window_of (rewindowed I e window) e ≡ window = fixed_after I e k d window ok l same in
         let below : t < I.period = time_below I.period m.entries x.id (let low = ok.period_low in omega (arith, low)) member.below in
-        let now : agrees_with I.period fixed t ≡ true = subst (λ p. agrees_with p fixed t ≡ true) member.period is in
-        let before : agrees_with I.period x.fixed t ≡ true =
+        let now : agrees_with I.period window t ≡ true = subst (λ p. agrees_with p window t ≡ true) member.period is in
+        let before : agrees_with I.period x.window t ≡ true =
         sym (ap (λ o. agrees_with I.period o t) old)
-        ∙ then_old (admits (refixed I e fixed) e t) (admits I e t) (none_below (λ r. admits (refixed I e fixed) e r && not (admits I e r)) I.period t below none) (ap (λ o. agrees_with I.period o t) new ∙ now) in
-        subst (λ p. agrees_with p x.fixed t ≡ true) (sym member.period) before
+        ∙ then_old (admits (rewindowed I e window) e t) (admits I e t) (none_below (λ r. admits (rewindowed I e window) e r && not (admits I e r)) I.period t below none) (ap (λ o. agrees_with I.period o t) new ∙ now) in
+        subst (λ p. agrees_with p x.window t ≡ true) (sym member.period) before
 
-refixed_event : (I : Network) (e : ℕ) (fixed : Option ℕ) → IsNetwork I → admits_anew I (refixed I e fixed) e ≡ false → Tightens I (refixed I e fixed)
-refixed_event I e fixed ok none = record {
-  members = λ m member. refixed_members I e fixed m ok none member;
+rewindowed_event : (I : Network) (e : ℕ) (window : Option Interval) → IsNetwork I → admits_anew I (rewindowed I e window) e ≡ false → Tightens I (rewindowed I e window)
+rewindowed_event I e window ok none = record {
+  members = λ m member. rewindowed_members I e window m ok none member;
   costs = λ m member. omega arith;
 }
 
@@ -279,11 +280,11 @@ added_event I J e m ok is member = record {
       let a : Activity = get_or I.activities k d in
       let ends : HasEnds I.events a = ok.ends k d l in
       same_times a (other a.from ends.from) (other a.to ends.to) (member.met k d l);
-  fixed = λ k d l.
+  window = λ k d l.
       let x : Event = get_or I.events k d in
       let there : with_number number x.id I.events ≡ Some x = All-found number I.events (events_rise I ok) k d l in
-      subst (λ o. IsTrue (agrees_with m.period x.fixed (unwrap_or o 0))) (sym (other_time e x.id m.entries (other x.id (ap is_some there))))
-      (subst (All (λ y. IsTrue (agrees m y))) before (All-filter (λ y. not (y.id == e)) (λ y. IsTrue (agrees m y)) (put_in number v I.events) member.fixed) k d l);
+      subst (λ o. IsTrue (agrees_with m.period x.window (unwrap_or o 0))) (sym (other_time e x.id m.entries (other x.id (ap is_some there))))
+      (subst (All (λ y. IsTrue (agrees m y))) before (All-filter (λ y. not (y.id == e)) (λ y. IsTrue (agrees m y)) (put_in number v I.events) member.window) k d l);
 }
   where
     v : Event
@@ -310,8 +311,9 @@ added_event I J e m ok is member = record {
 tightens : (I J : Network) (edit : Edit) → IsNetwork I → edited I edit ≡ Ok J → cheapens I edit ≡ false → Tightens I (effect I edit)
 tightens I J (AddEvent e) ok is none = absurd (false≢true (sym none))
 tightens I J (DropEvent e) ok is none = absurd (false≢true (sym none))
-tightens I J (Fix e t) ok is none = refixed_event I e (Some t) ok none
-tightens I J (Unfix e) ok is none = refixed_event I e None ok none
+tightens I J (Fix e t) ok is none = rewindowed_event I e (Some (at_time t)) ok none
+tightens I J (SetWindow e first length) ok is none = rewindowed_event I e (Some (record { first = first; length = length })) ok none
+tightens I J (Unfix e) ok is none = rewindowed_event I e None ok none
 tightens I J (AddActivity a) ok is none = added_activity I J a ok is
 tightens I J (DropActivity n) ok is none = absurd (false≢true (sym none))
 tightens I J (SetSpan n span) ok is none = moved I n span ok none
@@ -322,8 +324,9 @@ tightens I J (SetEnds n from to) ok is none = absurd (false≢true (sym none))
 had_one : (I J : Network) (edit : Edit) (m : Times) → IsNetwork I → edited I edit ≡ Ok J → opens I edit ≡ false → IsMember (effect I edit) m → (n : Times) × IsMember I n
 had_one I J (AddEvent e) m ok is none member = (without_time m e, added_event I J e m ok is member)
 had_one I J (DropEvent e) m ok is none member = absurd (false≢true (sym none))
-had_one I J (Fix e t) m ok is none member = (m, refixed_members I e (Some t) m ok none member)
-had_one I J (Unfix e) m ok is none member = (m, refixed_members I e None m ok none member)
+had_one I J (Fix e t) m ok is none member = (m, rewindowed_members I e (Some (at_time t)) m ok none member)
+had_one I J (SetWindow e first length) m ok is none member = (m, rewindowed_members I e (Some (record { first = first; length = length })) m ok none member)
+had_one I J (Unfix e) m ok is none member = (m, rewindowed_members I e None m ok none member)
 had_one I J (AddActivity a) m ok is none member = (m, (added_activity I J a ok is).members m member)
 had_one I J (DropActivity n) m ok is none member = absurd (false≢true (sym none))
 had_one I J (SetSpan n span) m ok is none member = (m, looser_members I n span m ok none member)

@@ -4,6 +4,7 @@ use Rattle.std.specs.Map.{values_of}
 use Rattle.std.proofs.lemmas.Bool.{false≢true}
 use Rattle.std.proofs.lemmas.List.Elements.{All-from_recursion}
 use Rattle.pesp_base.specs.Bounds.{Bounds}
+use Rattle.pesp_base.specs.Windows.{at_time}
 use Rattle.pesp_instance.specs.declared.edit.Edit.{Edit}
 use Rattle.pesp_instance.specs.declared.edit.Edit.TheVariants.{AddEvent, Fix, Unfix, AddActivity, SetSpan, SetWeight}
 use Rattle.pesp_instance.specs.Edited.{effect}
@@ -55,7 +56,7 @@ narrower_span = record {
       events = refl;
       below = below;
       met = All-from_recursion (λ a. IsTrue (meets times a)) (effect two narrowed).activities (refl, (refl, tt));
-      fixed = All-from_recursion (λ x. IsTrue (agrees times x)) (effect two narrowed).events (refl, (refl, tt));
+      window = All-from_recursion (λ x. IsTrue (agrees times x)) (effect two narrowed).events (refl, (refl, tt));
     },
     refl,
   );
@@ -73,7 +74,7 @@ fixed_at_its_time = record {
       events = refl;
       below = below;
       met = All-from_recursion (λ a. IsTrue (meets times a)) (effect second held).activities (refl, (refl, tt));
-      fixed = All-from_recursion (λ x. IsTrue (agrees times x)) (effect second held).events (refl, (refl, tt));
+      window = All-from_recursion (λ x. IsTrue (agrees times x)) (effect second held).events (refl, (refl, tt));
     },
     refl,
   );
@@ -91,7 +92,7 @@ one_activity_more = record {
       events = refl;
       below = below;
       met = All-from_recursion (λ a. IsTrue (meets times a)) (effect third joined).activities (refl, (refl, (refl, tt)));
-      fixed = All-from_recursion (λ x. IsTrue (agrees times x)) (effect third joined).events (refl, (refl, tt));
+      window = All-from_recursion (λ x. IsTrue (agrees times x)) (effect third joined).events (refl, (refl, tt));
     },
     refl,
   );
@@ -108,7 +109,7 @@ larger_weight keeps = let is : 5 ≡ 4 = keeps.stays.1 in absurd (omega (arith, 
 
 -- the timetable has event 1 at 0
 fixed_elsewhere : Keeps two (Fix 1 3) optimum → ⊥
-fixed_elsewhere keeps = false≢true (keeps.stays.0.fixed 0 (record { id = 1; fixed = Some 3 }) (omega arith))
+fixed_elsewhere keeps = false≢true (keeps.stays.0.window 0 (record { id = 1; window = Some (at_time 3) }) (omega arith))
 
 -- the same lower bound and a larger upper one
 wider_span : Keeps two (SetSpan 1 (span 3 6)) optimum → ⊥
@@ -119,8 +120,8 @@ later_span : Keeps two (SetSpan 1 (span 4 5)) optimum → ⊥
 later_span keeps = false≢true (sym keeps.nothing_new)
 
 -- the optimum has event 1 at 5 for its fixed time alone
-unfixed : Keeps (effect two (Fix 1 5)) (Unfix 1) (Optimal 4 (record { period = 10; entries = (1, 5) ∷ (2, 9) ∷ [] })) → ⊥
-unfixed keeps = false≢true (sym keeps.nothing_new)
+without_windows : Keeps (effect two (Fix 1 5)) (Unfix 1) (Optimal 4 (record { period = 10; entries = (1, 5) ∷ (2, 9) ∷ [] })) → ⊥
+without_windows keeps = false≢true (sym keeps.nothing_new)
 
 -- the activity has no slack, and without weight an earlier time is as good
 abbrev tight : Network

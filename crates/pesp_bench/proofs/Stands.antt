@@ -1,7 +1,7 @@
 -- Whether an optimum's timetable stays is told by what was edited alone: an activity's test and its share of the cost, or the time of an event.
-use Rattle.std.proofs.Common.{◌≡◌, ℕ, ◌+◌, ◌*◌, ◌≤◌, ◌==◌, ◌↔◌, Bool, true, false, not, nat_lt, nat_le, is_some, is_none, IfSome, List, [], ◌∷◌, inl, inr, length, get_or, Option, Some, None, unwrap_or, Ok, IsTrue, refl, sym, ap, subst, ◌∙◌, arith, All, mul-le-mul_right}
+use Rattle.std.proofs.Common.{◌≡◌, ℕ, ◌+◌, ◌*◌, ◌≤◌, ◌==◌, ◌||◌, ◌<◌, ◌↔◌, Bool, true, false, not, nat_lt, nat_le, is_some, is_none, IfSome, List, [], ◌∷◌, inl, inr, length, get_or, Option, Some, None, unwrap_or, Ok, IsTrue, refl, sym, ap, subst, ◌∙◌, arith, All, mul-le-mul_right}
 use Rattle.std.specs.Result.{is_ok}
-use Rattle.std.proofs.lemmas.Bool.{cases_Bool, eq-eqb, eqb-true, false≢true}
+use Rattle.std.proofs.lemmas.Bool.{cases_Bool, eq-eqb, eqb-true, false≢true, or_parts}
 use Rattle.pesp_base.specs.declared.activity.Activity.{Activity}
 use Rattle.pesp_base.specs.declared.refusal.Refusal.{Refusal}
 use Rattle.pesp_base.specs.declared.refusal.Refusal.TheVariants as no
@@ -10,9 +10,10 @@ use Rattle.pesp_base.specs.Limits.{max_activities}
 use Rattle.pesp_base.specs.Numbered.{with_number}
 use Rattle.pesp_base.specs.Refusals.{unless_refused, when}
 use Rattle.pesp_base.specs.Tensions.{slack_of}
-use Rattle.pesp_instance.specs.declared.edit.Edit.TheVariants.{Fix, Unfix, AddActivity, SetSpan, SetWeight}
+use Rattle.pesp_base.specs.Windows.{Interval, IsWindow, at_time, is_held}
+use Rattle.pesp_instance.specs.declared.edit.Edit.TheVariants.{Fix, SetWindow, Unfix, AddActivity, SetSpan, SetWeight}
 use Rattle.pesp_instance.specs.declared.event.Event.{Event}
-use Rattle.pesp_instance.specs.Edited.{edited, effect, refixed}
+use Rattle.pesp_instance.specs.Edited.{edited, effect, rewindowed}
 use Rattle.pesp_instance.specs.Network.{IsNetwork, Network, activity_of, agrees_with, has_event}
 use Rattle.pesp_instance.proofs.Numbers.{activity_number as id_of, event_number as number}
 use Rattle.pesp_instance.proofs.Rising.{IfSome-with_number, number-with_number}
@@ -21,12 +22,12 @@ use Rattle.pesp_search.proofs.Costed.{none_missing}
 use Rattle.pesp_tension.specs.Answers.{IsTimed, agrees, cost_in, cost_of, meets, time_at}
 use Rattle.pesp_tension.specs.Timetables.{Times, time_of}
 use Rattle.pesp_tension.proofs.Timed.{ends_timed, found_timed}
-use Rattle.pesp_bench.specs.Kept.{IsKeptBy, Keeps, TellsStay, cheapens, opens}
+use Rattle.pesp_bench.specs.Kept.{IsKeptBy, Keeps, Stays, TellsStay, cheapens, opens}
 use Rattle.pesp_search.specs.declared.answer.Answer.{Answer}
 use Rattle.pesp_search.specs.declared.answer.Answer.TheVariants.{Optimal, Infeasible}
 use Rattle.pesp_instance.specs.declared.edit.Edit.{Edit}
 use Rattle.pesp_bench.proofs.Changed.{All-after_change, All-by_number, All-of_change, All-of_put_in, All-put_in, numbers_stay, of_All-by_number, of_number, share-stays, sum_by-change_same, sum_by-put_in}
-use Rattle.pesp_bench.proofs.KeptAnswers.{activities_rise, kept_bounds, not_lighter, not_refused, nothing_of, refix}
+use Rattle.pesp_bench.proofs.KeptAnswers.{activities_rise, kept_bounds, not_lighter, not_refused, nothing_of, rewindow}
 
 -- a refusal whose condition holds is answered
 refused_so : {X : Type 0} (b : Bool) (refusal : Refusal) (rest : List (Option Refusal)) (x y : X) → b ≡ true → unless_refused (when b refusal ∷ rest) x ≡ Ok y → ⊥
@@ -75,7 +76,7 @@ added_tells I a m b told untold K cost ok is none member costs = (
 
     stays : meets m a ≡ true → cost_in m a ≡ 0 → IsMember (effect I (AddActivity a)) m × (cost_of (effect I (AddActivity a)) m ≡ cost)
     stays met free = (
-      record { period = member.period; events = member.events; below = member.below; met = All-put_in id_of (λ c. IsTrue (meets m c)) a I.activities member.met met; fixed = member.fixed },
+      record { period = member.period; events = member.events; below = member.below; met = All-put_in id_of (λ c. IsTrue (meets m c)) a I.activities member.met met; window = member.window },
       omega (arith, sum, free, costs),
     )
 
@@ -88,7 +89,7 @@ module _ (I : Network) (n weight : ℕ) (m : Times) (x : Activity) (found : acti
   pub weighted_tells : (b : Bool) → b ≡ (cost_in m (record x { weight = weight }) == cost_in m x) → TellsStay I (SetWeight n weight) m b
   weighted_tells b told K cost ok is none member costs = (
     λ now. (
-      record { period = member.period; events = member.events; below = member.below; met = All-after_change id_of (λ a. IsTrue (meets m a)) n heavier I.activities member.met (λ k d l same. member.met k d l); fixed = member.fixed },
+      record { period = member.period; events = member.events; below = member.below; met = All-after_change id_of (λ a. IsTrue (meets m a)) n heavier I.activities member.met (λ k d l same. member.met k d l); window = member.window },
       sum_by-change_same id_of (cost_in m) n heavier I.activities (All-by_number id_of (λ a. cost_in m (heavier a) ≡ cost_in m a) n I.activities x (activities_rise I ok) found (eqb-true (cost_in m (heavier x)) (cost_in m x) (sym told ∙ now))) ∙ costs,
     ),
     λ stay.
@@ -115,7 +116,7 @@ module _ (I : Network) (n : ℕ) (span : Bounds) (m : Times) (x : Activity) (fou
         events = member.events;
         below = member.below;
         met = All-after_change id_of (λ a. IsTrue (meets m a)) n spanned I.activities member.met (All-by_number id_of (λ a. IsTrue (meets m (spanned a))) n I.activities x (activities_rise I ok) found (sym told ∙ now));
-        fixed = member.fixed;
+        window = member.window;
       },
       sum_by-change_same id_of (cost_in m) n spanned I.activities
           (λ k d l same. ap (λ z. (get_or I.activities k d).weight * slack_of m.period (record { lower = z; upper = span.upper }) (time_at m (get_or I.activities k d).from) (time_at m (get_or I.activities k d).to)) (kept_bounds I n span ok none k d l same).0)
@@ -131,60 +132,87 @@ no_span_tells I n span m b none K cost ok is nothing member costs = absurd (refu
 pub no_weight_tells : (I : Network) (n weight : ℕ) (m : Times) (b : Bool) → activity_of I n ≡ None → TellsStay I (SetWeight n weight) m b
 no_weight_tells I n weight m b none K cost ok is nothing member costs = absurd (refused_so (is_none (activity_of I n)) (no.NoActivity n) _ (effect I (SetWeight n weight)) K (ap is_none none) is)
 
--- ---- another fixed time, or none
+-- ---- another window, or none
 
 -- a member stays one where its time agrees
-refixed_member : (I : Network) (e : ℕ) (fixed : Option ℕ) (m : Times) → IsMember I m → agrees_with m.period fixed (time_at m e) ≡ true → IsMember (refixed I e fixed) m
-refixed_member I e fixed m member agreed = record {
+rewindowed_member : (I : Network) (e : ℕ) (window : Option Interval) (m : Times) → IsMember I m → agrees_with m.period window (time_at m e) ≡ true → IsMember (rewindowed I e window) m
+rewindowed_member I e window m member agreed = record {
   period = member.period;
-  events = member.events ∙ sym (numbers_stay number e (refix fixed) (λ x. refl) I.events);
+  events = member.events ∙ sym (numbers_stay number e (rewindow window) (λ x. refl) I.events);
   below = member.below;
   met = member.met;
-  fixed = All-after_change number (λ x. IsTrue (agrees m x)) e (refix fixed) I.events member.fixed (λ k d l same. subst (λ i. agrees_with m.period fixed (time_at m i) ≡ true) (sym same) agreed);
+  window = All-after_change number (λ x. IsTrue (agrees m x)) e (rewindow window) I.events member.window (λ k d l same. subst (λ i. agrees_with m.period window (time_at m i) ≡ true) (sym same) agreed);
 }
 
 pub unfixed_tells : (I : Network) (e : ℕ) (m : Times) → TellsStay I (Unfix e) m true
-unfixed_tells I e m K cost ok is none member costs = (λ _. (refixed_member I e None m member refl, costs), λ _. refl)
+unfixed_tells I e m K cost ok is none member costs = (λ _. (rewindowed_member I e None m member refl, costs), λ _. refl)
 
-pub fixed_tells : (I : Network) (e t : ℕ) (m : Times) (b : Bool) → (b ≡ true → time_of m e ≡ Some t) → (b ≡ false → time_of m e ≡ Some t → ⊥) → TellsStay I (Fix e t) m b
-fixed_tells I e t m b told untold K cost ok is none member costs = (
-  λ now. (refixed_member I e (Some t) m member (eq-eqb t (time_at m e) (ap (λ o. unwrap_or o 0) (sym (told now)))), costs),
-  λ stay. elim (cases_Bool b) [
-    | inl now ↦ now
-    | inr out ↦ absurd (untold out (timed_so (time_of m e) timed (eqb-true t (time_at m e) (agreed stay.0))))
-  ],
-)
-  where
-    timed : IsTrue (is_some (time_of m e))
-    timed = found_timed m I.events e (none_missing I m member.events) (there_is (has_event I e) (not_refused (not (has_event I e)) _ _ (effect I (Fix e t)) K is))
+second_passes : {X : Type 0} (a b : Bool) (first second : Refusal) (rest : List (Option Refusal)) (x y : X) → unless_refused (when a first ∷ when b second ∷ rest) x ≡ Ok y → b ≡ false
+second_passes a b first second rest x y ok = not_refused b second rest x y (rest_of a first (when b second ∷ rest) x y ok)
 
-    timed_so : (o : Option ℕ) → IsTrue (is_some o) → t ≡ unwrap_or o 0 → o ≡ Some t
-    timed_so None some same = absurd (false≢true some)
-    timed_so (Some s) some same = ap Some (sym same)
+third_passes : {X : Type 0} (a b c : Bool) (first second third : Refusal) (x y : X) → unless_refused (when a first ∷ when b second ∷ when c third ∷ []) x ≡ Ok y → c ≡ false
+third_passes a b c first second third x y ok = second_passes b c second third [] x y (rest_of a first (when b second ∷ when c third ∷ []) x y ok)
 
-    agreed : IsMember (refixed I e (Some t)) m → agrees_with m.period (Some t) (time_at m e) ≡ true
-    agreed new = there (has_at (there_is (has_event I e) (not_refused (not (has_event I e)) _ _ (effect I (Fix e t)) K is)))
-      where
-        some_of : (o : Option Event) → IsTrue (is_some o) → (x : Event) × (o ≡ Some x)
-        some_of None some = absurd (false≢true some)
-        some_of (Some x) some = (x, refl)
+below_from : (T t : ℕ) → nat_le T t ≡ false → t < T
+below_from T t is = grind (arith, is)
 
-        has_at : IsTrue (has_event I e) → (x : Event) × (with_number number e I.events ≡ Some x)
-        has_at has = some_of (with_number number e I.events) has
+length_from : (T n : ℕ) → (n == 0 || nat_lt T n) ≡ false → (1 ≤ n) × (n ≤ T)
+length_from T n is =
+    let parts = or_parts (n == 0) (nat_lt T n) is in
+    (grind (arith, parts.0), grind (arith, parts.1))
 
-        there : (x : Event) × (with_number number e I.events ≡ Some x) → agrees_with m.period (Some t) (time_at m e) ≡ true
-        there w =
-            subst (λ i. agrees_with m.period (Some t) (time_at m i) ≡ true) (number-with_number number e I.events w.0 w.1)
-            (of_All-by_number number (λ x. agrees_with m.period (Some t) (time_at m x.id) ≡ true) e I.events w.0 (All-of_change number (λ x. IsTrue (agrees m x)) e (refix (Some t)) I.events new.fixed) w.1)
+-- a timetable stays a member where its time at the event is in the window, and only there
+module _ (I : Network) (e : ℕ) (w : Interval) (m : Times) (b : Bool) (cost : ℕ) (has : IsTrue (has_event I e)) (member : IsMember I m) (costs : cost_of I m ≡ cost) (within : IsWindow I.period w)
+    (told : (t : ℕ) → Some t ≡ time_of m e → IsWindow I.period w → b ≡ is_held I.period w t) where
+  timed : IsTrue (is_some (time_of m e))
+  timed = found_timed m I.events e (none_missing I m member.events) has
+
+  told_so : b ≡ is_held I.period w (time_at m e)
+  told_so = by (time_of m e) refl timed
+    where
+      by : (o : Option ℕ) → o ≡ time_of m e → IsTrue (is_some o) → b ≡ is_held I.period w (unwrap_or (time_of m e) 0)
+      by None is some = absurd (false≢true some)
+      by (Some t) is some = told t is within ∙ ap (λ o. is_held I.period w (unwrap_or o 0)) is
+
+  agreed : IsMember (rewindowed I e (Some w)) m → agrees_with m.period (Some w) (time_at m e) ≡ true
+  agreed new = there (some_of (with_number number e I.events) has)
+    where
+      some_of : (o : Option Event) → IsTrue (is_some o) → (x : Event) × (o ≡ Some x)
+      some_of None some = absurd (false≢true some)
+      some_of (Some x) some = (x, refl)
+
+      there : (x : Event) × (with_number number e I.events ≡ Some x) → agrees_with m.period (Some w) (time_at m e) ≡ true
+      there v =
+          subst (λ i. agrees_with m.period (Some w) (time_at m i) ≡ true) (number-with_number number e I.events v.0 v.1)
+          (of_All-by_number number (λ x. agrees_with m.period (Some w) (time_at m x.id) ≡ true) e I.events v.0 (All-of_change number (λ x. IsTrue (agrees m x)) e (rewindow (Some w)) I.events new.window) v.1)
+
+  window_tells : IsTrue b ↔ Stays (rewindowed I e (Some w)) (Optimal cost m)
+  window_tells = (
+    λ now. (rewindowed_member I e (Some w) m member (subst (λ p. is_held p w (time_at m e) ≡ true) (sym member.period) (sym told_so ∙ now)), costs),
+    λ stay. told_so ∙ subst (λ p. is_held p w (time_at m e) ≡ true) member.period (agreed stay.0),
+  )
 
 -- by the time that the event has
-pub fixed_told : (I : Network) (e t : ℕ) (m : Times) (known : ℕ) → Some known ≡ time_of m e → TellsStay I (Fix e t) m (known == t)
-fixed_told I e t m known is =
-    fixed_tells I e t m (known == t) (λ now. sym is ∙ ap Some (eqb-true known t now))
-    (λ out at. false≢true (sym out ∙ eq-eqb known t (let same : Some known ≡ Some t = is ∙ at in cc)))
+pub fixed_told : (I : Network) (e t : ℕ) (m : Times) (b : Bool) → ((s : ℕ) → Some s ≡ time_of m e → IsWindow I.period (at_time t) → b ≡ is_held I.period (at_time t) s) → TellsStay I (Fix e t) m b
+fixed_told I e t m b told K cost ok is none member costs =
+    let new = effect I (Fix e t) in
+    let none = not (has_event I e) in
+    let late = nat_le I.period t in
+    let has = there_is (has_event I e) (not_refused none _ _ new K is) in
+    let below : t < I.period = below_from I.period t (second_passes none late _ _ _ new K is) in
+    window_tells I e (at_time t) m b cost has member costs (record { first = below; some = omega arith; once = omega (arith, below) }) told
 
-pub fixed_without : (I : Network) (e t : ℕ) (m : Times) → None ≡ time_of m e → TellsStay I (Fix e t) m false
-fixed_without I e t m is = fixed_tells I e t m false (λ no. absurd (false≢true no)) (λ _ at. false≢true (ap is_some (is ∙ at)))
+pub window_told : (I : Network) (e first length : ℕ) (m : Times) (b : Bool)
+    → ((s : ℕ) → Some s ≡ time_of m e → IsWindow I.period (record { first = first; length = length }) → b ≡ is_held I.period (record { first = first; length = length }) s) → TellsStay I (SetWindow e first length) m b
+window_told I e first length m b told K cost ok is none member costs =
+    let new = effect I (SetWindow e first length) in
+    let none = not (has_event I e) in
+    let late = nat_le I.period first in
+    let long = length == 0 || nat_lt I.period length in
+    let has = there_is (has_event I e) (not_refused none _ _ new K is) in
+    let below = below_from I.period first (second_passes none late _ _ _ new K is) in
+    let within = length_from I.period length (third_passes none late long _ _ _ new K is) in
+    window_tells I e (record { first = first; length = length }) m b cost has member costs (record { first = below; some = within.0; once = within.1 }) told
 
 -- ---- what is kept
 

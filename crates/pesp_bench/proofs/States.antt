@@ -10,13 +10,13 @@ use Rattle.pesp_base.specs.Limits.{max_events}
 use Rattle.pesp_base.specs.Numbered.{with_number}
 use Rattle.pesp_base.specs.Refusals.{unless_refused, when}
 use Rattle.pesp_instance.specs.declared.edit.Edit.{Edit}
-use Rattle.pesp_instance.specs.declared.edit.Edit.TheVariants.{AddEvent, DropEvent, Fix, Unfix, AddActivity, DropActivity, SetSpan, SetWeight, SetEnds}
+use Rattle.pesp_instance.specs.declared.edit.Edit.TheVariants.{AddEvent, DropEvent, Fix, SetWindow, Unfix, AddActivity, DropActivity, SetSpan, SetWeight, SetEnds}
 use Rattle.pesp_instance.specs.declared.event.Event.{Event}
 use Rattle.pesp_instance.specs.Edited.{edited, effect}
 use Rattle.pesp_instance.specs.Network.{IsNetwork, Network, has_event, new_event}
 use Rattle.pesp_instance.proofs.Rising.{Rises, Rises-from_increasing, increasing_from_rises}
 use Rattle.pesp_tension.specs.Timetables.{IsRefusalBy, IsSetRefusal, Times, set_time, time_of, timed_events, with_time, without_time}
-use Rattle.pesp_domains.proofs.Edits.{accepted, effect_is, has_out, has_put, keeps_fix, keeps_unfix}
+use Rattle.pesp_domains.proofs.Edits.{accepted, effect_is, has_out, has_put, keeps_fix, keeps_window, keeps_unfix}
 use Rattle.pesp_domains.specs.declared.pair.Pair.{Pair}
 use Rattle.pesp_search.specs.declared.answer.Answer.{Answer}
 use Rattle.pesp_search.specs.declared.answer.Answer.TheVariants.{Optimal}
@@ -44,6 +44,7 @@ events_stay I (DropEvent e) m rises each q some =
     let w = found_without e q m.entries rises some in
     rw (has_out I.events e q, ne_eqb q e w.0) (each q w.1)
 events_stay I (Fix e t) m rises each q some = (keeps_fix e t I).1 q ∙ each q some
+events_stay I (SetWindow e first length) m rises each q some = (keeps_window e first length I).1 q ∙ each q some
 events_stay I (Unfix e) m rises each q some = (keeps_unfix e I).1 q ∙ each q some
 events_stay I (AddActivity a) m rises each q some = each q some
 events_stay I (DropActivity n) m rises each q some = each q some
@@ -56,6 +57,7 @@ period_stays : (I : Network) (edit : Edit) → (effect I edit).period ≡ I.peri
 period_stays I (AddEvent e) = refl
 period_stays I (DropEvent e) = refl
 period_stays I (Fix e t) = refl
+period_stays I (SetWindow e first length) = refl
 period_stays I (Unfix e) = refl
 period_stays I (AddActivity a) = refl
 period_stays I (DropActivity n) = refl
@@ -68,6 +70,7 @@ times_rise : (edit : Edit) (m : Times) → Rises key m.entries → Rises key (ti
 times_rise (AddEvent e) m rises = rises
 times_rise (DropEvent e) m rises = rises_without e m.entries rises
 times_rise (Fix e t) m rises = rises
+times_rise (SetWindow e first length) m rises = rises
 times_rise (Unfix e) m rises = rises
 times_rise (AddActivity a) m rises = rises
 times_rise (DropActivity n) m rises = rises
@@ -79,6 +82,7 @@ times_period : (edit : Edit) (m : Times) → (times_after edit m).period ≡ m.p
 times_period (AddEvent e) m = refl
 times_period (DropEvent e) m = refl
 times_period (Fix e t) m = refl
+times_period (SetWindow e first length) m = refl
 times_period (Unfix e) m = refl
 times_period (AddActivity a) m = refl
 times_period (DropActivity n) m = refl

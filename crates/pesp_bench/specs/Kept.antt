@@ -1,9 +1,10 @@
 -- Which accepted edits keep a known answer.
 use Rattle.std.specs.Prelude.{◌≡◌, ℕ, ◌<◌, ◌≤◌, ◌↔◌, IsTrue, Bool, true, false, not, Option, Some, Ok}
+use Rattle.pesp_base.specs.Windows.{Interval, at_time}
 use Rattle.pesp_instance.specs.declared.edit.Edit.{Edit}
-use Rattle.pesp_instance.specs.declared.edit.Edit.TheVariants.{AddEvent, DropEvent, Fix, Unfix, AddActivity, DropActivity, SetSpan, SetWeight, SetEnds}
+use Rattle.pesp_instance.specs.declared.edit.Edit.TheVariants.{AddEvent, DropEvent, Fix, SetWindow, Unfix, AddActivity, DropActivity, SetSpan, SetWeight, SetEnds}
 use Rattle.pesp_instance.specs.Edited.{edited, effect}
-use Rattle.pesp_instance.specs.Network.{IsNetwork, Network, agrees_with, fixed_of}
+use Rattle.pesp_instance.specs.Network.{IsNetwork, Network, agrees_with, window_of}
 use Rattle.pesp_search.specs.declared.answer.Answer.{Answer}
 use Rattle.pesp_search.specs.declared.answer.Answer.TheVariants.{Optimal, Infeasible}
 use Rattle.pesp_search.specs.Optima.{IsAnswer, IsMember}
@@ -18,6 +19,7 @@ opens I (AddEvent e) = false
 opens I (AddActivity a) = false
 opens I (SetWeight n weight) = false
 opens I (Fix e t) = admits_anew I (effect I (Fix e t)) e
+opens I (SetWindow e first length) = admits_anew I (effect I (SetWindow e first length)) e
 opens I (Unfix e) = admits_anew I (effect I (Unfix e)) e
 opens I (SetSpan n span) = is_looser I n span
 opens I (DropEvent e) = true
@@ -29,6 +31,7 @@ abbrev pub cheapens : Network → Edit → Bool
 cheapens I (AddActivity a) = false
 cheapens I (SetWeight n weight) = is_lighter I n weight
 cheapens I (Fix e t) = admits_anew I (effect I (Fix e t)) e
+cheapens I (SetWindow e first length) = admits_anew I (effect I (SetWindow e first length)) e
 cheapens I (Unfix e) = admits_anew I (effect I (Unfix e)) e
 cheapens I (SetSpan n span) = is_moved I n span
 cheapens I (AddEvent e) = true
@@ -67,8 +70,9 @@ pub record IsKeptBy (I : Network) (edit : Edit) (before after : Option Answer) :
 abbrev pub EachKeptAnswerHolds : Type 0
 EachKeptAnswerHolds = (I J : Network) (edit : Edit) (answer : Answer) → IsNetwork I → edited I edit ≡ Ok J → Keeps I edit answer → IsAnswer I answer → IsAnswer J answer
 
--- what the words say of fixed times: an accepted edit that fixes an event admits anew but for an event without a fixed time or at the time that it has, and one that unfixes it always
-abbrev pub FixedTimesThatAdmit : Type 0
-FixedTimesThatAdmit =
-    ((I : Network) (e t : ℕ) → t < I.period → admits_anew I (effect I (Fix e t)) e ≡ not (agrees_with I.period (fixed_of I e) t))
-    × ((I : Network) (e s : ℕ) → 2 ≤ I.period → fixed_of I e ≡ Some s → admits_anew I (effect I (Unfix e)) e ≡ true)
+-- what the words say of windows: to fix an event admits anew but for an event without a window or at a time of its window; to unfix it does where its time was fixed, and does not where its window was of all residues
+abbrev pub WindowsThatAdmit : Type 0
+WindowsThatAdmit =
+    ((I : Network) (e t : ℕ) → t < I.period → admits_anew I (effect I (Fix e t)) e ≡ not (agrees_with I.period (window_of I e) t))
+    × ((I : Network) (e s : ℕ) → 2 ≤ I.period → s < I.period → window_of I e ≡ Some (at_time s) → admits_anew I (effect I (Unfix e)) e ≡ true)
+    × ((I : Network) (e : ℕ) (w : Interval) → w.length ≡ I.period → window_of I e ≡ Some w → admits_anew I (effect I (Unfix e)) e ≡ false)

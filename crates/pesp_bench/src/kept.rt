@@ -1,15 +1,17 @@
 //! What of a known answer outlasts an edit.
 
-ghost use Rattle.std.specs.Prelude.{◌≡◌, ◌↔◌, true, false, IfSome, IsTrue, None, Ok};
+ghost use Rattle.std.specs.Prelude.{◌≡◌, ℕ, ◌↔◌, true, false, IfSome, IsTrue, None, Some, Ok};
+ghost use Rattle.pesp_base.specs.Windows.{IsWindow, is_held};
 ghost use Rattle.pesp_instance.specs.Edited.{edited};
 ghost use Rattle.pesp_instance.specs.Network.{IsNetwork, Network};
 ghost use Rattle.pesp_search.specs.Optima.{IsAnswer, IsMember};
 ghost use Rattle.pesp_tension.specs.Answers.{IsTimed, cost_in, meets};
+ghost use Rattle.pesp_tension.specs.Timetables.{time_of};
 ghost use Rattle.pesp_bench.specs.Kept.{Keeps, TellsStay, cheapens, opens};
 
 use crate::loosening::{is_lighter, is_looser, is_moved};
-use pesp_base::Activity;
-use pesp_domains::admits_anew;
+use pesp_base::{Activity, EventId, Window};
+use pesp_domains::{is_limited, window_admits_anew};
 use pesp_instance::{Edit, Instance};
 use pesp_search::Answer;
 use pesp_tension::{Timetable, cost_of_activity, is_met};
@@ -20,8 +22,11 @@ fn opens(instance: &Instance, edit: &Edit) -> bool
 {
     match *edit {
         Edit::AddEvent(_) | Edit::AddActivity(_) | Edit::SetWeight(..) => false,
-        Edit::Fix(event, time) => admits_anew(instance, event, Some(time)),
-        Edit::Unfix(event) => admits_anew(instance, event, None),
+        Edit::Fix(event, time) => window_admits_anew(instance, event, time, 1),
+        Edit::SetWindow(event, first, length) => {
+            window_admits_anew(instance, event, first, length)
+        }
+        Edit::Unfix(event) => is_limited(instance, event),
         Edit::SetSpan(id, span) => is_looser(instance, id, span),
         Edit::DropEvent(_) | Edit::DropActivity(_) | Edit::SetEnds(..) => true,
     }
@@ -34,8 +39,11 @@ fn cheapens(instance: &Instance, edit: &Edit) -> bool
     match *edit {
         Edit::AddActivity(_) => false,
         Edit::SetWeight(id, weight) => is_lighter(instance, id, weight),
-        Edit::Fix(event, time) => admits_anew(instance, event, Some(time)),
-        Edit::Unfix(event) => admits_anew(instance, event, None),
+        Edit::Fix(event, time) => window_admits_anew(instance, event, time, 1),
+        Edit::SetWindow(event, first, length) => {
+            window_admits_anew(instance, event, first, length)
+        }
+        Edit::Unfix(event) => is_limited(instance, event),
         Edit::SetSpan(id, span) => is_moved(instance, id, span),
         Edit::AddEvent(_) | Edit::DropEvent(_) | Edit::DropActivity(_) | Edit::SetEnds(..) => true,
     }
@@ -50,6 +58,23 @@ fn adds_nothing(activity: &Activity, times: &Timetable) -> bool
         return false;
     }
     is_met(activity, times) && cost_of_activity(activity, times) == 0
+}
+
+/// Whether the event's time is one of these residues, `length` from `first` on, where they are a window of the period.
+fn is_timed_within(
+    instance: &Instance,
+    event: EventId,
+    first: u16,
+    length: u16,
+    times: &Timetable,
+) -> bool
+    ensures { (t : ℕ) → Some t ≡ time_of times.now event → IsWindow (instance.now).period (record { first = first; length = length }) → result ≡ is_held (instance.now).period (record { first = first; length = length }) t }
+{
+    let period = instance.period();
+    match (Window::new(period, first, length), times.get(event)) {
+        (Some(window), Some(time)) => window.holds(period, time),
+        _ => false,
+    }
 }
 
 /// Whether an optimum's timetable still meets everything at its cost, by what is edited alone: nothing else changes.
@@ -78,10 +103,10 @@ fn stands(instance: &Instance, edit: &Edit, times: &Timetable) -> bool
             }
             None => false,
         },
-        Edit::Fix(event, time) => match times.get(event) {
-            Some(known) => known == time,
-            None => false,
-        },
+        Edit::Fix(event, time) => is_timed_within(instance, event, time, 1, times),
+        Edit::SetWindow(event, first, length) => {
+            is_timed_within(instance, event, first, length, times)
+        }
         Edit::Unfix(_) => true,
         Edit::AddEvent(_) | Edit::DropEvent(_) | Edit::DropActivity(_) | Edit::SetEnds(..) => false,
     }

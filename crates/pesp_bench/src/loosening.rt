@@ -1,25 +1,19 @@
 //! Whether a change of a span or of a weight lets in what was not let in before, or may make it cheaper.
 
 ghost use Rattle.std.specs.Prelude.{◌≡◌};
-ghost use Rattle.pesp_domains.specs.Loosening.{admits_more, is_looser};
+ghost use Rattle.pesp_domains.specs.Loosening.{is_looser};
 ghost use Rattle.pesp_bench.specs.Loosening.{is_lighter, is_moved};
 
-use pesp_base::{ActivityId, Period, Span, Weight, allows};
+use pesp_base::{ActivityId, Span, Weight};
+use pesp_domains::span_admits_more;
 use pesp_instance::Instance;
-
-/// Whether the second span admits a pair of residues that the first one does not.
-fn admits_more(period: Period, old: Span, new: Span) -> bool
-    ensures { result ≡ admits_more period old new }
-{
-    (0..period.get()).any(|ahead| allows(period, new, 0, ahead) && !allows(period, old, 0, ahead))
-}
 
 /// Whether the activity has another span, which admits more.
 pub(crate) fn is_looser(instance: &Instance, id: ActivityId, span: Span) -> bool
     ensures { result ≡ is_looser instance.now id span }
 {
     match instance.activity(id) {
-        Some(activity) => admits_more(instance.period(), activity.span, span),
+        Some(activity) => span_admits_more(instance.period(), activity.span, span),
         None => false,
     }
 }

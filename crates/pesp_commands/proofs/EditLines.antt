@@ -4,7 +4,7 @@ use Rattle.std.proofs.lemmas.Int.{ints}
 use Rattle.pesp_base.specs.declared.activity.Activity.{Activity}
 use Rattle.pesp_base.specs.Limits.{greatest_number, greatest_weight}
 use Rattle.pesp_instance.specs.declared.edit.Edit.{Edit}
-use Rattle.pesp_instance.specs.declared.edit.Edit.TheVariants.{AddActivity, AddEvent, Fix}
+use Rattle.pesp_instance.specs.declared.edit.Edit.TheVariants.{AddActivity, AddEvent, Fix, SetWindow}
 use Rattle.pesp_instance.specs.Network.{IsActivity}
 use Rattle.pesplib_writer.specs.Script.{edit_line}
 use Rattle.pesplib_writer.specs.Texts.{activity_fields}
@@ -25,6 +25,9 @@ name_event = plain_name (codes "event") refl refl (omega arith) (omega arith)
 name_fix : IsPlain (codes "fix")
 name_fix = plain_name (codes "fix") refl refl (omega arith) (omega arith)
 
+name_window : IsPlain (codes "window")
+name_window = plain_name (codes "window") refl refl (omega arith) (omega arith)
+
 name_activity : IsPlain (codes "activity")
 name_activity = plain_name (codes "activity") refl refl (omega arith) (omega arith)
 
@@ -32,12 +35,15 @@ name_activity = plain_name (codes "activity") refl refl (omega arith) (omega ari
 id_number : (n : ℕ) → n ≤ greatest_number → IsNumber id (decimal n) (pos n)
 id_number n h = decimal_number greatest_number n h (omega arith)
 
--- the forms of the three edits that scripts have
+-- the forms of the four edits that scripts have
 abbrev add_event : Form
 add_event = plain (codes "add event") (id ∷ []) (λ ns. command.Edit (AddEvent (natural ns 0)))
 
 abbrev fix : Form
 fix = plain (codes "fix") (id ∷ time ∷ []) (λ ns. command.Edit (Fix (natural ns 0) (natural ns 1)))
+
+abbrev window : Form
+window = plain (codes "window") (id ∷ time ∷ time ∷ []) (λ ns. command.Edit (SetWindow (natural ns 0) (natural ns 1) (natural ns 2)))
 
 abbrev add_activity : Form
 add_activity =
@@ -58,6 +64,12 @@ pub fix_says : (e t : ℕ) → e ≤ greatest_number → t ≤ GREATEST_TIME →
 fix_says e t number time =
     says_form fix (Fix e t) (decimal e ∷ decimal t ∷ []) (pos e ∷ pos t ∷ []) (name_fix, tt)
     (one_more (id_number e number) (one_more (decimal_number GREATEST_TIME t time (omega arith)) none)) (omega arith) refl refl refl
+
+-- an event has a window
+pub window_says : (e first length : ℕ) → e ≤ greatest_number → first ≤ GREATEST_TIME → length ≤ GREATEST_TIME → Says (SetWindow e first length)
+window_says e first length number low long =
+    says_form window (SetWindow e first length) (decimal e ∷ decimal first ∷ decimal length ∷ []) (pos e ∷ pos first ∷ pos length ∷ []) (name_window, tt)
+    (one_more (id_number e number) (one_more (decimal_number GREATEST_TIME first low (omega arith)) (one_more (decimal_number GREATEST_TIME length long (omega arith)) none))) (omega arith) refl refl refl
 
 -- an activity is added
 pub activity_says : (a : Activity) → IsActivity a → a.from ≤ greatest_number → a.to ≤ greatest_number → Says (AddActivity a)

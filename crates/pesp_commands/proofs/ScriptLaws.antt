@@ -1,5 +1,5 @@
 -- Each line of an instance's script says its edit, and replaying the script gives the instance back.
-use Rattle.std.proofs.Common.{◌≡◌, ℕ, ◌+◌, ◌<◌, ◌≤◌, true, false, cond, List, [], ◌∷◌, ◌++◌, length, map, codes, decimal, Some, None, Result, Ok, Err, All, IfSome, is_some, refl, ap, ap₂, ◌∙◌, arith, ◌==◌, length-append}
+use Rattle.std.proofs.Common.{◌≡◌, ℕ, ◌+◌, ◌<◌, ◌≤◌, true, false, cond, if◌then◌else◌, List, [], ◌∷◌, ◌++◌, length, map, codes, decimal, Some, None, Result, Ok, Err, All, IfSome, is_some, refl, ap, ap₂, ◌∙◌, arith, ◌==◌, length-append}
 use Rattle.std.specs.List.{filter_map}
 use Rattle.std.proofs.lemmas.Bool.{eqb-true, le-ltb, false≢true}
 use Rattle.std.proofs.lemmas.List.{length-map}
@@ -7,12 +7,13 @@ use Rattle.std.proofs.lemmas.List.Elements.{All-append, All-cons, All-head, All-
 use Rattle.pesp_base.specs.Limits.{greatest_number}
 use Rattle.pesp_base.specs.declared.refusal.Refusal.{Refusal}
 use Rattle.pesp_base.specs.Numbered.{with_number}
+use Rattle.pesp_base.specs.Windows.{Interval, IsWindow}
 use Rattle.pesp_instance.specs.declared.edit.Edit.{Edit}
-use Rattle.pesp_instance.specs.declared.edit.Edit.TheVariants.{AddActivity, AddEvent, Fix}
+use Rattle.pesp_instance.specs.declared.edit.Edit.TheVariants.{AddActivity, AddEvent, Fix, SetWindow}
 use Rattle.pesp_instance.specs.declared.event.Event.{Event}
 use Rattle.pesp_instance.specs.Edited.{edited, empty_network}
 use Rattle.pesp_instance.specs.Network.{IsEvent, IsNetwork, Network, event_ids}
-use Rattle.pesplib_writer.specs.Script.{applied, edit_line, fix_edit, on_accepted, script, script_edits, script_head, script_lines}
+use Rattle.pesplib_writer.specs.Script.{applied, edit_line, on_accepted, own_edit, script, script_edits, script_head, script_lines, window_edit}
 use Rattle.pesplib_writer.proofs.ScriptLaws.{script_builds}
 use Rattle.pesp_lines.specs.declared.limits.TheConstants.{LONGEST_LINE, MOST_LINES}
 use Rattle.pesp_lines.specs.Lines.{IsUncut, is_line_feed, lines_of}
@@ -20,7 +21,7 @@ use Rattle.pesp_commands.specs.declared.parsing.TheConstants.{GREATEST_TIME}
 use Rattle.pesp_commands.specs.Parsed.{parsed}
 use Rattle.pesp_commands.specs.Replayed.{IsSaid, on_line, or_refused, replayed, replayed_from, said}
 use Rattle.pesp_lines.proofs.CutLemmas.{AreLines, lines_of-as_lines}
-use Rattle.pesp_commands.proofs.EditLines.{Says, activity_says, event_says, fix_says}
+use Rattle.pesp_commands.proofs.EditLines.{Says, activity_says, event_says, fix_says, window_says}
 use Rattle.pesp_commands.proofs.LineLemmas.{ArePlain, one_line, parsed_line, short_line}
 use Rattle.pesp_commands.proofs.WordLemmas.{plain_decimal, plain_name}
 
@@ -44,23 +45,31 @@ event_number period (x ∷ events) n all is =
       | false ↦ λ apart later. event_number period events n (All-tail (IsEvent period) x events all) later
     ] refl is
 
-fixes_say : (period : ℕ) (events : List Event) → period ≤ GREATEST_TIME → All (IsEvent period) events → All Says (filter_map fix_edit events)
-fixes_say period [] high all = All-nil Says
-fixes_say period (x ∷ events) high all =
-    let first : IsEvent period x = All-head (IsEvent period) x events all in
-    let later : All Says (filter_map fix_edit events) = fixes_say period events high (All-tail (IsEvent period) x events all) in
-    elim x.fixed as (λ o. IfSome o (λ t. t < period) → All Says (filter_map fix_edit (record x { fixed = o } ∷ events))) [
-      | None ↦ λ _. later
-      | Some t ↦ λ below. All-cons Says (Fix x.id t) (filter_map fix_edit events) (fix_says x.id t first.number (omega (arith, below, high))) later
-    ] first.fixed
+-- a window's edit is said, which fixes a time or does not
+window_says_its_edit : (period : ℕ) (e : ℕ) (w : Interval) → period ≤ GREATEST_TIME → e ≤ greatest_number → IsWindow period w → Says (window_edit e w)
+window_says_its_edit period e w high number is =
+    elim (w.length == 1) as (λ b. Says (if b then Fix e w.first else SetWindow e w.first w.length)) [
+      | true ↦ fix_says e w.first number (omega (arith, is.first, high))
+      | false ↦ window_says e w.first w.length number (omega (arith, is.first, high)) (omega (arith, is.once, high))
+    ]
 
-few_fixes : (events : List Event) → length (filter_map fix_edit events) ≤ length events
-few_fixes [] = omega arith
-few_fixes (x ∷ events) =
-    let later : length (filter_map fix_edit events) ≤ length events = few_fixes events in
-    elim x.fixed as (λ o. length (filter_map fix_edit (record x { fixed = o } ∷ events)) ≤ length (x ∷ events)) [
+windows_say : (period : ℕ) (events : List Event) → period ≤ GREATEST_TIME → All (IsEvent period) events → All Says (filter_map own_edit events)
+windows_say period [] high all = All-nil Says
+windows_say period (x ∷ events) high all =
+    let first : IsEvent period x = All-head (IsEvent period) x events all in
+    let later : All Says (filter_map own_edit events) = windows_say period events high (All-tail (IsEvent period) x events all) in
+    elim x.window as (λ o. IfSome o (IsWindow period) → All Says (filter_map own_edit (record x { window = o } ∷ events))) [
+      | None ↦ λ _. later
+      | Some w ↦ λ is. All-cons Says (window_edit x.id w) (filter_map own_edit events) (window_says_its_edit period x.id w high first.number is) later
+    ] first.window
+
+few_windows : (events : List Event) → length (filter_map own_edit events) ≤ length events
+few_windows [] = omega arith
+few_windows (x ∷ events) =
+    let later : length (filter_map own_edit events) ≤ length events = few_windows events in
+    elim x.window as (λ o. length (filter_map own_edit (record x { window = o } ∷ events)) ≤ length (x ∷ events)) [
       | None ↦ omega arith
-      | Some t ↦ omega arith
+      | Some w ↦ omega arith
     ]
 
 -- ---- the lines of a script
@@ -82,13 +91,13 @@ module _ (I : Network) (net : IsNetwork I) where
 
   lines_say : All Says (script_edits I)
   lines_say =
-      All-append Says (map AddEvent (event_ids I) ++ filter_map fix_edit I.events) (map AddActivity I.activities)
-      (All-append Says (map AddEvent (event_ids I)) (filter_map fix_edit I.events) events_say (fixes_say I.period I.events (omega (arith, net.period_high)) net.events_within))
+      All-append Says (map AddEvent (event_ids I) ++ filter_map own_edit I.events) (map AddActivity I.activities)
+      (All-append Says (map AddEvent (event_ids I)) (filter_map own_edit I.events) events_say (windows_say I.period I.events (omega (arith, net.period_high)) net.events_within))
       activities_say
 
   -- far fewer than the limit of lines
   few_lines : length (script_lines I) ≤ 140000
-  few_lines = simp (length-append, length-map) (omega (arith, net.few_events, few_fixes I.events, net.few_activities))
+  few_lines = simp (length-append, length-map) (omega (arith, net.few_events, few_windows I.events, net.few_activities))
 
   -- the words of the comment in front
   abbrev head_words : List (List ℕ)

@@ -9,7 +9,7 @@ use Rattle.pesp_base.specs.declared.number.NumberFault.TheVariants as number
 use Rattle.pesp_base.specs.Numbers.{number_in}
 use Rattle.pesp_base.specs.Refusals.{when, unless_refused}
 use Rattle.pesp_base.specs.Texts.{number_value}
-use Rattle.pesp_instance.specs.declared.edit.Edit.TheVariants.{AddEvent, DropEvent, Fix, Unfix, AddActivity, DropActivity, SetSpan, SetWeight, SetEnds}
+use Rattle.pesp_instance.specs.declared.edit.Edit.TheVariants.{AddEvent, DropEvent, Fix, SetWindow, Unfix, AddActivity, DropActivity, SetSpan, SetWeight, SetEnds}
 use Rattle.pesp_commands.specs.declared.command.Command.{Command}
 use Rattle.pesp_commands.specs.declared.command.Command.TheVariants as command
 use Rattle.pesp_commands.specs.declared.name.Name.{Name}
@@ -89,6 +89,7 @@ abbrev pub form_for : Name → Form
 form_for name.AddEvent = plain (codes "add event") (id ∷ []) (λ ns. command.Edit (AddEvent (natural ns 0)))
 form_for name.DropEvent = plain (codes "drop event") (id ∷ []) (λ ns. command.Edit (DropEvent (natural ns 0)))
 form_for name.Fix = plain (codes "fix") (id ∷ time ∷ []) (λ ns. command.Edit (Fix (natural ns 0) (natural ns 1)))
+form_for name.Window = plain (codes "window") (id ∷ time ∷ time ∷ []) (λ ns. command.Edit (SetWindow (natural ns 0) (natural ns 1) (natural ns 2)))
 form_for name.Unfix = plain (codes "unfix") (id ∷ []) (λ ns. command.Edit (Unfix (natural ns 0)))
 form_for name.AddActivity = with_span (codes "add activity") activity_ranges 3 (λ ns. command.Edit (AddActivity (activity_of ns)))
 form_for name.DropActivity = plain (codes "drop activity") (id ∷ []) (λ ns. command.Edit (DropActivity (natural ns 0)))
@@ -110,7 +111,7 @@ form_for name.Dump = plain (codes "dump") [] (λ ns. command.Dump)
 -- the commands, none left out
 abbrev pub names : List Name
 names =
-    name.AddEvent ∷ name.DropEvent ∷ name.Fix ∷ name.Unfix ∷ name.AddActivity
+    name.AddEvent ∷ name.DropEvent ∷ name.Fix ∷ name.Window ∷ name.Unfix ∷ name.AddActivity
     ∷ name.DropActivity ∷ name.Span ∷ name.Weight ∷ name.Ends ∷ name.Time
     ∷ name.Untime ∷ name.Adopt ∷ name.Domain ∷ name.Domains ∷ name.Tensions
     ∷ name.Violations ∷ name.Cost ∷ name.Optimum ∷ name.Try ∷ name.Dump ∷ []

@@ -14,6 +14,7 @@ pub(crate) enum Name {
     AddEvent,
     DropEvent,
     Fix,
+    Window,
     Unfix,
     AddActivity,
     DropActivity,
@@ -34,10 +35,11 @@ pub(crate) enum Name {
 }
 
 /// The words of each command, in the order in which they are looked for.
-const NAMES: [(&[&[u8]], Name); 20] = [
+const NAMES: [(&[&[u8]], Name); 21] = [
     (&[b"add", b"event"], Name::AddEvent),
     (&[b"drop", b"event"], Name::DropEvent),
     (&[b"fix"], Name::Fix),
+    (&[b"window"], Name::Window),
     (&[b"unfix"], Name::Unfix),
     (&[b"add", b"activity"], Name::AddActivity),
     (&[b"drop", b"activity"], Name::DropActivity),

@@ -2,7 +2,7 @@
 
 ghost use Rattle.std.specs.Prelude.{◌≡◌, ◌≤◌, ◌≤ℤ◌, ◌<ℤ◌, pos, neg_ℤ, unsigned_abs, IfOk, IfErr, None, Some};
 ghost use Rattle.pesp_base.specs.Limits.{least_bound, greatest_bound};
-ghost use Rattle.pesp_base.specs.declared.number.TheConstants.{NUMBER_CAP};
+ghost use Rattle.pesp_base.specs.Numbers.{number_cap};
 ghost use Rattle.pesp_commands.specs.declared.parsing.TheConstants.{GREATEST_LIMIT};
 ghost use Rattle.pesp_commands.specs.Forms.{word_fault};
 ghost use Rattle.pesp_commands.specs.Parsed as ranges;
@@ -17,8 +17,8 @@ use pesp_base::{
 
 /// The number of the word at a place, where it is within the limits.
 fn number_at(place: u8, word: &[u8], low: i64, high: i64) -> Result<i64, ParseFault>
-    requires low { neg_ℤ (pos NUMBER_CAP) <ℤ low }
-    requires high { high <ℤ pos NUMBER_CAP }
+    requires low { neg_ℤ (pos number_cap) <ℤ low }
+    requires high { high <ℤ pos number_cap }
     ensures no_fault { IfOk result (λ number. word_fault place (record { low = low; high = high }) word.now ≡ None) }
     ensures value { IfOk result (λ number. number ≡ number_of word.now) }
     ensures within { IfOk result (λ number. (low ≤ℤ number) × (number ≤ℤ high)) }

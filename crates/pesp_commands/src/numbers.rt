@@ -138,6 +138,23 @@ impl<'a> Numbers<'a> {
     }
 
     #[tactic(auto, unfolding(crate::specs::Forms::first_fault))]
+    pub(crate) fn event_and_window(&self) -> Result<(EventId, u16, u16), ParseFault>
+        ensures no_fault { IfOk result (λ said. first_fault self.now (ranges.id ∷ ranges.time ∷ ranges.time ∷ []) never ≡ None) }
+        ensures event { IfOk result (λ said. said.0 ≡ natural (values self.now) 0) }
+        ensures first { IfOk result (λ said. said.1 ≡ natural (values self.now) 1) }
+        ensures length { IfOk result (λ said. said.2 ≡ natural (values self.now) 2) }
+        ensures fault { IfErr result (λ fault. first_fault self.now (ranges.id ∷ ranges.time ∷ ranges.time ∷ []) never ≡ Some fault) }
+    {
+        let [event, first, length] = self.words else {
+            return Err(ParseFault::WordCount);
+        };
+        let event = event_at(self.place, event)?;
+        let first = time_at(self.place + 1, first)?;
+        let length = time_at(self.place + 2, length)?;
+        Ok((event, first, length))
+    }
+
+    #[tactic(auto, unfolding(crate::specs::Forms::first_fault))]
     pub(crate) fn activity_id(&self) -> Result<ActivityId, ParseFault>
         ensures no_fault { IfOk result (λ id. first_fault self.now (ranges.id ∷ []) never ≡ None) }
         ensures value { IfOk result (λ id. id ≡ natural (values self.now) 0) }

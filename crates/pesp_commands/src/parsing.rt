@@ -11,7 +11,7 @@ use crate::numbers::Numbers;
 use crate::words::Words;
 use pesp_instance::Edit;
 
-/// The greatest time of a command.
+/// The greatest time, and the greatest length of a window, of a command.
 pub(crate) const GREATEST_TIME: u16 = 65_535;
 
 /// The greatest number of nodes of a command.
@@ -42,6 +42,10 @@ fn said(name: Name, numbers: &Numbers<'_>) -> Result<Command, ParseFault>
         Name::Fix => {
             let (event, time) = numbers.event_and_time()?;
             Ok(Command::Edit(Edit::Fix(event, time)))
+        }
+        Name::Window => {
+            let (event, first, length) = numbers.event_and_window()?;
+            Ok(Command::Edit(Edit::SetWindow(event, first, length)))
         }
         Name::Unfix => Ok(Command::Edit(Edit::Unfix(numbers.event()?))),
         Name::AddActivity => Ok(Command::Edit(Edit::AddActivity(numbers.activity()?))),

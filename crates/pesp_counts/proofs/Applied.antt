@@ -3,7 +3,7 @@ use Rattle.std.proofs.Common.{◌≡◌, ℕ, ◌≤◌, nat_lt, false, List, []
 use Rattle.std.proofs.lemmas.Bool.{false≢true, lt-ltb}
 use Rattle.pesp_base.specs.declared.activity.Activity.{Activity}
 use Rattle.pesp_instance.specs.declared.edit.Edit.{Edit}
-use Rattle.pesp_instance.specs.declared.edit.Edit.TheVariants.{AddEvent, DropEvent, Fix, Unfix, AddActivity, DropActivity, SetSpan, SetWeight, SetEnds}
+use Rattle.pesp_instance.specs.declared.edit.Edit.TheVariants.{AddEvent, DropEvent, Fix, SetWindow, Unfix, AddActivity, DropActivity, SetSpan, SetWeight, SetEnds}
 use Rattle.pesp_instance.specs.Network.{Network}
 use Rattle.pesp_domains.specs.declared.pair.Pair.{Pair}
 use Rattle.pesp_domains.specs.Sweeps.{AreDomains}
@@ -47,6 +47,7 @@ not_adds (AddEvent e) a b = absurd (a e refl)
 not_adds (AddActivity x) a b = absurd (b x refl)
 not_adds (DropEvent e) a b = refl
 not_adds (Fix e t) a b = refl
+not_adds (SetWindow e first length) a b = refl
 not_adds (Unfix e) a b = refl
 not_adds (DropActivity n) a b = refl
 not_adds (SetSpan n span) a b = refl

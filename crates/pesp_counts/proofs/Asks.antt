@@ -11,13 +11,13 @@ use Rattle.pesp_base.specs.declared.refusal.Refusal.{Refusal}
 use Rattle.pesp_base.specs.Bounds.{Bounds}
 use Rattle.pesp_base.specs.Numbered.{change_in, put_in, take_out, with_number}
 use Rattle.pesp_base.specs.Refusals.{unless_refused, when}
-use Rattle.pesp_base.specs.Tensions.{IsMet, is_met, residue}
-use Rattle.pesp_base.proofs.Laws.{met_is, quotient, residue_below, residue_is, spread}
+use Rattle.pesp_base.specs.Tensions.{IsMet}
+use Rattle.pesp_base.specs.Windows.{Interval, at_time}
 use Rattle.pesp_instance.specs.declared.edit.Edit.{Edit}
-use Rattle.pesp_instance.specs.declared.edit.Edit.TheVariants.{AddEvent, DropEvent, Fix, Unfix, AddActivity, DropActivity, SetSpan, SetWeight, SetEnds}
+use Rattle.pesp_instance.specs.declared.edit.Edit.TheVariants.{AddEvent, DropEvent, Fix, SetWindow, Unfix, AddActivity, DropActivity, SetSpan, SetWeight, SetEnds}
 use Rattle.pesp_instance.specs.declared.event.Event.{Event}
-use Rattle.pesp_instance.specs.Edited.{edited, effect, refixed}
-use Rattle.pesp_instance.specs.Network.{IsNetwork, Network, activity_of, admits, agrees_with, event_of, fixed_of, has_event}
+use Rattle.pesp_instance.specs.Edited.{edited, effect, rewindowed}
+use Rattle.pesp_instance.specs.Network.{IsNetwork, Network, activity_of, admits, agrees_with, event_of, window_of, has_event}
 use Rattle.pesp_instance.proofs.Rising.{All-found, IfSome-with_number, number-with_number, Rises-from_increasing, with_number-change_in, with_number-put_in, with_number-take_out}
 use Rattle.pesp_domains.specs.declared.side.Side.{Side}
 use Rattle.pesp_domains.specs.declared.side.Side.TheVariants.{Tail, Head}
@@ -27,6 +27,7 @@ use Rattle.pesp_counts.specs.Loosened.{AsksAgain, HasHeir}
 use Rattle.pesp_domains.specs.Loosening.{admits_anew, admits_more, is_looser}
 use Rattle.pesp_counts.specs.Reached.{ends_of, is_edited}
 use Rattle.pesp_domains.proofs.Anew.{anew_at}
+use Rattle.pesp_domains.proofs.Wider.{no_more_met}
 
 abbrev id_of : Activity → ℕ
 id_of a = a.id
@@ -80,38 +81,6 @@ at_start I n side a network is same =
 
 -- ---- spans
 
--- whole periods change nothing of what meets
-met_ahead : (period : ℕ) (span : Bounds) (r s d : ℕ) (q : ℤ) → pos s -ℤ pos r ≡ pos period *ℤ q +ℤ pos d → IsMet period span r s → IsMet period span 0 d
-met_ahead period span r s d q is m =
-    let e : pos d -ℤ pos 0 +ℤ pos period *ℤ (m.0 +ℤ q) ≡ pos s -ℤ pos r +ℤ pos period *ℤ m.0 = omega (arith, ints, is, spread period m.0 q) in
-    (m.0 +ℤ q, subst (λ x. span.lower ≤ℤ x) (sym e) m.1, subst (λ x. x ≤ℤ span.upper) (sym e) m.2)
-
-met_back : (period : ℕ) (span : Bounds) (r s d : ℕ) (q : ℤ) → pos s -ℤ pos r ≡ pos period *ℤ q +ℤ pos d → IsMet period span 0 d → IsMet period span r s
-met_back period span r s d q is m =
-    let e : pos s -ℤ pos r +ℤ pos period *ℤ (m.0 +ℤ neg_ℤ q) ≡ pos d -ℤ pos 0 +ℤ pos period *ℤ m.0 = omega (arith, ints, is, spread period (m.0 +ℤ neg_ℤ q) q, back) in
-    (m.0 +ℤ neg_ℤ q, subst (λ x. span.lower ≤ℤ x) (sym e) m.1, subst (λ x. x ≤ℤ span.upper) (sym e) m.2)
-  where
-    whole : (m.0 +ℤ neg_ℤ q) +ℤ q ≡ m.0
-    whole = omega (arith, ints)
-
-    back : pos period *ℤ ((m.0 +ℤ neg_ℤ q) +ℤ q) ≡ pos period *ℤ m.0
-    back = ap (λ k. pos period *ℤ k) whole
-
--- where a span admits no more than another, what it joins the other one joins
-no_more_met : (period : ℕ) (old new : Bounds) → 0 < period → admits_more period old new ≡ false → (r s : ℕ) → IsMet period new r s → IsMet period old r s
-no_more_met period old new some less r s m =
-    let d : ℕ = residue period (pos s -ℤ pos r) in
-    let q : ℤ = quotient period (pos s -ℤ pos r) in
-    let is = residue_is period (pos s -ℤ pos r) some in
-    let met : is_met period new 0 d ≡ true = (met_is period new 0 d some).1 (met_ahead period new r s d q is m) in
-    elim (cases_Bool (is_met period old 0 d)) [
-      | inl old_met ↦ met_back period old r s d q is ((met_is period old 0 d some).0 old_met)
-      | inr not_met ↦
-          absurd (none_passes (λ d. is_met period new 0 d && not (is_met period old 0 d)) (range_with_len 0 period) less d
-          (in_range 0 period d (omega arith) (let l = residue_below period (pos s -ℤ pos r) some in omega (arith, l)))
-          (and_from _ _ met (ap not not_met)))
-    ]
-
 joins_less : (side : Side) (period : ℕ) (a b : Activity) → ((r s : ℕ) → IsMet period b.span r s → IsMet period a.span r s) → (r s : ℕ) → Joins side period b r s → Joins side period a r s
 joins_less Tail period a b less r s m = less r s m
 joins_less Head period a b less r s m = less s r m
@@ -124,22 +93,22 @@ other_same : (side : Side) (a b : Activity) → b.from ≡ a.from → b.to ≡ a
 other_same Tail a b from to = to
 other_same Head a b from to = from
 
--- ---- fixed times
+-- ---- windows
 
-fixed_stays : (period : ℕ) (o p : Option Event) → p ≡ o → (r : ℕ) → IsTrue (agrees_with period (option_and_then (λ x. x.fixed) p) r) → IsTrue (agrees_with period (option_and_then (λ x. x.fixed) o) r)
-fixed_stays period o p same r h = subst (λ q. IsTrue (agrees_with period (option_and_then (λ x. x.fixed) q) r)) same h
+fixed_stays : (period : ℕ) (o p : Option Event) → p ≡ o → (r : ℕ) → IsTrue (agrees_with period (option_and_then (λ x. x.window) p) r) → IsTrue (agrees_with period (option_and_then (λ x. x.window) o) r)
+fixed_stays period o p same r h = subst (λ q. IsTrue (agrees_with period (option_and_then (λ x. x.window) q) r)) same h
 
-pub refixed_elsewhere : (I : Network) (n e : ℕ) (fixed : Option ℕ) → e ≢ n → event_of (refixed I n fixed) e ≡ event_of I e
-refixed_elsewhere I n e fixed apart = with_number-change_in number e n (λ x. record x { fixed = fixed }) (λ x. refl) I.events ∙ still (event_of I e) (λ x. number-with_number number e I.events x)
+pub rewindowed_elsewhere : (I : Network) (n e : ℕ) (window : Option Interval) → e ≢ n → event_of (rewindowed I n window) e ≡ event_of I e
+rewindowed_elsewhere I n e window apart = with_number-change_in number e n (λ x. record x { window = window }) (λ x. refl) I.events ∙ still (event_of I e) (λ x. number-with_number number e I.events x)
   where
-    still : (o : Option Event) → ((x : Event) → o ≡ Some x → number x ≡ e) → option_map (λ x. cond (number x == n) (record x { fixed = fixed }) x) o ≡ o
+    still : (o : Option Event) → ((x : Event) → o ≡ Some x → number x ≡ e) → option_map (λ x. cond (number x == n) (record x { window = window }) x) o ≡ o
     still None at = refl
     still (Some x) at = rw (ne_eqb (number x) n (λ same. apart (sym (at x refl) ∙ same))) refl
 
-pub refixed_here : (I : Network) (n : ℕ) (fixed : Option ℕ) → IsTrue (has_event I n) → fixed_of (refixed I n fixed) n ≡ fixed
-refixed_here I n fixed event = ap (option_and_then (λ x. x.fixed)) (with_number-change_in number n n (λ x. record x { fixed = fixed }) (λ x. refl) I.events) ∙ at (event_of I n) event (λ x. number-with_number number n I.events x)
+pub rewindowed_here : (I : Network) (n : ℕ) (window : Option Interval) → IsTrue (has_event I n) → window_of (rewindowed I n window) n ≡ window
+rewindowed_here I n window event = ap (option_and_then (λ x. x.window)) (with_number-change_in number n n (λ x. record x { window = window }) (λ x. refl) I.events) ∙ at (event_of I n) event (λ x. number-with_number number n I.events x)
   where
-    at : (o : Option Event) → IsTrue (is_some o) → ((x : Event) → o ≡ Some x → number x ≡ n) → option_and_then (λ x. x.fixed) (option_map (λ x. cond (number x == n) (record x { fixed = fixed }) x) o) ≡ fixed
+    at : (o : Option Event) → IsTrue (is_some o) → ((x : Event) → o ≡ Some x → number x ≡ n) → option_and_then (λ x. x.window) (option_map (λ x. cond (number x == n) (record x { window = window }) x) o) ≡ window
     at None event is = absurd (false≢true event)
     at (Some x) event is = rw (eq-eqb (number x) n (is x refl)) refl
 
@@ -160,16 +129,16 @@ asks_again I J (AddEvent v) network ok =
     let new : has_event I v ≡ false = first_fails _ _ _ _ J ok in
     record {
       period = refl;
-      fixed = λ e r below event event' agrees.
+      window = λ e r below event event' agrees.
           let apart : v ≢ e = λ same. false≢true (sym new ∙ ap (has_event I) same ∙ event) in
-          let same : event_of (effect I (AddEvent v)) e ≡ event_of I e = with_number-put_in number e (record { id = v; fixed = None }) I.events ∙ rw (ne_eqb v e apart) refl in
+          let same : event_of (effect I (AddEvent v)) e ≡ event_of I e = with_number-put_in number e (record { id = v; window = None }) I.events ∙ rw (ne_eqb v e apart) refl in
           inl (fixed_stays I.period (event_of I e) (event_of (effect I (AddEvent v)) e) same r agrees);
       activities = λ side a is. inr (itself I (AddEvent v) side a is refl);
     }
 asks_again I J (DropEvent n) network ok =
     record {
       period = refl;
-      fixed = λ e r below event event' agrees.
+      window = λ e r below event event' agrees.
           let found = with_number-take_out number e n I.events in
           let apart : (e == n) ≡ false =
           elim (cases_Bool (e == n)) [
@@ -184,19 +153,29 @@ asks_again I J (DropEvent n) network ok =
 asks_again I J (Fix n t) network ok =
     record {
       period = refl;
-      fixed = λ e r below event event' agrees.
+      window = λ e r below event event' agrees.
           elim (cases_eq e n) [
-            | inr apart ↦ inl (fixed_stays I.period (event_of I e) (event_of (effect I (Fix n t)) e) (refixed_elsewhere I n e (Some t) apart) r agrees)
+            | inr apart ↦ inl (fixed_stays I.period (event_of I e) (event_of (effect I (Fix n t)) e) (rewindowed_elsewhere I n e (Some (at_time t)) apart) r agrees)
             | inl same ↦ before_or_start I (effect I (Fix n t)) n e r same below agrees
           ];
       activities = λ side a is. inr (itself I (Fix n t) side a is refl);
     }
+asks_again I J (SetWindow n first length) network ok =
+    record {
+      period = refl;
+      window = λ e r below event event' agrees.
+          elim (cases_eq e n) [
+            | inr apart ↦ inl (fixed_stays I.period (event_of I e) (event_of (effect I (SetWindow n first length)) e) (rewindowed_elsewhere I n e (Some (record { first = first; length = length })) apart) r agrees)
+            | inl same ↦ before_or_start I (effect I (SetWindow n first length)) n e r same below agrees
+          ];
+      activities = λ side a is. inr (itself I (SetWindow n first length) side a is refl);
+    }
 asks_again I J (Unfix n) network ok =
     record {
       period = refl;
-      fixed = λ e r below event event' agrees.
+      window = λ e r below event event' agrees.
           elim (cases_eq e n) [
-            | inr apart ↦ inl (fixed_stays I.period (event_of I e) (event_of (effect I (Unfix n)) e) (refixed_elsewhere I n e None apart) r agrees)
+            | inr apart ↦ inl (fixed_stays I.period (event_of I e) (event_of (effect I (Unfix n)) e) (rewindowed_elsewhere I n e None apart) r agrees)
             | inl same ↦ before_or_start I (effect I (Unfix n)) n e r same below agrees
           ];
       activities = λ side a is. inr (itself I (Unfix n) side a is refl);
@@ -205,7 +184,7 @@ asks_again I J (AddActivity b) network ok =
     let new : is_some (activity_of I b.id) ≡ false = first_fails _ _ _ _ J ok in
     record {
       period = refl;
-      fixed = λ e r below event event' agrees. inl agrees;
+      window = λ e r below event event' agrees. inl agrees;
       activities = λ side a is.
           let found = activity_found I a network is in
           let apart : b.id ≢ a.id = λ same. false≢true (sym new ∙ ap (λ n. is_some (activity_of I n)) same ∙ ap is_some found) in
@@ -215,7 +194,7 @@ asks_again I J (AddActivity b) network ok =
 asks_again I J (DropActivity n) network ok =
     record {
       period = refl;
-      fixed = λ e r below event event' agrees. inl agrees;
+      window = λ e r below event event' agrees. inl agrees;
       activities = λ side a is.
           elim (cases_Bool (a.id == n)) [
             | inl same ↦ inl (at_start I n side a network is same)
@@ -227,7 +206,7 @@ asks_again I J (SetSpan n span) network ok =
     let set : Activity → Activity = λ a. record a { span = span } in
     record {
       period = refl;
-      fixed = λ e r below event event' agrees. inl agrees;
+      window = λ e r below event event' agrees. inl agrees;
       activities = λ side a is.
           elim (cases_Bool (a.id == n)) [
             | inr apart ↦ inr (itself I (SetSpan n span) side a (others_stay I n set (λ b. refl) a network is apart) apart)
@@ -252,7 +231,7 @@ asks_again I J (SetWeight n weight) network ok =
     let set : Activity → Activity = λ a. record a { weight = weight } in
     record {
       period = refl;
-      fixed = λ e r below event event' agrees. inl agrees;
+      window = λ e r below event event' agrees. inl agrees;
       activities = λ side a is.
           elim (cases_Bool (a.id == n)) [
             | inr apart ↦ inr (itself I (SetWeight n weight) side a (others_stay I n set (λ b. refl) a network is apart) refl)
@@ -271,7 +250,7 @@ asks_again I J (SetEnds n from to) network ok =
     let set : Activity → Activity = λ a. record a { from = from; to = to } in
     record {
       period = refl;
-      fixed = λ e r below event event' agrees. inl agrees;
+      window = λ e r below event event' agrees. inl agrees;
       activities = λ side a is.
           elim (cases_Bool (a.id == n)) [
             | inl same ↦ inl (at_start I n side a network is same)

@@ -3,7 +3,7 @@ use Rattle.std.proofs.Common.{◌≡◌, ◌≢◌, ℕ, ◌+◌, ◌*◌, ◌<�
 use Rattle.std.specs.List.{Contains}
 use Rattle.std.proofs.lemmas.Bool.{eq-eqb, false≢true}
 use Rattle.pesp_instance.specs.declared.edit.Edit.{Edit}
-use Rattle.pesp_instance.specs.declared.edit.Edit.TheVariants.{AddEvent, DropEvent, Fix, Unfix, AddActivity, DropActivity, SetSpan, SetWeight, SetEnds}
+use Rattle.pesp_instance.specs.declared.edit.Edit.TheVariants.{AddEvent, DropEvent, Fix, SetWindow, Unfix, AddActivity, DropActivity, SetSpan, SetWeight, SetEnds}
 use Rattle.pesp_instance.specs.Edited.{edited}
 use Rattle.pesp_instance.specs.Network.{IsNetwork, Network, activity_of, has_event}
 use Rattle.pesp_domains.proofs.Edits.{effect_is, has_out}
@@ -23,7 +23,7 @@ use Rattle.pesp_domains.proofs.Families.{and_left}
 use Rattle.pesp_supports.specs.declared.trail.Placed.{Placed}
 use Rattle.pesp_counts.proofs.Asks.{asks_again, first_fails, found_in}
 use Rattle.pesp_counts.proofs.Bridge.{some_of, the_same}
-use Rattle.pesp_links.proofs.StandLaws.{stands_fix, stands_unfix, stands_weight}
+use Rattle.pesp_links.proofs.StandLaws.{stands_fix, stands_unfix, stands_weight, stands_window}
 use Rattle.pesp_supports.proofs.Supporters.{supporters_same}
 
 pub if_some : {X : Type 0} (P : X → Type 0) (o : Option X) (x : X) → o ≡ Some x → IfSome o P → P x
@@ -80,6 +80,7 @@ stands_still I J links (AddEvent e) made adding a b c d stand = absurd (false≢
 stands_still I J links (AddActivity x) made adding a b c d stand = absurd (false≢true (sym adding))
 stands_still I J links (DropEvent e) made adding a b c d stand = absurd (a e refl)
 stands_still I J links (Fix e t) made adding a b c d stand = stands_fix I J links e t made stand
+stands_still I J links (SetWindow e first length) made adding a b c d stand = stands_window I J links e first length made stand
 stands_still I J links (Unfix e) made adding a b c d stand = stands_unfix I J links e made stand
 stands_still I J links (DropActivity n) made adding a b c d stand = absurd (b n refl)
 stands_still I J links (SetSpan n span) made adding a b c d stand = absurd (c n span refl)

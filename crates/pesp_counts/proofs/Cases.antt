@@ -71,7 +71,7 @@ moved_here =
     begins 1 1 (here 1 [])
     (record {
       outside = λ d. false≢true ((swept one_fixed [] 2 refl 1 1).1 d);
-      admitted = record { of_event = refl; below = omega arith; fixed = refl; pushed = λ s i. absurd (not_in_none _ i) };
+      admitted = record { of_event = refl; below = omega arith; window = refl; pushed = λ s i. absurd (not_in_none _ i) };
     })
 
 moved_there : Reached one_fixed (do_.Fix 1 1) 2 6
@@ -80,5 +80,5 @@ moved_there =
     ((met_is 10 (span (pos 3) (pos 5)) 1 6 (omega arith)).0 refl)
     (record {
       outside = λ d. false≢true ((swept one_fixed [] 2 refl 2 6).1 d);
-      admitted = record { of_event = refl; below = omega arith; fixed = refl; pushed = λ s i. absurd (not_in_none _ i) };
+      admitted = record { of_event = refl; below = omega arith; window = refl; pushed = λ s i. absurd (not_in_none _ i) };
     })

@@ -1,23 +1,27 @@
 -- Where chains begin, and which ends a pass leaves out, for each edit that brings pairs back.
-use Rattle.std.proofs.Common.{◌≡◌, ◌≢◌, ℕ, ◌*◌, ◌+◌, ◌==◌, ◌||◌, nat_lt, if◌then◌else◌, Bool, true, false, [], ◌∷◌, length, Some, None, Ok, refl, sym, ap, subst, ◌∙◌, inl, inr, arith, IsTrue}
+use Rattle.std.proofs.Common.{◌≡◌, ◌≢◌, ℕ, ◌*◌, ◌+◌, ◌==◌, ◌||◌, nat_lt, if◌then◌else◌, Bool, true, false, not, List, [], ◌∷◌, length, Option, Some, None, Ok, refl, sym, ap, subst, ◌∙◌, inl, inr, arith, IsTrue}
 use Rattle.std.specs.List.{Contains}
+use Rattle.std.specs.Result.{is_ok}
 use Rattle.std.proofs.lemmas.Bool.{eq-eqb, false≢true, ne_eqb}
 use Rattle.pesp_base.specs.declared.activity.Activity.{Activity}
+use Rattle.pesp_base.specs.declared.refusal.Refusal.{Refusal}
 use Rattle.pesp_base.specs.Numbered.{change_in}
+use Rattle.pesp_base.specs.Refusals.{unless_refused, when}
+use Rattle.pesp_base.specs.Windows.{Interval, at_time}
 use Rattle.pesp_instance.specs.declared.edit.Edit.{Edit}
-use Rattle.pesp_instance.specs.declared.edit.Edit.TheVariants.{AddEvent, DropEvent, Fix, Unfix, AddActivity, DropActivity, SetSpan, SetWeight, SetEnds}
+use Rattle.pesp_instance.specs.declared.edit.Edit.TheVariants.{AddEvent, DropEvent, Fix, SetWindow, Unfix, AddActivity, DropActivity, SetSpan, SetWeight, SetEnds}
 use Rattle.pesp_instance.specs.Edited.{edited, effect}
-use Rattle.pesp_instance.specs.Network.{Network, activity_of}
+use Rattle.pesp_instance.specs.Network.{Network, activity_of, has_event}
 use Rattle.pesp_instance.proofs.Numbers.{activity_number as id_of}
 use Rattle.pesp_domains.specs.declared.side.Side.{Side}
 use Rattle.pesp_domains.specs.declared.side.Side.TheVariants.{Tail, Head}
-use Rattle.pesp_domains.proofs.Edits.{effect_is}
+use Rattle.pesp_domains.proofs.Edits.{effect_is, keeps_fix, keeps_unfix, keeps_window}
 use Rattle.pesp_domains.proofs.Families.{here, here_or_there, not_in_none, there}
 use Rattle.pesp_links.specs.Links.{Links, end_number}
 use Rattle.pesp_counts.specs.Loosening.{AreSpared, AreStarts}
 use Rattle.pesp_links.specs.Places.{ArePlaces, place_of}
 use Rattle.pesp_domains.specs.Loosening.{admits_anew, is_looser}
-use Rattle.pesp_counts.specs.Reached.{ends_of, is_edited, starts}
+use Rattle.pesp_counts.specs.Reached.{IsOfWindow, ends_of, is_edited, starts}
 use Rattle.pesp_supports.specs.Restoring.{is_spared}
 use Rattle.pesp_counts.proofs.Bridge.{the_same}
 use Rattle.pesp_links.proofs.StandAround.{apart_places}
@@ -30,11 +34,23 @@ only_one true e some = refl
 only_one false e some = absurd (false≢true some)
 
 -- an edit with starts has those of its kind
-pub starts_fix : (I : Network) (e t : ℕ) → IsTrue (nat_lt 0 (length (starts I (Fix e t)))) → starts I (Fix e t) ≡ e ∷ []
-starts_fix I e t = only_one (admits_anew I (effect I (Fix e t)) e) e
+pub starts_window : (I : Network) (edit : Edit) (e : ℕ) (window : Option Interval) → IsOfWindow edit e window → IsTrue (nat_lt 0 (length (starts I edit))) → starts I edit ≡ e ∷ []
+starts_window I edit e window of some =
+    of.begins I ∙ only_one (admits_anew I (effect I edit) e) e (subst (λ xs. IsTrue (nat_lt 0 (length xs))) (of.begins I) some)
 
-pub starts_unfix : (I : Network) (e : ℕ) → IsTrue (nat_lt 0 (length (starts I (Unfix e)))) → starts I (Unfix e) ≡ e ∷ []
-starts_unfix I e = only_one (admits_anew I (effect I (Unfix e)) e) e
+-- the edits that give an event a window, and the one that takes it away
+first_fails : (b : Bool) (first : Refusal) (rest : List (Option Refusal)) (x J : Network) → unless_refused (when (not b) first ∷ rest) x ≡ Ok J → b ≡ true
+first_fails true first rest x J ok = refl
+first_fails false first rest x J ok = absurd (false≢true (ap is_ok ok))
+
+pub of_fix : (e t : ℕ) → IsOfWindow (Fix e t) e (Some (at_time t))
+of_fix e t = record { makes = λ I. refl; begins = λ I. refl; unedited = λ a. refl; keeps = λ I f. (keeps_fix e t I).1 f; there = λ I J made. first_fails (has_event I e) _ _ (effect I (Fix e t)) J made }
+
+pub of_window : (e first length : ℕ) → IsOfWindow (SetWindow e first length) e (Some (record { first = first; length = length }))
+of_window e first length = record { makes = λ I. refl; begins = λ I. refl; unedited = λ a. refl; keeps = λ I f. (keeps_window e first length I).1 f; there = λ I J made. first_fails (has_event I e) _ _ (effect I (SetWindow e first length)) J made }
+
+pub of_unfix : (e : ℕ) → IsOfWindow (Unfix e) e None
+of_unfix e = record { makes = λ I. refl; begins = λ I. refl; unedited = λ a. refl; keeps = λ I f. (keeps_unfix e I).1 f; there = λ I J made. first_fails (has_event I e) _ _ (effect I (Unfix e)) J made }
 
 pub starts_span : (I : Network) (n : ℕ) (span : _) → IsTrue (nat_lt 0 (length (starts I (SetSpan n span)))) → starts I (SetSpan n span) ≡ ends_of (activity_of I n)
 starts_span I n span =
@@ -82,16 +98,17 @@ two_starts I edit links e f p q is at at' =
     }
 
 -- chains begin after these edits alone
-pub only_loose : (I : Network) (edit : Edit) → IsTrue (nat_lt 0 (length (starts I edit))) → ((e t : ℕ) → edit ≡ Fix e t → ⊥) → ((e : ℕ) → edit ≡ Unfix e → ⊥) → ((n : ℕ) → edit ≡ DropActivity n → ⊥) → ((n : ℕ) (span : _) → edit ≡ SetSpan n span → ⊥) → ((n from to : ℕ) → edit ≡ SetEnds n from to → ⊥) → ⊥
-only_loose I (AddEvent e) some a b c d f = false≢true some
-only_loose I (DropEvent e) some a b c d f = false≢true some
-only_loose I (Fix e t) some a b c d f = a e t refl
-only_loose I (Unfix e) some a b c d f = b e refl
-only_loose I (AddActivity x) some a b c d f = false≢true some
-only_loose I (DropActivity n) some a b c d f = c n refl
-only_loose I (SetSpan n span) some a b c d f = d n span refl
-only_loose I (SetWeight n weight) some a b c d f = false≢true some
-only_loose I (SetEnds n from to) some a b c d f = f n from to refl
+pub only_loose : (I : Network) (edit : Edit) → IsTrue (nat_lt 0 (length (starts I edit))) → ((e t : ℕ) → edit ≡ Fix e t → ⊥) → ((e first length : ℕ) → edit ≡ SetWindow e first length → ⊥) → ((e : ℕ) → edit ≡ Unfix e → ⊥) → ((n : ℕ) → edit ≡ DropActivity n → ⊥) → ((n : ℕ) (span : _) → edit ≡ SetSpan n span → ⊥) → ((n from to : ℕ) → edit ≡ SetEnds n from to → ⊥) → ⊥
+only_loose I (AddEvent e) some a w b c d f = false≢true some
+only_loose I (DropEvent e) some a w b c d f = false≢true some
+only_loose I (Fix e t) some a w b c d f = a e t refl
+only_loose I (SetWindow e first length) some a w b c d f = w e first length refl
+only_loose I (Unfix e) some a w b c d f = b e refl
+only_loose I (AddActivity x) some a w b c d f = false≢true some
+only_loose I (DropActivity n) some a w b c d f = c n refl
+only_loose I (SetSpan n span) some a w b c d f = d n span refl
+only_loose I (SetWeight n weight) some a w b c d f = false≢true some
+only_loose I (SetEnds n from to) some a w b c d f = f n from to refl
 
 -- ---- ends that are left out
 

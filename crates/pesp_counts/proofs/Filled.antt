@@ -64,7 +64,7 @@ has_push (y ∷ xs) x e =
     either true = refl
     either false = refl
 
--- links that stand for an instance stand for one with the same events, whatever their fixed times
+-- links that stand for an instance stand for one with the same events, whatever their windows
 stand_events : (I J : Network) (links : Links) → I.period ≡ J.period → I.activities ≡ J.activities → ((e : ℕ) → has_event J e ≡ has_event I e) → StandFor I links → StandFor J links
 stand_events I J links period activities events stand =
     record {

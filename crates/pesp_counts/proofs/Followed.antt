@@ -34,11 +34,11 @@ tight_settles I J edit before S after network made tight domains admitted covers
 
 -- a pair of the old domains is admitted where its event is still there and admits it
 pub still_admitted : (I J : Network) (before : Pairs) (e r : ℕ) → AreDomains I [] before → J.period ≡ I.period → Of before e r → IsTrue (has_event J e) → IsTrue (admits J e r) → IsAdmitted J [] e r
-still_admitted I J before e r domains period h event fixed =
+still_admitted I J before e r domains period h event agrees =
     let l = (InDomains-admitted I [] e r ((domains.exact e r).0 h)).below in
     record {
       of_event = event;
       below = omega (arith, l, period);
-      fixed = fixed;
+      window = agrees;
       pushed = λ s i. absurd (not_in_none _ i);
     }

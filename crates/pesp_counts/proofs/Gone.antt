@@ -1,13 +1,12 @@
 -- The pairs that an edit took out, and the probes that it made.
-use Rattle.std.proofs.Common.{◌≡◌, ℕ, ◌+◌, ◌*◌, ◌≤◌, ◌⊎◌, ◌==◌, ◌&&◌, ◌||◌, Bool, true, false, List, [], ◌∷◌, ◌++◌, Some, length, refl, sym, ap, subst, ◌∙◌, inl, inr, arith, IsTrue}
+use Rattle.std.proofs.Common.{◌-◌, ◌≡◌, ℕ, ◌+◌, ◌*◌, ◌≤◌, ◌⊎◌, ◌==◌, ◌&&◌, ◌||◌, Bool, true, false, List, [], ◌∷◌, ◌++◌, Some, length, refl, sym, ap, subst, ◌∙◌, inl, inr, arith, IsTrue}
 use Rattle.std.specs.List.{Contains}
 use Rattle.std.proofs.lemmas.Bool.{and_from, and_parts, cases_eq, eq-eqb, false≢true, ne_eqb}
 use Rattle.std.proofs.Math.Nat.{add-mul}
 use Rattle.pesp_instance.specs.Network.{Network}
 use Rattle.pesp_domains.specs.Domains.{own}
-use Rattle.pesp_domains.specs.Sweeps.{Of, Pairs}
+use Rattle.pesp_domains.specs.Sweeps.{Of, Pairs, narrowed_to}
 use Rattle.pesp_domains.proofs.Families.{here}
-use Rattle.pesp_domains.proofs.Pushes.{limited}
 use Rattle.pesp_supports.specs.declared.trail.Placed.{Placed}
 use Rattle.pesp_links.specs.Ends.{ends_of}
 use Rattle.pesp_supports.specs.Counts.{IsClosed, KeepsClosed, has_at}
@@ -46,9 +45,9 @@ gone_placed I links period before after stand keeps p r was out = by (ends_of li
         let l = stand.only p k (subst (λ xs. Contains xs k) (sym some) (here k ks)) in
         (own l.side l.activity, l.is_end.at)
 
--- nor where all residues at the place of an event but one went first
-pub limited_placed : (I : Network) (links : Links) (period event place residue : ℕ) (before left after : Pairs) → StandFor I links → place_of links.events event ≡ Some place → ((p r : ℕ) → left p r ≡ limited before place residue p r) → KeepsClosed period links.ends links.lists left after → (p r : ℕ) → Of before p r → after p r ≡ false → (e : ℕ) × (place_of links.events e ≡ Some p)
-limited_placed I links period event place residue before left after stand at is keeps p r was out =
+-- nor where the residues at the place of an event that do not pass a test went first
+pub narrowed_placed : (I : Network) (links : Links) (period event place : ℕ) (test : ℕ → Bool) (before left after : Pairs) → StandFor I links → place_of links.events event ≡ Some place → ((p r : ℕ) → left p r ≡ narrowed_to before place test p r) → KeepsClosed period links.ends links.lists left after → (p r : ℕ) → Of before p r → after p r ≡ false → (e : ℕ) × (place_of links.events e ≡ Some p)
+narrowed_placed I links period event place test before left after stand at is keeps p r was out =
     elim (cases_eq p place) [
       | inl same ↦ (event, at ∙ ap Some (sym same))
       | inr apart ↦ gone_placed I links period left after stand keeps p r (is p r ∙ rw (was, ne_eqb p place apart) refl) out
@@ -86,7 +85,7 @@ module _ (links : Links) (s m n : Supports) (back : List Placed) (empty : s.trai
       (taken.parted p r ∙ either (has_at n.rows p r) (is_in taken.more p r) (inr more), taken.out p r more)
 
   pub worked_is : ((p r : ℕ) → Of (has_at m.rows) p r → has_at n.rows p r ≡ false → (e : ℕ) × (place_of links.events e ≡ Some p))
-      → n.probes ≤ s.probes + 8 * s.period + (s.period + 2) * ends_at links back + s.period * length back + s.period * ends_at links n.trail
+      → n.probes ≤ s.probes + 8 * s.period + 2 * s.period * ends_at links back + s.period * length back + s.period * ends_at links n.trail
       → IsWorked links s n back
   worked_is placed probes =
       record {
@@ -103,7 +102,7 @@ module _ (links : Links) (s n : Supports) (empty : s.trail ≡ []) (taken : IsTa
       → IsWorked links s n []
   worked_tight placed probes =
       worked_is links s s n [] empty refl (λ p r. or_false (has_at s.rows p r)) taken placed
-      (let none = no_times (s.period + 2) in let nothing = no_times s.period in omega (arith, probes, none, nothing))
+      (let none = no_times (2 * s.period) in let nothing = no_times s.period in omega (arith, probes, none, nothing))
     where
       no_times : (n : ℕ) → n * 0 ≡ 0
       no_times n = omega arith
@@ -135,24 +134,25 @@ keep_same J before after trail same = keep_seen J before after trail (λ e. ap (
 -- ---- probes
 
 -- those of a pass that puts pairs back, and of the look at each of them afterwards
-twice_more : (T ends : ℕ) → (T + 2) * ends ≡ (T + 1) * ends + ends
-twice_more T ends =
-    let a = add-mul T 2 ends in
-    let b = add-mul T 1 ends in
+one_less : (T ends : ℕ) → 1 ≤ T → 2 * T * ends ≡ (2 * T - 1) * ends + ends
+one_less T ends some =
+    let long : 2 * T ≡ (2 * T - 1) + 1 = omega (arith, some) in
+    let a = ap (λ n. n * ends) long in
+    let b = add-mul (2 * T - 1) 1 ends in
     omega (arith, a, b)
 
 -- no end was left out
-pub reopened_probes : (T U from mid to came many went : ℕ) → U ≡ T → mid ≤ from + (T + 1) * came + T * many → to ≤ mid + came + U * went → to ≤ from + 8 * T + (T + 2) * came + T * many + T * went
-reopened_probes T U from mid to came many went same first later =
+pub reopened_probes : (T U from mid to came many went : ℕ) → 1 ≤ T → U ≡ T → mid ≤ from + (2 * T - 1) * came + T * many → to ≤ mid + came + U * went → to ≤ from + 8 * T + 2 * T * came + T * many + T * went
+reopened_probes T U from mid to came many went some same first later =
     let next : to ≤ mid + came + T * went = subst (λ n. to ≤ mid + came + n * went) same later in
-    let more = twice_more T came in
+    let more = one_less T came some in
     omega (arith, first, next, more)
 
 -- those of one activity were left out, and were counted anew
-pub rejoined_probes : (T U from mid to came many went : ℕ) → U ≡ T → mid ≤ from + (T + 1) * came + T * many → to ≤ mid + 8 * U + came + U * went → to ≤ from + 8 * T + (T + 2) * came + T * many + T * went
-rejoined_probes T U from mid to came many went same first later =
+pub rejoined_probes : (T U from mid to came many went : ℕ) → 1 ≤ T → U ≡ T → mid ≤ from + (2 * T - 1) * came + T * many → to ≤ mid + 8 * U + came + U * went → to ≤ from + 8 * T + 2 * T * came + T * many + T * went
+rejoined_probes T U from mid to came many went some same first later =
     let next : to ≤ mid + 8 * T + came + T * went = subst (λ n. to ≤ mid + 8 * n + came + n * went) same later in
-    let more = twice_more T came in
+    let more = one_less T came some in
     omega (arith, first, next, more)
 
 -- both ends are counted anew and looked through, and what has no partner goes

@@ -11,7 +11,7 @@ use Rattle.pesp_base.specs.Numbered.{put_in, take_out, with_number}
 use Rattle.pesp_instance.specs.declared.edit.Edit.TheVariants.{AddEvent, DropEvent, AddActivity, DropActivity}
 use Rattle.pesp_instance.specs.declared.event.Event.{Event}
 use Rattle.pesp_instance.specs.Edited.{IsRefusal, edited, effect}
-use Rattle.pesp_instance.specs.Network.{IsNetwork, Network, activity_of, admits, agrees_with, event_of, fixed_of, has_event, new_event}
+use Rattle.pesp_instance.specs.Network.{IsNetwork, Network, activity_of, admits, agrees_with, event_of, window_of, has_event, new_event}
 use Rattle.pesp_instance.proofs.Rising.{Rises, Rises-from_increasing, filter_above-above, filter_below-above, with_number-put_in}
 use Rattle.pesp_domains.specs.declared.pair.Pair.{Pair}
 use Rattle.pesp_domains.proofs.Edits.{effect_is, undone}
@@ -204,7 +204,7 @@ module _ (I J : Network) (links links' : Links) (s m n : Supports) (event p : �
                   record {
                     of_event = ap (has_event J) same ∙ ap is_some this_event;
                     below = let l = opened_rest.below q.0 r q.2 in omega (arith, l, after.period);
-                    fixed = ap (λ f. admits J f r) same ∙ ap (λ o. agrees_with J.period (option_and_then (λ (x : Event). x.fixed) o) r) this_event;
+                    window = ap (λ f. admits J f r) same ∙ ap (λ o. agrees_with J.period (option_and_then (λ (x : Event). x.window) o) r) this_event;
                     pushed = λ t j. absurd (not_in_none _ j);
                   }
               | inr apart ↦
@@ -212,7 +212,7 @@ module _ (I J : Network) (links links' : Links) (s m n : Supports) (event p : �
                   let b = numbered_at links.events (has_at s.rows) e q.0 r there ∙ sym (same_row e q.0 r apart there) ∙ q.2 in
                   let a = InDomains-admitted I [] e r ((h.domains.exact e r).0 b) in
                   still_admitted I J (rows_of links s) e r h.domains period b (ap is_some (other_event e apart) ∙ a.of_event)
-                  (ap (λ k. agrees_with k (fixed_of J e) r) period ∙ ap (λ o. agrees_with I.period (option_and_then (λ (x : Event). x.fixed) o) r) (other_event e apart) ∙ a.fixed)
+                  (ap (λ k. agrees_with k (window_of J e) r) period ∙ ap (λ o. agrees_with I.period (option_and_then (λ (x : Event). x.window) o) r) (other_event e apart) ∙ a.window)
             ])
             (λ e r a old.
             elim (cases_eq e event) [

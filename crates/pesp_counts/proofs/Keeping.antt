@@ -11,8 +11,8 @@ use Rattle.pesp_instance.specs.Network.{Network, has_event}
 use Rattle.pesp_domains.specs.declared.pair.Pair.{Pair}
 use Rattle.pesp_domains.specs.Domains.{In, InDomains, IsDomain}
 use Rattle.pesp_domains.specs.Kept.{ArePushed}
-use Rattle.pesp_domains.specs.Sweeps.{AreDomains, Pairs}
-use Rattle.pesp_domains.proofs.Pushes.{limited, push_settles, pushed_more}
+use Rattle.pesp_domains.specs.Sweeps.{AreDomains, Pairs, limited, narrowed_to}
+use Rattle.pesp_domains.proofs.Pushes.{push_settles, pushed_more}
 use Rattle.pesp_supports.specs.declared.trail.Placed.{Placed}
 use Rattle.pesp_links.specs.Ends.{AreLinked}
 use Rattle.pesp_supports.specs.Counts.{has_at}
@@ -50,12 +50,12 @@ room_same s n for_back for_restored shape room = record { back = rw (shape.rows,
 none_and : (b : Bool) → false ≡ (false && b)
 none_and b = refl
 
--- of one place alone a residue is left where of one event alone it is
-pub limited_numbered : (places : Places) (S : Pairs) (event p x : ℕ) → ArePlaces places → place_of places event ≡ Some p → (e r : ℕ) → numbered places (limited S p x) e r ≡ limited (numbered places S) event x e r
-limited_numbered places S event p x paired at e r =
+-- of one place alone residues pass a test where of one event alone they do
+pub narrowed_numbered : (places : Places) (S : Pairs) (event p : ℕ) (test : ℕ → Bool) → ArePlaces places → place_of places event ≡ Some p → (e r : ℕ) → numbered places (narrowed_to S p test) e r ≡ narrowed_to (numbered places S) event test e r
+narrowed_numbered places S event p test paired at e r =
     by (place_of places e) refl
   where
-    by : (o : Option ℕ) → place_of places e ≡ o → option_map_or (λ q. limited S p x q r) o false ≡ (option_map_or (λ q. S q r) o false && (not (e == event) || r == x))
+    by : (o : Option ℕ) → place_of places e ≡ o → option_map_or (λ q. narrowed_to S p test q r) o false ≡ (option_map_or (λ q. S q r) o false && (not (e == event) || test r))
     by None is = refl
     by (Some q) is =
         elim (cases_eq e event) [
@@ -142,7 +142,7 @@ marks_push I pushes x links s n marks h domains taken =
     grown xs ys = omega (arith, length-append xs ys)
 
 -- one pair more is pushed
-pub keeping_push : (I : Network) (pushes : List Pair) (x : Pair) (links : Links) (s n : Supports) (marks : List ℕ) (p a b for_back for_restored : ℕ) → IsKeeping I pushes marks links s a b for_back for_restored → IsTrue (has_event I x.event) → ((r : ℕ) → In pushes x.event r → ⊥) → place_of links.events x.event ≡ Some p → IsNarrowed links p x.residue s n → IsKeeping I (pushes ++ x ∷ []) (marks ++ length s.trail ∷ []) links n a b for_back for_restored
+pub keeping_push : (I : Network) (pushes : List Pair) (x : Pair) (links : Links) (s n : Supports) (marks : List ℕ) (p a b for_back for_restored : ℕ) → IsKeeping I pushes marks links s a b for_back for_restored → IsTrue (has_event I x.event) → ((r : ℕ) → In pushes x.event r → ⊥) → place_of links.events x.event ≡ Some p → IsNarrowed links p (λ r. r == x.residue) s n → IsKeeping I (pushes ++ x ∷ []) (marks ++ length s.trail ∷ []) links n a b for_back for_restored
 keeping_push I pushes x links s n marks p a b for_back for_restored h event free at narrow =
     let fits = h.settled.fits in
     let period : n.period ≡ I.period = narrow.shape.period ∙ fits.period in
@@ -154,7 +154,7 @@ keeping_push I pushes x links s n marks p a b for_back for_restored h event free
             network = h.settled.network;
             fits = for_same I links s n narrow.shape fits;
             rest = narrow.rest;
-            domains = push_settles I pushes x (rows_of links s) (numbered links.events M) (rows_of links n) (limited_numbered links.events (has_at s.rows) x.event p x.residue fits.stand.events at) settles h.settled.domains;
+            domains = push_settles I pushes x (rows_of links s) (numbered links.events M) (rows_of links n) (narrowed_numbered links.events (has_at s.rows) x.event p (λ r. r == x.residue) fits.stand.events at) settles h.settled.domains;
           };
       pushed = pushed_more I pushes x event free h.pushed;
       marked = marks_push I pushes x links s n marks h.marked h.settled.domains narrow.taken;

@@ -2,33 +2,34 @@
 use Rattle.std.proofs.Common.{◌≡◌, ℕ, ◌==◌, true, List, [], ◌∷◌, Option, Some, None, is_some, Ok, refl, sym, ap, subst, ◌∙◌, inl, inr, IsTrue}
 use Rattle.std.specs.Option.{option_and_then}
 use Rattle.std.proofs.lemmas.Bool.{cases_Bool, cases_eq, eq-eqb, ne_eqb, false≢true}
+use Rattle.pesp_base.specs.Windows.{Interval}
 use Rattle.pesp_instance.specs.declared.edit.Edit.{Edit}
-use Rattle.pesp_instance.specs.declared.edit.Edit.TheVariants.{Fix, Unfix}
 use Rattle.pesp_instance.specs.declared.event.Event.{Event}
-use Rattle.pesp_instance.specs.Edited.{edited}
-use Rattle.pesp_instance.specs.Network.{IsNetwork, Network, admits, agrees_with, fixed_of, has_event}
+use Rattle.pesp_instance.specs.Edited.{edited, rewindowed}
+use Rattle.pesp_instance.specs.Network.{IsNetwork, Network, admits, agrees_with, window_of, has_event}
 use Rattle.pesp_domains.specs.Domains.{InDomains, IsAdmitted}
-use Rattle.pesp_domains.specs.Sweeps.{Of, Pairs, Settles}
-use Rattle.pesp_domains.proofs.Edits.{effect_is, keeps_fix, keeps_unfix}
+use Rattle.pesp_domains.specs.Sweeps.{Of, Pairs, Settles, narrowed_to}
+use Rattle.pesp_domains.proofs.Edits.{effect_is}
 use Rattle.pesp_domains.proofs.Families.{and_left}
 use Rattle.pesp_domains.proofs.Laws.{InDomains-admitted}
-use Rattle.pesp_domains.proofs.Pushes.{limited, limited_agrees, limited_keeps}
+use Rattle.pesp_domains.proofs.Pushes.{narrowed_keeps, narrowed_passes}
 use Rattle.pesp_supports.specs.declared.trail.Placed.{Placed}
 use Rattle.pesp_supports.specs.Counts.{KeepsClosed, has_at}
 use Rattle.pesp_counts.specs.Keeping.{AreFor, AreSettled, rows_of}
 use Rattle.pesp_supports.specs.Resting.{AreAtRest}
 use Rattle.pesp_links.specs.Links.{Links}
 use Rattle.pesp_counts.specs.Loosened.{IsReach}
+use Rattle.pesp_counts.specs.Reached.{IsOfWindow}
 use Rattle.pesp_counts.specs.Loosening.{AreReached, AreSpared, AreStarts, IsLoosened, IsPutBack, WereLoose}
 use Rattle.pesp_links.specs.Places.{numbered, place_of}
 use Rattle.pesp_supports.specs.Supports.{Supports}
-use Rattle.pesp_counts.proofs.Asks.{asks_again, refixed_elsewhere, refixed_here}
+use Rattle.pesp_counts.proofs.Asks.{asks_again, rewindowed_elsewhere}
 use Rattle.pesp_counts.proofs.Bridge.{counts_settle}
 use Rattle.pesp_counts.proofs.Carried.{same_period}
 use Rattle.pesp_counts.proofs.Followed.{still_admitted}
-use Rattle.pesp_counts.proofs.Keeping.{for_same, limited_numbered}
+use Rattle.pesp_counts.proofs.Keeping.{for_same, narrowed_numbered}
 use Rattle.pesp_counts.proofs.ReachLaws.{outside_of, restored_reach, restored_reached}
-use Rattle.pesp_counts.proofs.EditStarts.{one_start, spared_none, starts_fix, starts_unfix}
+use Rattle.pesp_counts.proofs.EditStarts.{one_start, spared_none, starts_window}
 use Rattle.pesp_counts.proofs.Tightened.{admits_same, events_same}
 use Rattle.pesp_counts.proofs.Union.{reach_covers}
 
@@ -65,61 +66,30 @@ pub loosened_even : (I J : Network) (edit : Edit) (links links' : Links) (s s' n
 loosened_even I J edit links links' s s' n h network made events reach fits rest closed =
     loosened I J edit links links' s s' n h network made (λ e. events_same I J e events) reach fits rest (has_at s'.rows) closed
     (λ e r i. i)
-    (λ e r i was. admits_same I J e r events (same_period I J edit h.network made) ∙ (InDomains-admitted I [] e r ((h.domains.exact e r).0 was)).fixed)
+    (λ e r i was. admits_same I J e r events (same_period I J edit h.network made) ∙ (InDomains-admitted I [] e r ((h.domains.exact e r).0 was)).window)
     (λ e r a i. i)
 
-elsewhere : (I J : Network) (edit : Edit) (e r : ℕ) → IsNetwork I → edited I edit ≡ Ok J → fixed_of J e ≡ fixed_of I e → admits J e r ≡ admits I e r
+elsewhere : (I J : Network) (edit : Edit) (e r : ℕ) → IsNetwork I → edited I edit ≡ Ok J → window_of J e ≡ window_of I e → admits J e r ≡ admits I e r
 elsewhere I J edit e r network made same =
-    ap (λ k. agrees_with k (fixed_of J e) r) (same_period I J edit network made) ∙ ap (λ o. agrees_with I.period o r) same
+    ap (λ k. agrees_with k (window_of J e) r) (same_period I J edit network made) ∙ ap (λ o. agrees_with I.period o r) same
 
--- an event is fixed no more
-pub loosened_free : (I J : Network) (e : ℕ) (links : Links) (s s' n : Supports) → AreSettled I [] links s → IsNetwork J → edited I (Unfix e) ≡ Ok J → IsReach I (Unfix e) (rows_of links s) (rows_of links s') → AreFor J links n → AreAtRest links n → KeepsClosed n.period links.ends links.lists (has_at s'.rows) (has_at n.rows) → AreSettled J [] links n
-loosened_free I J e links s s' n h network made reach fits rest closed =
-    let is = effect_is I J (Unfix e) made in
-    let same : (f : ℕ) → has_event J f ≡ has_event I f = λ f. ap (λ (K : Network). has_event K f) is ∙ (keeps_unfix e I).1 f in
-    loosened I J (Unfix e) links links s s' n h network made same reach fits rest (has_at s'.rows) closed
-    (λ f r i. i)
-    (λ f r i was.
-    let a = InDomains-admitted I [] f r ((h.domains.exact f r).0 was) in
-    elim (cases_eq f e) [
-      | inl at ↦
-          let free : fixed_of J f ≡ None = ap (fixed_of J) at ∙ ap (λ (K : Network). fixed_of K e) is ∙ refixed_here I e None (subst (λ k. IsTrue (has_event I k)) at a.of_event) in
-          rw free refl
-      | inr apart ↦ elsewhere I J (Unfix e) f r h.network made (ap (λ (K : Network). fixed_of K f) is ∙ ap (option_and_then (λ (x : Event). x.fixed)) (refixed_elsewhere I e f None apart)) ∙ a.fixed
-    ])
-    (λ f r a i. i)
-
-is_number : (a b : ℕ) → (a == b) ≡ true → a ≡ b
-is_number a b same =
-    elim (cases_eq a b) [
-      | inl is ↦ is
-      | inr apart ↦ absurd (false≢true (sym (ne_eqb a b apart) ∙ same))
-    ]
-
--- an event is fixed at another time: of its residues that one alone is left
-pub loosened_fixed : (I J : Network) (e t p : ℕ) (links : Links) (s s' n : Supports) → AreSettled I [] links s → IsNetwork J → edited I (Fix e t) ≡ Ok J → place_of links.events e ≡ Some p → IsReach I (Fix e t) (rows_of links s) (rows_of links s') → AreFor J links n → AreAtRest links n → KeepsClosed n.period links.ends links.lists (limited (has_at s'.rows) p t) (has_at n.rows) → AreSettled J [] links n
-loosened_fixed I J e t p links s s' n h network made at reach fits rest closed =
-    let is = effect_is I J (Fix e t) made in
-    let same : (f : ℕ) → has_event J f ≡ has_event I f = λ f. ap (λ (K : Network). has_event K f) is ∙ (keeps_fix e t I).1 f in
-    let event : IsTrue (has_event I e) = sym (h.fits.stand.of_events e) ∙ ap is_some at in
-    let fixed : fixed_of J e ≡ Some t = ap (λ (K : Network). fixed_of K e) is ∙ refixed_here I e (Some t) event in
-    let numbers = limited_numbered links.events (has_at s'.rows) e p t h.fits.stand.events at in
-    loosened I J (Fix e t) links links s s' n h network made same reach fits rest (limited (has_at s'.rows) p t) closed
+-- an event has another window, or none: of its residues those of the window are left
+loosened_window : (I J : Network) (edit : Edit) (e p : ℕ) (window : Option Interval) (links : Links) (s s' n : Supports) → IsOfWindow edit e window → AreSettled I [] links s → IsNetwork J → edited I edit ≡ Ok J → place_of links.events e ≡ Some p → IsReach I edit (rows_of links s) (rows_of links s') → AreFor J links n → AreAtRest links n → KeepsClosed n.period links.ends links.lists (narrowed_to (has_at s'.rows) p (admits J e)) (has_at n.rows) → AreSettled J [] links n
+loosened_window I J edit e p window links s s' n of h network made at reach fits rest closed =
+    let is : J ≡ rewindowed I e window = effect_is I J edit made ∙ of.makes I in
+    let same : (f : ℕ) → has_event J f ≡ has_event I f = λ f. ap (λ (K : Network). has_event K f) (effect_is I J edit made) ∙ of.keeps I f in
+    let numbers = narrowed_numbered links.events (has_at s'.rows) e p (admits J e) h.fits.stand.events at in
+    loosened I J edit links links s s' n h network made same reach fits rest (narrowed_to (has_at s'.rows) p (admits J e)) closed
     (λ f r i. and_left (rows_of links s' f r) _ (sym (numbers f r) ∙ i))
     (λ f r i was.
     let a = InDomains-admitted I [] f r ((h.domains.exact f r).0 was) in
     elim (cases_eq f e) [
-      | inl here ↦
-          let r_is : r ≡ t = limited_agrees (rows_of links s') e t f r (sym (numbers f r) ∙ i) here in
-          let fixed_here : fixed_of J f ≡ Some t = ap (fixed_of J) here ∙ fixed in
-          rw fixed_here (eq-eqb t r (sym r_is))
-      | inr apart ↦ elsewhere I J (Fix e t) f r h.network made (ap (λ (K : Network). fixed_of K f) is ∙ ap (option_and_then (λ (x : Event). x.fixed)) (refixed_elsewhere I e f (Some t) apart)) ∙ a.fixed
+      | inl here ↦ subst (λ k. IsTrue (admits J k r)) (sym here) (narrowed_passes (rows_of links s') e (admits J e) f r (sym (numbers f r) ∙ i) here)
+      | inr apart ↦ elsewhere I J edit f r h.network made (ap (λ (K : Network). window_of K f) is ∙ ap (option_and_then (λ (x : Event). x.window)) (rewindowed_elsewhere I e f window apart)) ∙ a.window
     ])
     (λ f r a i.
-    numbers f r ∙ limited_keeps (rows_of links s') e t f r i
-    (λ here.
-    let fixed_here : fixed_of J f ≡ Some t = ap (fixed_of J) here ∙ fixed in
-    sym (is_number t r (sym (ap (λ o. agrees_with J.period o r) fixed_here) ∙ a.fixed))))
+    numbers f r ∙ narrowed_keeps (rows_of links s') e (admits J e) f r i
+    (λ here. subst (λ k. IsTrue (admits J k r)) here a.window))
 
 -- ---- what is reached was put back
 
@@ -139,25 +109,15 @@ module _ (I J : Network) (edit : Edit) (links links' : Links) (s n : Supports) (
         reached = put_reached (λ S. S) put;
       }
 
--- after an event's fixed time is gone, or another one
-pub loosened_by_unfix : (I J : Network) (e p : ℕ) (links : Links) (s n : Supports) (back : List Placed) → WereLoose I J (Unfix e) links s → IsNetwork J → AreFor J links s → place_of links.events e ≡ Some p → IsPutBack (λ S. S) J links (p ∷ []) None s n back → IsLoosened I J (Unfix e) links n back
-loosened_by_unfix I J e p links s n back w network fits at put =
-    let start = one_start I (Unfix e) links e p (starts_unfix I e w.loose) at in
-    let others = spared_none I J (Unfix e) links (ap (λ (K : Network). K.activities) (effect_is I J (Unfix e) w.made)) (λ a. refl) in
+-- after an event's window is gone, or another one
+pub loosened_by_window : (I J : Network) (edit : Edit) (e p : ℕ) (window : Option Interval) (links : Links) (s n : Supports) (back : List Placed) → IsOfWindow edit e window → WereLoose I J edit links s → IsNetwork J → AreFor J links s → place_of links.events e ≡ Some p → IsPutBack (λ S. narrowed_to S p (admits J e)) J links (p ∷ []) None s n back → IsLoosened I J edit links n back
+loosened_by_window I J edit e p window links s n back of w network fits at put =
+    let start = one_start I edit links e p (starts_window I edit e window of w.loose) at in
+    let others = spared_none I J edit links (ap (λ (K : Network). K.activities) (effect_is I J edit w.made ∙ of.makes I)) of.unedited in
+    let left : Pairs → Pairs = λ S. narrowed_to S p (admits J e) in
     record {
-      settled = loosened_free I J e links s put.middle n w.settled network w.made
-          (put_reach I J (Unfix e) links links s n (p ∷ []) None back w network fits (λ f. refl) start others (λ S. S) put)
+      settled = loosened_window I J edit e p window links s put.middle n of w.settled network w.made at
+          (put_reach I J edit links links s n (p ∷ []) None back w network fits (λ f. refl) start others left put)
           (for_same J links s n put.shape fits) put.rest put.keeps;
-      reached = put_reached I J (Unfix e) links links s n (p ∷ []) None back w network fits (λ f. refl) start others (λ S. S) put;
-    }
-
-pub loosened_by_fix : (I J : Network) (e t p : ℕ) (links : Links) (s n : Supports) (back : List Placed) → WereLoose I J (Fix e t) links s → IsNetwork J → AreFor J links s → place_of links.events e ≡ Some p → IsPutBack (λ S. limited S p t) J links (p ∷ []) None s n back → IsLoosened I J (Fix e t) links n back
-loosened_by_fix I J e t p links s n back w network fits at put =
-    let start = one_start I (Fix e t) links e p (starts_fix I e t w.loose) at in
-    let others = spared_none I J (Fix e t) links (ap (λ (K : Network). K.activities) (effect_is I J (Fix e t) w.made)) (λ a. refl) in
-    record {
-      settled = loosened_fixed I J e t p links s put.middle n w.settled network w.made at
-          (put_reach I J (Fix e t) links links s n (p ∷ []) None back w network fits (λ f. refl) start others (λ S. limited S p t) put)
-          (for_same J links s n put.shape fits) put.rest put.keeps;
-      reached = put_reached I J (Fix e t) links links s n (p ∷ []) None back w network fits (λ f. refl) start others (λ S. limited S p t) put;
+      reached = put_reached I J edit links links s n (p ∷ []) None back w network fits (λ f. refl) start others left put;
     }

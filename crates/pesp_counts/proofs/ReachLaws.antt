@@ -77,7 +77,7 @@ module _ (I J : Network) (edit : Edit) (links links' : Links) (s : Supports) (st
       ]
 
   admitted_there : (e p r : ℕ) → place_of links'.events e ≡ Some p → IsOutside I edit e r → Of (admits_at J links') p r
-  admitted_there e p r at o = let a = admitted_after e r o in admits_is e p r at ∙ and_from _ _ (lt-ltb r J.period a.below) a.fixed
+  admitted_there e p r at o = let a = admitted_after e r o in admits_is e p r at ∙ and_from _ _ (lt-ltb r J.period a.below) a.window
 
   outside_back : (e p r : ℕ) → place_of links'.events e ≡ Some p → has_at s.rows p r ≡ false → Of (admits_at J links') p r → IsOutside I edit e r
   outside_back e p r at none admitted =
@@ -85,7 +85,7 @@ module _ (I J : Network) (edit : Edit) (links links' : Links) (s : Supports) (st
       let after : IsAdmitted J [] e r = record {
         of_event = sym (stand.of_events e) ∙ ap is_some at;
         below = below_of r J.period both.0;
-        fixed = both.1;
+        window = both.1;
         pushed = λ t i. absurd (not_in_none _ i);
       } in
       record {

@@ -6,11 +6,11 @@ use Rattle.std.proofs.lemmas.Bool.{and_from, and_parts, cases_eq, cases_lt, eq-e
 use Rattle.std.proofs.lemmas.List.Elements.{All-contains}
 use Rattle.pesp_base.specs.Numbered.{with_number}
 use Rattle.pesp_instance.specs.declared.event.Event.{Event}
-use Rattle.pesp_instance.specs.Network.{IsNetwork, Network, agrees_with, event_of, has_event}
+use Rattle.pesp_instance.specs.Network.{IsNetwork, Network, admits, agrees_with, event_of, has_event}
 use Rattle.pesp_instance.proofs.Rising.{All-found, Rises, Rises-from_increasing, with_number-above}
-use Rattle.pesp_domains.specs.Sweeps.{AreOpen, Pairs}
+use Rattle.pesp_domains.specs.Sweeps.{AreOpen, Pairs, narrowed_to}
 use Rattle.pesp_domains.proofs.Opened.{opened}
-use Rattle.pesp_domains.proofs.Pushes.{limited, open_settles}
+use Rattle.pesp_domains.proofs.Pushes.{open_settles}
 use Rattle.pesp_links.specs.Ends.{end_at, passes}
 use Rattle.pesp_supports.specs.Counts.{ArePending, KeepsClosed, has_at}
 use Rattle.pesp_counts.specs.Keeping.{AreFor, AreSettled, rows_of}
@@ -19,11 +19,11 @@ use Rattle.pesp_links.specs.Links.{Links, StandFor}
 use Rattle.pesp_links.specs.Places.{numbered, place_of}
 use Rattle.pesp_supports.specs.Supports.{AreExact, AreOut, HaveSameShape, IsTaken, Keeps, Supports}
 use Rattle.pesp_counts.proofs.Bridge.{counts_settle, numbered_at, numbered_same, place_is}
-use Rattle.pesp_counts.proofs.Keeping.{for_linked, for_same, limited_numbered}
+use Rattle.pesp_counts.proofs.Keeping.{for_linked, for_same, narrowed_numbered}
 use Rattle.pesp_supports.proofs.Marks.{keeps_like, out_more, pending_rest}
 use Rattle.pesp_supports.proofs.Supporters.{supporters_from}
 use Rattle.pesp_supports.proofs.Taken.{kept_shape, shape_then, taken_fewer, taken_then}
-use Rattle.pesp_links.proofs.Windows.{mod_above}
+use Rattle.pesp_links.proofs.EndRanges.{mod_above}
 
 -- ---- full rows
 
@@ -93,7 +93,7 @@ remade I links s m n network fits rest all taken keeps pending closed more shape
           (counts_settle I links fits.stand (has_at m.rows) n after.period at_rest (keeps_like links n.period m.period (has_at m.rows) (has_at m.rows) (has_at n.rows) (sym shape.period) (λ p r. refl) closed));
     }
 
--- ---- fixed events
+-- ---- windows
 
 abbrev id_of : Event → ℕ
 id_of x = x.id
@@ -102,38 +102,22 @@ event_there : (I : Network) (x : Event) → IsNetwork I → Contains I.events x 
 event_there I x network is =
     All-contains (λ y. event_of I y.id ≡ Some y) I.events x (All-found id_of I.events (Rises-from_increasing id_of I.events network.events_rise)) is
 
--- of an event's residues those that agree with its fixed time are left
+-- of an event's residues those of its window are left
 abbrev Agrees : Network → Event → Pairs → Pairs → Type 0
-Agrees I x S S' = (e r : ℕ) → S' e r ≡ (S e r && (not (e == x.id) || agrees_with I.period x.fixed r))
+Agrees I x S S' = (e r : ℕ) → S' e r ≡ (S e r && (not (e == x.id) || agrees_with I.period x.window r))
 
-eqb_turn : (a b : ℕ) → (a == b) ≡ (b == a)
-eqb_turn a b =
-    elim (cases_eq a b) [
-      | inl same ↦ eq-eqb a b same ∙ sym (eq-eqb b a (sym same))
-      | inr apart ↦ ne_eqb a b apart ∙ sym (ne_eqb b a (λ same. apart (sym same)))
-    ]
-
-and_all : (b c : Bool) → b ≡ (b && (c || true))
-and_all true true = refl
-and_all true false = refl
-and_all false c = refl
-
--- where it has none, they stay
-pub agrees_free : (I : Network) (x : Event) (S : Pairs) → x.fixed ≡ None → Agrees I x S S
-agrees_free I x S free e r = rw free (and_all (S e r) (not (e == x.id)))
-
-pub agrees_fixed : (I : Network) (links : Links) (x : Event) (t p : ℕ) (S S' : Pairs) → StandFor I links → x.fixed ≡ Some t → place_of links.events x.id ≡ Some p → ((q r : ℕ) → S' q r ≡ limited S p t q r) → Agrees I x (numbered links.events S) (numbered links.events S')
-agrees_fixed I links x t p S S' stand fixed at is e r =
-    numbered_same links.events (limited S p t) S' is e r
-    ∙ limited_numbered links.events S x.id p t stand.events at e r
-    ∙ ap (λ b. numbered links.events S e r && (not (e == x.id) || b)) (eqb_turn r t)
-    ∙ ap (λ o. numbered links.events S e r && (not (e == x.id) || agrees_with I.period o r)) (sym fixed)
+-- where the residues at its place that are not in its window were taken out
+pub agrees_window : (I : Network) (links : Links) (x : Event) (p : ℕ) (S S' : Pairs) → IsNetwork I → Contains I.events x → StandFor I links → place_of links.events x.id ≡ Some p → ((q r : ℕ) → S' q r ≡ narrowed_to S p (admits I x.id) q r) → Agrees I x (numbered links.events S) (numbered links.events S')
+agrees_window I links x p S S' network there stand at is e r =
+    numbered_same links.events (narrowed_to S p (admits I x.id)) S' is e r
+    ∙ narrowed_numbered links.events S x.id p (admits I x.id) stand.events at e r
+    ∙ ap (λ o. numbered links.events S e r && (not (e == x.id) || agrees_with I.period (option_and_then (λ (y : Event). y.window) o) r)) (event_there I x network there)
 
 module _ (I : Network) (network : IsNetwork I) (x : Event) (rest : List Event) (S S' : Pairs) (is : Contains I.events x) (rises : Rises id_of (x ∷ rest)) (agrees : Agrees I x S S') where
   elsewhere : (e r : ℕ) → e ≢ x.id → S' e r ≡ S e r
   elsewhere e r apart = agrees e r ∙ rw (ne_eqb e x.id apart) (sym (by (S e r)))
     where
-      by : (b : Bool) → b ≡ (b && (true || agrees_with I.period x.fixed r))
+      by : (b : Bool) → b ≡ (b && (true || agrees_with I.period x.window r))
       by true = refl
       by false = refl
 
@@ -151,8 +135,8 @@ module _ (I : Network) (network : IsNetwork I) (x : Event) (rest : List Event) (
         | inl same ↦
             let found = event_there I x network is in
             let all : S x.id r ≡ nat_lt r I.period = full x.id r (rw (eq-eqb x.id x.id refl) refl) in
-            let one : S' x.id r ≡ (nat_lt r I.period && agrees_with I.period x.fixed r) = agrees x.id r ∙ rw (eq-eqb x.id x.id refl, all) refl in
-            let want : opened I x.id r ≡ (nat_lt r I.period && agrees_with I.period x.fixed r) = ap (λ o. if is_some o then (nat_lt r I.period && agrees_with I.period (option_and_then (λ (y : Event). y.fixed) o) r) else false) found in
+            let one : S' x.id r ≡ (nat_lt r I.period && agrees_with I.period x.window r) = agrees x.id r ∙ rw (eq-eqb x.id x.id refl, all) refl in
+            let want : opened I x.id r ≡ (nat_lt r I.period && agrees_with I.period x.window r) = ap (λ o. if is_some o then (nat_lt r I.period && agrees_with I.period (option_and_then (λ (y : Event). y.window) o) r) else false) found in
             ap (λ n. S' n r) same ∙ one ∙ sym want ∙ ap (λ n. opened I n r) (sym same)
       ]
 

@@ -1,41 +1,41 @@
 -- What is settled after each edit that brings no pair back.
-use Rattle.std.proofs.Common.{◌≡◌, ◌≢◌, ℕ, ◌*◌, ◌==◌, not, if◌then◌else◌, Bool, true, false, List, [], ◌∷◌, Option, Some, None, is_some, is_none, option_map, Ok, refl, sym, ap, ◌∙◌, inl, inr, IsTrue}
+use Rattle.std.proofs.Common.{◌≡◌, ◌≢◌, ℕ, ◌*◌, ◌==◌, not, if◌then◌else◌, Bool, true, false, List, [], ◌∷◌, Option, Some, None, is_some, is_none, option_map, Ok, refl, sym, ap, subst, ◌∙◌, inl, inr, IsTrue}
 use Rattle.std.specs.Option.{option_and_then, option_map_or}
 use Rattle.std.proofs.lemmas.Bool.{cases_eq, eq-eqb, ne_eqb, false≢true}
 use Rattle.pesp_base.specs.declared.activity.Activity.{Activity}
 use Rattle.pesp_base.specs.Numbered.{with_number}
+use Rattle.pesp_base.specs.Windows.{Interval}
+use Rattle.pesp_links.proofs.StandLaws.{stands_kept}
 use Rattle.pesp_instance.specs.declared.edit.Edit.{Edit}
-use Rattle.pesp_instance.specs.declared.edit.Edit.TheVariants.{AddEvent, DropEvent, Fix, Unfix, AddActivity, DropActivity, SetSpan, SetWeight, SetEnds}
+use Rattle.pesp_instance.specs.declared.edit.Edit.TheVariants.{AddEvent, DropEvent, Fix, SetWindow, Unfix, AddActivity, DropActivity, SetSpan, SetWeight, SetEnds}
 use Rattle.pesp_instance.specs.declared.event.Event.{Event}
-use Rattle.pesp_instance.specs.Edited.{edited, effect}
-use Rattle.pesp_instance.specs.Network.{IsNetwork, Network, activity_of, admits, agrees_with, event_of, fixed_of, has_event}
+use Rattle.pesp_instance.specs.Edited.{edited, rewindowed}
+use Rattle.pesp_instance.specs.Network.{IsNetwork, Network, activity_of, admits, agrees_with, event_of, window_of, has_event}
 use Rattle.pesp_instance.proofs.Rising.{with_number-take_out}
-use Rattle.pesp_domains.specs.Sweeps.{Pairs}
-use Rattle.pesp_domains.proofs.Edits.{effect_is, keeps_fix}
+use Rattle.pesp_domains.specs.Sweeps.{Pairs, narrowed_to}
+use Rattle.pesp_domains.proofs.Edits.{effect_is}
 use Rattle.pesp_domains.proofs.Laws.{InDomains-admitted}
-use Rattle.pesp_domains.proofs.Pushes.{limited, limited_agrees, limited_keeps}
+use Rattle.pesp_domains.proofs.Pushes.{narrowed_keeps, narrowed_passes}
 use Rattle.pesp_domains.proofs.Families.{and_left}
 use Rattle.pesp_supports.specs.Counts.{KeepsClosed, has_at}
 use Rattle.pesp_counts.specs.Keeping.{AreFor, AreSettled, adds, rows_of}
 use Rattle.pesp_supports.specs.Resting.{AreAtRest, IsNarrowed}
 use Rattle.pesp_links.specs.Links.{Links, StandFor}
 use Rattle.pesp_links.specs.Places.{Places, numbered, place_of}
-use Rattle.pesp_domains.specs.Loosening.{admits_anew}
-use Rattle.pesp_counts.specs.Reached.{ends_of, starts}
+use Rattle.pesp_counts.specs.Reached.{IsOfWindow, ends_of, starts}
 use Rattle.pesp_supports.specs.Supports.{Supports}
-use Rattle.pesp_domains.proofs.Anew.{unfixed_anew}
-use Rattle.pesp_counts.proofs.Asks.{first_fails, refixed_elsewhere, refixed_here}
+use Rattle.pesp_counts.proofs.Asks.{first_fails, rewindowed_elsewhere}
 use Rattle.pesp_counts.proofs.Bridge.{counts_settle, numbered_at, place_is, test_of}
 use Rattle.pesp_counts.proofs.Carried.{places_dropped, same_period}
 use Rattle.pesp_counts.proofs.Followed.{still_admitted, tight_settles}
-use Rattle.pesp_counts.proofs.Keeping.{for_same, limited_numbered}
+use Rattle.pesp_counts.proofs.Keeping.{for_same, narrowed_numbered}
 use Rattle.pesp_supports.proofs.Marks.{keeps_like}
 use Rattle.pesp_supports.proofs.Taken.{keeps_none}
 
 pub admits_same : (I J : Network) (e r : ℕ) → J.events ≡ I.events → J.period ≡ I.period → admits J e r ≡ admits I e r
 admits_same I J e r events period =
-    ap (λ n. agrees_with n (fixed_of J e) r) period
-    ∙ ap (λ (xs : List Event). agrees_with I.period (option_and_then (λ (x : Event). x.fixed) (with_number (λ x. x.id) e xs)) r) events
+    ap (λ n. agrees_with n (window_of J e) r) period
+    ∙ ap (λ (xs : List Event). agrees_with I.period (option_and_then (λ (x : Event). x.window) (with_number (λ x. x.id) e xs)) r) events
 
 pub events_same : (I J : Network) (e : ℕ) → J.events ≡ I.events → has_event J e ≡ has_event I e
 events_same I J e events = ap (λ (xs : List Event). is_some (with_number (λ x. x.id) e xs)) events
@@ -53,7 +53,7 @@ settled_even I J edit links links' s n M h network made tight events fits rest s
           (λ e r i.
           let b = sym (same e r) ∙ i in
           let a = InDomains-admitted I [] e r ((h.domains.exact e r).0 b) in
-          still_admitted I J (rows_of links s) e r h.domains period b (events_same I J e events ∙ a.of_event) (admits_same I J e r events period ∙ a.fixed))
+          still_admitted I J (rows_of links s) e r h.domains period b (events_same I J e events ∙ a.of_event) (admits_same I J e r events period ∙ a.window))
           (λ e r a old. same e r ∙ old (sym (events_same I J e events) ∙ a.of_event))
           (counts_settle J links' fits.stand M n fits.period rest keeps);
     }
@@ -75,7 +75,7 @@ settled_dropped I J links links' s n h network made fits rest others =
           let b = numbered_at links.events (has_at s.rows) e p.0 r w.1 ∙ p.2 in
           let a = InDomains-admitted I [] e r ((h.domains.exact e r).0 b) in
           still_admitted I J (rows_of links s) e r h.domains period b (ap is_some (found e w.0) ∙ a.of_event)
-          (ap (λ k. agrees_with k (fixed_of J e) r) period ∙ ap (λ o. agrees_with I.period (option_and_then (λ (x : Event). x.fixed) o) r) (found e w.0) ∙ a.fixed))
+          (ap (λ k. agrees_with k (window_of J e) r) period ∙ ap (λ o. agrees_with I.period (option_and_then (λ (x : Event). x.window) o) r) (found e w.0) ∙ a.window))
           (λ e r a old.
           let p = place_is J links' fits.stand e a.of_event in
           let w = places_dropped I J links links' n made fits.stand others e p.0 p.1 in
@@ -84,17 +84,22 @@ settled_dropped I J links links' s n h network made fits rest others =
           (counts_settle J links' fits.stand (has_at s.rows) s fits.period rest (keeps_none s.period links'.ends links'.lists (has_at s.rows)));
     }
 
--- an event is fixed where it was free, or at the time that it has
-pub settled_fixed : (I J : Network) (links : Links) (s n : Supports) (e t p : ℕ) → AreSettled I [] links s → IsNetwork J → edited I (Fix e t) ≡ Ok J → starts I (Fix e t) ≡ [] → StandFor J links → place_of links.events e ≡ Some p → IsNarrowed links p t s n → AreSettled J [] links n
-settled_fixed I J links s n e t p h network made tight stand at narrow =
-    let period = same_period I J (Fix e t) h.network made in
-    let is = effect_is I J (Fix e t) made in
-    let same : (f : ℕ) → has_event J f ≡ has_event I f = λ f. ap (λ (K : Network). has_event K f) is ∙ (keeps_fix e t I).1 f in
-    let event : IsTrue (has_event I e) = sym (h.fits.stand.of_events e) ∙ ap is_some at in
-    let here : fixed_of J e ≡ Some t = ap (λ (K : Network). fixed_of K e) is ∙ refixed_here I e (Some t) event in
-    let elsewhere : (f : ℕ) → f ≢ e → fixed_of J f ≡ fixed_of I f = λ f apart. ap (λ (K : Network). fixed_of K f) is ∙ ap (option_and_then (λ (x : Event). x.fixed)) (refixed_elsewhere I e f (Some t) apart) in
-    let M : Pairs = limited (has_at s.rows) p t in
-    let numbers = limited_numbered links.events (has_at s.rows) e p t h.fits.stand.events at in
+-- links that stand for an instance stand for it with another window of an event
+pub stands_rewindowed : (I J : Network) (edit : Edit) (e : ℕ) (window : Option Interval) (links : Links) → IsOfWindow edit e window → edited I edit ≡ Ok J → StandFor I links → StandFor J links
+stands_rewindowed I J edit e window links of made stand =
+    let is : J ≡ rewindowed I e window = effect_is I J edit made ∙ of.makes I in
+    subst (λ K. StandFor K links) (sym is) (stands_kept I (rewindowed I e window) links refl refl (λ f. ap (λ (K : Network). has_event K f) (sym (of.makes I)) ∙ of.keeps I f) stand)
+
+-- an event has a window that admits nothing anew
+pub settled_window : (I J : Network) (edit : Edit) (links : Links) (s n : Supports) (e p : ℕ) (window : Option Interval) → IsOfWindow edit e window → AreSettled I [] links s → IsNetwork J → edited I edit ≡ Ok J → starts I edit ≡ [] → place_of links.events e ≡ Some p → IsNarrowed links p (admits J e) s n → AreSettled J [] links n
+settled_window I J edit links s n e p window of h network made tight at narrow =
+    let period = same_period I J edit h.network made in
+    let is : J ≡ rewindowed I e window = effect_is I J edit made ∙ of.makes I in
+    let same : (f : ℕ) → has_event J f ≡ has_event I f = λ f. ap (λ (K : Network). has_event K f) (effect_is I J edit made) ∙ of.keeps I f in
+    let stand = stands_rewindowed I J edit e window links of made h.fits.stand in
+    let elsewhere : (f : ℕ) → f ≢ e → window_of J f ≡ window_of I f = λ f apart. ap (λ (K : Network). window_of K f) is ∙ ap (option_and_then (λ (x : Event). x.window)) (rewindowed_elsewhere I e f window apart) in
+    let M : Pairs = narrowed_to (has_at s.rows) p (admits J e) in
+    let numbers = narrowed_numbered links.events (has_at s.rows) e p (admits J e) h.fits.stand.events at in
     let fits : AreFor J links n = record {
       period = narrow.shape.period ∙ h.fits.period ∙ sym period;
       stand = stand;
@@ -107,63 +112,38 @@ settled_fixed I J links s n e t p h network made tight stand at narrow =
       network = network;
       fits = fits;
       rest = narrow.rest;
-      domains = tight_settles I J (Fix e t) (rows_of links s) (numbered links.events M) (rows_of links n) h.network made tight h.domains
+      domains = tight_settles I J edit (rows_of links s) (numbered links.events M) (rows_of links n) h.network made tight h.domains
           (λ f r i.
           let l = sym (numbers f r) ∙ i in
           let b = and_left (rows_of links s f r) _ l in
           let a = InDomains-admitted I [] f r ((h.domains.exact f r).0 b) in
           still_admitted I J (rows_of links s) f r h.domains period b (same f ∙ a.of_event)
           (elim (cases_eq f e) [
-            | inl is_e ↦
-                let r_is : r ≡ t = limited_agrees (rows_of links s) e t f r l is_e in
-                let fixed : fixed_of J f ≡ Some t = ap (fixed_of J) is_e ∙ here in
-                rw fixed (eq-eqb t r (sym r_is))
-            | inr apart ↦ ap (λ k. agrees_with k (fixed_of J f) r) period ∙ ap (λ o. agrees_with I.period o r) (elsewhere f apart) ∙ a.fixed
+            | inl is_e ↦ subst (λ k. IsTrue (admits J k r)) (sym is_e) (narrowed_passes (rows_of links s) e (admits J e) f r l is_e)
+            | inr apart ↦ ap (λ k. agrees_with k (window_of J f) r) period ∙ ap (λ o. agrees_with I.period o r) (elsewhere f apart) ∙ a.window
           ]))
           (λ f r a old.
           let b = old (sym (same f) ∙ a.of_event) in
-          numbers f r ∙ limited_keeps (rows_of links s) e t f r b
-          (λ is_e.
-          let fixed : fixed_of J f ≡ Some t = ap (fixed_of J) is_e ∙ here in
-          let eq : (t == r) ≡ true = sym (ap (λ o. agrees_with J.period o r) fixed) ∙ a.fixed in
-          sym (is_number t r eq)))
+          numbers f r ∙ narrowed_keeps (rows_of links s) e (admits J e) f r b (λ is_e. subst (λ k. IsTrue (admits J k r)) is_e a.window))
           (counts_settle J links stand M n fits.period narrow.rest (keeps_like links n.period s.period M M (has_at n.rows) (sym narrow.shape.period) (λ q r. refl) narrow.keeps));
     }
-  where
-    is_number : (a b : ℕ) → (a == b) ≡ true → a ≡ b
-    is_number a b same =
-        elim (cases_eq a b) [
-          | inl is ↦ is
-          | inr apart ↦ absurd (false≢true (sym (ne_eqb a b apart) ∙ same))
-        ]
-
--- an event that is fixed is there
-pub fixed_event : (I J : Network) (e t : ℕ) → edited I (Fix e t) ≡ Ok J → has_event I e ≡ true
-fixed_event I J e t made = by (has_event I e) (first_fails _ _ _ _ J made)
-  where
-    by : (b : Bool) → not b ≡ false → b ≡ true
-    by true is = refl
-    by false is = absurd (false≢true (sym is))
 
 some_start : (o : Option Activity) → is_none o ≡ false → ends_of o ≡ [] → ⊥
 some_start None some none = false≢true (sym some)
 some_start (Some a) some none = absurd (cc)
 
-some_anew : (b : Bool) (e : ℕ) → b ≡ true → (if b then e ∷ [] else []) ≡ [] → ⊥
-some_anew true e is none = absurd (cc)
-some_anew false e is none = false≢true is
-
 -- of the other edits only one of a weight brings no pair back
-pub only_weight : (I J : Network) (edit : Edit) → IsNetwork I → edited I edit ≡ Ok J → adds edit ≡ false → starts I edit ≡ [] → ((e : ℕ) → edit ≡ DropEvent e → ⊥) → ((e t : ℕ) → edit ≡ Fix e t → ⊥) → ((n : ℕ) (span : _) → edit ≡ SetSpan n span → ⊥) → (n : ℕ) × (weight : ℕ) × (edit ≡ SetWeight n weight)
-only_weight I J (AddEvent e) network made adding tight a b c = absurd (false≢true (sym adding))
-only_weight I J (AddActivity x) network made adding tight a b c = absurd (false≢true (sym adding))
-only_weight I J (DropEvent e) network made adding tight a b c = absurd (a e refl)
-only_weight I J (Fix e t) network made adding tight a b c = absurd (b e t refl)
-only_weight I J (Unfix e) network made adding tight a b c = absurd (some_anew (admits_anew I (effect I (Unfix e)) e) e (unfixed_anew I e J network made) tight)
-only_weight I J (DropActivity n) network made adding tight a b c = absurd (some_start (activity_of I n) (first_fails _ _ _ _ J made) tight)
-only_weight I J (SetSpan n span) network made adding tight a b c = absurd (c n span refl)
-only_weight I J (SetWeight n weight) network made adding tight a b c = (n, weight, refl)
-only_weight I J (SetEnds n from to) network made adding tight a b c = absurd (some_start (activity_of I n) (first_fails _ _ _ _ J made) tight)
+pub only_weight : (I J : Network) (edit : Edit) → edited I edit ≡ Ok J → adds edit ≡ false → starts I edit ≡ [] → ((e : ℕ) → edit ≡ DropEvent e → ⊥) → ((e t : ℕ) → edit ≡ Fix e t → ⊥) → ((e first length : ℕ) → edit ≡ SetWindow e first length → ⊥) → ((e : ℕ) → edit ≡ Unfix e → ⊥) → ((n : ℕ) (span : _) → edit ≡ SetSpan n span → ⊥) → (n : ℕ) × (weight : ℕ) × (edit ≡ SetWeight n weight)
+only_weight I J (AddEvent e) made adding tight a b w u c = absurd (false≢true (sym adding))
+only_weight I J (AddActivity x) made adding tight a b w u c = absurd (false≢true (sym adding))
+only_weight I J (DropEvent e) made adding tight a b w u c = absurd (a e refl)
+only_weight I J (Fix e t) made adding tight a b w u c = absurd (b e t refl)
+only_weight I J (SetWindow e first length) made adding tight a b w u c = absurd (w e first length refl)
+only_weight I J (Unfix e) made adding tight a b w u c = absurd (u e refl)
+only_weight I J (DropActivity n) made adding tight a b w u c = absurd (some_start (activity_of I n) (first_fails _ _ _ _ J made) tight)
+only_weight I J (SetSpan n span) made adding tight a b w u c = absurd (c n span refl)
+only_weight I J (SetWeight n weight) made adding tight a b w u c = (n, weight, refl)
+only_weight I J (SetEnds n from to) made adding tight a b w u c = absurd (some_start (activity_of I n) (first_fails _ _ _ _ J made) tight)
 
 -- where the events have the same places the sets by number are the same
 pub numbers_same : (before after : Places) (S : Pairs) → ((e : ℕ) → place_of after e ≡ place_of before e) → (e r : ℕ) → numbered after S e r ≡ numbered before S e r

@@ -69,7 +69,7 @@ module _ (I : Network) (edit : Edit) (network : IsNetwork I) (asks : AsksAgain I
         record {
           of_event = event;
           below = below;
-          fixed = elim (asks.fixed e r below event (InDomains-admitted J [] e r new).of_event (InDomains-admitted J [] e r new).fixed) [ inl agrees ↦ agrees | inr start ↦ absurd (no_start start) ];
+          window = elim (asks.window e r below event (InDomains-admitted J [] e r new).of_event (InDomains-admitted J [] e r new).window) [ inl agrees ↦ agrees | inr start ↦ absurd (no_start start) ];
           pushed = λ s i. absurd (not_in_none _ i);
         }
 

@@ -89,20 +89,17 @@ ends_within I J links stand (x ∷ xs) housed =
 -- ---- the bound
 
 -- what is counted by ends is within what is counted by weights
-within_bound : (T B E D V W P : ℕ) → 2 ≤ T → E + B ≤ V → D ≤ W → P ≤ 8 * T + (T + 2) * E + T * B + T * D → P ≤ 4 * T * T + 2 * T * (V + W)
+within_bound : (T B E D V W P : ℕ) → 2 ≤ T → E + B ≤ V → D ≤ W → P ≤ 8 * T + 2 * T * E + T * B + T * D → P ≤ 4 * T * T + 2 * T * (V + W)
 within_bound T B E D V W P low first second few =
     let a = mul-le-mul_left T first in
     let a' = mul-add T E B in
     let b = mul-le-mul_left T second in
-    let c = mul-le-mul_right E low in
-    let less : E ≤ V = omega (arith, first) in
-    let d = mul-le-mul_left T less in
     let e = mul-le-mul_right T low in
-    let f = add-mul T 2 E in
+    let f = mul_assoc 2 T E in
     let g = mul_assoc 4 T T in
     let h = mul_assoc 2 T (V + W) in
     let i = mul-add T V W in
-    omega (arith, few, a, a', b, c, d, e, f, g, h, i)
+    omega (arith, few, a, a', b, e, f, g, h, i)
 
 -- ---- the law
 
@@ -180,9 +177,9 @@ module _ (I J : Network) (edit : Edit) (links0 links1 : Links) (s0 s1 : Supports
       let first = ends_within I J links1 stand back back_housed in
       let later = ends_within I J links1 stand s1.trail trail_housed in
       let second : ends_at links1 s1.trail ≤ weight_of I J removed = omega (arith, later) in
-      let few : s1.probes ≤ 8 * s0.period + (s0.period + 2) * ends_at links1 back + s0.period * length back + s0.period * ends_at links1 s1.trail = omega (arith, worked.probes, none) in
+      let few : s1.probes ≤ 8 * s0.period + 2 * s0.period * ends_at links1 back + s0.period * length back + s0.period * ends_at links1 s1.trail = omega (arith, worked.probes, none) in
       within_bound I.period (length back) (ends_at links1 back) (ends_at links1 s1.trail) (weight_of I J restored) (weight_of I J removed) s1.probes before.network.period_low first second
-      (subst (λ t. s1.probes ≤ 8 * t + (t + 2) * ends_at links1 back + t * length back + t * ends_at links1 s1.trail) before.fits.period few)
+      (subst (λ t. s1.probes ≤ 8 * t + 2 * t * ends_at links1 back + t * length back + t * ends_at links1 s1.trail) before.fits.period few)
 
 -- what was counted by place, by number
 pub work_is : (I J : Network) (edit : Edit) (links0 links1 : Links) (s0 s1 : Supports) (back : List Placed) → edited I edit ≡ Ok J → AreSettled I [] links0 s0 → AreSettled J [] links1 s1 → s0.probes ≡ 0 → IsWorked links1 s0 s1 back → AreReached I edit links1 back → KeepPlaces J links0 links1 s1.trail

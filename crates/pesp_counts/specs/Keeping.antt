@@ -2,7 +2,7 @@
 use Rattle.std.specs.Prelude.{◌≡◌, ◌≢◌, ℕ, ◌<◌, ◌≤◌, Bool, true, false, ◌||◌, List, [], Some, Ok, length, slice_index_or, take, drop}
 use Rattle.std.specs.List.{Contains}
 use Rattle.pesp_instance.specs.declared.edit.Edit.{Edit}
-use Rattle.pesp_instance.specs.declared.edit.Edit.TheVariants.{AddEvent, DropEvent, Fix, Unfix, AddActivity, DropActivity, SetSpan, SetWeight, SetEnds}
+use Rattle.pesp_instance.specs.declared.edit.Edit.TheVariants.{AddEvent, DropEvent, Fix, SetWindow, Unfix, AddActivity, DropActivity, SetSpan, SetWeight, SetEnds}
 use Rattle.pesp_instance.specs.Edited.{edited}
 use Rattle.pesp_instance.specs.Network.{IsNetwork, Network}
 use Rattle.pesp_domains.specs.declared.pair.Pair.{Pair}
@@ -51,6 +51,7 @@ adds (AddEvent e) = true
 adds (AddActivity a) = true
 adds (DropEvent e) = false
 adds (Fix e t) = false
+adds (SetWindow e first length) = false
 adds (Unfix e) = false
 adds (DropActivity n) = false
 adds (SetSpan n span) = false

@@ -22,7 +22,7 @@ pub record HasHeir (I : Network) (edit : Edit) (side : Side) (a : Activity) : Ty
 -- what is asked of an event before the edit is asked after it too, but for events at which chains begin
 pub record AsksAgain (I : Network) (edit : Edit) : Type 0 where
   pub period : (effect I edit).period ≡ I.period
-  pub fixed : (e r : ℕ) → r < I.period → IsTrue (has_event I e) → IsTrue (has_event (effect I edit) e) → IsTrue (admits (effect I edit) e r) → IsTrue (admits I e r) ⊎ Contains (starts I edit) e
+  pub window : (e r : ℕ) → r < I.period → IsTrue (has_event I e) → IsTrue (has_event (effect I edit) e) → IsTrue (admits (effect I edit) e r) → IsTrue (admits I e r) ⊎ Contains (starts I edit) e
   pub activities : (side : Side) (a : Activity) → Contains I.activities a → Contains (starts I edit) (own side a) ⊎ HasHeir I edit side a
 
 -- the set has the pairs of the other one and just the reached pairs besides

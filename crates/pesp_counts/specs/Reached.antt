@@ -1,11 +1,12 @@
 -- The pairs that an edit may bring back into the domains.
-use Rattle.std.specs.Prelude.{◌≡◌, ℕ, Bool, false, ◌==◌, if◌then◌else◌, List, [], ◌∷◌, Option, Some, None}
+use Rattle.std.specs.Prelude.{◌≡◌, ℕ, Bool, false, ◌==◌, if◌then◌else◌, List, [], ◌∷◌, Option, Some, None, Ok, true}
 use Rattle.std.specs.List.{Contains}
 use Rattle.pesp_base.specs.declared.activity.Activity.{Activity}
+use Rattle.pesp_base.specs.Windows.{Interval}
 use Rattle.pesp_instance.specs.declared.edit.Edit.{Edit}
-use Rattle.pesp_instance.specs.declared.edit.Edit.TheVariants.{AddEvent, DropEvent, Fix, Unfix, AddActivity, DropActivity, SetSpan, SetWeight, SetEnds}
-use Rattle.pesp_instance.specs.Edited.{effect}
-use Rattle.pesp_instance.specs.Network.{Network, activity_of}
+use Rattle.pesp_instance.specs.declared.edit.Edit.TheVariants.{AddEvent, DropEvent, Fix, SetWindow, Unfix, AddActivity, DropActivity, SetSpan, SetWeight, SetEnds}
+use Rattle.pesp_instance.specs.Edited.{edited, effect, rewindowed}
+use Rattle.pesp_instance.specs.Network.{Network, activity_of, has_event}
 use Rattle.pesp_domains.specs.declared.side.Side.{Side}
 use Rattle.pesp_domains.specs.Domains.{InDomains, IsAdmitted, Joins, other, own}
 use Rattle.pesp_domains.specs.Loosening.{admits_anew, is_looser}
@@ -22,6 +23,7 @@ starts I (DropEvent e) = []
 starts I (AddActivity a) = []
 starts I (SetWeight n weight) = []
 starts I (Fix e t) = if admits_anew I (effect I (Fix e t)) e then e ∷ [] else []
+starts I (SetWindow e first length) = if admits_anew I (effect I (SetWindow e first length)) e then e ∷ [] else []
 starts I (Unfix e) = if admits_anew I (effect I (Unfix e)) e then e ∷ [] else []
 starts I (SetSpan n span) = if is_looser I n span then ends_of (activity_of I n) else []
 starts I (DropActivity n) = ends_of (activity_of I n)
@@ -35,11 +37,20 @@ is_edited (SetEnds n from to) a = a.id == n
 is_edited (AddEvent e) a = false
 is_edited (DropEvent e) a = false
 is_edited (Fix e t) a = false
+is_edited (SetWindow e first length) a = false
 is_edited (Unfix e) a = false
 is_edited (AddActivity b) a = false
 is_edited (SetWeight n weight) a = false
 
--- the pair is outside the domains before the edit, and agrees with the fixed times after it
+-- the edit gives the event a window, or takes its window away
+pub record IsOfWindow (edit : Edit) (e : ℕ) (window : Option Interval) : Type 0 where
+  pub makes : (I : Network) → effect I edit ≡ rewindowed I e window
+  pub begins : (I : Network) → starts I edit ≡ (if admits_anew I (effect I edit) e then e ∷ [] else [])
+  pub unedited : (a : Activity) → is_edited edit a ≡ false
+  pub keeps : (I : Network) (f : ℕ) → has_event (effect I edit) f ≡ has_event I f
+  pub there : (I J : Network) → edited I edit ≡ Ok J → has_event I e ≡ true
+
+-- the pair is outside the domains before the edit, and in its event's window after it
 pub record IsOutside (I : Network) (edit : Edit) (e r : ℕ) : Type 0 where
   pub outside : InDomains I [] e r → ⊥
   pub admitted : IsAdmitted (effect I edit) [] e r

@@ -48,7 +48,7 @@ pub record IsWorked (links : Links) (before after : Supports) (back : List Place
   pub gone : (p r : ℕ) → Of (has_at before.rows) p r ⊎ IsTrue (is_in back p r) → has_at after.rows p r ≡ false → IsTrue (is_in after.trail p r)
   pub only : (p r : ℕ) → IsTrue (is_in after.trail p r) → Of (has_at before.rows) p r ⊎ IsTrue (is_in back p r)
   pub placed : (p r : ℕ) → IsTrue (is_in after.trail p r) → (e : ℕ) × (place_of links.events e ≡ Some p)
-  pub probes : after.probes ≤ before.probes + 8 * before.period + (before.period + 2) * ends_at links back + before.period * length back + before.period * ends_at links after.trail
+  pub probes : after.probes ≤ before.probes + 8 * before.period + 2 * before.period * ends_at links back + before.period * length back + before.period * ends_at links after.trail
 
 -- the events that stay have the places that they had, and so have those of the pairs of a list
 pub record KeepPlaces (J : Network) (before after : Links) (pairs : List Placed) : Type 0 where

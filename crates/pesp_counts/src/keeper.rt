@@ -40,7 +40,8 @@ use told::work_of;
 /// Keeps the domains by counts: for each residue at an end of an activity, how many residues of the other event go with it.
 ///
 /// An edit or a push takes pairs out, each pair that goes lowers counts along the activities at its event, and a pair of which a
-/// count falls to 0 goes too. A pop puts back what its push took out. An edit that may bring pairs back begins with full rows.
+/// count falls to 0 goes too. A pop puts back what its push took out. An edit that may bring pairs back puts back just those
+/// that it reaches, and then takes out what has no partner.
 #[derive(Drop)]
 pub struct CountKeeper {
     instance: Instance,

@@ -21,7 +21,7 @@ pub(crate) struct Path {
     ghost below: { All (IsBelow period) last.items },
 }
 
-/// How many residues may be tried at a place: at the first event of a part without a fixed time 0 alone.
+/// How many residues may be tried at a place: at the first event of a part without a window 0 alone.
 fn residue_count(least: &[bool], place: usize, period: Period) -> u16
     ensures { result ≤ period }
 {

@@ -1,15 +1,15 @@
--- Residues that an event admits with another fixed time, or with none, and did not admit before.
-use Rattle.std.proofs.Common.{◌≡◌, ℕ, ◌<◌, ◌≤◌, ◌==◌, ◌&&◌, not, cond, Bool, true, false, List, [], ◌∷◌, Option, Some, None, is_none, option_map, Ok, refl, sym, ap, ◌∙◌, inl, inr, arith}
+-- Residues that an event admits with another window, or with none, and did not admit before.
+use Rattle.std.proofs.Common.{◌≡◌, ℕ, ◌<◌, ◌==◌, ◌&&◌, not, cond, Bool, true, false, List, [], ◌∷◌, Option, Some, None, option_map, refl, sym, ap, ◌∙◌, inl, inr, arith, zero, suc, ◌+◌, All, ◌≤◌}
 use Rattle.std.specs.List.{list_any, range_with_len}
 use Rattle.std.specs.Option.{option_and_then}
-use Rattle.std.specs.Result.{is_ok}
-use Rattle.std.proofs.lemmas.Bool.{and_from, cases_Bool, cases_eq, eq-eqb, eqb-true, false≢true, ne_eqb}
-use Rattle.pesp_base.specs.declared.refusal.Refusal.{Refusal}
-use Rattle.pesp_base.specs.Refusals.{unless_refused, when}
+use Rattle.std.proofs.lemmas.List.Elements.{All-cons, All-head, All-nil, All-tail}
+use Rattle.std.proofs.lemmas.Bool.{and_from, cases_Bool, cases_eq, eq-eqb, eqb-true, ne_eqb}
+use Rattle.pesp_base.specs.Windows.{Interval, at_time}
 use Rattle.pesp_instance.specs.declared.edit.Edit.TheVariants.{Fix, Unfix}
 use Rattle.pesp_instance.specs.declared.event.Event.{Event}
-use Rattle.pesp_instance.specs.Edited.{edited, effect, refixed}
-use Rattle.pesp_instance.specs.Network.{IsNetwork, Network, admits, agrees_with, event_of, fixed_of}
+use Rattle.pesp_instance.specs.Edited.{effect, rewindowed}
+use Rattle.pesp_instance.specs.Network.{Network, admits, agrees_with, event_of, window_of}
+use Rattle.pesp_base.proofs.WindowLaws.{held-at_time, held-full}
 use Rattle.pesp_instance.proofs.Rising.{number-with_number, with_number-change_in}
 use Rattle.pesp_domains.proofs.Families.{in_range, none_passes}
 use Rattle.pesp_domains.specs.Loosening.{admits_anew}
@@ -17,8 +17,8 @@ use Rattle.pesp_domains.specs.Loosening.{admits_anew}
 abbrev number : Event → ℕ
 number e = e.id
 
--- whether a residue agrees with the second fixed time and not with the first one
-abbrev pub agrees_anew : ℕ → Option ℕ → Option ℕ → ℕ → Bool
+-- whether a residue is in the second window and not in the first one
+abbrev pub agrees_anew : ℕ → Option Interval → Option Interval → ℕ → Bool
 agrees_anew period old new r = agrees_with period new r && not (agrees_with period old r)
 
 -- one number below that passes
@@ -41,57 +41,59 @@ never : (b : Bool) → (b && not true) ≡ false
 never true = refl
 never false = refl
 
--- it depends on the two fixed times alone
-pub anew_is : (I : Network) (e : ℕ) (fixed : Option ℕ) → admits_anew I (refixed I e fixed) e ≡ list_any (agrees_anew I.period (fixed_of I e) fixed) (range_with_len 0 I.period)
-anew_is I e fixed = by (event_of I e) refl
+-- it depends on the two windows alone
+pub anew_is : (I : Network) (e : ℕ) (window : Option Interval) → admits_anew I (rewindowed I e window) e ≡ list_any (agrees_anew I.period (window_of I e) window) (range_with_len 0 I.period)
+anew_is I e window = by (event_of I e) refl
   where
-    by : (o : Option Event) → event_of I e ≡ o → admits_anew I (refixed I e fixed) e ≡ list_any (agrees_anew I.period (fixed_of I e) fixed) (range_with_len 0 I.period)
+    by : (o : Option Event) → event_of I e ≡ o → admits_anew I (rewindowed I e window) e ≡ list_any (agrees_anew I.period (window_of I e) window) (range_with_len 0 I.period)
     by None none =
-        let before : fixed_of I e ≡ None = ap (option_and_then (λ x. x.fixed)) none in
-        none_of _ (range_with_len 0 I.period) (λ r. rw before (never (agrees_with I.period (fixed_of (refixed I e fixed) e) r)))
-        ∙ sym (none_of _ (range_with_len 0 I.period) (λ r. rw before (never (agrees_with I.period fixed r))))
+        let before : window_of I e ≡ None = ap (option_and_then (λ x. x.window)) none in
+        none_of _ (range_with_len 0 I.period) (λ r. rw before (never (agrees_with I.period (window_of (rewindowed I e window) e) r)))
+        ∙ sym (none_of _ (range_with_len 0 I.period) (λ r. rw before (never (agrees_with I.period window r))))
     by (Some x) found =
         let same : x.id ≡ e = number-with_number number e I.events x found in
-        let after : fixed_of (refixed I e fixed) e ≡ fixed =
-        ap (option_and_then (λ y. y.fixed)) (with_number-change_in number e e (λ y. record y { fixed = fixed }) (λ y. refl) I.events ∙ ap (option_map (λ y. cond (number y == e) (record y { fixed = fixed }) y)) found)
+        let after : window_of (rewindowed I e window) e ≡ window =
+        ap (option_and_then (λ y. y.window)) (with_number-change_in number e e (λ y. record y { window = window }) (λ y. refl) I.events ∙ ap (option_map (λ y. cond (number y == e) (record y { window = window }) y)) found)
         ∙ rw (eq-eqb x.id e same) refl in
         rw after refl
 
-no_other : (period : ℕ) (old : Option ℕ) (t r : ℕ) → agrees_with period old t ≡ true → agrees_anew period old (Some t) r ≡ false
-no_other period old t r is =
-    elim (t == r) as (λ b. (t == r) ≡ b → (b && not (agrees_with period old r)) ≡ false) [
+no_other : (period : ℕ) (old : Option Interval) (t r : ℕ) → t < period → agrees_with period old t ≡ true → agrees_anew period old (Some (at_time t)) r ≡ false
+no_other period old t r below is =
+    rw (held-at_time period t r below)
+    (elim (t == r) as (λ b. (t == r) ≡ b → (b && not (agrees_with period old r)) ≡ false) [
       | true ↦ λ same. let at : agrees_with period old r ≡ true = ap (agrees_with period old) (sym (eqb-true t r same)) ∙ is in rw at refl
       | false ↦ λ _. refl
-    ] refl
+    ] refl)
 
--- a fixed time admits anew where it is not the one before, if there was one
-pub fix_is : (I : Network) (e t : ℕ) → t < I.period → admits_anew I (effect I (Fix e t)) e ≡ not (agrees_with I.period (fixed_of I e) t)
+-- a fixed time admits anew where it is not in the window before, if there was one
+pub fix_is : (I : Network) (e t : ℕ) → t < I.period → admits_anew I (effect I (Fix e t)) e ≡ not (agrees_with I.period (window_of I e) t)
 fix_is I e t below =
-    anew_is I e (Some t)
-    ∙ elim (agrees_with I.period (fixed_of I e) t) as (λ b. agrees_with I.period (fixed_of I e) t ≡ b → list_any (agrees_anew I.period (fixed_of I e) (Some t)) (range_with_len 0 I.period) ≡ not b) [
-      | true ↦ λ is. none_of (agrees_anew I.period (fixed_of I e) (Some t)) (range_with_len 0 I.period) (λ d. no_other I.period (fixed_of I e) t d is)
-      | false ↦ λ is. some_below (agrees_anew I.period (fixed_of I e) (Some t)) I.period t below (rw (eq-eqb t t refl, is) refl)
+    anew_is I e (Some (at_time t))
+    ∙ elim (agrees_with I.period (window_of I e) t) as (λ b. agrees_with I.period (window_of I e) t ≡ b → list_any (agrees_anew I.period (window_of I e) (Some (at_time t))) (range_with_len 0 I.period) ≡ not b) [
+      | true ↦ λ is. none_of (agrees_anew I.period (window_of I e) (Some (at_time t))) (range_with_len 0 I.period) (λ d. no_other I.period (window_of I e) t d below is)
+      | false ↦ λ is. some_below (agrees_anew I.period (window_of I e) (Some (at_time t))) I.period t below (rw (held-at_time I.period t t below, eq-eqb t t refl, is) refl)
     ] refl
 
 -- a fixed time that goes leaves another residue
-pub unfix_is : (I : Network) (e t : ℕ) → 2 ≤ I.period → fixed_of I e ≡ Some t → admits_anew I (effect I (Unfix e)) e ≡ true
-unfix_is I e t long fixed =
+pub unfix_time : (I : Network) (e t : ℕ) → 2 ≤ I.period → t < I.period → window_of I e ≡ Some (at_time t) → admits_anew I (effect I (Unfix e)) e ≡ true
+unfix_time I e t long below fixed =
     anew_is I e None
     ∙ rw fixed
     (elim (cases_eq t 0) [
-      | inl zero ↦ some_below (agrees_anew I.period (Some t) None) I.period 1 (omega (arith, long)) (rw (ne_eqb t 1 (λ same. omega (arith, zero, same))) refl)
-      | inr apart ↦ some_below (agrees_anew I.period (Some t) None) I.period 0 (omega (arith, long)) (rw (ne_eqb t 0 apart) refl)
+      | inl none ↦ some_below (agrees_anew I.period (Some (at_time t)) None) I.period 1 (omega (arith, long)) (rw (held-at_time I.period t 1 below, ne_eqb t 1 (λ same. omega (arith, none, same))) refl)
+      | inr apart ↦ some_below (agrees_anew I.period (Some (at_time t)) None) I.period 0 (omega (arith, long)) (rw (held-at_time I.period t 0 below, ne_eqb t 0 apart) refl)
     ])
 
-second_fails : (a b : Bool) (first second : Refusal) (x J : Network) → unless_refused (when a first ∷ when b second ∷ []) x ≡ Ok J → b ≡ false
-second_fails true b first second x J ok = absurd (false≢true (ap is_ok ok))
-second_fails false true first second x J ok = absurd (false≢true (ap is_ok ok))
-second_fails false false first second x J ok = refl
+none_below : (test : ℕ → Bool) (rs : List ℕ) (n : ℕ) → All (λ r. r < n) rs → ((r : ℕ) → r < n → test r ≡ false) → list_any test rs ≡ false
+none_below test [] n all each = refl
+none_below test (r ∷ rs) n all each = rw (each r (All-head (λ s. s < n) r rs all)) (none_below test rs n (All-tail (λ s. s < n) r rs all) each)
 
--- where a fixed time is taken away there was one
-pub unfixed_anew : (I : Network) (e : ℕ) (K : Network) → IsNetwork I → edited I (Unfix e) ≡ Ok K → admits_anew I (effect I (Unfix e)) e ≡ true
-unfixed_anew I e K network made = by (fixed_of I e) refl (second_fails _ _ _ _ _ K made)
+-- a window of the whole period leaves none
+pub unfix_whole : (I : Network) (e : ℕ) (w : Interval) → w.length ≡ I.period → window_of I e ≡ Some w → admits_anew I (effect I (Unfix e)) e ≡ false
+unfix_whole I e w whole is =
+    anew_is I e None
+    ∙ rw is (none_below (agrees_anew I.period (Some w) None) (range_with_len 0 I.period) I.period (below_range 0 I.period I.period (omega arith)) (λ r below. rw (held-full I.period w r whole below) refl))
   where
-    by : (o : Option ℕ) → fixed_of I e ≡ o → is_none (fixed_of I e) ≡ false → admits_anew I (effect I (Unfix e)) e ≡ true
-    by None none some = absurd (false≢true (sym some ∙ ap is_none none))
-    by (Some t) fixed some = unfix_is I e t network.period_low fixed
+    below_range : (a n m : ℕ) → a + n ≤ m → All (λ r. r < m) (range_with_len a n)
+    below_range a zero m le = All-nil _
+    below_range a (suc n) m le = All-cons (λ r. r < m) a (range_with_len (a + 1) n) (omega (arith, le)) (below_range (a + 1) n m (omega (arith, le)))

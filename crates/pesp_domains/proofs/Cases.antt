@@ -3,6 +3,7 @@ use Rattle.std.proofs.Common.{ℕ, ◌==◌, Bool, pos, negsuc, refl, List, [], 
 use Rattle.std.specs.List.{list_any, range_with_len}
 use Rattle.std.proofs.lemmas.Bool.{false≢true}
 use Rattle.pesp_base.proofs.Samples.{signed_arc as arc}
+use Rattle.pesp_base.specs.Windows.{at_time}
 use Rattle.pesp_instance.specs.declared.edit.Edit.TheVariants as do_
 use Rattle.pesp_instance.specs.Edited.{after, empty_network}
 use Rattle.pesp_instance.specs.Network.{Network, new_event}
@@ -129,7 +130,7 @@ loop_row = swept_row loop [] 0 refl 1 _ refl refl
 
 -- from two before to one after
 abbrev negative : Network
-negative = record { period = 10; events = record { id = 1; fixed = Some 0 } ∷ new_event 2 ∷ []; activities = arc 1 1 2 (negsuc 1) (pos 1) 1 ∷ [] }
+negative = record { period = 10; events = record { id = 1; window = Some (at_time 0) } ∷ new_event 2 ∷ []; activities = arc 1 1 2 (negsuc 1) (pos 1) 1 ∷ [] }
 
 negative_row : HasDomain negative [] 2 (0 ∷ 1 ∷ 8 ∷ 9 ∷ [])
 negative_row = swept_row negative [] 2 refl 2 _ refl refl

@@ -10,8 +10,9 @@ use Rattle.pesp_base.specs.declared.refusal.Refusal.TheVariants as no
 use Rattle.pesp_base.specs.Limits.{max_events}
 use Rattle.pesp_base.specs.Numbered.{change_in, put_in, take_out, with_number}
 use Rattle.pesp_base.specs.Refusals.{unless_refused, when}
+use Rattle.pesp_base.specs.Windows.{Interval, at_time}
 use Rattle.pesp_instance.specs.declared.edit.Edit.{Edit}
-use Rattle.pesp_instance.specs.declared.edit.Edit.TheVariants.{AddEvent, DropEvent, Fix, Unfix, AddActivity, DropActivity, SetSpan, SetWeight, SetEnds}
+use Rattle.pesp_instance.specs.declared.edit.Edit.TheVariants.{AddEvent, DropEvent, Fix, SetWindow, Unfix, AddActivity, DropActivity, SetSpan, SetWeight, SetEnds}
 use Rattle.pesp_instance.specs.declared.event.Event.{Event}
 use Rattle.pesp_instance.specs.Edited.{IsRefusal, edited, effect, refusals}
 use Rattle.pesp_instance.specs.Network.{HasEnds, IsNetwork, Network, has_event, is_end_of, new_event}
@@ -30,10 +31,10 @@ effect_is I J edit e = accepted (refusals I edit) (effect I edit) J e
 
 -- ---- which events there are
 
-has_changed : (xs : List Event) (n e : ℕ) (fixed : Option ℕ) → is_some (with_number number e (change_in number n (λ x. record x { fixed = fixed }) xs)) ≡ is_some (with_number number e xs)
-has_changed xs n e fixed = rw (with_number-change_in number e n (λ x. record x { fixed = fixed }) (λ x. refl) xs) (still (with_number number e xs))
+has_changed : (xs : List Event) (n e : ℕ) (window : Option Interval) → is_some (with_number number e (change_in number n (λ x. record x { window = window }) xs)) ≡ is_some (with_number number e xs)
+has_changed xs n e window = rw (with_number-change_in number e n (λ x. record x { window = window }) (λ x. refl) xs) (still (with_number number e xs))
   where
-    still : (o : Option Event) → is_some (option_map (λ x. if number x == n then record x { fixed = fixed } else x) o) ≡ is_some o
+    still : (o : Option Event) → is_some (option_map (λ x. if number x == n then record x { window = window } else x) o) ≡ is_some o
     still None = refl
     still (Some x) = refl
 
@@ -82,7 +83,10 @@ abbrev pub KeepsEvents : Edit → Type 0
 KeepsEvents edit = (I : Network) → (I.period ≡ (effect I edit).period) × ((e : ℕ) → has_event (effect I edit) e ≡ has_event I e)
 
 pub keeps_fix : (n t : ℕ) → KeepsEvents (Fix n t)
-keeps_fix n t I = (refl, λ e. has_changed I.events n e (Some t))
+keeps_fix n t I = (refl, λ e. has_changed I.events n e (Some (at_time t)))
+
+pub keeps_window : (n first length : ℕ) → KeepsEvents (SetWindow n first length)
+keeps_window n first length I = (refl, λ e. has_changed I.events n e (Some (record { first = first; length = length })))
 
 pub keeps_unfix : (n : ℕ) → KeepsEvents (Unfix n)
 keeps_unfix n I = (refl, λ e. has_changed I.events n e None)
@@ -119,11 +123,11 @@ others_stay n keep (x ∷ xs) apart =
       | false ↦ λ _. others_stay n keep xs apart
     ] refl
 
-taken_out : (n : ℕ) (fixed : Option ℕ) (xs : List Event) → Rises number xs → with_number number n xs ≡ None → take_out number n (put_in number (record { id = n; fixed = fixed }) xs) ≡ xs
-taken_out n fixed xs rises none =
+taken_out : (n : ℕ) (window : Option Interval) (xs : List Event) → Rises number xs → with_number number n xs ≡ None → take_out number n (put_in number (record { id = n; window = window }) xs) ≡ xs
+taken_out n window xs rises none =
     let low : Event → Bool = λ x. nat_lt (number x) n in
     let high : Event → Bool = λ x. nat_lt n (number x) in
-    filter-append (λ x. not (number x == n)) (filter low xs) (record { id = n; fixed = fixed } ∷ filter high xs)
+    filter-append (λ x. not (number x == n)) (filter low xs) (record { id = n; window = window } ∷ filter high xs)
     ∙ rw (
       eq-eqb n n refl,
       others_stay n low xs (λ x is same. let below : number x < n = ltb→lt (number x) n (subst T (sym is) tt) in omega (arith, below, same)),
@@ -178,6 +182,7 @@ rows_same I J edit rows ok added dropped are = rw (effect_is I J edit ok) (by ed
     by (AddEvent e) added dropped = absurd (added e refl)
     by (DropEvent e) added dropped = absurd (dropped e refl)
     by (Fix e t) added dropped = rows_kept I (Fix e t) rows (keeps_fix e t) are
+    by (SetWindow e first length) added dropped = rows_kept I (SetWindow e first length) rows (keeps_window e first length) are
     by (Unfix e) added dropped = rows_kept I (Unfix e) rows (keeps_unfix e) are
     by (AddActivity a) added dropped = are
     by (DropActivity n) added dropped = are
@@ -195,8 +200,9 @@ few_left I J edit ok added = rw (effect_is I J edit ok) (by edit added)
     by : (edit : Edit) → ((e : ℕ) → edit ≡ AddEvent e → ⊥) → length (effect I edit).events ≤ length I.events
     by (AddEvent e) added = absurd (added e refl)
     by (DropEvent e) added = length-take_out number e I.events
-    by (Fix e t) added = changed e (λ x. record x { fixed = Some t })
-    by (Unfix e) added = changed e (λ x. record x { fixed = None })
+    by (Fix e t) added = changed e (λ x. record x { window = Some (at_time t) })
+    by (SetWindow e first length) added = changed e (λ x. record x { window = Some (record { first = first; length = length }) })
+    by (Unfix e) added = changed e (λ x. record x { window = None })
     by (AddActivity a) added = omega arith
     by (DropActivity n) added = omega arith
     by (SetSpan n span) added = omega arith
@@ -210,6 +216,7 @@ drops_not_adds edit d drops e adds = false≢true (ap is_drop (sym adds ∙ drop
     is_drop (AddEvent e) = false
     is_drop (DropEvent e) = true
     is_drop (Fix e t) = false
+    is_drop (SetWindow e first length) = false
     is_drop (Unfix e) = false
     is_drop (AddActivity a) = false
     is_drop (DropActivity n) = false

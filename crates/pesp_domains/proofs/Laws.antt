@@ -75,7 +75,7 @@ InDomains-fewer I pushes all within e r h =
             each = λ f s i.
                 let w = h.supported.each f s i in
                 record {
-                  admitted = record { of_event = w.admitted.of_event; below = w.admitted.below; fixed = w.admitted.fixed; pushed = λ t j. w.admitted.pushed t (within f t j) };
+                  admitted = record { of_event = w.admitted.of_event; below = w.admitted.below; window = w.admitted.window; pushed = λ t j. w.admitted.pushed t (within f t j) };
                   partner = w.partner;
                 };
           };

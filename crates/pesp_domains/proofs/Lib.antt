@@ -9,3 +9,4 @@ pub mod Pushes
 pub mod Removals
 mod RowLaws
 pub mod Sweeps
+pub mod Wider

@@ -1,21 +1,22 @@
--- Rows that hold every residue that agrees with the fixed times.
+-- Rows that hold every residue of the windows of events.
 use Rattle.std.proofs.Common.{◌≡◌, ℕ, ◌==◌, Bool, true, false, cond, nat_lt, if◌then◌else◌, List, [], ◌∷◌, length, Option, Some, None, option_map, is_some, IsTrue, refl, sym, ap, subst, ◌∙◌, inl, inr, ltb→lt, T, replicate, Bor, IfSome}
 use Rattle.std.specs.Option.{option_map_or, unwrap_or}
 use Rattle.std.specs.List.{Contains}
 use Rattle.std.proofs.lemmas.Bool.{false≢true, cases_eq, eq-eqb, ne_eqb, lt-ltb}
 use Rattle.std.proofs.lemmas.List.{length-replicate}
+use Rattle.pesp_base.specs.Windows.{Interval}
 use Rattle.pesp_base.specs.Numbered.{with_number}
 use Rattle.pesp_instance.specs.declared.event.Event.{Event}
-use Rattle.pesp_instance.specs.Network.{Network, admits, fixed_of, has_event}
+use Rattle.pesp_instance.specs.Network.{Network, admits, window_of, has_event}
 use Rattle.pesp_domains.specs.declared.pair.Pair.{Pair}
 use Rattle.pesp_domains.specs.Domains.{IsDomain, holds}
 use Rattle.pesp_domains.specs.Rows.{AreRowsOf, HaveSameShape, OpensRow, Rows, SetsRow, has, is_open, row_at}
 use Rattle.pesp_domains.specs.Sweeps.{AreDomains, AreOpen, Pairs}
 use Rattle.pesp_domains.proofs.Families.{and_left, and_right, here_or_there, not_in_none}
 
--- whether the pair is of the instance and agrees with the fixed time of its event
+-- whether the pair is of the instance and in the window of its event
 abbrev pub opened : Network → ℕ → ℕ → Bool
-opened I e r = if has_event I e then is_open (fixed_of I e) I.period r else false
+opened I e r = if has_event I e then is_open (window_of I e) I.period r else false
 
 pub shape_then : (a b c : Rows) → HaveSameShape a b → HaveSameShape b c → HaveSameShape a c
 shape_then a b c h k e = k e ∙ h e
@@ -33,23 +34,23 @@ of_event true n test = refl
 of_event false n test = refl
 
 -- a row that was opened holds what it is to hold
-pub opened_row : (I : Network) (a b : Rows) (e : ℕ) → AreRowsOf I a → OpensRow e (fixed_of I e) a b → (r : ℕ) → has b e r ≡ opened I e r
+pub opened_row : (I : Network) (a b : Rows) (e : ℕ) → AreRowsOf I a → OpensRow e (window_of I e) a b → (r : ℕ) → has b e r ≡ opened I e r
 opened_row I a b e rows opens r =
     opens e r
-    ∙ rw (eq-eqb e e refl) (by_length (λ n. is_open (fixed_of I e) n r) (row_at a e) ∙ ap (λ o. option_map_or (λ n. is_open (fixed_of I e) n r) o false) (rows e) ∙ of_event (has_event I e) I.period (λ n. is_open (fixed_of I e) n r))
+    ∙ rw (eq-eqb e e refl) (by_length (λ n. is_open (window_of I e) n r) (row_at a e) ∙ ap (λ o. option_map_or (λ n. is_open (window_of I e) n r) o false) (rows e) ∙ of_event (has_event I e) I.period (λ n. is_open (window_of I e) n r))
 
 -- and no other row changed
-pub other_row : (f : ℕ) (fixed : Option ℕ) (a b : Rows) (e : ℕ) → (e ≡ f → ⊥) → OpensRow f fixed a b → (r : ℕ) → has b e r ≡ has a e r
-other_row f fixed a b e apart opens r = opens e r ∙ rw (ne_eqb e f apart) refl
+pub other_row : (f : ℕ) (window : Option Interval) (a b : Rows) (e : ℕ) → (e ≡ f → ⊥) → OpensRow f window a b → (r : ℕ) → has b e r ≡ has a e r
+other_row f window a b e apart opens r = opens e r ∙ rw (ne_eqb e f apart) refl
 
 -- one event more is done
-pub opened_more : (I : Network) (a b : Rows) (x : Event) (rest : List Event) → AreRowsOf I a → OpensRow x.id (fixed_of I x.id) a b
+pub opened_more : (I : Network) (a b : Rows) (x : Event) (rest : List Event) → AreRowsOf I a → OpensRow x.id (window_of I x.id) a b
     → ((e : ℕ) → with_number (λ y. y.id) e (x ∷ rest) ≡ None → (r : ℕ) → has a e r ≡ opened I e r)
     → (e : ℕ) → with_number (λ y. y.id) e rest ≡ None → (r : ℕ) → has b e r ≡ opened I e r
 opened_more I a b x rest rows opens done e none r =
     elim (cases_eq e x.id) [
       | inl same ↦ rw same (opened_row I a b x.id rows opens r)
-      | inr apart ↦ other_row x.id (fixed_of I x.id) a b e apart opens r ∙ done e (rw (ne_eqb x.id e (λ same. apart (sym same))) none) r
+      | inr apart ↦ other_row x.id (window_of I x.id) a b e apart opens r ∙ done e (rw (ne_eqb x.id e (λ same. apart (sym same))) none) r
     ]
 
 -- before the first event there is nothing where there is no event
@@ -68,13 +69,13 @@ pub opened_all : (I : Network) (S : Pairs) → ((e r : ℕ) → S e r ≡ opened
 opened_all I S same =
     record {
       exact = λ e r. (
-        (λ h. let w = parts (has_event I e) (is_open (fixed_of I e) I.period r) (sym (same e r) ∙ h) in record {
+        (λ h. let w = parts (has_event I e) (is_open (window_of I e) I.period r) (sym (same e r) ∙ h) in record {
           of_event = w.0;
           below = ltb→lt r I.period (subst T (sym (and_left (nat_lt r I.period) (admits I e r) w.1)) tt);
-          fixed = and_right (nat_lt r I.period) (admits I e r) w.1;
+          window = and_right (nat_lt r I.period) (admits I e r) w.1;
           pushed = λ s i. absurd (not_in_none _ i);
         }),
-        (λ h. same e r ∙ rw (h.of_event, lt-ltb r I.period h.below) h.fixed),
+        (λ h. same e r ∙ rw (h.of_event, lt-ltb r I.period h.below) h.window),
       );
     }
   where

@@ -14,13 +14,9 @@ use Rattle.pesp_domains.specs.declared.pair.Pair.{Pair}
 use Rattle.pesp_domains.specs.Domains.{In, IsAdmitted}
 use Rattle.pesp_domains.specs.Kept.{ArePushed, IsKept}
 use Rattle.pesp_domains.specs.Rows.{AreRowsOf, Rows, has}
-use Rattle.pesp_domains.specs.Sweeps.{AreDomains, AreOpen, Pairs, Settles}
+use Rattle.pesp_domains.specs.Sweeps.{AreDomains, AreOpen, Pairs, Settles, limited, narrowed_to}
 use Rattle.pesp_domains.proofs.Families.{and_left, and_right}
 use Rattle.pesp_domains.proofs.Laws.{InDomains-admitted, InDomains-fewer}
-
--- the set with of one event's residues one alone
-abbrev pub limited : Pairs → ℕ → ℕ → Pairs
-limited S event residue e r = S e r && (not (e == event) || r == residue)
 
 both_true : (a b : Bool) → IsTrue a → IsTrue b → IsTrue (a && b)
 both_true true b p q = q
@@ -45,6 +41,18 @@ limited_keeps S event residue e r h agrees =
       | inr apart ↦ rw (ne_eqb e event apart) refl
     ])
 
+-- what is left passes the test, and what passes is left
+pub narrowed_passes : (S : Pairs) (event : ℕ) (test : ℕ → Bool) (e r : ℕ) → IsTrue (narrowed_to S event test e r) → e ≡ event → IsTrue (test r)
+narrowed_passes S event test e r h same = rw (eq-eqb e event same) at (and_right (S e r) (not (e == event) || test r) h)
+
+pub narrowed_keeps : (S : Pairs) (event : ℕ) (test : ℕ → Bool) (e r : ℕ) → IsTrue (S e r) → (e ≡ event → IsTrue (test r)) → IsTrue (narrowed_to S event test e r)
+narrowed_keeps S event test e r h passes =
+    both_true (S e r) (not (e == event) || test r) h
+    (elim (cases_eq e event) [
+      | inl same ↦ rw (eq-eqb e event same) (passes same)
+      | inr apart ↦ rw (ne_eqb e event apart) refl
+    ])
+
 module _ (I : Network) (pushes : List Pair) (x : Pair) where
   abbrev all : List Pair
   all = pushes ++ x ∷ []
@@ -55,7 +63,7 @@ module _ (I : Network) (pushes : List Pair) (x : Pair) where
       record {
         of_event = h.of_event;
         below = h.below;
-        fixed = h.fixed;
+        window = h.window;
         pushed = λ s i.
             elim (Contains-push_cases pushes x _ i) [
               | inl old ↦ h.pushed s old
@@ -65,7 +73,7 @@ module _ (I : Network) (pushes : List Pair) (x : Pair) where
 
   admitted_fewer : (e r : ℕ) → IsAdmitted I all e r → IsAdmitted I pushes e r
   admitted_fewer e r h =
-      record { of_event = h.of_event; below = h.below; fixed = h.fixed; pushed = λ s i. h.pushed s (Contains-append_left pushes (x ∷ []) _ i) }
+      record { of_event = h.of_event; below = h.below; window = h.window; pushed = λ s i. h.pushed s (Contains-append_left pushes (x ∷ []) _ i) }
 
   agrees_last : (e r : ℕ) → IsAdmitted I all e r → e ≡ x.event → r ≡ x.residue
   agrees_last e r h same = sym (h.pushed x.residue (subst (λ k. In all k x.residue) (sym same) (Contains-push pushes x)))

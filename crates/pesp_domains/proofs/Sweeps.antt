@@ -46,7 +46,7 @@ abbrev agrees_with_all : List Pair → Pair → Bool
 agrees_with_all pushes p = list_all (λ q. not (q.event == p.event) || q.residue == p.residue) pushes
 
 module _ (I : Network) (pushes : List Pair) where
-  -- whether the pair is of the instance, and agrees with the fixed time and the pushed residue of its event
+  -- whether the pair is of the instance, and is in the window and agrees with the pushed residue of its event
   abbrev is_admitted : Pair → Bool
   is_admitted p = has_event I p.event && nat_lt p.residue I.period && admits I p.event p.residue && agrees_with_all pushes p
 
@@ -120,8 +120,8 @@ agrees_is pushes p =
 admitted_is : (I : Network) (pushes : List Pair) (p : Pair) → Decides (is_admitted I pushes p) (IsAdmitted I pushes p.event p.residue)
 admitted_is I pushes p =
     Decides-like (is_admitted I pushes p)
-    (λ h. record { of_event = h.0.0.0; below = h.0.0.1; fixed = h.0.1; pushed = h.1 })
-    (λ h. (((h.of_event, h.below), h.fixed), h.pushed))
+    (λ h. record { of_event = h.0.0.0; below = h.0.0.1; window = h.0.1; pushed = h.1 })
+    (λ h. (((h.of_event, h.below), h.window), h.pushed))
     (Decides-and _ _ (Decides-and _ _ (Decides-and _ _ (itself (has_event I p.event)) (Decides-ltb p.residue I.period)) (itself (admits I p.event p.residue))) (agrees_is pushes p))
 
 module _ (period : ℕ) (some : 0 < period) where

@@ -30,7 +30,7 @@ Joins Head period a r s = IsMet period a.span s r
 pub record IsAdmitted (I : Network) (pushes : List Pair) (e r : ℕ) : Type 0 where
   pub of_event : IsTrue (has_event I e)
   pub below : r < I.period
-  pub fixed : IsTrue (admits I e r)
+  pub window : IsTrue (admits I e r)
   pub pushed : (s : ℕ) → In pushes e s → s ≡ r
 
 -- the pair at this end of the activity has a partner in S along it

@@ -4,6 +4,7 @@ use Rattle.std.specs.BTreeMap.{is_at}
 use Rattle.std.specs.Map.{lookup}
 use Rattle.std.specs.Option.{option_map_or}
 use Rattle.std.specs.Ordering.{nat_cmp}
+use Rattle.pesp_base.specs.Windows.{Interval}
 use Rattle.pesp_instance.specs.Network.{Network, agrees_with, has_event}
 use Rattle.pesp_domains.specs.Domains.{holds}
 
@@ -31,14 +32,14 @@ HaveSameShape before after = (e : ℕ) → option_map length (row_at after e) �
 abbrev pub SetsRow : ℕ → Option (List Bool) → Rows → Rows → Type 0
 SetsRow event row before after = (e : ℕ) → row_at after e ≡ (if e == event then row else row_at before e)
 
--- whether the residue is one of so many, and agrees with a fixed time
-abbrev pub is_open : Option ℕ → ℕ → ℕ → Bool
-is_open fixed long r = nat_lt r long && agrees_with long fixed r
+-- whether the residue is one of so many, and in a window
+abbrev pub is_open : Option Interval → ℕ → ℕ → Bool
+is_open window long r = nat_lt r long && agrees_with long window r
 
--- the event's row holds each residue that agrees with the fixed time, and no other event's row changes
-abbrev pub OpensRow : ℕ → Option ℕ → Rows → Rows → Type 0
-OpensRow event fixed before after =
-    (e r : ℕ) → has after e r ≡ (if e == event then option_map_or (λ row. is_open fixed (length row) r) (row_at before e) false else has before e r)
+-- the event's row holds each residue of the window, and no other event's row changes
+abbrev pub OpensRow : ℕ → Option Interval → Rows → Rows → Type 0
+OpensRow event window before after =
+    (e r : ℕ) → has after e r ≡ (if e == event then option_map_or (λ row. is_open window (length row) r) (row_at before e) false else has before e r)
 
 -- the pair goes, and no other
 abbrev pub TakesOut : ℕ → ℕ → Rows → Rows → Type 0

@@ -1,5 +1,5 @@
 -- What takes pairs out of a set of pairs, until the domains are left.
-use Rattle.std.specs.Prelude.{◌≡◌, ℕ, ◌<◌, ◌↔◌, Bool, true, false, IsTrue, List, map, count_by}
+use Rattle.std.specs.Prelude.{◌≡◌, ℕ, ◌<◌, ◌↔◌, ◌==◌, ◌&&◌, ◌||◌, not, Bool, true, false, IsTrue, List, map, count_by}
 use Rattle.std.specs.List.{flat_map, range_with_len}
 use Rattle.pesp_base.specs.declared.activity.Activity.{Activity}
 use Rattle.pesp_instance.specs.Network.{Network, event_ids}
@@ -14,6 +14,14 @@ Pairs = ℕ → ℕ → Bool
 -- the pairs of the set
 abbrev pub Of : Pairs → ℕ → ℕ → Type 0
 Of S e r = IsTrue (S e r)
+
+-- the set with of one event's residues those alone that pass a test
+abbrev pub narrowed_to : Pairs → ℕ → (ℕ → Bool) → Pairs
+narrowed_to S event test e r = S e r && (not (e == event) || test r)
+
+-- and with one alone
+abbrev pub limited : Pairs → ℕ → ℕ → Pairs
+limited S event residue = narrowed_to S event (λ r. r == residue)
 
 -- each pair of the set is admitted
 pub record AreAdmitted (I : Network) (pushes : List Pair) (S : Pairs) : Type 0 where

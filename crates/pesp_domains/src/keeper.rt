@@ -13,7 +13,7 @@ pub struct NoRoom {
 
 /// Keeps an instance, pushed pairs, and for each event the row of its domain under them.
 ///
-/// The domains are the largest family of pairs in which each pair agrees with the fixed time and the
+/// The domains are the largest family of pairs in which each pair is in the window and the
 /// pushed residue of its event and has a partner along each activity at its event. A keeper may find
 /// and keep them as it likes: what its calls answer depends on the instance and the pushed pairs alone.
 pub trait Keeper: Drop {

@@ -14,7 +14,7 @@ mod side;
 mod sweep;
 
 pub use keeper::{Keeper, NoRoom};
-pub use loosening::admits_anew;
+pub use loosening::{is_limited, law_of_wider_spans, span_admits_more, window_admits_anew};
 pub use pair::Pair;
 pub use plain::PlainKeeper;
 pub use row::Row;

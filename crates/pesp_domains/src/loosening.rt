@@ -1,21 +1,62 @@
-//! Whether a change of a fixed time lets in what was not let in before.
+//! Whether a change of a window or of a span lets in what was not let in before.
 
-ghost use Rattle.std.specs.Prelude.{◌≡◌};
-ghost use Rattle.pesp_instance.specs.Edited.{refixed};
-ghost use Rattle.pesp_domains.specs.Loosening.{admits_anew};
+ghost use Rattle.std.specs.Prelude.{◌≡◌, ℕ, ◌<◌, ◌↔◌, IsTrue, None, Some};
+ghost use Rattle.pesp_base.specs.Bounds.{Bounds};
+ghost use Rattle.pesp_base.specs.Windows.{is_held};
+ghost use Rattle.pesp_instance.specs.Edited.{rewindowed};
+ghost use Rattle.pesp_instance.specs.Network.{IsNetwork, window_of};
+ghost use Rattle.pesp_domains.specs.Loosening.{AdmitsNewPair, admits_anew, admits_more};
 
-use pesp_base::EventId;
+use pesp_base::{EventId, Period, Span, allows};
 use pesp_instance::{Event, Instance};
 
-/// Whether the event may stand at a residue with this fixed time, or with none, at which it may not now.
-pub fn admits_anew(instance: &Instance, event: EventId, fixed: Option<u16>) -> bool
-    ensures { result ≡ admits_anew instance.now (refixed instance.now event fixed) event }
+/// Whether the residue is one of these, `length` from `first` on, which need not be a window of the period.
+fn is_held(period: Period, first: u16, length: u16, residue: u16) -> bool
+    ensures { result ≡ is_held period (record { first = first; length = length }) residue }
+{
+    let ahead = (residue as i32 - first as i32).rem_euclid(period.get() as i32) as u16;
+    residue < period.get() && ahead < length
+}
+
+/// The event, with its window.
+fn event_now(instance: &Instance, event: EventId) -> Event
+    ensures id { result.id ≡ event }
+    ensures window { result.window ≡ window_of instance.now event }
+    ensures network { IsNetwork instance.now }
+{
+    Event {
+        id: event,
+        window: instance.window(event),
+    }
+}
+
+/// Whether the event may stand at one of these residues, `length` from `first` on, at which it may not now.
+pub fn window_admits_anew(instance: &Instance, event: EventId, first: u16, length: u16) -> bool
+    ensures { result ≡ admits_anew instance.now (rewindowed instance.now event (Some (record { first = first; length = length }))) event }
 {
     let period = instance.period();
-    let old = Event {
-        id: event,
-        fixed: instance.fixed(event),
-    };
-    let new = Event { id: event, fixed };
-    (0..period.get()).any(|residue| new.admits(period, residue) && !old.admits(period, residue))
+    let old = event_now(instance, event);
+    (0..period.get()).any(|residue| is_held(period, first, length, residue)
+        && !old.admits(period, residue))
 }
+
+/// Whether there is a residue at which the event may not stand now.
+pub fn is_limited(instance: &Instance, event: EventId) -> bool
+    ensures { result ≡ admits_anew instance.now (rewindowed instance.now event None) event }
+{
+    let period = instance.period();
+    let old = event_now(instance, event);
+    (0..period.get()).any(|residue| !old.admits(period, residue))
+}
+
+/// Whether the second span admits a pair of residues that the first one does not.
+pub fn span_admits_more(period: Period, old: Span, new: Span) -> bool
+    ensures { result ≡ admits_more period old new }
+{
+    (0..period.get()).any(|ahead| allows(period, new, 0, ahead) && !allows(period, old, 0, ahead))
+}
+
+/// A span admits more than another exactly where some residues of the two events are admitted by it, and not by the other one.
+pub fn law_of_wider_spans()
+    ensures { (period : ℕ) (old new : Bounds) → 0 < period → IsTrue (admits_more period old new) ↔ AdmitsNewPair period old new }
+{}

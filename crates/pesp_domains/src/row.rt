@@ -1,11 +1,12 @@
 //! Rows of residues.
 
-ghost use Rattle.std.specs.Prelude.{◌≡◌, ℕ, ◌==◌, ◌&&◌, ◌||◌, ◌<◌, not, nat_le, ◌-◌, true, replicate, length, find, IfOk};
+ghost use Rattle.std.specs.Prelude.{◌≡◌, ℕ, ◌==◌, ◌&&◌, ◌||◌, ◌<◌, not, nat_le, nat_lt, ◌-◌, true, replicate, length, find, IfOk};
 ghost use Rattle.std.specs.List.{range_with_len};
+ghost use Rattle.pesp_base.specs.Windows.{is_held};
 ghost use Rattle.pesp_domains.specs.Domains.{holds, residues};
 ghost use Rattle.pesp_domains.specs.Rows.{is_open};
 
-use pesp_base::Period;
+use pesp_base::{Period, Window};
 use std::alloc::{AllocError, Global};
 use std::marker::Model;
 
@@ -105,14 +106,36 @@ impl Row {
         }
     }
 
-    /// Puts all residues in, or the fixed one alone.
-    pub fn open(&mut self, fixed: Option<u16>)
+    /// Takes all residues out that are not in a window of the period.
+    fn keep_window(&mut self, period: Period, window: Window)
+        requires { period ≡ length self.old }
         ensures long { length self.new ≡ length self.old }
-        ensures holds { (r : ℕ) → holds self.new r ≡ is_open fixed (length self.old) r }
+        ensures holds { (r : ℕ) → holds self.new r ≡ (holds self.old r && is_held period window r) }
+    {
+        for residue in 0..period.get() {
+            if !window.holds(period, residue) {
+                self.take_out(residue);
+            }
+        }
+    }
+
+    /// Puts all residues in.
+    pub fn fill(&mut self)
+        ensures long { length self.new ≡ length self.old }
+        ensures holds { (r : ℕ) → holds self.new r ≡ nat_lt r (length self.old) }
     {
         self.tests.fill(true);
-        if let Some(residue) = fixed {
-            self.keep_only(residue);
+    }
+
+    /// Puts all residues of the period in, or those of the window alone.
+    pub fn open(&mut self, period: Period, window: Option<Window>)
+        requires { period ≡ length self.old }
+        ensures long { length self.new ≡ length self.old }
+        ensures holds { (r : ℕ) → holds self.new r ≡ is_open window (length self.old) r }
+    {
+        self.fill();
+        if let Some(window) = window {
+            self.keep_window(period, window);
         }
     }
 }

@@ -1,10 +1,10 @@
 //! Rows by event.
 
-ghost use Rattle.std.specs.Prelude.{◌≡◌, ℕ, true, replicate, Some, None, option_map, IfOk, OnOk, OnErr};
+ghost use Rattle.std.specs.Prelude.{◌≡◌, ℕ, true, replicate, Some, None, option_map, length, IfSome, IfOk, OnOk, OnErr};
 ghost use Rattle.pesp_domains.specs.Rows.{row_at, has, HaveSameShape, SetsRow, OpensRow, TakesOut, KeepsOnly};
 
 use crate::Row;
-use pesp_base::{EventId, Period};
+use pesp_base::{EventId, Period, Window};
 use std::alloc::{AllocError, Global};
 use std::collections::BTreeMap;
 use std::marker::Model;
@@ -90,13 +90,14 @@ impl Rows {
         }
     }
 
-    /// Puts all residues of the event in, or the fixed one alone.
-    pub fn open(&mut self, event: EventId, fixed: Option<u16>)
+    /// Puts all residues of the event in, or those of the window alone.
+    pub fn open(&mut self, period: Period, event: EventId, window: Option<Window>)
+        requires { IfSome (row_at self.old event) (λ row. period ≡ length row) }
         ensures shape { HaveSameShape self.old self.new }
-        ensures has { OpensRow event fixed self.old self.new }
+        ensures has { OpensRow event window self.old self.new }
     {
         if let Some(row) = self.rows.get_mut(&event.get()) {
-            row.open(fixed);
+            row.open(period, window);
         }
     }
 }

@@ -107,19 +107,20 @@ pub fn settle(instance: &Instance, rows: &mut Rows)
     while sweep(instance, rows) {}
 }
 
-/// Puts every residue into the rows that agrees with the fixed times.
+/// Puts every residue into the rows that is in the window of its event.
 fn open_events(instance: &Instance, rows: &mut Rows)
     requires { AreRowsOf instance.now rows.old }
     ensures shape { HaveSameShape rows.old rows.new }
     ensures admitted { AreOpen instance.now [] (has rows.new) }
     ensures network { IsNetwork instance.now }
 {
+    let period = instance.period();
     for event in instance.events() {
-        rows.open(event.id, instance.fixed(event.id));
+        rows.open(period, event.id, instance.window(event.id));
     }
 }
 
-/// Puts every residue into the rows that agrees with the fixed times and the pushed pairs.
+/// Puts every residue into the rows that is in the window of its event and agrees with the pushed pairs.
 fn open_rows(instance: &Instance, pushed: &[Pair], rows: &mut Rows)
     requires { AreRowsOf instance.now rows.old }
     ensures shape { HaveSameShape rows.old rows.new }

@@ -10,6 +10,8 @@ pub(crate) enum Change {
     AddEvent(u32),
     DropEvent(u32),
     Fix(u32, u16),
+    /// The event, and the first residue and the length of its window.
+    SetWindow(u32, u16, u16),
     Unfix(u32),
     /// Its number, ends, bounds and weight.
     AddActivity(u32, (u32, u32), (i32, i32), u32),
@@ -24,6 +26,9 @@ pub(crate) fn edit_of(rt: &impl Abort, change: Change) -> Edit {
         Change::AddEvent(number) => Edit::AddEvent(event(rt, number)),
         Change::DropEvent(number) => Edit::DropEvent(event(rt, number)),
         Change::Fix(number, time) => Edit::Fix(event(rt, number), time),
+        Change::SetWindow(number, first, length) => {
+            Edit::SetWindow(event(rt, number), first, length)
+        }
         Change::Unfix(number) => Edit::Unfix(event(rt, number)),
         Change::AddActivity(number, ends, bounds, weighs) => {
             Edit::AddActivity(activity(rt, number, ends, bounds, weighs))

@@ -98,6 +98,31 @@ fn unfix_refills_both_rows(rt: HostRuntime) {
     try_edits(&rt, TWO_ACTIVITIES, BOTH, UNFIX_REFILLS_BOTH_ROWS);
 }
 
+const WINDOWS_NARROW_DOMAINS: Edits<'_> = &[
+    (
+        Change::SetWindow(1, 9, 3),
+        &[(1, &[0, 1, 9]), (2, &[3, 4, 5, 6])],
+        "a window that wraps",
+    ),
+    (
+        Change::SetWindow(1, 0, 2),
+        &[(1, &[0, 1]), (2, &[4, 5, 6])],
+        "it is narrowed",
+    ),
+    (
+        Change::SetWindow(1, 1, 2),
+        &[(1, &[1, 2]), (2, &[5, 6, 7])],
+        "it is moved",
+    ),
+    (Change::SetWindow(1, 0, 10), BOTH, "all residues"),
+    (Change::Unfix(1), BOTH, "no window"),
+];
+
+#[test]
+fn windows_narrow_domains(rt: HostRuntime) {
+    try_edits(&rt, TWO_ACTIVITIES, BOTH, WINDOWS_NARROW_DOMAINS);
+}
+
 const INFEASIBLE_INSTANCES: Edits<'_> = &[
     (Change::SetSpan(1, 3, 3), BOTH, "full domains"),
     (Change::Fix(1, 0), &[(1, &[]), (2, &[])], "empty domains"),

@@ -1,16 +1,11 @@
 //! Known answers that edits keep or forget.
 
-use crate::asserts::{hold, same};
 use crate::changes::Change;
 use crate::unpushed::Unpushed;
-use crate::workbench::{
-    FIRST, Known, Step, Steps, assert_times, assert_unknown, bench, bench_of, change, find,
-    take_steps, try_steps,
-};
-use pesp_bench::{Attempt, Bench};
+use crate::workbench::{FIRST, Known, Step, Steps, bench_of, take_steps, try_steps};
+use pesp_bench::Bench;
 use pesp_counts::CountKeeper;
 use pesp_domains::{Keeper, PlainKeeper};
-use pesp_search::Best;
 use std::process::Abort;
 
 const EDITS_THAT_KEEP_THE_ANSWER: Steps<'_> = &[
@@ -128,6 +123,69 @@ fn infeasible_is_kept(rt: HostRuntime) {
     try_steps(&rt, INFEASIBLE_IS_KEPT);
 }
 
+const NARROWER_WINDOW_KEEPS: Steps<'_> = &[
+    (
+        Step::Edit(Change::SetWindow(1, 9, 3)),
+        Known::Nothing,
+        "a window that wraps",
+    ),
+    (Step::Find, FIRST, "it wraps"),
+    (Step::Edit(Change::SetWindow(1, 0, 2)), FIRST, "narrowed"),
+    (Step::FindAgain, FIRST, "the kept one serves"),
+    (
+        Step::Edit(Change::SetWindow(1, 1, 2)),
+        Known::Nothing,
+        "moved",
+    ),
+    (
+        Step::Find,
+        Known::Optimal(4, &[(1, 1), (2, 5)]),
+        "found again",
+    ),
+    (
+        Step::Edit(Change::SetWindow(1, 0, 10)),
+        Known::Nothing,
+        "all residues",
+    ),
+    (Step::Find, FIRST, "found once more"),
+    (Step::Edit(Change::Unfix(1)), FIRST, "no new residue"),
+    (Step::FindAgain, FIRST, "the kept one serves"),
+];
+
+#[test]
+fn narrower_window_keeps(rt: HostRuntime) {
+    try_steps(&rt, NARROWER_WINDOW_KEEPS);
+}
+
+const INFEASIBLE_IS_KEPT_BY_WINDOWS: Steps<'_> = &[
+    (
+        Step::Edit(Change::SetSpan(1, 3, 3)),
+        Known::Nothing,
+        "3 to 3",
+    ),
+    (Step::Find, Known::Infeasible, "3 to 3"),
+    (
+        Step::Edit(Change::SetWindow(1, 0, 10)),
+        Known::Infeasible,
+        "all residues",
+    ),
+    (
+        Step::Edit(Change::SetWindow(1, 4, 3)),
+        Known::Infeasible,
+        "some of them",
+    ),
+    (
+        Step::Edit(Change::SetWindow(1, 5, 3)),
+        Known::Nothing,
+        "a new residue",
+    ),
+];
+
+#[test]
+fn infeasible_is_kept_by_windows(rt: HostRuntime) {
+    try_steps(&rt, INFEASIBLE_IS_KEPT_BY_WINDOWS);
+}
+
 /// A workbench of one activity of number 2 between these events.
 fn one_activity<K: Keeper>(
     rt: &(impl Abort + AllocGlobal),
@@ -193,69 +251,4 @@ fn old_optimum_is_no_longer_first_by<K: Keeper, R: Abort + AllocGlobal>(rt: &R) 
 fn old_optimum_is_no_longer_first(rt: HostRuntime) {
     old_optimum_is_no_longer_first_by::<PlainKeeper, _>(&rt);
     old_optimum_is_no_longer_first_by::<CountKeeper, _>(&rt);
-}
-
-/// What a search that may visit no node stops with; none also where it ends.
-fn stopped_with<K: Keeper>(rt: &(impl Abort + AllocGlobal), bench: &mut Bench<K>) -> Option<Best> {
-    match bench.try_optimum(rt.alloc(), 0) {
-        Ok(Attempt::Stopped(best)) => best,
-        _ => None,
-    }
-}
-
-/// A search that may visit no node stops with the old optimum's timetable, at this cost.
-fn assert_handed_out<K: Keeper>(rt: &(impl Abort + AllocGlobal), bench: &mut Bench<K>, cost: u64) {
-    let best = stopped_with(rt, bench).expect(rt, "the candidate");
-    same(rt, best.cost, cost, "the candidate");
-    assert_times(rt, &best.times, &[(1, 0), (2, 4)], "the candidate");
-}
-
-fn assert_no_candidate<K: Keeper>(
-    rt: &(impl Abort + AllocGlobal),
-    bench: &mut Bench<K>,
-    message: &str,
-) {
-    hold(rt, stopped_with(rt, bench).is_none(), message);
-    assert_unknown(rt, bench, message);
-}
-
-/// The optimum is found before this edit.
-fn find_before<K: Keeper>(rt: &(impl Abort + AllocGlobal), bench: &mut Bench<K>, edit: Change) {
-    same(rt, find(rt, bench), Ok(()), "found before");
-    change(rt, bench, edit);
-}
-
-fn hand_out<K: Keeper>(rt: &(impl Abort + AllocGlobal), bench: &mut Bench<K>) {
-    find_before(rt, bench, Change::SetWeight(1, 3));
-    assert_handed_out(rt, bench, 5);
-    assert_no_candidate(rt, bench, "it was handed out");
-}
-
-fn candidate_is_handed_out_by<K: Keeper, R: Abort + AllocGlobal>(rt: &R) {
-    let mut bench: Bench<K> = bench(rt);
-    hand_out(rt, &mut bench);
-}
-
-#[test]
-fn candidate_is_handed_out(rt: HostRuntime) {
-    candidate_is_handed_out_by::<PlainKeeper, _>(&rt);
-    candidate_is_handed_out_by::<CountKeeper, _>(&rt);
-}
-
-fn keep_no_member<K: Keeper>(rt: &(impl Abort + AllocGlobal), bench: &mut Bench<K>) {
-    find_before(rt, bench, Change::Fix(1, 3));
-    assert_no_candidate(rt, bench, "fixed elsewhere");
-    change(rt, bench, Change::Unfix(1));
-    assert_handed_out(rt, bench, 4);
-}
-
-fn candidate_that_is_no_member_by<K: Keeper, R: Abort + AllocGlobal>(rt: &R) {
-    let mut bench: Bench<K> = bench(rt);
-    keep_no_member(rt, &mut bench);
-}
-
-#[test]
-fn candidate_that_is_no_member(rt: HostRuntime) {
-    candidate_that_is_no_member_by::<PlainKeeper, _>(&rt);
-    candidate_that_is_no_member_by::<CountKeeper, _>(&rt);
 }

@@ -13,6 +13,8 @@ mod base;
 #[cfg(test)]
 mod bench;
 #[cfg(test)]
+mod candidates;
+#[cfg(test)]
 mod changes;
 #[cfg(test)]
 mod counts;
@@ -36,6 +38,8 @@ mod search;
 mod timetables;
 #[cfg(test)]
 mod unpushed;
+#[cfg(test)]
+mod windows;
 #[cfg(test)]
 mod workbench;
 #[cfg(test)]

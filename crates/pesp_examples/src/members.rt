@@ -70,6 +70,12 @@ const COST_OF_A_MEMBER_WITH_A_FIXED_TIME: Costs<'_> = &[
     (&[(1, 5), (2, 9)], None, "fixed elsewhere"),
 ];
 
+const COST_OF_A_MEMBER_WITH_A_WINDOW: Costs<'_> = &[
+    (&[(1, 9), (2, 3)], Some(4), "the first of its residues"),
+    (&[(1, 1), (2, 5)], Some(4), "the last of them"),
+    (&[(1, 2), (2, 6)], None, "behind it"),
+];
+
 const COST_OF_NO_MEMBER: Costs<'_> = &[(&[(1, 0), (2, 4)], None, "infeasible")];
 
 /// What these times cost behind an edit.
@@ -84,8 +90,10 @@ fn assert_costs_after<K: Keeper>(
 }
 
 #[test]
-fn cost_of_a_member_with_a_fixed_time(rt: HostRuntime) {
+fn cost_of_a_member_with_a_window(rt: HostRuntime) {
     let mut kept: Unpushed<PlainKeeper> = Unpushed::two_activities(&rt);
+    let windowed = COST_OF_A_MEMBER_WITH_A_WINDOW;
+    assert_costs_after(&rt, &mut kept, Change::SetWindow(1, 9, 3), windowed);
     let fixed = COST_OF_A_MEMBER_WITH_A_FIXED_TIME;
     assert_costs_after(&rt, &mut kept, Change::Fix(1, 0), fixed);
     assert_costs_after(&rt, &mut kept, Change::SetSpan(1, 3, 3), COST_OF_NO_MEMBER);

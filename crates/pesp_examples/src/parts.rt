@@ -1,4 +1,4 @@
-//! Parts of an instance without a fixed time, at whose first event residue 0 alone is tried.
+//! Parts of an instance without a window, at whose first event residue 0 alone is tried.
 
 use crate::asked::{Step, Steps, Times, try_steps};
 use crate::changes::{Change, TWO_ACTIVITIES};
@@ -43,4 +43,20 @@ const PARTS_WITHOUT_A_FIXED_TIME: Steps<'_> = &[
 #[test]
 fn parts_without_a_fixed_time(rt: HostRuntime) {
     try_steps(&rt, 10, TWO_PARTS, PARTS_WITHOUT_A_FIXED_TIME);
+}
+
+const HELD_LATER: Times<'_> = &[(1, 0), (2, 3), (3, 8), (4, 6)];
+
+const PARTS_WITH_A_WINDOW: Steps<'_> = &[
+    (Step::Edit(Change::SetWindow(4, 5, 2)), "4 at 5 or 6"),
+    (Step::Best(0, HELD), "one with a window"),
+    (Step::Edit(Change::SetWindow(4, 6, 2)), "4 at 6 or 7"),
+    (Step::Best(0, HELD_LATER), "it is moved"),
+    (Step::Edit(Change::SetWindow(4, 6, 10)), "4 anywhere"),
+    (Step::Best(0, FREE), "a window of all residues"),
+];
+
+#[test]
+fn parts_with_a_window(rt: HostRuntime) {
+    try_steps(&rt, 10, TWO_PARTS, PARTS_WITH_A_WINDOW);
 }

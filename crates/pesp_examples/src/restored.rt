@@ -85,6 +85,24 @@ fn a_fixed_time_is_taken_away(rt: HostRuntime) {
     try_edits(&rt, A_FIXED_TIME_IS_TAKEN_AWAY);
 }
 
+const A_WINDOW_IS_MOVED: Edits<'_> = &[
+    (Change::SetWindow(1, 9, 3), &[], &[], "a window that wraps"),
+    (Change::SetWindow(1, 0, 2), &[], &[], "it is narrowed"),
+    (Change::SetWindow(1, 1, 2), &[2], &[7, 8], "it is moved"),
+    (
+        Change::SetWindow(1, 0, 10),
+        &[0, 3, 4, 5, 6, 7, 8, 9],
+        &[0, 1, 2, 3, 4, 8, 9],
+        "all residues",
+    ),
+    (Change::Unfix(1), &[], &[], "no window"),
+];
+
+#[test]
+fn a_window_is_moved(rt: HostRuntime) {
+    try_edits(&rt, A_WINDOW_IS_MOVED);
+}
+
 /// The residues of the second event that come back where the second activity joins nothing.
 const SECOND: &[u16] = &[0, 1, 2, 3, 6, 7, 8, 9];
 

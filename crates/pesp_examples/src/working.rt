@@ -102,6 +102,30 @@ fn working_timetable(rt: HostRuntime) {
     working_timetable_by::<CountKeeper, _>(&rt);
 }
 
+fn assert_first_violated<K: Keeper>(rt: &(impl Abort + AllocGlobal), bench: &Bench<K>) {
+    let wanted = [Violation::Event(event(rt, 1))];
+    let violations = bench.violations(rt.alloc()).ok().expect(rt, "memory");
+    same(rt, violations.as_slice(), &wanted, "violations");
+}
+
+fn stand_before_a_window<K: Keeper>(rt: &(impl Abort + AllocGlobal), bench: &mut Bench<K>) {
+    change(rt, bench, Change::SetWindow(1, 1, 2));
+    assert_set(rt, bench, 1, 0, Ok(()));
+    assert_set(rt, bench, 2, 4, Ok(()));
+    assert_first_violated(rt, bench);
+}
+
+fn time_outside_a_window_by<K: Keeper, R: Abort + AllocGlobal>(rt: &R) {
+    let mut bench: Bench<K> = bench(rt);
+    stand_before_a_window(rt, &mut bench);
+}
+
+#[test]
+fn time_outside_a_window(rt: HostRuntime) {
+    time_outside_a_window_by::<PlainKeeper, _>(&rt);
+    time_outside_a_window_by::<CountKeeper, _>(&rt);
+}
+
 /// Event 2 is an end of activity 1.
 fn assert_in_use<K: Keeper>(rt: &impl Abort, bench: &mut Bench<K>) {
     let refused = Err(Refusal::EventInUse(event(rt, 2), id(rt, 1)));

@@ -65,6 +65,23 @@ fn a_fixed_time_is_moved(rt: HostRuntime) {
     try_edits(&rt, A_FIXED_TIME_IS_MOVED);
 }
 
+const A_WINDOW_IS_MOVED: Edits<'_> = &[
+    (
+        Change::SetWindow(1, 9, 3),
+        (0, 13, None),
+        "a window that wraps",
+    ),
+    (Change::SetWindow(1, 0, 2), (0, 2, None), "it is narrowed"),
+    (Change::SetWindow(1, 1, 2), (3, 3, None), "it is moved"),
+    (Change::SetWindow(1, 0, 10), (15, 0, None), "all residues"),
+    (Change::Unfix(1), (0, 0, None), "no window"),
+];
+
+#[test]
+fn a_window_is_moved(rt: HostRuntime) {
+    try_edits(&rt, A_WINDOW_IS_MOVED);
+}
+
 const THE_SAME_TIME_IS_GIVEN_AGAIN: Edits<'_> = &[
     (Change::Fix(1, 0), (0, 17, None), "a first time"),
     (Change::Fix(1, 0), (0, 0, Some(400)), "the same time"),

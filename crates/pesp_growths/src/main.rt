@@ -3,6 +3,7 @@
 
 mod benches;
 mod call;
+mod counting;
 mod edits;
 mod files;
 mod keepers;

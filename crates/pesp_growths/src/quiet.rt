@@ -4,21 +4,23 @@ ghost use Rattle.std.specs.Prelude.{◌≡◌, []};
 
 use crate::call::{Call, is_asked, is_wanted, try_and_drop};
 use crate::{made, showing, telling, working};
-use pesp_base::{ActivityId, EventId, Span, Weight};
+use pesp_base::{ActivityId, EventId, Period, Span, Weight, Window};
 use pesp_bench::Bench;
 use pesp_commands::parse;
 use pesp_counts::CountKeeper;
 use pesp_domains::{Keeper, PlainKeeper, Side};
-use pesp_instance::Edit;
+use pesp_instance::{Edit, Instance};
 use std::alloc::Global;
 use std::marker::Model;
 
 /// The edits that take no memory, on two events and two activities.
-fn edits() -> Option<[Edit; 7]> {
+fn edits() -> Option<[Edit; 9]> {
     let (first, second) = (EventId::new(1)?, EventId::new(2)?);
     Some([
         Edit::SetSpan(ActivityId::new(1)?, Span::new(3, 6).ok()?),
         Edit::SetWeight(ActivityId::new(2)?, Weight::new(3)?),
+        Edit::SetWindow(first, 6, 3),
+        Edit::SetWindow(second, 9, 10),
         Edit::Unfix(first),
         Edit::Fix(second, 4),
         Edit::DropActivity(ActivityId::new(1)?),
@@ -32,7 +34,7 @@ fn edits() -> Option<[Edit; 7]> {
 struct Edited<K: Keeper> {
     keeper: K,
     event: EventId,
-    edits: [Edit; 7],
+    edits: [Edit; 9],
 }
 
 impl<K: Keeper> Model for Edited<K> {
@@ -86,7 +88,7 @@ impl<K: Keeper> Call for Edited<K> {
 struct Worked {
     bench: Bench<CountKeeper>,
     event: EventId,
-    edits: [Edit; 7],
+    edits: [Edit; 9],
 }
 
 fn edit(rt: &impl Print, bench: &mut Bench<CountKeeper>, edit: &Edit) {
@@ -104,7 +106,30 @@ fn clear_time(rt: &impl Print, bench: &mut Bench<CountKeeper>, event: EventId) {
     showing::line(rt, &bench.cost());
 }
 
-/// The counts of the residues at which each activity can begin, and what a line says.
+/// What a window tells, and which residues are in it.
+fn ask_window(rt: &impl Print, period: Period, window: Window) {
+    showing::line(rt, &window.first());
+    showing::line(rt, &window.length());
+    showing::line(rt, &window.only_time());
+    for residue in 0..period.get() {
+        showing::line(rt, &window.holds(period, residue));
+    }
+}
+
+/// A window that is made, and those of the events.
+fn ask_windows(rt: &impl Print, instance: &Instance) {
+    let period = instance.period();
+    if let Some(window) = Window::new(period, 9, 3) {
+        ask_window(rt, period, window);
+    }
+    for event in instance.events() {
+        if let Some(window) = instance.window(event.id) {
+            ask_window(rt, period, window);
+        }
+    }
+}
+
+/// The counts of the residues at which each activity can begin, and what lines say.
 fn ask(rt: &impl Print, bench: &Bench<CountKeeper>) {
     for activity in bench.instance().activities() {
         for residue in 0..bench.instance().period().get() {
@@ -115,6 +140,7 @@ fn ask(rt: &impl Print, bench: &Bench<CountKeeper>) {
         }
     }
     showing::line(rt, &parse(b"fix 1 2"));
+    showing::line(rt, &parse(b"window 1 9 3"));
 }
 
 fn find_optimum(rt: &impl Print, alloc: Global, bench: &mut Bench<CountKeeper>) {
@@ -133,6 +159,7 @@ impl Call for Worked {
         ask(rt, &self.bench);
         for each in &self.edits {
             edit(rt, &mut self.bench, each);
+            ask_windows(rt, self.bench.instance());
         }
         false
     }

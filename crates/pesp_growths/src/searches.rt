@@ -1,10 +1,10 @@
-//! Searches of what is kept.
+//! Searches of what is kept. How many pairs were pushed is told with the keeper, so a search that wants memory behind its first node is seen.
 
 ghost use Rattle.std.specs.Prelude.{◌≡◌, []};
 
 use crate::call::{Call, is_asked, try_and_drop};
+use crate::counting::Counting;
 use crate::{made, showing, telling};
-use pesp_counts::CountKeeper;
 use pesp_domains::Keeper;
 use pesp_search::{Tried, best, best_within};
 use std::alloc::Global;
@@ -13,7 +13,7 @@ use std::marker::Model;
 /// A keeper with nothing pushed, and how many nodes its search may have, where there is a limit.
 #[derive(Drop)]
 struct Searched {
-    keeper: CountKeeper,
+    keeper: Counting,
     limit: Option<u64>,
 }
 
@@ -23,9 +23,9 @@ impl Model for Searched {
 
     ghost Value = { Network };
 
-    ghost view = { λ s. s.keeper.network };
+    ghost view = { λ s. s.keeper.keeper.network };
 
-    ghost invariant = { λ s. s.keeper.pushes ≡ [] };
+    ghost invariant = { λ s. s.keeper.keeper.pushes ≡ [] };
 }
 
 fn tell_tried(rt: &impl Print, tried: &Tried) {
@@ -35,9 +35,9 @@ fn tell_tried(rt: &impl Print, tried: &Tried) {
     }
 }
 
-fn find(rt: &impl Print, alloc: Global, keeper: &mut CountKeeper) -> bool
-    requires { keeper.old.pushes ≡ [] }
-    ensures { keeper.new.pushes ≡ [] }
+fn find(rt: &impl Print, alloc: Global, keeper: &mut Counting) -> bool
+    requires { keeper.old.keeper.pushes ≡ [] }
+    ensures { keeper.new.keeper.pushes ≡ [] }
 {
     match best(alloc, keeper, None) {
         Ok((answer, nodes)) => {
@@ -52,9 +52,9 @@ fn find(rt: &impl Print, alloc: Global, keeper: &mut CountKeeper) -> bool
     }
 }
 
-fn find_within(rt: &impl Print, alloc: Global, keeper: &mut CountKeeper, limit: u64) -> bool
-    requires { keeper.old.pushes ≡ [] }
-    ensures { keeper.new.pushes ≡ [] }
+fn find_within(rt: &impl Print, alloc: Global, keeper: &mut Counting, limit: u64) -> bool
+    requires { keeper.old.keeper.pushes ≡ [] }
+    ensures { keeper.new.keeper.pushes ≡ [] }
 {
     match best_within(alloc, keeper, None, limit) {
         Ok((tried, nodes)) => {
@@ -72,6 +72,7 @@ fn find_within(rt: &impl Print, alloc: Global, keeper: &mut CountKeeper, limit: 
 impl Call for Searched {
     fn show<R: Print>(&self, rt: &R) {
         telling::keeper(rt, &self.keeper);
+        let _ = println!(rt; "pushed {}", self.keeper.pushed);
     }
 
     fn make<R: Print + AllocGlobal>(&mut self, rt: &R) -> bool {
@@ -83,7 +84,7 @@ impl Call for Searched {
 }
 
 fn try_case<R: Print + AllocGlobal>(rt: &R, limit: Option<u64>) -> Option<()> {
-    let keeper = CountKeeper::from_instance(rt.alloc(), made::two(rt.alloc())?).ok()?;
+    let keeper = Counting::from_instance(rt.alloc(), made::two(rt.alloc())?).ok()?;
     try_and_drop(rt, Searched { keeper, limit });
     Some(())
 }

@@ -5,8 +5,9 @@ use Rattle.std.proofs.lemmas.List.Elements.{All-nil, All-cons, All-weaker}
 use Rattle.std.specs.List.Sorted.{IsStrictlyIncreasing}
 use Rattle.pesp_base.specs.declared.activity.Activity.{Activity}
 use Rattle.pesp_base.specs.Limits.{greatest_number, max_activities, max_events}
+use Rattle.pesp_base.specs.Windows.{Interval, IsWindow}
 use Rattle.pesp_base.specs.Numbered.{with_number, put_in, take_out, change_in}
-use Rattle.pesp_instance.specs.Edited.{effect, refixed, changed}
+use Rattle.pesp_instance.specs.Edited.{effect, rewindowed, changed}
 use Rattle.pesp_instance.specs.Network.{Event, Network, is_end_of, new_event, IsEvent, IsActivity, HasEnds, IsNetwork}
 use Rattle.pesp_instance.specs.declared.edit.Edit.TheVariants.{AddEvent, DropEvent, AddActivity, DropActivity}
 use Rattle.pesp_instance.proofs.Numbers.{activity_number as id_of, event_number as number}
@@ -22,7 +23,7 @@ added_event I e net limit absent few =
       period_low = net.period_low;
       period_high = net.period_high;
       events_rise = increasing_from_rises number _ (Rises-put_in number new I.events (Rises-from_increasing number I.events net.events_rise));
-      events_within = All-put_in number (IsEvent I.period) new I.events (record { number = limit; fixed = tt }) net.events_within;
+      events_within = All-put_in number (IsEvent I.period) new I.events (record { number = limit; window = tt }) net.events_within;
       few_events = omega (arith, length-put_in number new I.events absent, few);
       activities_rise = net.activities_rise;
       activities_within = net.activities_within;
@@ -59,21 +60,21 @@ dropped_event I e net none = record {
       record { from = still_event e a.from I.events apart.0 has.from; to = still_event e a.to I.events apart.1 has.to };
 }
 
-refix : Option ℕ → Event → Event
-refix fixed x = record x { fixed = fixed }
+rewindow : Option Interval → Event → Event
+rewindow window x = record x { window = window }
 
-pub refixed_event : (I : Network) (e : ℕ) (fixed : Option ℕ) → IsNetwork I → IfSome fixed (λ t. t < I.period) → IsNetwork (refixed I e fixed)
-unfolding refix
-refixed_event I e fixed net below = record {
+pub rewindowed_event : (I : Network) (e : ℕ) (window : Option Interval) → IsNetwork I → IfSome window (IsWindow I.period) → IsNetwork (rewindowed I e window)
+unfolding rewindow
+rewindowed_event I e window net within = record {
   period_low = net.period_low;
   period_high = net.period_high;
-  events_rise = increasing_from_rises number _ (Rises-change_in number e (refix fixed) (λ x. refl) I.events (Rises-from_increasing number I.events net.events_rise));
-  events_within = All-change_in number (IsEvent I.period) e (refix fixed) I.events (λ x is. record { number = is.number; fixed = below }) net.events_within;
-  few_events = omega (arith, length-change_in number e (refix fixed) I.events, net.few_events);
+  events_rise = increasing_from_rises number _ (Rises-change_in number e (rewindow window) (λ x. refl) I.events (Rises-from_increasing number I.events net.events_rise));
+  events_within = All-change_in number (IsEvent I.period) e (rewindow window) I.events (λ x is. record { number = is.number; window = within }) net.events_within;
+  few_events = omega (arith, length-change_in number e (rewindow window) I.events, net.few_events);
   activities_rise = net.activities_rise;
   activities_within = net.activities_within;
   few_activities = net.few_activities;
-  ends = All-weaker (HasEnds I.events) (HasEnds (change_in number e (refix fixed) I.events)) (HasEnds-kept I.events (change_in number e (refix fixed) I.events) (λ n is. rw (with_number-change_in number n e (refix fixed) (λ x. refl) I.events) (elim (with_number number n I.events) as (λ o. is_some o ≡ true → is_some (option_map (λ x. cond (number x == e) (refix fixed x) x) o) ≡ true) [ None ↦ λ not. not | Some x ↦ λ _. refl ] is))) I.activities net.ends;
+  ends = All-weaker (HasEnds I.events) (HasEnds (change_in number e (rewindow window) I.events)) (HasEnds-kept I.events (change_in number e (rewindow window) I.events) (λ n is. rw (with_number-change_in number n e (rewindow window) (λ x. refl) I.events) (elim (with_number number n I.events) as (λ o. is_some o ≡ true → is_some (option_map (λ x. cond (number x == e) (rewindow window x) x) o) ≡ true) [ None ↦ λ not. not | Some x ↦ λ _. refl ] is))) I.activities net.ends;
 }
 
 pub added_activity : (I : Network) (a : Activity) → IsNetwork I → IsActivity a → HasEnds I.events a → with_number id_of a.id I.activities ≡ None → length I.activities < max_activities I.period → IsNetwork (effect I (AddActivity a))
@@ -169,13 +170,13 @@ find-empty e (a ∷ activities) none =
       | false ↦ λ later. find-empty e activities later
     ] none
 
--- an event that is put in the place of the one of its number has another fixed time
-pub refixed-events : (e : ℕ) (fixed : Option ℕ) (events : List Event) → change_in number e (λ _. record { id = e; fixed = fixed }) events ≡ change_in number e (λ x. record x { fixed = fixed }) events
-refixed-events e fixed [] = refl
-refixed-events e fixed (x ∷ events) =
-    elim (number x == e) as (λ b. (number x == e) ≡ b → cond b (record { id = e; fixed = fixed }) x ∷ change_in number e (λ _. record { id = e; fixed = fixed }) events ≡ cond b (record x { fixed = fixed }) x ∷ change_in number e (λ y. record y { fixed = fixed }) events) [
-      | true ↦ λ same. let at : x.id ≡ e = eqb-true x.id e same in rw (refixed-events e fixed events, at) refl
-      | false ↦ λ apart. rw (refixed-events e fixed events) refl
+-- an event that is put in the place of the one of its number has another window
+pub rewindowed-events : (e : ℕ) (window : Option Interval) (events : List Event) → change_in number e (λ _. record { id = e; window = window }) events ≡ change_in number e (λ x. record x { window = window }) events
+rewindowed-events e window [] = refl
+rewindowed-events e window (x ∷ events) =
+    elim (number x == e) as (λ b. (number x == e) ≡ b → cond b (record { id = e; window = window }) x ∷ change_in number e (λ _. record { id = e; window = window }) events ≡ cond b (record x { window = window }) x ∷ change_in number e (λ y. record y { window = window }) events) [
+      | true ↦ λ same. let at : x.id ≡ e = eqb-true x.id e same in rw (rewindowed-events e window events, at) refl
+      | false ↦ λ apart. rw (rewindowed-events e window events) refl
     ] refl
 
 module _ (activities : List Activity) (m : ℕ) (a : Activity) (is : with_number id_of m activities ≡ Some a) where

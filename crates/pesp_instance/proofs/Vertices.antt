@@ -6,10 +6,12 @@ use Rattle.std.specs.BTreeMap.{is_at}
 use Rattle.std.specs.Map.{lookup}
 use Rattle.std.specs.Ordering.{nat_cmp}
 use Rattle.pesp_base.specs.declared.activity.Activity.{Activity}
+use Rattle.pesp_base.specs.Windows.{Interval}
 use Rattle.pesp_base.specs.Numbered.{with_number, put_in, take_out, change_in}
 use Rattle.slab.specs.Slab.{Slab}
 use Rattle.pesp_instance.specs.declared.vertex.Vertex.{Vertex}
-use Rattle.pesp_instance.specs.Ends.{vertex_number, events_of, with_fixed, has_key, lists_at, lists, ListTheSame, ListsMore, ListsLess, is_pair_of}
+use Rattle.pesp_instance.specs.Ends.{vertex_number, events_of, with_window, has_key, lists_at, lists, ListTheSame, ListsMore, ListsLess, is_pair_of}
+use Rattle.pesp_instance.specs.Network.{Event}
 use Rattle.pesp_instance.specs.Table.{IsTable, values_in}
 use Rattle.pesp_instance.proofs.Numbers.{event_number}
 use Rattle.pesp_instance.proofs.Rising.{number-with_number, change_in-with_number, with_number-replaced, with_number-others}
@@ -33,14 +35,18 @@ is_some-map (Some x) = refl
 pub is_event : (e : ℕ) (xs : List Vertex) → is_some (with_number event_number e (events_of xs)) ≡ is_some (with_number vertex_number e xs)
 is_event e xs = ap is_some (event-with_number e xs) ∙ is_some-map (with_number vertex_number e xs)
 
--- the fixed time of an event is that of its vertex
-pub fixed-with_number : (e : ℕ) (xs : List Vertex) (o : Option Vertex) → o ≡ with_number vertex_number e xs → option_and_then (λ x. x.fixed) (with_number event_number e (events_of xs)) ≡ option_and_then (λ x. x.event.fixed) o
-fixed-with_number e xs o is =
-    ap (option_and_then (λ x. x.fixed)) (event-with_number e xs ∙ ap (option_map (λ x. x.event)) (sym is)) ∙ joined o
+-- what an event has is what its vertex has
+pub told-with_number : {X : Type 0} (tell : Event → Option X) (e : ℕ) (xs : List Vertex) (o : Option Vertex) → o ≡ with_number vertex_number e xs → option_and_then tell (with_number event_number e (events_of xs)) ≡ option_and_then (λ x. tell x.event) o
+told-with_number {X} tell e xs o is =
+    ap (option_and_then tell) (event-with_number e xs ∙ ap (option_map (λ x. x.event)) (sym is)) ∙ joined o
   where
-    joined : (p : Option Vertex) → option_and_then (λ x. x.fixed) (option_map (λ x. x.event) p) ≡ option_and_then (λ x. x.event.fixed) p
+    joined : (p : Option Vertex) → option_and_then tell (option_map (λ x. x.event) p) ≡ option_and_then (λ x. tell x.event) p
     joined None = refl
     joined (Some x) = refl
+
+-- the window of an event is that of its vertex
+pub window-with_number : (e : ℕ) (xs : List Vertex) (o : Option Vertex) → o ≡ with_number vertex_number e xs → option_and_then (λ x. x.window) (with_number event_number e (events_of xs)) ≡ option_and_then (λ x. x.event.window) o
+window-with_number e xs o is = told-with_number (λ x. x.window) e xs o is
 
 events-filter : (keep : ℕ → Bool) (xs : List Vertex) → events_of (filter (λ x. keep (vertex_number x)) xs) ≡ filter (λ x. keep (event_number x)) (events_of xs)
 events-filter keep [] = refl
@@ -64,14 +70,14 @@ events-change_in e change keeps (x ∷ xs) =
     let same : (cond (vertex_number x == e) (change x) x).event ≡ x.event = elim (vertex_number x == e) as (λ b. (cond b (change x) x).event ≡ x.event) [ true ↦ keeps x | false ↦ refl ] in
     rw (same, events-change_in e change keeps xs) refl
 
-abbrev pub refix : Option ℕ → Vertex → Vertex
-refix fixed x = record x { event = record x.event { fixed = fixed } }
+abbrev pub rewindow : Option Interval → Vertex → Vertex
+rewindow window x = record x { event = record x.event { window = window } }
 
-events-refix : (e : ℕ) (fixed : Option ℕ) (xs : List Vertex) → events_of (change_in vertex_number e (refix fixed) xs) ≡ with_fixed e fixed (events_of xs)
-events-refix e fixed [] = refl
-events-refix e fixed (x ∷ xs) =
-    let same : (cond (vertex_number x == e) (refix fixed x) x).event ≡ cond (event_number x.event == e) (record x.event { fixed = fixed }) x.event = elim (vertex_number x == e) as (λ b. (cond b (refix fixed x) x).event ≡ cond b (record x.event { fixed = fixed }) x.event) [ true ↦ refl | false ↦ refl ] in
-    rw (same, events-refix e fixed xs) refl
+events-rewindow : (e : ℕ) (window : Option Interval) (xs : List Vertex) → events_of (change_in vertex_number e (rewindow window) xs) ≡ with_window e window (events_of xs)
+events-rewindow e window [] = refl
+events-rewindow e window (x ∷ xs) =
+    let same : (cond (vertex_number x == e) (rewindow window x) x).event ≡ cond (event_number x.event == e) (record x.event { window = window }) x.event = elim (vertex_number x == e) as (λ b. (cond b (rewindow window x) x).event ≡ cond b (record x.event { window = window }) x.event) [ true ↦ refl | false ↦ refl ] in
+    rw (same, events-rewindow e window xs) refl
 
 -- ---- what one set has after a change
 
@@ -162,9 +168,9 @@ module _ (s : Slab Vertex) (es : List (ℕ × ℕ)) (table : IsTable vertex_numb
       ap events_of (changed_there y (ap vertex_number made) (λ z. record z { activities = y.activities }) made)
       ∙ events-change_in e (λ z. record z { activities = y.activities }) (λ z. refl) before
 
-  -- another fixed time is that of the event
-  pub events_refixed : (fixed : Option ℕ) → events_of (values_in (slice_set s.slots slot (Some (refix fixed x))) es) ≡ with_fixed e fixed (events_of before)
-  events_refixed fixed = ap events_of (changed_there (refix fixed x) refl (refix fixed) refl) ∙ events-refix e fixed before
+  -- another window is that of the event
+  pub events_rewindowed : (window : Option Interval) → events_of (values_in (slice_set s.slots slot (Some (rewindow window x))) es) ≡ with_window e window (events_of before)
+  events_rewindowed window = ap events_of (changed_there (rewindow window x) refl (rewindow window) refl) ∙ events-rewindow e window before
 
 -- ---- what is listed after a change of one pair
 

@@ -1,5 +1,5 @@
 -- What an edit makes of an instance.
-use Rattle.std.specs.Prelude.{◌≡◌, ℕ, ◌⊎◌, Bool, true, false, IsTrue, IsOk, not, nat_le, is_some, is_none, List, [], ◌∷◌, length, find, fold, Option, Some, None, option_map, Result, Err}
+use Rattle.std.specs.Prelude.{◌≡◌, ℕ, ◌⊎◌, Bool, true, false, IsTrue, IsOk, not, nat_le, nat_lt, ◌==◌, ◌||◌, is_some, is_none, List, [], ◌∷◌, length, find, fold, Option, Some, None, option_map, Result, Err}
 use Rattle.std.specs.Result.{result_unwrap_or}
 use Rattle.pesp_base.specs.declared.activity.Activity.{Activity}
 use Rattle.pesp_base.specs.declared.refusal.Refusal.{Refusal}
@@ -7,9 +7,10 @@ use Rattle.pesp_base.specs.declared.refusal.Refusal.TheVariants as no
 use Rattle.pesp_base.specs.Limits.{max_events, max_activities}
 use Rattle.pesp_base.specs.Numbered.{put_in, take_out, change_in}
 use Rattle.pesp_base.specs.Refusals.{when, unless_refused}
+use Rattle.pesp_base.specs.Windows.{Interval, at_time}
 use Rattle.pesp_instance.specs.declared.edit.Edit.{Edit}
-use Rattle.pesp_instance.specs.declared.edit.Edit.TheVariants.{AddEvent, DropEvent, Fix, Unfix, AddActivity, DropActivity, SetSpan, SetWeight, SetEnds}
-use Rattle.pesp_instance.specs.Network.{Network, activity_of, fixed_of, has_event, is_end_of, new_event}
+use Rattle.pesp_instance.specs.declared.edit.Edit.TheVariants.{AddEvent, DropEvent, Fix, SetWindow, Unfix, AddActivity, DropActivity, SetSpan, SetWeight, SetEnds}
+use Rattle.pesp_instance.specs.Network.{Network, activity_of, has_event, is_end_of, new_event, window_of}
 
 -- the instance without events
 abbrev pub empty_network : ℕ → Network
@@ -28,7 +29,10 @@ abbrev pub refusals : Network → Edit → List (Option Refusal)
 refusals I (AddEvent e) = when (has_event I e) (no.EventExists e) ∷ when (nat_le (max_events I.period) (length I.events)) no.TooManyEvents ∷ []
 refusals I (DropEvent e) = no_event I e ∷ option_map (λ a. no.EventInUse e a.id) (find (is_end_of e) I.activities) ∷ []
 refusals I (Fix e t) = no_event I e ∷ when (nat_le I.period t) (no.TimeOutOfRange t) ∷ []
-refusals I (Unfix e) = no_event I e ∷ when (is_none (fixed_of I e)) (no.NotFixed e) ∷ []
+refusals I (SetWindow e first length) =
+    no_event I e ∷ when (nat_le I.period first) (no.TimeOutOfRange first)
+    ∷ when (length == 0 || nat_lt I.period length) (no.LengthOutOfRange length) ∷ []
+refusals I (Unfix e) = no_event I e ∷ when (is_none (window_of I e)) (no.NoWindow e) ∷ []
 refusals I (AddActivity a) =
     when (is_some (activity_of I a.id)) (no.ActivityExists a.id) ∷ no_event I a.from ∷ no_event I a.to
     ∷ when (nat_le (max_activities I.period) (length I.activities)) no.TooManyActivities ∷ []
@@ -37,9 +41,9 @@ refusals I (SetSpan n span) = no_activity I n ∷ []
 refusals I (SetWeight n weight) = no_activity I n ∷ []
 refusals I (SetEnds n from to) = no_activity I n ∷ no_event I from ∷ no_event I to ∷ []
 
--- the instance with the event's fixed time set or taken away
-abbrev pub refixed : Network → ℕ → Option ℕ → Network
-refixed I e fixed = record I { events = change_in (λ x. x.id) e (λ x. record x { fixed = fixed }) I.events }
+-- the instance with the event's window set or taken away
+abbrev pub rewindowed : Network → ℕ → Option Interval → Network
+rewindowed I e window = record I { events = change_in (λ x. x.id) e (λ x. record x { window = window }) I.events }
 
 -- the instance with the activity of a number changed
 abbrev pub changed : Network → ℕ → (Activity → Activity) → Network
@@ -49,8 +53,9 @@ changed I n change = record I { activities = change_in (λ a. a.id) n change I.a
 abbrev pub effect : Network → Edit → Network
 effect I (AddEvent e) = record I { events = put_in (λ x. x.id) (new_event e) I.events }
 effect I (DropEvent e) = record I { events = take_out (λ x. x.id) e I.events }
-effect I (Fix e t) = refixed I e (Some t)
-effect I (Unfix e) = refixed I e None
+effect I (Fix e t) = rewindowed I e (Some (at_time t))
+effect I (SetWindow e first length) = rewindowed I e (Some (record { first = first; length = length }))
+effect I (Unfix e) = rewindowed I e None
 effect I (AddActivity a) = record I { activities = put_in (λ b. b.id) a I.activities }
 effect I (DropActivity n) = record I { activities = take_out (λ b. b.id) n I.activities }
 effect I (SetSpan n span) = changed I n (λ a. record a { span = span })
@@ -72,6 +77,7 @@ grows (AddActivity a) = true
 grows (SetEnds n from to) = true
 grows (DropEvent e) = false
 grows (Fix e t) = false
+grows (SetWindow e first length) = false
 grows (Unfix e) = false
 grows (DropActivity n) = false
 grows (SetSpan n span) = false

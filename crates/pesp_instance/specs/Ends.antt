@@ -5,6 +5,7 @@ use Rattle.std.specs.List.{list_any, filter_map}
 use Rattle.std.specs.Ordering.{nat_cmp}
 use Rattle.pesp_base.specs.declared.activity.Activity.{Activity}
 use Rattle.pesp_base.specs.Numbered.{with_number, change_in}
+use Rattle.pesp_base.specs.Windows.{Interval}
 use Rattle.pesp_instance.specs.declared.vertex.Vertex.{Vertex}
 use Rattle.pesp_instance.specs.Network.{Event, is_end_of}
 use Rattle.pesp_instance.specs.Table.{Table}
@@ -17,9 +18,9 @@ vertex_number x = x.event.id
 abbrev pub events_of : List Vertex → List Event
 events_of vertices = map (λ x. x.event) vertices
 
--- the events with another fixed time of one, or with none
-abbrev pub with_fixed : ℕ → Option ℕ → List Event → List Event
-with_fixed e fixed events = change_in (λ x. x.id) e (λ x. record x { fixed = fixed }) events
+-- the events with another window of one, or with none
+abbrev pub with_window : ℕ → Option Interval → List Event → List Event
+with_window e window events = change_in (λ x. x.id) e (λ x. record x { window = window }) events
 
 -- whether the number is among the keys of a set
 abbrev pub has_key : List ℕ → ℕ → Bool

@@ -8,7 +8,7 @@ ghost use Rattle.pesp_instance.specs.Network.{activity_of, has_event};
 use crate::vertex::Vertex;
 use crate::{Around, Edit, Event, Instance};
 use pesp_base::{
-    Activity, ActivityId, EventId, GREATEST_NUMBER, GREATEST_WEIGHT, Refusal, Span, Weight,
+    Activity, ActivityId, EventId, GREATEST_NUMBER, GREATEST_WEIGHT, Refusal, Span, Weight, Window,
     max_activities, max_events,
 };
 
@@ -25,6 +25,7 @@ impl Instance {
             Edit::AddEvent(event) => self.add_event(event),
             Edit::DropEvent(event) => self.drop_event(event),
             Edit::Fix(event, time) => self.fix(event, time),
+            Edit::SetWindow(event, first, length) => self.set_window(event, first, length),
             Edit::Unfix(event) => self.unfix(event),
             Edit::AddActivity(activity) => self.add_activity(activity),
             Edit::DropActivity(id) => self.drop_activity(id),
@@ -57,7 +58,7 @@ impl Instance {
         }
         let new = Event {
             id: event,
-            fixed: None,
+            window: None,
         };
         match self.vertices.insert(Vertex::new(self.alloc, new)) {
             Ok(true) => Ok(()),
@@ -93,10 +94,28 @@ impl Instance {
         let Some(slot) = self.vertices.event_slot(event) else {
             return Err(Refusal::NoEvent(event));
         };
-        if time >= self.period.get() {
+        let Some(window) = Window::new(self.period, time, 1) else {
             return Err(Refusal::TimeOutOfRange(time));
+        };
+        self.vertices.rewindow(slot, Some(window));
+        Ok(())
+    }
+
+    fn set_window(&mut self, event: EventId, first: u16, length: u16) -> Result<(), Refusal>
+        ensures ok { OnOk result (edited self.old (Edit.SetWindow event first length) ≡ Ok self.new) }
+        ensures err { IfErr result (IsRefusal self.old (Edit.SetWindow event first length)) }
+        ensures unchanged { OnErr result (self.new ≡ self.old) }
+    {
+        let Some(slot) = self.vertices.event_slot(event) else {
+            return Err(Refusal::NoEvent(event));
+        };
+        if first >= self.period.get() {
+            return Err(Refusal::TimeOutOfRange(first));
         }
-        self.vertices.refix(slot, Some(time));
+        let Some(window) = Window::new(self.period, first, length) else {
+            return Err(Refusal::LengthOutOfRange(length));
+        };
+        self.vertices.rewindow(slot, Some(window));
         Ok(())
     }
 
@@ -108,10 +127,10 @@ impl Instance {
         let Some(slot) = self.vertices.event_slot(event) else {
             return Err(Refusal::NoEvent(event));
         };
-        if self.vertices.at(slot).event.fixed.is_none() {
-            return Err(Refusal::NotFixed(event));
+        if self.vertices.at(slot).event.window.is_none() {
+            return Err(Refusal::NoWindow(event));
         }
-        self.vertices.refix(slot, None);
+        self.vertices.rewindow(slot, None);
         Ok(())
     }
 

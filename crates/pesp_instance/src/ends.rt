@@ -4,13 +4,13 @@ ghost use Rattle.std.specs.Prelude.{◌≡◌, ℕ, Some, IfOk, OnOk, OnErr, is_
 ghost use Rattle.std.specs.List.Sorted.{IsStrictlySortedBy};
 ghost use Rattle.std.specs.Ordering.{nat_cmp};
 ghost use Rattle.pesp_base.specs.Numbered.{with_number};
-ghost use Rattle.pesp_instance.specs.Ends.{vertex_number, numbers_at, numbers_left, events_of, with_fixed, lists, ListTheSame, ListsMore, ListsLess, KeepsEvents, is_pair_of, is_old_pair_of};
+ghost use Rattle.pesp_instance.specs.Ends.{vertex_number, numbers_at, numbers_left, events_of, with_window, lists, ListTheSame, ListsMore, ListsLess, KeepsEvents, is_pair_of, is_old_pair_of};
 ghost use Rattle.pesp_instance.specs.Network.{is_end_of};
 ghost use Rattle.pesp_instance.specs.Table.{slot_of, IsSlot};
 
 use crate::table::Table;
 use crate::vertex::Vertex;
-use pesp_base::{Activity, EventId};
+use pesp_base::{Activity, EventId, Window};
 use std::alloc::AllocError;
 use std::collections::btree_set;
 
@@ -71,13 +71,13 @@ impl Table<Vertex> {
         }
     }
 
-    /// Gives the event of a slot another fixed time, or none.
-    pub fn refix(&mut self, slot: usize, fixed: Option<u16>)
+    /// Gives the event of a slot another window, or none.
+    pub fn rewindow(&mut self, slot: usize, window: Option<Window>)
         requires slot { IsSlot self.old slot }
-        ensures events { (e : ℕ) → slot_of self.old e ≡ Some slot → events_of self.new.values ≡ with_fixed e fixed (events_of self.old.values) }
+        ensures events { (e : ℕ) → slot_of self.old e ≡ Some slot → events_of self.new.values ≡ with_window e window (events_of self.old.values) }
         ensures listed { ListTheSame self.old.values self.new.values }
     {
-        self.slots[slot].event.fixed = fixed;
+        self.slots[slot].event.window = window;
     }
 
     /// Lists an activity at its ends, which have these slots. Without the memory for it, each event lists what it did.

@@ -1,32 +1,31 @@
 //! Events.
 
-use pesp_base::{EventId, Period};
+use pesp_base::{EventId, Period, Window};
 
-/// An event, with its fixed time if it has one.
+/// An event, with its window if it has one. A window of one residue is a fixed time.
 #[derive(Clone, Copy, Debug, PartialEq, Eq)]
 pub struct Event {
     pub id: EventId,
-    pub fixed: Option<u16>,
+    pub window: Option<Window>,
 }
 
 impl Event {
     ghost use Rattle.std.specs.Prelude.{◌≡◌};
-    ghost use Rattle.pesp_instance.specs.Network.{agrees_with};
+    ghost use Rattle.pesp_instance.specs.Network.{agrees_with, fixed_time};
 
     /// The fixed time, if there is one.
     pub fn fixed_time(&self) -> Option<u16>
-        ensures { result ≡ self.now.fixed }
+        ensures { result ≡ fixed_time self.now }
     {
-        self.fixed
+        self.window?.only_time()
     }
 
-    /// Whether the event may stand at this residue of the period, by its fixed time.
+    /// Whether the event may stand at this residue of the period, by its window.
     pub fn admits(&self, period: Period, residue: u16) -> bool
-        ensures { result ≡ agrees_with period self.now.fixed residue }
+        ensures { result ≡ agrees_with period self.now.window residue }
     {
-        let _period = period;
-        match self.fixed {
-            Some(fixed) => fixed == residue,
+        match self.window {
+            Some(window) => window.holds(period, residue),
             None => true,
         }
     }

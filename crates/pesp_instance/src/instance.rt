@@ -2,18 +2,18 @@
 
 ghost use Rattle.std.specs.Prelude.{◌≡◌, length, option_copied};
 ghost use Rattle.pesp_instance.specs.Edited.{empty_network};
-ghost use Rattle.pesp_instance.specs.Network.{IsNetwork, has_event, fixed_of, activity_of, around};
+ghost use Rattle.pesp_instance.specs.Network.{IsNetwork, has_event, fixed_of, window_of, activity_of, around};
 
 use crate::table::Table;
 use crate::vertex::Vertex;
 use crate::{Around, Events, Walk};
-use pesp_base::{Activity, ActivityId, EventId, LEAST_PERIOD, Period};
+use pesp_base::{Activity, ActivityId, EventId, LEAST_PERIOD, Period, Window};
 use std::alloc::Global;
 use std::marker::Model;
 
-/// A period, events, some of them with fixed times, and activities.
+/// A period, events, some of them with windows, and activities.
 ///
-/// Each number, time and count is within its limit, and activities lead between events.
+/// Each number, window and count is within its limit, and activities lead between events.
 #[derive(Drop)]
 pub struct Instance {
     pub(crate) alloc: Global,
@@ -88,12 +88,20 @@ impl Instance {
         self.activities.get(id.get())
     }
 
-    /// The fixed time of an event, if it has one.
+    /// The window of an event, if it has one.
+    pub fn window(&self, event: EventId) -> Option<Window>
+        ensures value { result ≡ window_of self.now event }
+        ensures network { IsNetwork self.now }
+    {
+        self.vertices.get(event.get())?.event.window
+    }
+
+    /// The fixed time of an event, if it has one: that of a window of one residue.
     pub fn fixed(&self, event: EventId) -> Option<u16>
         ensures value { result ≡ fixed_of self.now event }
         ensures network { IsNetwork self.now }
     {
-        self.vertices.get(event.get())?.event.fixed
+        self.vertices.get(event.get())?.event.fixed_time()
     }
 
     /// The events, by rising number.

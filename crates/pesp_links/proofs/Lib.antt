@@ -9,4 +9,4 @@ pub mod StandMore
 pub mod StandMoved
 pub mod StandPairs
 pub mod Wider
-pub mod Windows
+pub mod EndRanges

@@ -9,7 +9,7 @@ use Rattle.pesp_instance.specs.Edited.{changed, edited, effect, empty_network}
 use Rattle.pesp_instance.specs.Network.{Network, activity_of, has_event}
 use Rattle.pesp_instance.proofs.Numbers.{activity_number as id_of}
 use Rattle.pesp_instance.proofs.Rising.{with_number-change_in, with_number-put_in, with_number-take_out}
-use Rattle.pesp_domains.proofs.Edits.{effect_is, keeps_fix, keeps_unfix}
+use Rattle.pesp_domains.proofs.Edits.{effect_is, keeps_fix, keeps_window, keeps_unfix}
 use Rattle.pesp_domains.proofs.Families.{not_in_none}
 use Rattle.pesp_domains.specs.declared.side.Side.{Side}
 use Rattle.pesp_domains.specs.declared.side.Side.TheVariants.{Tail, Head}
@@ -151,7 +151,7 @@ stands_empty period =
 -- ---- edits that leave events, ends and spans
 
 -- an edit that leaves the activities, and which events there are
-stands_kept : (I J : Network) (links : Links) → I.period ≡ J.period → I.activities ≡ J.activities → ((e : ℕ) → has_event J e ≡ has_event I e) → StandFor I links → StandFor J links
+pub stands_kept : (I J : Network) (links : Links) → I.period ≡ J.period → I.activities ≡ J.activities → ((e : ℕ) → has_event J e ≡ has_event I e) → StandFor I links → StandFor J links
 stands_kept I J links period activities events stand =
     record {
       events = stand.events;
@@ -177,6 +177,10 @@ stands_kept I J links period activities events stand =
 pub stands_fix : (I J : Network) (links : Links) (e t : ℕ) → edited I (edits.Fix e t) ≡ Ok J → StandFor I links → StandFor J links
 stands_fix I J links e t ok stand =
     subst (λ K. StandFor K links) (sym (effect_is I J (edits.Fix e t) ok)) (stands_kept I (effect I (edits.Fix e t)) links refl refl (keeps_fix e t I).1 stand)
+
+pub stands_window : (I J : Network) (links : Links) (e first length : ℕ) → edited I (edits.SetWindow e first length) ≡ Ok J → StandFor I links → StandFor J links
+stands_window I J links e first length ok stand =
+    subst (λ K. StandFor K links) (sym (effect_is I J (edits.SetWindow e first length) ok)) (stands_kept I (effect I (edits.SetWindow e first length)) links refl refl (keeps_window e first length I).1 stand)
 
 pub stands_unfix : (I J : Network) (links : Links) (e : ℕ) → edited I (edits.Unfix e) ≡ Ok J → StandFor I links → StandFor J links
 stands_unfix I J links e ok stand =

@@ -6,7 +6,7 @@ use Rattle.pesp_domains.proofs.Anew.{some_below}
 use Rattle.pesp_domains.proofs.Families.{and_left, and_right, of_range, passing}
 use Rattle.pesp_links.specs.declared.end.End.{End}
 use Rattle.pesp_links.specs.Ends.{passes, passes_more}
-use Rattle.pesp_links.proofs.Windows.{far_above, far_below, mod_below}
+use Rattle.pesp_links.proofs.EndRanges.{far_above, far_below, mod_below}
 
 -- how far a residue is behind the first one of a window
 abbrev behind : ℕ → ℕ → ℕ → ℕ

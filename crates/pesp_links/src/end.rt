@@ -21,7 +21,7 @@ pub struct End {
 
 /// Residues in two ranges: from `start` on and below `end`, and below `wrapped`.
 #[derive(Clone, Copy)]
-pub struct Window {
+pub struct Ranges {
     pub start: u16,
     pub end: u16,
     pub wrapped: u16,
@@ -96,7 +96,7 @@ impl End {
     }
 
     /// The residues of the other event that go with one of this one.
-    pub fn window(&self, period: u16, residue: u16) -> Window
+    pub fn ranges(&self, period: u16, residue: u16) -> Ranges
         requires period { 2 * period < 65536 }
         requires residue { residue < period }
         requires first { (self.now).first < period }
@@ -109,13 +109,13 @@ impl End {
         let sum = residue + self.first;
         let start = if sum < period { sum } else { sum - period };
         if self.width <= period - start {
-            Window {
+            Ranges {
                 start,
                 end: start + self.width,
                 wrapped: 0,
             }
         } else {
-            Window {
+            Ranges {
                 start,
                 end: period,
                 wrapped: self.width - (period - start),

@@ -6,6 +6,6 @@ mod links;
 mod lists;
 mod places;
 
-pub use end::{End, Window};
+pub use end::{End, Ranges};
 pub use links::Links;
 pub use lists::Walk;

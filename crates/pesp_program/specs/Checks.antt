@@ -1,5 +1,5 @@
 -- How the writing of a check may end.
-use Rattle.std.specs.Prelude.{◌≡◌, ◌⊎◌, ℕ, Bool, IsTrue, List, Option, take}
+use Rattle.std.specs.Prelude.{◌≡◌, ◌⊎◌, ℕ, Bool, false, IsTrue, List, Option, take}
 use Rattle.std.specs.Io.KnownBytes.{Appends, Keeps}
 use Rattle.pesp_instance.specs.Network.{Network}
 use Rattle.pesp_tension.specs.Timetables.{Times}
@@ -12,12 +12,13 @@ use Rattle.pesp_shell.specs.Opening.{Files}
 abbrev pub Checks : Files → List ℕ → Type 0
 Checks f text = (I : Network) × (fixed : Times) × (times : Times) × IsCheck f text I fixed times
 
--- the answer is written
-abbrev pub IsWritten : Files → Option (List ℕ) → Option (List ℕ) → Type 0
-IsWritten f written written' = (text : List ℕ) × Checks f text × Appends written written' text
+-- the answer is written and passed on, and no write failed
+abbrev pub IsWritten : Files → Option (List ℕ) → Option (List ℕ) → Bool → Bool → Type 0
+IsWritten f written written' failed passed_on =
+    (failed ≡ false) × IsTrue passed_on × (text : List ℕ) × Checks f text × Appends written written' text
 
--- the files have a fault or memory is wanted, and nothing is written; or a write failed behind some first bytes of the answer
+-- the files have a fault or memory is wanted, and nothing is written and no write failed; or a write failed behind some first bytes of the answer
 abbrev pub IsUnchecked : Files → Option (List ℕ) → Option (List ℕ) → Bool → RunFault → Type 0
 IsUnchecked f written written' failed ended =
-    (IsCheckFault f ended × Keeps written written')
+    (IsCheckFault f ended × (failed ≡ false) × Keeps written written')
     ⊎ ((ended ≡ fault.Write) × IsTrue failed × (text : List ℕ) × (n : ℕ) × Checks f text × Appends written written' (take n text))

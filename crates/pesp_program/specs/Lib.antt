@@ -2,3 +2,4 @@ pub mod Checks
 pub mod Endings
 pub mod Faults
 pub mod Files
+pub mod Wiring

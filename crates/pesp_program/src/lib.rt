@@ -4,6 +4,7 @@
 mod answering;
 mod ending;
 mod fault;
+mod file_bytes;
 mod files;
 mod program;
 

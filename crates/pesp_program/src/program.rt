@@ -6,11 +6,12 @@ ghost use Rattle.pesp_program.specs.Faults.{faults_of_file};
 ghost use Rattle.pesp_program.specs.declared.ending.Ending.TheVariants as ending;
 ghost use Rattle.pesp_program.specs.declared.fault.Fault.TheVariants as fault;
 
-use crate::answering::answer;
+use crate::answering::answer_files;
 use crate::ending::Ending;
 use crate::fault::Fault;
+use crate::file_bytes::FileBytes;
 use crate::files;
-use pesp_shell::{Noted, RunFault, Settings, Source, settings};
+use pesp_shell::{Noted, Source, settings};
 use std::io::{ErrorKind, Input};
 use std::process::ExitCode;
 use std::rt::{Env, Files};
@@ -47,34 +48,21 @@ fn contents<R: Files + AllocGlobal>(
     }
 }
 
-/// Answers what the settings ask for, of these files.
-fn answer_files<R: AllocGlobal + Input + Print>(
-    rt: &R,
-    settings: &Settings,
-    activities: &Option<Vec<u8>>,
-    fixed: &Option<Vec<u8>>,
-    times: &Option<Vec<u8>>,
-) -> Result<(), RunFault> {
-    answer(
-        rt.alloc(),
-        settings,
-        activities
-            .as_ref()
-            .map_or(b"".as_slice(), |bytes| bytes.as_slice()),
-        fixed.as_ref().map(|bytes| bytes.as_slice()),
-        times.as_ref().map(|bytes| bytes.as_slice()),
-        &mut Noted::new(rt.reader()),
-        &mut Noted::new(io::writer(rt)),
-    )
-}
-
 /// Does what the words ask for.
 fn work<R: Files + AllocGlobal + Input + Print>(rt: &R, words: &[&str]) -> Result<(), Ending> {
     let settings = settings(rt.alloc(), words)?;
-    let activities = contents(rt, Source::Activities, settings.activities)?;
-    let fixed = contents(rt, Source::Fixed, settings.fixed)?;
-    let times = contents(rt, Source::Times, settings.times)?;
-    answer_files(rt, &settings, &activities, &fixed, &times)?;
+    let files = FileBytes {
+        activities: contents(rt, Source::Activities, settings.activities)?,
+        fixed: contents(rt, Source::Fixed, settings.fixed)?,
+        times: contents(rt, Source::Times, settings.times)?,
+    };
+    answer_files(
+        rt.alloc(),
+        &settings,
+        &files,
+        &mut Noted::new(rt.reader()),
+        &mut Noted::new(io::writer(rt)),
+    )?;
     Ok(())
 }
 

@@ -49,10 +49,11 @@ refusal_text (no.ActivityExists a) = Some (codes "refused 5 activity " ++ decima
 refusal_text (no.NoActivity a) = Some (codes "refused 6 no activity " ++ decimal a ++ codes "\n")
 refusal_text no.TooManyEvents = Some (codes "refused 7 too many events\n")
 refusal_text no.TooManyActivities = Some (codes "refused 8 too many activities\n")
-refusal_text (no.NotFixed e) = Some (codes "refused 9 event " ++ decimal e ++ codes " is not fixed\n")
+refusal_text (no.NoWindow e) = Some (codes "refused 9 event " ++ decimal e ++ codes " is not fixed\n")
 refusal_text no.Memory = None
 refusal_text (no.MissingTime e) = Some (codes "refused 11 event " ++ decimal e ++ codes " has no time\n")
 refusal_text no.Infeasible = Some (codes "refused 12 infeasible\n")
+refusal_text (no.LengthOutOfRange n) = Some (codes "refused 13 length " ++ decimal n ++ codes " is out of range\n")
 
 -- the reply of an answer, or its refusal's
 abbrev pub told : {X : Type 0} → (X → List ℕ) → Result X Refusal → Option (List ℕ)

@@ -1,6 +1,7 @@
 //! The reply to a command and to a line.
 
-ghost use Rattle.std.specs.Prelude.{◌≡◌, IfOk, OnErr};
+ghost use Rattle.std.specs.Prelude.{◌≡◌, IfOk, IsOk, None, Ok, OnErr};
+ghost use Rattle.pesp_commands.specs.Parsed.{parsed};
 ghost use Rattle.pesp_replies.specs.Legal.{Legal, LegalCommand, work_of};
 ghost use Rattle.pesp_replies.specs.Replies.{fault_text};
 
@@ -67,13 +68,15 @@ fn fault_reply(alloc: Global, fault: ParseFault) -> Result<Vec<u8>, Memory>
 
 /// Does what a line says, and gives the bytes of the reply: none for a blank line or a comment.
 ///
-/// Where memory is wanted, the instance and the working timetable are as they were.
+/// Where memory is wanted, the instance and the working timetable are as they were. A line without a reply
+/// wants none.
 pub fn reply_to_line<K: Keeper>(
     alloc: Global,
     bench: &mut Bench<K>,
     line: &[u8],
 ) -> Result<Vec<u8>, Memory>
     ensures legal { IfOk result (λ text. Legal (work_of bench.old) line.now text.items (work_of bench.new)) }
+    ensures silent { parsed line.now ≡ Ok None → IsOk result }
     ensures unchanged { OnErr result (work_of bench.new ≡ work_of bench.old) }
 {
     match parse(line) {

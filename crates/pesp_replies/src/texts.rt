@@ -114,12 +114,20 @@ pub fn put_refusal(text: &mut Vec<u8>, refusal: Refusal) -> Result<(), AllocErro
         }
         Refusal::TooManyEvents => put(text, b"refused 7 too many events\n"),
         Refusal::TooManyActivities => put(text, b"refused 8 too many activities\n"),
-        Refusal::NotFixed(event) => put_event(text, b"refused 9 event ", event, b" is not fixed\n"),
+        Refusal::NoWindow(event) => put_event(text, b"refused 9 event ", event, b" is not fixed\n"),
         Refusal::Memory => Err(AllocError),
         Refusal::MissingTime(event) => {
             put_event(text, b"refused 11 event ", event, b" has no time\n")
         }
         Refusal::Infeasible => put(text, b"refused 12 infeasible\n"),
+        Refusal::LengthOutOfRange(length) => {
+            put_between(
+                text,
+                b"refused 13 length ",
+                u64::from(length),
+                b" is out of range\n",
+            )
+        }
     }
 }
 

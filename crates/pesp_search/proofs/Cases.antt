@@ -1,6 +1,7 @@
 -- The tree and the optimum of small instances, by computation.
 use Rattle.std.proofs.Common.{◌≡◌, ℕ, ◌==◌, true, refl, List, [], ◌∷◌, Some, inl, arith}
 use Rattle.pesp_base.specs.declared.activity.Activity.{Activity}
+use Rattle.pesp_base.specs.Windows.{at_time}
 use Rattle.pesp_instance.specs.declared.event.Event.{Event}
 use Rattle.pesp_instance.specs.Network.{Network, new_event}
 use Rattle.pesp_search.specs.declared.answer.Answer.TheVariants.{Infeasible}
@@ -16,7 +17,7 @@ abbrev free : ℕ → Event
 free e = new_event e
 
 abbrev at_zero : ℕ → Event
-at_zero e = record { id = e; fixed = Some 0 }
+at_zero e = record { id = e; window = Some (at_time 0) }
 
 -- ---- two events, and an activity each way between them
 

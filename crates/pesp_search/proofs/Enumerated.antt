@@ -46,7 +46,7 @@ member_passes : (I : Network) (m : Times) → IsMember I m → is_member I m ≡
 member_passes I m member =
     both _ _
     (list_all-from_AllPass (λ t. nat_lt t I.period) (values_of m.entries) (λ k d l. lt-ltb _ _ (member.below k d l)))
-    (both _ _ (list_all-from_AllPass (meets m) I.activities member.met) (list_all-from_AllPass (agrees m) I.events member.fixed))
+    (both _ _ (list_all-from_AllPass (meets m) I.activities member.met) (list_all-from_AllPass (agrees m) I.events member.window))
 
 member_from : (I : Network) (times : List ℕ) → length times ≡ length (event_ids I) → is_member I (timetable_of I times) ≡ true → IsMember I (timetable_of I times)
 member_from I times long is =
@@ -58,7 +58,7 @@ member_from I times long is =
       events = keys_of-zip (event_ids I) times long;
       below = λ k d l. ltb-true _ _ (AllPass-from_list_all (λ t. nat_lt t I.period) (values_of m.entries) parts.0 k d l);
       met = AllPass-from_list_all (meets m) I.activities more.0;
-      fixed = AllPass-from_list_all (agrees m) I.events more.1;
+      window = AllPass-from_list_all (agrees m) I.events more.1;
     }
 
 -- what passes each list of times holds of each member

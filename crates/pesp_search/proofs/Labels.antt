@@ -5,16 +5,17 @@ use Rattle.std.proofs.Math.Seq.{take-append_seam}
 use Rattle.std.proofs.lemmas.Bool.{cases_eq, cases_lt, eq-eqb, eqb-true, false≢true, ne_eqb}
 use Rattle.std.proofs.lemmas.List.{get_or_past}
 use Rattle.std.proofs.lemmas.List.Elements.{All-contains}
-use Rattle.pesp_instance.specs.Network.{IsNetwork, Network, event_ids, fixed_of}
+use Rattle.pesp_base.specs.Windows.{Interval}
+use Rattle.pesp_instance.specs.Network.{IsNetwork, Network, event_ids, window_of}
 use Rattle.pesp_search.specs.Parts.{AreAgreed, AreLeast, IsFirst, IsLeast}
 use Rattle.pesp_search.specs.Places.{at}
 use Rattle.pesp_search.proofs.Events.{place_of}
 use Rattle.pesp_search.proofs.Timed.{at_place}
 
--- the event at the place is the least of its label, and no event of that label has a fixed time
+-- the event at the place is the least of its label, and no event of that label has a window
 pub least_of_labels : (I : Network) (labels : List ℕ) (k : ℕ) → IsNetwork I → length labels ≡ length (event_ids I) → k < length (event_ids I)
     → All (λ a. at I labels a.from ≡ at I labels a.to) I.activities
-    → ((j : ℕ) → j < length (event_ids I) → get_or labels j 0 ≡ get_or labels k 0 → fixed_of I (get_or (event_ids I) j 0) ≡ None)
+    → ((j : ℕ) → j < length (event_ids I) → get_or labels j 0 ≡ get_or labels k 0 → window_of I (get_or (event_ids I) j 0) ≡ None)
     → ((j : ℕ) → j < k → get_or labels j 0 ≡ get_or labels k 0 → ⊥)
     → IsLeast I k
 least_of_labels I labels k ok long room agree free first =
@@ -27,7 +28,7 @@ least_of_labels I labels k ok long room agree free first =
                 let w = place_of I e event in
                 let here : w.0 < length labels = omega (arith, w.1, long) in
                 let same : get_or labels w.0 0 ≡ own = sym (at_place I labels w.0 ok w.1 here) ∙ ap (at I labels) w.2 ∙ eqb-true (at I labels e) own inside in
-                subst (λ f. fixed_of I f ≡ None) w.2 (free w.0 w.1 same);
+                subst (λ f. window_of I f ≡ None) w.2 (free w.0 w.1 same);
           };
       inside = eq-eqb _ _ (at_place I labels k ok room (omega (arith, room, long)));
       none_before = λ j before. ne_eqb _ _ (λ same.
@@ -65,7 +66,7 @@ first_none I labels k = record { own = λ l. absurd (omega (arith, l)); others =
 
 -- one place more
 pub first_more : (I : Network) (labels : List ℕ) (places k : ℕ) → IsFirst I labels places k → (k ≡ places → get_or labels places 0 ≡ places)
-    → (get_or labels places 0 ≡ k → (k ≤ places) × (fixed_of I (get_or (event_ids I) places 0) ≡ None)) → IsFirst I labels (places + 1) k
+    → (get_or labels places 0 ≡ k → (k ≤ places) × (window_of I (get_or (event_ids I) places 0) ≡ None)) → IsFirst I labels (places + 1) k
 first_more I labels places k first own label =
     record {
       own = λ l.
@@ -77,16 +78,16 @@ first_more I labels places k first own label =
           elim (cases_eq i places) [
             | inl same ↦ let w = label (ap (λ j. get_or labels j 0) (sym same) ∙ is) in (
               let low = w.0 in omega (arith, low, same),
-              subst (λ j. fixed_of I (get_or (event_ids I) j 0) ≡ None) (sym same) w.1,
+              subst (λ j. window_of I (get_or (event_ids I) j 0) ≡ None) (sym same) w.1,
             )
             | inr apart ↦ first.others i (omega (arith, l, apart)) is
           ];
     }
 
--- a fixed time that is not there
-pub none_there : (o : Option ℕ) → is_some o ≡ false → o ≡ None
+-- a window that is not there
+pub none_there : (o : Option Interval) → is_some o ≡ false → o ≡ None
 none_there None is = refl
-none_there (Some t) is = absurd (false≢true (sym is))
+none_there (Some w) is = absurd (false≢true (sym is))
 
 -- marks by agreed labels are those of least events
 least_by_marks : (I : Network) (labels : List ℕ) (marks : List Bool) → IsNetwork I → length labels ≡ length (event_ids I) → length marks ≡ length (event_ids I)

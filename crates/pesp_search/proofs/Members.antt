@@ -7,7 +7,7 @@ use Rattle.pesp_base.specs.declared.activity.Activity.{Activity}
 use Rattle.pesp_base.specs.Tensions.{IsMet}
 use Rattle.pesp_base.proofs.Laws.{met_is}
 use Rattle.pesp_instance.specs.declared.event.Event.{Event}
-use Rattle.pesp_instance.specs.Network.{Network, IsNetwork, HasEnds, admits, agrees_with, event_ids, event_of, fixed_of, has_event}
+use Rattle.pesp_instance.specs.Network.{Network, IsNetwork, HasEnds, admits, agrees_with, event_ids, event_of, window_of, has_event}
 use Rattle.pesp_instance.proofs.Rising.{All-found, IfSome-with_number, number-with_number}
 use Rattle.pesp_domains.specs.declared.pair.Pair.{Pair}
 use Rattle.pesp_domains.specs.declared.side.Side.{Side}
@@ -56,7 +56,7 @@ member_in_domains I path times ok full extends e is =
               record {
                 of_event = event;
                 below = below f s i;
-                fixed = subst (λ t. IsTrue (admits I f t)) same (full.fixed f event);
+                window = subst (λ t. IsTrue (admits I f t)) same (full.window f event);
                 pushed = λ t j. sym (event_of_pair I times f t ok (extends_in (event_ids I) times path f t extends j)).1 ∙ same;
               };
           partner = λ side a is here.
@@ -75,9 +75,9 @@ path_is_full I path ok long below live =
           let partner = (InDomains-stands I pushes a.from w.0 w.1).partner Tail a is refl in
           subst (λ s. IsMet I.period a.span (at I path a.from) s) (sym (only a.to partner.0 partner.1))
           (subst (λ r. IsMet I.period a.span r partner.0) (sym (only a.from w.0 w.1)) partner.2);
-      fixed = λ e is.
+      window = λ e is.
           let w = live e is in
-          subst (λ t. IsTrue (admits I e t)) (sym (only e w.0 w.1)) (InDomains-admitted I pushes e w.0 w.1).fixed;
+          subst (λ t. IsTrue (admits I e t)) (sym (only e w.0 w.1)) (InDomains-admitted I pushes e w.0 w.1).window;
     }
   where
     pushes : List Pair
@@ -93,13 +93,13 @@ path_is_full I path ok long below live =
 meets_is : (I : Network) (times : List ℕ) (a : Activity) → IsNetwork I → IsTrue (meets (timetable_of I times) a) ↔ IsMet I.period a.span (at I times a.from) (at I times a.to)
 meets_is I times a ok = met_is I.period a.span (at I times a.from) (at I times a.to) (omega (arith, ok.period_low))
 
--- a timetable that agrees with each event agrees with the fixed time of each number
-agreed : (I : Network) (m : Times) (e : ℕ) → All (λ x. IsTrue (agrees m x)) I.events → IsTrue (agrees_with m.period (fixed_of I e) (time_at m e))
+-- a timetable that agrees with each event has a time in the window of each number
+agreed : (I : Network) (m : Times) (e : ℕ) → All (λ x. IsTrue (agrees m x)) I.events → IsTrue (agrees_with m.period (window_of I e) (time_at m e))
 agreed I m e all =
-    elim (event_of I e) as (λ o. event_of I e ≡ o → IsTrue (agrees_with m.period (option_and_then (λ x. x.fixed) o) (time_at m e))) [
+    elim (event_of I e) as (λ o. event_of I e ≡ o → IsTrue (agrees_with m.period (option_and_then (λ x. x.window) o) (time_at m e))) [
       | None ↦ λ _. refl
       | Some x ↦ λ found.
-          subst (λ f. IsTrue (agrees_with m.period x.fixed (time_at m f))) (number-with_number (λ y. y.id) e I.events x found)
+          subst (λ f. IsTrue (agrees_with m.period x.window (time_at m f))) (number-with_number (λ y. y.id) e I.events x found)
           (IfSome-with_number (λ y. y.id) (λ y. IsTrue (agrees m y)) e I.events x all found)
     ] refl
 
@@ -124,7 +124,7 @@ full_of_member I m ok member = (values_of m.entries, full, same)
           met = λ a is.
               (meets_is I (values_of m.entries) a ok).0
               (subst (λ n. IsTrue (meets n a)) same (All-contains (λ b. IsTrue (meets m b)) I.activities a member.met is));
-          fixed = λ e _. subst (λ n. IsTrue (agrees_with n.period (fixed_of I e) (time_at n e))) same (agreed I m e member.fixed);
+          window = λ e _. subst (λ n. IsTrue (agrees_with n.period (window_of I e) (time_at n e))) same (agreed I m e member.window);
         }
 
 -- the timetable of a full list of times is a member
@@ -137,10 +137,10 @@ member_of_full I times ok full =
       met = λ k d l.
           let a : Activity = get_or I.activities k d in
           (meets_is I times a ok).1 (full.met a (All-contains_itself I.activities k d l));
-      fixed = λ k d l.
+      window = λ k d l.
           let x : Event = get_or I.events k d in
           let found : event_of I x.id ≡ Some x = All-found (λ y. y.id) I.events (events_ascend I ok) k d l in
-          subst (λ o. IsTrue (agrees_with I.period (option_and_then (λ y. y.fixed) o) (at I times x.id))) found (full.fixed x.id (ap is_some found));
+          subst (λ o. IsTrue (agrees_with I.period (option_and_then (λ y. y.window) o) (at I times x.id))) found (full.window x.id (ap is_some found));
     }
 
 -- values beside the same keys are in the same order as the entries

@@ -148,10 +148,10 @@ module _ (I : Network) (part : ℕ → Bool) (k : ℕ) (times : List ℕ) (ok : 
             subst (λ r. IsMet I.period a.span r (at I others a.to)) (sym w.1)
             (subst (λ s. IsMet I.period a.span (cond w.0 (turned I.period k (at I times a.from)) (at I times a.from)) s) (sym w.2)
             (met_both a.span w.0 (at I times a.from) (at I times a.to) (full.met a is)));
-        fixed = λ e is.
+        window = λ e is.
             elim (part e) as (λ b. part e ≡ b → IsTrue (admits I e (at I others e))) [
               | true ↦ λ inside. subst (λ o. IsTrue (agrees_with I.period o (at I others e))) (sym (free.free e is inside)) refl
-              | false ↦ λ out. subst (λ t. IsTrue (admits I e t)) (sym (at_turned e is ∙ ap (λ b. cond b (turned I.period k (at I times e)) (at I times e)) out)) (full.fixed e is)
+              | false ↦ λ out. subst (λ t. IsTrue (admits I e t)) (sym (at_turned e is ∙ ap (λ b. cond b (turned I.period k (at I times e)) (at I times e)) out)) (full.window e is)
             ] refl;
       }
 
@@ -178,7 +178,7 @@ at_least_same : (I : Network) (limit : Option ℕ) (times others : List ℕ) →
 at_least_same I None times others same h = h
 at_least_same I (Some limit) times others same h = omega (arith, same, h)
 
--- at the least event of a part without a fixed time nothing is left to try behind residue 0
+-- at the least event of a part without a window nothing is left to try behind residue 0
 pub spent_turned : (I : Network) (limit : Option ℕ) (pushes : List Pair) (path : List ℕ) (from : ℕ) → IsNetwork I → length path < length (event_ids I) → IsLeast I (length path) → 0 < from → IsAt (AtLeast I limit) I pushes path from → IsSpent (AtLeast I limit) I path from
 spent_turned I limit pushes path from ok room least later at_place =
     record { passes = λ times full x _. passes times full x }

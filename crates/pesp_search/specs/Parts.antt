@@ -2,15 +2,15 @@
 use Rattle.std.specs.Prelude.{◌≡◌, ℕ, ◌+◌, ◌%◌, ◌<◌, ◌≤◌, Bool, false, IsTrue, if◌then◌else◌, List, [], ◌∷◌, All, slice_index, slice_index_or, None}
 use Rattle.std.specs.List.{Contains}
 use Rattle.pesp_base.specs.declared.activity.Activity.{Activity}
-use Rattle.pesp_instance.specs.Network.{Network, event_ids, fixed_of, has_event}
+use Rattle.pesp_instance.specs.Network.{Network, event_ids, window_of, has_event}
 use Rattle.pesp_search.specs.Places.{at}
 
--- no activity leads into the part or out of it, and no event of it has a fixed time
+-- no activity leads into the part or out of it, and no event of it has a window
 pub record IsFreePart (I : Network) (part : ℕ → Bool) : Type 0 where
   pub closed : (a : Activity) → Contains I.activities a → part a.from ≡ part a.to
-  pub free : (e : ℕ) → IsTrue (has_event I e) → IsTrue (part e) → fixed_of I e ≡ None
+  pub free : (e : ℕ) → IsTrue (has_event I e) → IsTrue (part e) → window_of I e ≡ None
 
--- the event at the place is the least one of a part without a fixed time
+-- the event at the place is the least one of a part without a window
 pub record IsLeast (I : Network) (place : ℕ) : Type 0 where
   pub part : ℕ → Bool
   pub is_free : IsFreePart I part
@@ -27,19 +27,19 @@ AreLeast I marks = (k : ℕ) → IsTrue (slice_index_or marks k false) → IsLea
 abbrev pub AreAgreed : Network → List ℕ → Type 0
 AreAgreed I labels = All (λ a. at I labels a.from ≡ at I labels a.to) I.activities
 
--- among the first places the k-th has its own number as its label, no earlier one has that label, and no event of that label has a fixed time
+-- among the first places the k-th has its own number as its label, no earlier one has that label, and no event of that label has a window
 pub record IsFirst (I : Network) (labels : List ℕ) (places k : ℕ) : Type 0 where
   pub own : k < places → slice_index labels k ≡ k
-  pub others : (i : ℕ) → i < places → slice_index labels i ≡ k → (k ≤ i) × (fixed_of I (slice_index (event_ids I) i) ≡ None)
+  pub others : (i : ℕ) → i < places → slice_index labels i ≡ k → (k ≤ i) × (window_of I (slice_index (event_ids I) i) ≡ None)
 
 -- the mark of the place is taken away, and none is put
 abbrev pub IsTakenOff : ℕ → List Bool → List Bool → Type 0
 IsTakenOff place old new = (k : ℕ) → IsTrue (slice_index_or new k false) → IsTrue (slice_index_or old k false) × (k ≡ place → ⊥)
 
--- none is put; the place stays marked only with its own number as its label, and its label only where that is no later place and the event has no fixed time
+-- none is put; the place stays marked only with its own number as its label, and its label only where that is no later place and the event has no window
 abbrev pub IsMarked : ℕ → ℕ → Bool → List Bool → List Bool → Type 0
-IsMarked place label is_fixed old new =
-    (k : ℕ) → IsTrue (slice_index_or new k false) → IsTrue (slice_index_or old k false) × (k ≡ place → label ≡ place) × (label ≡ k → (label ≤ place) × (is_fixed ≡ false))
+IsMarked place label has_window old new =
+    (k : ℕ) → IsTrue (slice_index_or new k false) → IsTrue (slice_index_or old k false) × (k ≡ place → label ≡ place) × (label ≡ k → (label ≤ place) × (has_window ≡ false))
 
 -- ---- turned times
 

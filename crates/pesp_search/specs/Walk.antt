@@ -14,12 +14,12 @@ use Rattle.pesp_search.specs.Places.{InNext, IsDead, at, pairs_of, timetable_of}
 
 -- ---- lists of times
 
--- a time below the period for each event, with which each activity is met and each fixed time is kept
+-- a time below the period for each event, with which each activity is met and each time is in its event's window
 pub record IsFull (I : Network) (times : List ℕ) : Type 0 where
   pub events : length times ≡ length (event_ids I)
   pub below : All (λ t. t < I.period) times
   pub met : (a : Activity) → Contains I.activities a → IsMet I.period a.span (at I times a.from) (at I times a.to)
-  pub fixed : (e : ℕ) → IsTrue (has_event I e) → IsTrue (admits I e (at I times e))
+  pub window : (e : ℕ) → IsTrue (has_event I e) → IsTrue (admits I e (at I times e))
 
 -- the times come before the place, in the order by the first event at which two differ
 abbrev pub Before : List ℕ → List ℕ → ℕ → Type 0

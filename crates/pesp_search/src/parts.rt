@@ -1,4 +1,4 @@
-//! The connected parts of an instance, and the first event of each one without a fixed time.
+//! The connected parts of an instance, and the first event of each one without a window.
 //!
 //! Labels are found by going along the activities; nothing is proved of how. What is told rests on labels that
 //! were checked: one for both ends of each activity.
@@ -152,19 +152,19 @@ fn take_off(marks: &mut [bool], place: usize)
 }
 
 /// Takes marks away by the label of the event at a place.
-fn mark(marks: &mut [bool], place: usize, label: usize, is_fixed: bool)
+fn mark(marks: &mut [bool], place: usize, label: usize, has_window: bool)
     ensures long { length marks.new ≡ length marks.old }
-    ensures marked { IsMarked place label is_fixed marks.old marks.new }
+    ensures marked { IsMarked place label has_window marks.old marks.new }
 {
     if label != place {
         take_off(marks, place);
     }
-    if is_fixed || place < label {
+    if has_window || place < label {
         take_off(marks, label);
     }
 }
 
-/// Marks the places whose event is the first of its label, where no event of that label has a fixed time.
+/// Marks the places whose event is the first of its label, where no event of that label has a window.
 fn first_of_labels(
     alloc: Global,
     instance: &Instance,
@@ -181,13 +181,13 @@ fn first_of_labels(
         return Err(Memory);
     };
     for place in 0..events.len() {
-        let is_fixed = instance.fixed(events[place]).is_some();
-        mark(&mut marks, place, labels[place], is_fixed);
+        let has_window = instance.window(events[place]).is_some();
+        mark(&mut marks, place, labels[place], has_window);
     }
     Ok(marks)
 }
 
-/// Marks the places whose event is the first of a connected part without a fixed time.
+/// Marks the places whose event is the first of a connected part without a window.
 pub(crate) fn least_of_parts(
     alloc: Global,
     instance: &Instance,

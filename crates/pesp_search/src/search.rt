@@ -9,8 +9,10 @@ ghost use Rattle.pesp_search.specs.Places.{IsDead};
 ghost use Rattle.pesp_search.specs.Tree.{AreNodes};
 ghost use Rattle.pesp_search.specs.Tried.{IsOutcome, MayTry};
 
+use crate::branch::Branch;
 use crate::dived::{dived, lowest};
 use crate::guide::Guide;
+use crate::incumbent::Incumbent;
 use crate::outcome::{Outcome, answer_of, told};
 use crate::parts::least_of_parts;
 use crate::walk::walk;
@@ -36,7 +38,8 @@ fn events_of(alloc: Global, instance: &Instance) -> Result<Vec<EventId>, Memory>
     Ok(events)
 }
 
-/// Dives for a first timetable, and then goes through the tree for what costs no more than that.
+/// Dives for a first timetable, and then goes through the tree for what costs no more than that. All memory is taken before the walk,
+/// and so before the first node.
 fn search<K: Keeper>(
     alloc: Global,
     keeper: &mut K,
@@ -58,7 +61,9 @@ fn search<K: Keeper>(
     let mut guide = Guide::new(alloc, keeper.instance(), &events)?;
     let before = dived(alloc, keeper, &events, &least, &mut guide, bound, limit)?;
     let lowest = lowest(bound, &before);
-    let outcome = walk(alloc, keeper, &events, &least, guide, lowest, limit)?;
+    let branch = Branch::new(alloc, keeper.instance())?;
+    let incumbent = Incumbent::new(alloc, events.len(), lowest)?;
+    let outcome = walk(keeper, &events, &least, guide, branch, incumbent, limit);
     Ok(told(outcome, before))
 }
 

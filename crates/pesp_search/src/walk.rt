@@ -1,12 +1,12 @@
 //! The walk through the tree.
 
-ghost use Rattle.std.specs.Prelude.{◌≡◌, ◌≢◌, ℕ, ◌<◌, ◌≤◌, ◌+◌, ◌++◌, ◌∷◌, [], true, false, Some, IsTrue, IfOk, IfSome, IfNone, length, vec_capacity};
+ghost use Rattle.std.specs.Prelude.{◌≡◌, ◌≢◌, ℕ, ◌<◌, ◌≤◌, ◌+◌, ◌++◌, ◌∷◌, ◌-◌, ◌^◌, min, [], true, false, Option, Some, IsTrue, IfSome, IfNone, length, vec_capacity};
 ghost use Rattle.pesp_instance.specs.Network.{IsNetwork, event_ids, has_event};
 ghost use Rattle.pesp_domains.specs.declared.pair.Pair.{Pair};
 ghost use Rattle.pesp_domains.specs.Domains.{In};
 ghost use Rattle.pesp_ahead.specs.Sights.{IsSightOf};
 ghost use Rattle.pesp_search.specs.Branch.{IsBranch};
-ghost use Rattle.pesp_search.specs.Found.{AtLeast, IsOver, StaysBest};
+ghost use Rattle.pesp_search.specs.Found.{AtLeast, IsOver, StaysBest, under_bound};
 ghost use Rattle.pesp_search.specs.Optima.{IsBound};
 ghost use Rattle.pesp_search.specs.Parts.{AreLeast};
 ghost use Rattle.pesp_search.specs.Seen.{IsSeen, SeesAlong, told_at};
@@ -19,9 +19,8 @@ use crate::guide::Guide;
 use crate::incumbent::Incumbent;
 use crate::outcome::{Outcome, best_of};
 use crate::steps::{Choice, choose, is_behind_first, next_of_use};
-use pesp_base::{EventId, Memory};
+use pesp_base::EventId;
 use pesp_domains::Keeper;
-use std::alloc::Global;
 
 /// Looks at a place: keeps better times, and says which residue to try next, or that nothing is left there.
 fn visit<K: Keeper>(
@@ -79,6 +78,7 @@ fn descend<K: Keeper>(keeper: &mut K, event: EventId, residue: u16, nodes: u64) 
     requires residue { residue < (K.network keeper.old).period }
     ensures network { K.network keeper.new ≡ K.network keeper.old }
     ensures pushes { K.pushes keeper.new ≡ K.pushes keeper.old ++ record { event = event; residue = residue } ∷ [] }
+    ensures counted { result ≡ min (2 ^ 64 - 1) (nodes + 1) }
     ensures more { (result ≤ nodes + 1) × (0 < result) × (nodes ≤ result) }
 {
     keeper.push_fix(event, residue);
@@ -108,30 +108,32 @@ fn unwind<K: Keeper>(keeper: &mut K, depth: usize)
 }
 
 /// Goes through the tree in the order of events and residues, and leaves out what is of no use.
+///
+/// It takes no memory: `branch` is where the search stands, at first before the first event, and `incumbent` holds the best times
+/// so far, of which none are found at first. They have all the room that there will be need of.
 pub(crate) fn walk<K: Keeper>(
-    alloc: Global,
     keeper: &mut K,
     events: &[EventId],
     least: &[bool],
     mut guide: Guide,
-    bound: Option<u64>,
+    mut branch: Branch,
+    mut incumbent: Incumbent,
     limit: Option<u64>,
-) -> Result<Outcome, Memory>
+) -> Outcome
     requires network { IsNetwork (K.network keeper.old) }
     requires events { events.now ≡ event_ids (K.network keeper.old) }
     requires least { AreLeast (K.network keeper.old) least.now }
     requires guide { IfSome guide.ahead (IsSightOf (K.network keeper.old)) }
     requires pushes { K.pushes keeper.old ≡ [] }
-    requires bound { IsBound (K.network keeper.old) bound }
-    ensures outcome { IfOk result (λ outcome. IsOutcome (K.network keeper.old) bound limit outcome.is_stopped outcome.best outcome.nodes) }
-    ensures nodes { IfOk result (λ outcome. AreNodes (K.network keeper.old) outcome.nodes) }
+    requires branch { IsBranch (K.network keeper.old) branch.times.items branch.cost branch.timetable (vec_capacity branch.times) }
+    requires start { branch.times.items ≡ [] }
+    requires times { length incumbent.times.items ≡ length events.now }
+    requires none { incumbent.is_found ≡ false }
+    ensures outcome { (bound : Option ℕ) → incumbent.limit ≡ under_bound bound → IsBound (K.network keeper.old) bound → IsOutcome (K.network keeper.old) bound limit result.is_stopped result.best result.nodes }
+    ensures nodes { AreNodes (K.network keeper.old) result.nodes }
     ensures network { K.network keeper.new ≡ K.network keeper.old }
     ensures pushes { K.pushes keeper.new ≡ [] }
 {
-    // The times that the keeper has pushed, none at first.
-    let mut branch = Branch::new(alloc, keeper.instance())?;
-    // The best times so far, which no times before the place where the search stands undercut.
-    let mut incumbent = Incumbent::new(alloc, events.len(), bound)?;
     // The least residue that is yet to be tried at the event behind the branch.
     let mut from = 0;
     // One for each push, those that were popped included.
@@ -150,11 +152,11 @@ pub(crate) fn walk<K: Keeper>(
                 if is_spent(limit, nodes) {
                     unwind(keeper, branch.times.len());
                     let best = best_of(&incumbent, branch.timetable, keeper.instance(), events);
-                    return Ok(Outcome {
+                    return Outcome {
                         best,
                         is_stopped: true,
                         nodes,
-                    });
+                    };
                 }
                 let event = events[branch.times.len()];
                 nodes = descend(keeper, event, residue, nodes);
@@ -168,11 +170,11 @@ pub(crate) fn walk<K: Keeper>(
                 }
                 None => {
                     let best = best_of(&incumbent, branch.timetable, keeper.instance(), events);
-                    return Ok(Outcome {
+                    return Outcome {
                         best,
                         is_stopped: false,
                         nodes,
-                    });
+                    };
                 }
             },
         }

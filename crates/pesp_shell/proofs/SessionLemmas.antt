@@ -1,9 +1,9 @@
 -- What stands between two lines of a run, and how each of its ends follows.
-use Rattle.std.proofs.Common.{◌≡◌, ℕ, ◌+◌, ◌-◌, ◌<◌, ◌≤◌, Bool, List, [], ◌∷◌, ◌++◌, All, length, take, drop, slice_get, Option, Some, Result, Ok, Err, IsTrue, refl, sym, ap, subst, ◌∙◌, arith, append_assoc, append-nil, length-append, take-append-drop}
+use Rattle.std.proofs.Common.{◌≡◌, ℕ, ◌+◌, ◌-◌, ◌<◌, ◌≤◌, Bool, false, List, [], ◌∷◌, ◌++◌, All, length, take, drop, slice_get, Option, Some, Result, Ok, Err, OnOk, IsTrue, refl, sym, ap, subst, ◌∙◌, arith, append_assoc, append-nil, length-append, take-append-drop}
 use Rattle.std.specs.Prelude.{IsSomeAnd}
 use Rattle.std.proofs.lemmas.Bool.{false≢true}
 use Rattle.std.proofs.lemmas.List.{take_at, get_or_at}
-use Rattle.std.proofs.lemmas.List.Elements.{All-append, All-cons, All-nil}
+use Rattle.std.proofs.lemmas.List.Elements.{All-append, All-cons, All-head, All-nil}
 use Rattle.std.proofs.lemmas.Option.{slice_get-get_or}
 use Rattle.std.specs.Io.KnownBytes.{Appends, Consumes, IsAtEnd, Keeps}
 use Rattle.std.proofs.KnownBytes.{Appends-kept, Appends-nil, Appends-trans, Consumes-nil, Consumes-trans}
@@ -20,7 +20,7 @@ use Rattle.pesp_shell.specs.declared.run_fault.RunFault.TheVariants as fault
 use Rattle.pesp_shell.specs.declared.run_fault.Source.{Source}
 use Rattle.pesplib_reader.specs.declared.fault.ReadFault.{ReadFault}
 use Rattle.pesp_shell.specs.Opening.{Files, IsFirstFault, IsOpening}
-use Rattle.pesp_shell.specs.Runs.{Answers, IsRun, Marks}
+use Rattle.pesp_shell.specs.Runs.{Answers, IsRun, Marks, MayWant, NoneFailed}
 use Rattle.pesp_shell.specs.Sessions.{MayAnswer, MayEndBehind}
 
 abbrev IsShort : List ℕ → Type 0
@@ -79,26 +79,26 @@ stands f first last lines output opening few short leads = record { work = first
 
 -- a file cannot be read
 pub not_read : (f : Files) (left written : Option (List ℕ)) (m : Marks) (source : Source) (found : ReadFault)
-    → IsFirstFault f source found → IsRun f left left written written m (Err (fault.File source found))
-not_read f left written m source found first = record {
+    → NoneFailed m → IsFirstFault f source found → IsRun f left left written written m (Err (fault.File source found))
+not_read f left written m source found off first = record {
   read = [];
   output = [];
   consumed = Consumes-nil left;
   appended = Appends-nil written;
   all = λ ok. absurd (false≢true ok);
-  ending = (first, refl);
+  ending = (off, first, refl);
 }
 
 -- memory is wanted before the first line
 pub not_begun : (f : Files) (first : Work) (left written : Option (List ℕ)) (m : Marks)
-    → IsOpening f first → IsRun f left left written written m (Err (fault.Memory 0))
-not_begun f first left written m opening = record {
+    → NoneFailed m → IsOpening f first → IsRun f left left written written m (Err (fault.Memory 0))
+not_begun f first left written m off opening = record {
   read = [];
   output = [];
   consumed = Consumes-nil left;
   appended = Appends-nil written;
   all = λ ok. absurd (false≢true ok);
-  ending = (omega arith, omega arith, stands f first first [] [] opening (omega arith) (All-nil IsShort) (refl, refl));
+  ending = (off, omega arith, (λ some. absurd (omega (arith, some))), stands f first first [] [] opening (omega arith) (All-nil IsShort) (refl, refl));
 }
 
 -- ---- from line to line
@@ -134,7 +134,7 @@ module _ (first now : Work) (left left' written written' : Option (List ℕ)) (h
   pub answered : (next : Work) (written'' : Option (List ℕ)) (line rest : List ℕ) (number : ℕ) (mark : Bool) → Progress first now left left' written written' held done
       → held ≡ line ++ 10 ∷ rest → IsUncut is_line_feed line → length line ≤ longest_line
       → MayAnswer now (line ∷ []) number next written' written'' mark (Ok tt) → Progress first next left left' written written'' rest (done + 1)
-  answered next written'' line rest number mark p e whole short (replies, leads, appended) = record {
+  answered next written'' line rest number mark p e whole short (off, replies, leads, appended) = record {
     lines = p.lines ++ line ∷ [];
     output = p.output ++ replies;
     consumed = subst (Consumes left left') (moved p.lines line rest held e) p.consumed;
@@ -168,19 +168,19 @@ module _ (first now : Work) (left left' written written' : Option (List ℕ)) (h
         subst (λ lines. Answers f lines p.output) (sym (ap (take n) e ∙ take_at p.lines ls n (omega (arith, same, p.count)))) (so_far few)
 
     -- a read failed
-    pub unread : done ≤ most_lines → IsUncut is_line_feed held → IsTrue m.not_read → IsRun f left left' written written' m (Err fault.Read)
-    unread few uncut failed = record {
+    pub unread : done ≤ most_lines → IsUncut is_line_feed held → IsTrue m.not_read → m.not_written ≡ false → IsRun f left left' written written' m (Err fault.Read)
+    unread few uncut failed off = record {
       read = read;
       output = p.output;
       consumed = p.consumed;
       appended = p.appended;
       all = λ ok. absurd (false≢true ok);
-      ending = (failed, subst (λ lines. Answers f lines p.output) (sym (ended_lines-before p.lines held p.whole uncut)) (so_far few));
+      ending = (failed, off, subst (λ lines. Answers f lines p.output) (sym (ended_lines-before p.lines held p.whole uncut)) (so_far few));
     }
 
     -- the next line is too long
-    pub too_long : done + 1 ≤ most_lines → IsFront held fronts.TooLong → IsRun f left left' written written' m (Err (fault.LineTooLong (done + 1)))
-    too_long few (line, rest, e, uncut, long) =
+    pub too_long : done + 1 ≤ most_lines → IsFront held fronts.TooLong → NoneFailed m → IsRun f left left' written written' m (Err (fault.LineTooLong (done + 1)))
+    too_long few (line, rest, e, uncut, long) off =
         let (more, lines, front) = lines_of-front line rest uncut (omega (arith, long)) in
         let all : lines_of read ≡ p.lines ++ ((line ++ more) ∷ lines) = lines_of-after p.lines held p.whole ∙ ap (λ bytes. p.lines ++ lines_of bytes) e ∙ ap (λ ls. p.lines ++ ls) front in
         let there : done + 1 - 1 < length (p.lines ++ ((line ++ more) ∷ lines)) = omega (arith, length-append p.lines ((line ++ more) ∷ lines), p.count) in
@@ -194,6 +194,7 @@ module _ (first now : Work) (left left' written written' : Option (List ℕ)) (h
           appended = p.appended;
           all = λ ok. absurd (false≢true ok);
           ending = (
+            off,
             omega arith,
             few,
             subst (λ o. IsSomeAnd o (λ l. longest_line < length l)) (sym it) (omega (arith, length-append line more, long)),
@@ -203,22 +204,28 @@ module _ (first now : Work) (left left' written written' : Option (List ℕ)) (h
 
     -- the next line, if there is one, is not answered
     pub faulted : (next : Work) (written'' : Option (List ℕ)) (some more : List (List ℕ)) (fault : RunFault)
-        → done + 1 ≤ most_lines → lines_of held ≡ some ++ more → length some ≤ 1 → All IsShort some
+        → done + 1 ≤ most_lines → lines_of held ≡ some ++ more → length some ≤ 1 → All IsShort some → m.not_read ≡ false
         → MayAnswer now some (done + 1) next written' written'' m.not_written (Err fault) → IsRun f left left' written written'' m (Err fault)
-    faulted next written'' some more (fault.Memory line) few e one short (same, there, keeps) =
-        let all = all_lines some more p e in record {
+    faulted next written'' some more (fault.Memory line) few e one short reader (writer, same, asking, is, asks, keeps) =
+        let all : lines_of read ≡ p.lines ++ (asking ∷ more) = all_lines some more p e ∙ ap (λ ls. p.lines ++ (ls ++ more)) is in
+        let there : line - 1 < length (p.lines ++ (asking ∷ more)) = omega (arith, length-append p.lines (asking ∷ more), p.count, same) in
+        let it : slice_get (lines_of read) (line - 1) ≡ Some asking =
+        ap (λ ls. slice_get ls (line - 1)) all ∙ slice_get-get_or (p.lines ++ (asking ∷ more)) (line - 1) [] there
+        ∙ ap Some (get_or_at p.lines asking more [] (line - 1) (omega (arith, p.count, same))) in
+        record {
           read = read;
           output = p.output;
           consumed = p.consumed;
           appended = kept written'' keeps;
           all = λ ok. absurd (false≢true ok);
           ending = (
-            omega (arith, ap length all, length-append p.lines (some ++ more), length-append some more, p.count, same, there),
+            (reader, writer),
             omega (arith, same, few),
-            first_lines (line - 1) (some ++ more) (omega (arith, same)) all (omega (arith, few)),
+            (λ some_line. subst (λ o. IsSomeAnd o MayWant) (sym it) (All-head IsShort asking [] (subst (All IsShort) is short), asks)),
+            first_lines (line - 1) (asking ∷ more) (omega (arith, same)) all (omega (arith, few)),
           );
         }
-    faulted next written'' some more fault.Write few e one short (failed, last, replies, n, leads, appended) =
+    faulted next written'' some more fault.Write few e one short reader (failed, last, replies, n, leads, appended) =
         let all : lines_of read ≡ (p.lines ++ some) ++ more = all_lines some more p e ∙ sym (append_assoc p.lines some more) in
         let whole : (p.output ++ take n replies) ++ drop n replies ≡ p.output ++ replies = append_assoc p.output (take n replies) (drop n replies) ∙ ap (λ o. p.output ++ o) (take-append-drop n replies) in
         record {
@@ -229,6 +236,7 @@ module _ (first now : Work) (left left' written written' : Option (List ℕ)) (h
           all = λ ok. absurd (false≢true ok);
           ending = (
             failed,
+            reader,
             length (p.lines ++ some),
             drop n replies,
             subst (λ lines. Answers f lines ((p.output ++ take n replies) ++ drop n replies)) (sym (ap (take (length (p.lines ++ some))) all ∙ take_at (p.lines ++ some) more (length (p.lines ++ some)) refl))
@@ -237,16 +245,17 @@ module _ (first now : Work) (left left' written written' : Option (List ℕ)) (h
                 (leads_on first now last p.lines some p.output replies p.leads leads))),
           );
         }
-    faulted next written'' some more (fault.File source found) few e one short none = absurd none
-    faulted next written'' some more fault.Read few e one short none = absurd none
-    faulted next written'' some more (fault.LineTooLong line) few e one short none = absurd none
-    faulted next written'' some more fault.TooManyLines few e one short none = absurd none
+    faulted next written'' some more (fault.File source found) few e one short reader none = absurd none
+    faulted next written'' some more fault.Read few e one short reader none = absurd none
+    faulted next written'' some more (fault.LineTooLong line) few e one short reader none = absurd none
+    faulted next written'' some more fault.TooManyLines few e one short reader none = absurd none
 
     -- the last line is answered, if there is one, or not
     pub finished : (next : Work) (written'' : Option (List ℕ)) (ended : Result (Unit {0}) RunFault)
-        → done + 1 ≤ most_lines → IsUnended held → IsTrue m.at_end → IsAtEnd left'
-        → MayAnswer now (lines_of held) (done + 1) next written' written'' m.not_written ended → IsRun f left left' written written'' m ended
-    finished next written'' (Ok done_) few unended at_end none (replies, leads, appended) =
+        → done + 1 ≤ most_lines → IsUnended held → IsTrue m.at_end → IsAtEnd left' → m.not_read ≡ false
+        → MayAnswer now (lines_of held) (done + 1) next written' written'' m.not_written ended → OnOk ended (IsTrue m.passed_on)
+        → IsRun f left left' written written'' m ended
+    finished next written'' (Ok done_) few unended at_end none reader (writer, replies, leads, appended) passed =
         let one = one_line held unended in
         let all : lines_of read ≡ p.lines ++ lines_of held = lines_of-after p.lines held p.whole in
         record {
@@ -256,31 +265,35 @@ module _ (first now : Work) (left left' written written' : Option (List ℕ)) (h
           appended = Appends-trans written written' written'' p.output replies p.appended appended;
           all = λ ok. none;
           ending = (
+            (reader, writer),
             at_end,
+            passed,
             subst (λ lines. Answers f lines (p.output ++ replies)) (sym all)
                 (stands f first next (p.lines ++ lines_of held) (p.output ++ replies) opening (omega (arith, length-append p.lines (lines_of held), p.count, one.0, few)) (All-append IsShort p.lines (lines_of held) p.short one.1)
                 (leads_on first now next p.lines (lines_of held) p.output replies p.leads leads)),
           );
         }
-    finished next written'' (Err fault) few unended at_end none may =
+    finished next written'' (Err fault) few unended at_end none reader may passed =
         let one = one_line held unended in
-        faulted next written'' (lines_of held) [] fault few (sym (append-nil (lines_of held))) one.0 one.1 may
+        faulted next written'' (lines_of held) [] fault few (sym (append-nil (lines_of held))) one.0 one.1 reader may
 
     -- behind the greatest number of lines
     pub ended : (written'' : Option (List ℕ)) (end : Result (Unit {0}) RunFault)
         → done ≡ most_lines → Keeps written' written'' → MayEndBehind held left' m end → IsRun f left left' written written'' m end
-    ended written'' (Ok done_) full keeps (none, at_end, empty) = record {
+    ended written'' (Ok done_) full keeps (off, none, at_end, empty, passed) = record {
       read = read;
       output = p.output;
       consumed = p.consumed;
       appended = kept written'' keeps;
       all = λ ok. empty;
       ending = (
+        off,
         at_end,
+        passed,
         subst (λ lines. Answers f lines p.output) (sym (all_lines [] [] p (ap lines_of none) ∙ append-nil p.lines)) (so_far (omega (arith, full))),
       );
     }
-    ended written'' (Err fault.Read) full keeps (none, failed) = record {
+    ended written'' (Err fault.Read) full keeps (off, none, failed) = record {
       read = read;
       output = p.output;
       consumed = p.consumed;
@@ -288,10 +301,11 @@ module _ (first now : Work) (left left' written written' : Option (List ℕ)) (h
       all = λ ok. absurd (false≢true ok);
       ending = (
         failed,
+        off,
         subst (λ lines. Answers f lines p.output) (sym (ended_lines-before p.lines held p.whole (subst (IsUncut is_line_feed) (sym none) tt))) (so_far (omega (arith, full))),
       );
     }
-    ended written'' (Err fault.Write) full keeps (none, failed) = record {
+    ended written'' (Err fault.Write) full keeps (off, none, failed) = record {
       read = read;
       output = p.output;
       consumed = p.consumed;
@@ -299,18 +313,20 @@ module _ (first now : Work) (left left' written written' : Option (List ℕ)) (h
       all = λ ok. absurd (false≢true ok);
       ending = (
         failed,
+        off,
         done,
         [],
         subst (Answers f (take done (lines_of read))) (sym (append-nil p.output)) (first_lines done (lines_of held) refl (lines_of-after p.lines held p.whole) (omega (arith, full))),
       );
     }
-    ended written'' (Err fault.TooManyLines) full keeps some = record {
+    ended written'' (Err fault.TooManyLines) full keeps (off, some) = record {
       read = read;
       output = p.output;
       consumed = p.consumed;
       appended = kept written'' keeps;
       all = λ ok. absurd (false≢true ok);
       ending = (
+        off,
         omega (arith, ap length (lines_of-after p.lines held p.whole), length-append p.lines (lines_of held), p.count, some_line held some, full),
         first_lines most_lines (lines_of held) (sym full) (lines_of-after p.lines held p.whole) (omega (arith, full)),
       );

@@ -1,11 +1,11 @@
 //! The answers to the lines of a run.
 
-ghost use Rattle.std.specs.Prelude.{◌≡◌, ℕ, [], ◌∷◌, ◌++◌, List, IfErr};
+ghost use Rattle.std.specs.Prelude.{◌≡◌, ℕ, [], ◌∷◌, ◌++◌, false, IsTrue, List, OnOk};
 ghost use Rattle.std.specs.Io.KnownBytes.{Consumes, Keeps};
 ghost use Rattle.pesp_lines.specs.Lines.{IsUncut, is_line_feed, lines_of};
 ghost use Rattle.pesp_replies.specs.Legal.{work_of};
 ghost use Rattle.pesp_shell.specs.Runs.{marks};
-ghost use Rattle.pesp_shell.specs.Sessions.{IsNotWritten, MayAnswer, MayEndBehind};
+ghost use Rattle.pesp_shell.specs.Sessions.{MayAnswer, MayEndBehind, MayFinish};
 
 use crate::RunFault;
 use pesp_bench::Bench;
@@ -22,6 +22,7 @@ pub(crate) fn answer<K: Keeper, W: ByteSink>(
     line: &[u8],
     sink: &mut W,
 ) -> Result<(), RunFault>
+    requires { W.failed sink.old ≡ false }
     ensures { MayAnswer (work_of bench.old) (line.now ∷ []) number (work_of bench.new) (W.written sink.old) (W.written sink.new) (W.failed sink.new) result }
 {
     let Ok(text) = reply_to_line(alloc, bench, line) else {
@@ -41,8 +42,10 @@ pub(crate) fn answer_last<K: Keeper, W: ByteSink>(
     line: &[u8],
     sink: &mut W,
 ) -> Result<(), RunFault>
-    requires { IsUncut is_line_feed line.now }
-    ensures { MayAnswer (work_of bench.old) (lines_of line.now) number (work_of bench.new) (W.written sink.old) (W.written sink.new) (W.failed sink.new) result }
+    requires uncut { IsUncut is_line_feed line.now }
+    requires writer { W.failed sink.old ≡ false }
+    ensures ending { MayAnswer (work_of bench.old) (lines_of line.now) number (work_of bench.new) (W.written sink.old) (W.written sink.new) (W.failed sink.new) result }
+    ensures passed { OnOk result (IsTrue (W.passed_on sink.new)) }
 {
     if line.is_empty() {
         return finish(sink);
@@ -52,8 +55,9 @@ pub(crate) fn answer_last<K: Keeper, W: ByteSink>(
 }
 
 fn finish<W: ByteSink>(sink: &mut W) -> Result<(), RunFault>
+    requires { W.failed sink.old ≡ false }
     ensures kept { Keeps (W.written sink.old) (W.written sink.new) }
-    ensures fault { IfErr result (IsNotWritten (W.failed sink.new)) }
+    ensures ending { MayFinish (W.failed sink.new) (W.passed_on sink.new) result }
 {
     match sink.finish() {
         Ok(()) => Ok(()),
@@ -67,9 +71,11 @@ pub(crate) fn end<R: ByteSource, W: ByteSink>(
     source: &mut R,
     sink: &mut W,
 ) -> Result<(), RunFault>
+    requires reader { R.failed source.old ≡ false }
+    requires writer { W.failed sink.old ≡ false }
     ensures taken { (bytes : List ℕ) × Consumes (R.left source.old) (R.left source.new) bytes × (lines.new ≡ lines.old ++ bytes) }
     ensures kept { Keeps (W.written sink.old) (W.written sink.new) }
-    ensures ending { MayEndBehind lines.new (R.left source.new) (marks (R.at_end source.new) (R.failed source.new) (W.failed sink.new)) result }
+    ensures ending { MayEndBehind lines.new (R.left source.new) (marks (R.at_end source.new) (R.failed source.new) (W.failed sink.new) (W.passed_on sink.new)) result }
 {
     if !lines.held().is_empty() {
         return Err(RunFault::TooManyLines);

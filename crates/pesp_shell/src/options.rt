@@ -15,14 +15,14 @@ use std::alloc::{AllocError, Global};
 const DEFAULT_PERIOD: &str = "60";
 
 /// What help says of the period; the limits that it names are checked below.
-const PERIOD_HELP: &str = "The period, 2 to 120";
+const PERIOD_HELP: &str = "The period, 2 to 1440";
 
-const _: () = prove!(LEAST_PERIOD == 2 && GREATEST_PERIOD == 120);
+const _: () = prove!(LEAST_PERIOD == 2 && GREATEST_PERIOD == 1440);
 
 /// What help says behind the options.
 const MORE_HELP: &str = "\
 Without --check, commands come from standard input, a line each, and each is answered before the next is read:
-  domains, domain E, fix E t, span A l u, optimum, adopt, violations, cost, dump and more
+  domains, domain E, fix E t, window E f n, span A l u, optimum, adopt, violations, cost, dump and more
 
 Columns of the files:
   activities            number; from; to; lower; upper; weight

@@ -22,10 +22,12 @@ fn answer_all<K: Keeper, R: ByteSource, W: ByteSink>(
     source: &mut R,
     sink: &mut W,
 ) -> Result<(), RunFault>
-    requires { lines.old ≡ [] }
+    requires empty { lines.old ≡ [] }
+    requires reader { R.failed source.old ≡ false }
+    requires writer { W.failed sink.old ≡ false }
     ensures { (f : Files) → IsOpening f (work_of bench.old)
         → IsRun f (R.left source.old) (R.left source.new) (W.written sink.old) (W.written sink.new)
-        (marks (R.at_end source.new) (R.failed source.new) (W.failed sink.new)) result }
+        (marks (R.at_end source.new) (R.failed source.new) (W.failed sink.new) (W.passed_on sink.new)) result }
 {
     for done in 0..MOST_LINES {
         let number = done + 1;
@@ -62,7 +64,7 @@ pub fn run<K: Keeper, R: ByteSource, W: ByteSink>(
     requires writer { W.failed writer.old ≡ false }
     ensures { IsRun (files period activities.now (option_copied fixed.entry) (option_copied times.entry))
         (R.left reader.old) (R.left reader.new) (W.written writer.old) (W.written writer.new)
-        (marks (R.at_end reader.new) (R.failed reader.new) (W.failed writer.new)) result }
+        (marks (R.at_end reader.new) (R.failed reader.new) (W.failed writer.new) (W.passed_on writer.new)) result }
 {
     let (instance, timetable) = read(alloc, period, activities, fixed, times)?;
     let Ok(mut bench) = open::<K>(alloc, instance, &timetable) else {

@@ -175,6 +175,12 @@ fn domains_and_optima(rt: HostRuntime) {
             "ok\nok\ndomains 2\n1: 1\n2: 5 6\n",
         ),
         (
+            "window that wraps, narrowed and moved",
+            two,
+            "window 1 9 3\ndomains\nwindow 1 0 2\noptimum\nwindow 1 1 2\noptimum\nwindow 1 0 11\n",
+            "ok\ndomains 2\n1: 0 1 9\n2: 3 4 5 6\nok\noptimum 4 2\n1 0\n2 4\nok\noptimum 4 2\n1 1\n2 5\nrefused 13 length 11 is out of range\n",
+        ),
+        (
             "old optimum no longer first",
             alone(10, "1; 1; 2; 3; 5; 0\n"),
             "fix 1 5\noptimum\nunfix 1\noptimum\n",

@@ -1,21 +1,23 @@
 -- What one end after another brings.
 use Rattle.std.proofs.Common.{◌≡◌, ℕ, ◌+◌, ◌<◌, ◌≤◌, ◌==◌, ◌&&◌, ◌||◌, not, nat_le, nat_lt, Bool, true, false, Some, None, List, [], ◌∷◌, length, take, get_or, refl, sym, ap, ◌∙◌, inl, inr, arith, IsTrue}
-use Rattle.std.proofs.lemmas.Bool.{cases_Bool, cases_eq, cases_lt, eq-eqb, ne_eqb, false≢true}
+use Rattle.std.proofs.lemmas.Bool.{cases_Bool, cases_lt, false≢true}
 use Rattle.std.proofs.lemmas.List.{take_more}
 use Rattle.std.proofs.lemmas.List.Folds.{list_any-append}
 use Rattle.std.specs.List.{list_any}
 use Rattle.std.specs.Option.{option_map_or}
+use Rattle.pesp_base.specs.Windows.{Interval, is_held}
+use Rattle.pesp_supports.specs.declared.bringing.Admitted.TheVariants.{Within}
 use Rattle.pesp_instance.specs.Network.{Network, admits}
 use Rattle.pesp_domains.specs.Sweeps.{Pairs}
 use Rattle.pesp_domains.proofs.Families.{and_left, and_right}
 use Rattle.pesp_links.specs.declared.end.End.{End}
-use Rattle.pesp_links.specs.declared.end.Window.{Window}
+use Rattle.pesp_links.specs.declared.end.Ranges.{Ranges}
 use Rattle.pesp_links.specs.Ends.{is_from_to, passes}
 use Rattle.pesp_supports.specs.Counts.{has_at}
 use Rattle.pesp_links.specs.Links.{Links}
 use Rattle.pesp_links.specs.Places.{number_at}
 use Rattle.pesp_supports.specs.Put.{Back}
-use Rattle.pesp_supports.specs.Restored.{IsBrought, in_window, of_admitted, of_end, of_pair, of_range, of_start, of_starts}
+use Rattle.pesp_supports.specs.Restored.{IsBrought, in_ranges, of_admitted, of_end, of_range, of_start, of_ranges, of_starts}
 use Rattle.pesp_supports.specs.Restoring.{admits_at}
 use Rattle.pesp_supports.specs.Supports.{HaveSameShape, Supports, held}
 use Rattle.pesp_supports.proofs.Ranges.{no_and, range_from_to}
@@ -56,13 +58,13 @@ admits_below I links p r =
     ]
 
 -- the window of an end has what it passes
-pub window_end : (period : ℕ) (I : Network) (links : Links) (residue : ℕ) (end : End) (w : Window) → period ≡ I.period → ((s : ℕ) → s < period → passes period end residue s ≡ in_window w s) → (p r : ℕ) → of_admitted I links end.looks_at w p r ≡ of_end period I links residue end p r
-window_end period I links residue end w same is p r =
+pub ranges_end : (period : ℕ) (I : Network) (links : Links) (residue : ℕ) (end : End) (w : Ranges) → period ≡ I.period → ((s : ℕ) → s < period → passes period end residue s ≡ in_ranges w s) → (p r : ℕ) → of_admitted I links end.looks_at w p r ≡ of_end period I links residue end p r
+ranges_end period I links residue end w same is p r =
     elim (cases_Bool (admits_at I links end.looks_at r)) [
       | inl there ↦
           let below = admits_below I links end.looks_at r there in
           rw (is r (omega (arith, below, same))) refl
-      | inr out ↦ rw out (by (p == end.looks_at) (in_window w r) (passes period end residue r))
+      | inr out ↦ rw out (by (p == end.looks_at) (in_ranges w r) (passes period end residue r))
     ]
   where
     by : (a b c : Bool) → (a && (b && false)) ≡ (a && (c && false))
@@ -73,8 +75,8 @@ window_end period I links residue end w same is p r =
     by true false false = refl
 
 -- a full window brings nothing
-pub window_full : (period : ℕ) (I : Network) (links : Links) (residue : ℕ) (end : End) (w : Window) (rows : List (List Bool)) → period ≡ I.period → ((s : ℕ) → s < period → passes period end residue s ≡ in_window w s) → ((r : ℕ) → IsTrue (in_window w r) → IsTrue (has_at rows end.looks_at r)) → (p r : ℕ) → IsTrue (of_end period I links residue end p r) → IsTrue (has_at rows p r)
-window_full period I links residue end w rows same is full p r h =
+pub ranges_full : (period : ℕ) (I : Network) (links : Links) (residue : ℕ) (end : End) (w : Ranges) (rows : List (List Bool)) → period ≡ I.period → ((s : ℕ) → s < period → passes period end residue s ≡ in_ranges w s) → ((r : ℕ) → IsTrue (in_ranges w r) → IsTrue (has_at rows end.looks_at r)) → (p r : ℕ) → IsTrue (of_end period I links residue end p r) → IsTrue (has_at rows p r)
+ranges_full period I links residue end w rows same is full p r h =
     let place = eqb_is p end.looks_at (and_left (p == end.looks_at) (passes period end residue r && admits_at I links end.looks_at r) h) in
     let rest = and_right (p == end.looks_at) (passes period end residue r && admits_at I links end.looks_at r) h in
     let pass = and_left (passes period end residue r) (admits_at I links end.looks_at r) rest in
@@ -104,17 +106,16 @@ start_none I links place is p r h =
     let there = and_right (p == place) (admits_at I links place r) h in
     false≢true (is r (admits_below I links place r there) ∙ there)
 
--- one residue is admitted
-pub start_one : (I : Network) (links : Links) (place time : ℕ) → time < I.period → ((r : ℕ) → r < I.period → (time == r) ≡ admits_at I links place r) → (p r : ℕ) → of_pair place time p r ≡ of_start I links place p r
-start_one I links place time low is =
-    start_is I links place (λ r. r == time) (λ r below. turned r ∙ is r below) (λ r beyond. ne_eqb r time (λ e. omega (arith, e, low, beyond)))
+-- the residues of an event's window are admitted
+pub start_within : (I : Network) (links : Links) (place n : ℕ) (event : Interval) → n ≡ I.period → ((r : ℕ) → r < I.period → is_held I.period event r ≡ admits_at I links place r) → (p r : ℕ) → of_ranges I.period place (record { start = 0; end = n; wrapped = 0 }) (Within event) p r ≡ of_start I links place p r
+start_within I links place n event all is =
+    start_is I links place (λ r. in_ranges (record { start = 0; end = n; wrapped = 0 }) r && is_held I.period event r) within out
   where
-    turned : (r : ℕ) → (r == time) ≡ (time == r)
-    turned r =
-        elim (cases_eq r time) [
-          | inl same ↦ eq-eqb r time same ∙ sym (eq-eqb time r (sym same))
-          | inr apart ↦ ne_eqb r time apart ∙ sym (ne_eqb time r (λ e. apart (sym e)))
-        ]
+    within : (r : ℕ) → r < I.period → (in_ranges (record { start = 0; end = n; wrapped = 0 }) r && is_held I.period event r) ≡ admits_at I links place r
+    within r below = rw (range_from_to 0 n r (omega arith) (omega (arith, below, all))) (is r below)
+
+    out : (r : ℕ) → I.period ≤ r → (in_ranges (record { start = 0; end = n; wrapped = 0 }) r && is_held I.period event r) ≡ false
+    out r beyond = let high : nat_lt r I.period ≡ false = grind (arith, beyond) in rw high (no_and _)
 
 -- each residue is admitted
 pub start_all : (I : Network) (links : Links) (place n : ℕ) → n ≡ I.period → ((r : ℕ) → r < I.period → true ≡ admits_at I links place r) → (p r : ℕ) → of_range place 0 n p r ≡ of_start I links place p r

@@ -1,24 +1,29 @@
 -- Pairs come to the rows and into a list, one after another.
-use Rattle.std.proofs.Common.{◌≡◌, ℕ, ◌+◌, ◌*◌, ◌<◌, ◌≤◌, ◌==◌, ◌&&◌, ◌||◌, not, nat_le, nat_lt, Bool, true, false, Some, None, [], ◌∷◌, ◌++◌, length, refl, sym, ap, subst, ◌∙◌, inl, inr, arith, IsTrue, IfSome, append_assoc}
-use Rattle.std.proofs.lemmas.Bool.{cases_Bool, cases_eq, cases_lt, eq-eqb, ne_eqb, false≢true}
+use Rattle.std.proofs.Common.{◌≡◌, ℕ, ◌+◌, ◌*◌, ◌%◌, ◌<◌, ◌≤◌, pos, ◌-ℤ◌, mod-lt, ◌==◌, ◌&&◌, ◌||◌, not, nat_le, nat_lt, Bool, true, false, Some, None, [], ◌∷◌, ◌++◌, length, refl, sym, ap, subst, ◌∙◌, inl, inr, arith, IsTrue, IfSome, append_assoc}
+use Rattle.std.proofs.lemmas.Bool.{cases_Bool, cases_eq, cases_lt, eq-eqb, lt-ltb, ne_eqb, false≢true}
 use Rattle.std.proofs.lemmas.List.{append-nil, length_push}
 use Rattle.std.proofs.lemmas.List.Folds.{list_any-append}
 use Rattle.std.specs.Option.{option_and_then}
 use Rattle.pesp_base.specs.Limits.{greatest_number}
+use Rattle.pesp_base.specs.Tensions.{residue}
+use Rattle.pesp_base.specs.Windows.{Interval, IsWindow, is_held}
+use Rattle.pesp_base.proofs.ResidueLaws.{residue_after_rise}
+use Rattle.pesp_base.proofs.WindowLaws.{steps}
+use Rattle.std.proofs.Math.Nat.{mod-eq_of_lt}
 use Rattle.pesp_instance.specs.declared.event.Event.{Event}
-use Rattle.pesp_instance.specs.Network.{IsEvent, IsNetwork, Network, event_of, fixed_of}
+use Rattle.pesp_instance.specs.Network.{IsEvent, IsNetwork, Network, event_of, window_of}
 use Rattle.pesp_instance.proofs.Rising.{IfSome-with_number, number-with_number}
 use Rattle.pesp_domains.specs.Sweeps.{Pairs}
 use Rattle.pesp_domains.proofs.Families.{and_left, and_right}
 use Rattle.pesp_supports.specs.declared.bringing.Admitted.{Admitted}
-use Rattle.pesp_supports.specs.declared.bringing.Admitted.TheVariants.{Any, Nothing, One}
-use Rattle.pesp_links.specs.declared.end.Window.{Window}
+use Rattle.pesp_supports.specs.declared.bringing.Admitted.TheVariants.{Any, Nothing, Within}
+use Rattle.pesp_links.specs.declared.end.Ranges.{Ranges}
 use Rattle.pesp_supports.specs.declared.trail.Placed.{Placed}
 use Rattle.pesp_supports.specs.Counts.{has_at}
 use Rattle.pesp_links.specs.Links.{Links}
 use Rattle.pesp_supports.specs.Put.{Back}
 use Rattle.pesp_links.specs.Ends.{is_from_to}
-use Rattle.pesp_supports.specs.Restored.{HasRoom, IsBrought, admitted_by, in_window, of_admitted, of_pair, of_range, of_window}
+use Rattle.pesp_supports.specs.Restored.{HasRoom, IsBrought, admitted_by, in_ranges, of_admitted, of_pair, of_range, of_ranges}
 use Rattle.pesp_supports.specs.Restoring.{admits_at}
 use Rattle.pesp_supports.specs.Supports.{HaveSameShape, Supports, held, is_in, joined}
 use Rattle.pesp_supports.proofs.Ranges.{no_and, range_in, range_out, range_same}
@@ -197,8 +202,8 @@ range_none place low p r h = false≢true (sym (rw (range_out_any low r) (no_and
         ]
 
 -- both ranges of a window
-pub window_any : (place : ℕ) (w : Window) (p r : ℕ) → (of_range place w.start w.end p r || of_range place 0 w.wrapped p r) ≡ of_window place w Any p r
-window_any place w p r = by (p == place) (is_from_to w.start w.end r) (is_from_to 0 w.wrapped r)
+pub ranges_any : (period place : ℕ) (w : Ranges) (p r : ℕ) → (of_range place w.start w.end p r || of_range place 0 w.wrapped p r) ≡ of_ranges period place w Any p r
+ranges_any period place w p r = by (p == place) (is_from_to w.start w.end r) (is_from_to 0 w.wrapped r)
   where
     by : (a b c : Bool) → ((a && b) || (a && c)) ≡ (a && ((b || c) && true))
     by true true c = refl
@@ -206,39 +211,101 @@ window_any place w p r = by (p == place) (is_from_to w.start w.end r) (is_from_t
     by true false false = refl
     by false b c = refl
 
--- the one residue of a window
-pub window_one : (place time : ℕ) (w : Window) (p r : ℕ) → IsTrue (in_window w time) → of_pair place time p r ≡ of_window place w (One time) p r
-window_one place time w p r there =
-    elim (cases_eq r time) [
-      | inl same ↦ rw (same, eq-eqb time time refl, there) refl
-      | inr apart ↦ rw (ne_eqb r time apart, ne_eqb time r (λ e. apart (sym e))) (by (p == place) (in_window w r))
+-- a window of one residue more holds this one too
+held_more : (T first k r : ℕ) → 0 < T → k < T → is_held T (record { first = first; length = k + 1 }) r ≡ (is_held T (record { first = first; length = k }) r || r == (first + k) % T)
+held_more T first k r some few =
+    let d : ℕ = residue T (pos r -ℤ pos first) in
+    elim (cases_lt r T) [
+      | inl below ↦
+          let yes : nat_lt r T ≡ true = lt-ltb r T below in
+          rw yes
+          (elim (cases_eq d k) [
+            | inl same ↦
+                let at : r ≡ (first + k) % T = sym (residue_after_rise T (pos first) k r below same) in
+                let now : nat_lt d (k + 1) ≡ true = lt-ltb d (k + 1) (omega (arith, same)) in
+                rw (now, eq-eqb r ((first + k) % T) at) (sym (or_true (nat_lt d k)))
+            | inr apart ↦
+                let not_at : (r == (first + k) % T) ≡ false = ne_eqb r ((first + k) % T) (λ at. apart (ap (λ s. residue T (pos s -ℤ pos first)) at ∙ steps T first k some ∙ mod-eq_of_lt few)) in
+                rw not_at (same_test d k apart)
+          ])
+      | inr high ↦
+          let no : nat_lt r T ≡ false = grind (arith, high) in
+          let not_at : (r == (first + k) % T) ≡ false = ne_eqb r ((first + k) % T) (λ at. let below = mod-lt (first + k) some in absurd (omega (arith, at, below, high))) in
+          rw (no, not_at) refl
     ]
   where
-    by : (a b : Bool) → (a && false) ≡ (a && (b && false))
-    by true true = refl
-    by true false = refl
-    by false b = refl
+    or_true : (b : Bool) → (b || true) ≡ true
+    or_true true = refl
+    or_true false = refl
 
--- it is not in the window
-pub window_none : (place time : ℕ) (w : Window) (p r : ℕ) → in_window w time ≡ false → IsTrue (of_window place w (One time) p r) → ⊥
-window_none place time w p r out h =
-    let both = and_right (p == place) (in_window w r && (time == r)) h in
-    let at : time ≡ r = eqb_is time r (and_right (in_window w r) (time == r) both) in
-    false≢true (sym out ∙ ap (in_window w) at ∙ and_left (in_window w r) (time == r) both)
+    same_test : (d k : ℕ) → (d ≡ k → ⊥) → nat_lt d (k + 1) ≡ (nat_lt d k || false)
+    same_test d k apart =
+        elim (cases_lt d k) [
+          | inl low ↦ let x : nat_lt d k ≡ true = lt-ltb d k low in let y : nat_lt d (k + 1) ≡ true = lt-ltb d (k + 1) (omega (arith, low)) in rw (x, y) refl
+          | inr high ↦ let x : nat_lt d k ≡ false = grind (arith, high) in let y : nat_lt d (k + 1) ≡ false = grind (arith, high, apart) in rw (x, y) refl
+        ]
+
+-- one step more along an event's window, at a residue that is in the ranges
+pub within_step : (period place first k : ℕ) (w : Ranges) (p r : ℕ) → 0 < period → k < period → in_ranges w ((first + k) % period) ≡ true
+    → (of_ranges period place w (Within (record { first = first; length = k })) p r || of_pair place ((first + k) % period) p r) ≡ of_ranges period place w (Within (record { first = first; length = k + 1 })) p r
+within_step period place first k w p r some few there =
+    rw (held_more period first k r some few)
+    (elim (cases_eq r ((first + k) % period)) [
+      | inl at ↦ rw (eq-eqb r ((first + k) % period) at, at, there) (by_one (p == place) (is_held period (record { first = first; length = k }) ((first + k) % period)))
+      | inr apart ↦ rw (ne_eqb r ((first + k) % period) apart) (by_none (p == place) (in_ranges w r) (is_held period (record { first = first; length = k }) r))
+    ])
+  where
+    by_one : (a b : Bool) → ((a && (true && b)) || (a && true)) ≡ (a && (true && (b || true)))
+    by_one true true = refl
+    by_one true false = refl
+    by_one false b = refl
+
+    by_none : (a b c : Bool) → ((a && (b && c)) || (a && false)) ≡ (a && (b && (c || false)))
+    by_none true true true = refl
+    by_none true true false = refl
+    by_none true false c = refl
+    by_none false b c = refl
+
+-- and at one that is not
+pub within_skipped : (period place first k : ℕ) (w : Ranges) (p r : ℕ) → 0 < period → k < period → in_ranges w ((first + k) % period) ≡ false
+    → of_ranges period place w (Within (record { first = first; length = k })) p r ≡ of_ranges period place w (Within (record { first = first; length = k + 1 })) p r
+within_skipped period place first k w p r some few out =
+    rw (held_more period first k r some few)
+    (elim (cases_eq r ((first + k) % period)) [
+      | inl at ↦ rw (eq-eqb r ((first + k) % period) at, at, out) (by_none (p == place) (is_held period (record { first = first; length = k }) ((first + k) % period)))
+      | inr apart ↦ rw (ne_eqb r ((first + k) % period) apart) (by_same (p == place) (in_ranges w r) (is_held period (record { first = first; length = k }) r))
+    ])
+  where
+    by_none : (a b : Bool) → (a && (false && b)) ≡ (a && (false && (b || true)))
+    by_none true b = refl
+    by_none false b = refl
+
+    by_same : (a b c : Bool) → (a && (b && c)) ≡ (a && (b && (c || false)))
+    by_same true true true = refl
+    by_same true true false = refl
+    by_same true false c = refl
+    by_same false b c = refl
+
+-- before the first step there is none
+pub within_none : (period place first : ℕ) (w : Ranges) (p r : ℕ) → IsTrue (of_ranges period place w (Within (record { first = first; length = 0 })) p r) → ⊥
+within_none period place first w p r h =
+    let held = and_right (in_ranges w r) (is_held period (record { first = first; length = 0 }) r) (and_right (p == place) (in_ranges w r && is_held period (record { first = first; length = 0 }) r) h) in
+    let none : nat_lt (residue period (pos r -ℤ pos first)) 0 ≡ false = grind arith in
+    false≢true (sym none ∙ and_right (nat_lt r period) (nat_lt (residue period (pos r -ℤ pos first)) 0) held)
 
 -- nothing is admitted
-pub window_nothing : (place : ℕ) (w : Window) (p r : ℕ) → IsTrue (of_window place w Nothing p r) → ⊥
-window_nothing place w p r h = false≢true (sym (no_and (in_window w r)) ∙ and_right (p == place) (in_window w r && false) h)
+pub ranges_nothing : (period place : ℕ) (w : Ranges) (p r : ℕ) → IsTrue (of_ranges period place w Nothing p r) → ⊥
+ranges_nothing period place w p r h = false≢true (sym (no_and (in_ranges w r)) ∙ and_right (p == place) (in_ranges w r && false) h)
 
 -- a residue of a window is below its end
-pub in_window_below : (w : Window) (n r : ℕ) → w.end ≤ n → w.wrapped ≤ n → IsTrue (in_window w r) → r < n
-in_window_below w n r end wrapped h =
+pub in_ranges_below : (w : Ranges) (n r : ℕ) → w.end ≤ n → w.wrapped ≤ n → IsTrue (in_ranges w r) → r < n
+in_ranges_below w n r end wrapped h =
     elim (cases_lt r n) [
       | inl below ↦ below
       | inr above ↦
           let first : nat_lt r w.end ≡ false = grind (arith, above, end) in
           let second : nat_lt r w.wrapped ≡ false = grind (arith, above, wrapped) in
-          let none : in_window w r ≡ false = rw (first, second) (by (nat_le w.start r) (nat_le 0 r)) in
+          let none : in_ranges w r ≡ false = rw (first, second) (by (nat_le w.start r) (nat_le 0 r)) in
           absurd (false≢true (sym none ∙ h))
     ]
   where
@@ -248,20 +315,20 @@ in_window_below w n r end wrapped h =
     by false true = refl
     by false false = refl
 
--- what the fixed time leaves is what is admitted
-pub window_admitted : (I : Network) (links : Links) (place : ℕ) (w : Window) (admitted : Admitted) → w.end ≤ I.period → w.wrapped ≤ I.period → ((r : ℕ) → r < I.period → admitted_by admitted r ≡ admits_at I links place r) → (p r : ℕ) → of_window place w admitted p r ≡ of_admitted I links place w p r
-window_admitted I links place w admitted end wrapped is p r =
-    elim (cases_Bool (in_window w r)) [
-      | inl there ↦ rw (there, is r (in_window_below w I.period r end wrapped there)) refl
+-- what the event's window leaves is what is admitted
+pub ranges_admitted : (I : Network) (links : Links) (place : ℕ) (w : Ranges) (admitted : Admitted) → w.end ≤ I.period → w.wrapped ≤ I.period → ((r : ℕ) → r < I.period → admitted_by I.period admitted r ≡ admits_at I links place r) → (p r : ℕ) → of_ranges I.period place w admitted p r ≡ of_admitted I links place w p r
+ranges_admitted I links place w admitted end wrapped is p r =
+    elim (cases_Bool (in_ranges w r)) [
+      | inl there ↦ rw (there, is r (in_ranges_below w I.period r end wrapped there)) refl
       | inr out ↦ rw out refl
     ]
 
--- ---- fixed times
+-- ---- windows of events
 
 -- a number beyond the limit is no event's
-pub unfixed_beyond : (I : Network) (n : ℕ) → IsNetwork I → greatest_number < n → fixed_of I n ≡ None
-unfixed_beyond I n network beyond =
-    elim (event_of I n) as (λ o. event_of I n ≡ o → option_and_then (λ (x : Event). x.fixed) o ≡ None) [
+pub unwindowed_beyond : (I : Network) (n : ℕ) → IsNetwork I → greatest_number < n → window_of I n ≡ None
+unwindowed_beyond I n network beyond =
+    elim (event_of I n) as (λ o. event_of I n ≡ o → option_and_then (λ (x : Event). x.window) o ≡ None) [
       | None ↦ λ is. refl
       | Some x ↦ λ is.
           let number = number-with_number (λ (e : Event). e.id) n I.events x is in
@@ -269,12 +336,12 @@ unfixed_beyond I n network beyond =
           absurd (omega (arith, number, within, beyond))
     ] refl
 
--- a fixed time is below the period
-pub fixed_below : (I : Network) (n time : ℕ) → IsNetwork I → fixed_of I n ≡ Some time → time < I.period
-fixed_below I n time network =
-    elim (event_of I n) as (λ o. event_of I n ≡ o → option_and_then (λ (x : Event). x.fixed) o ≡ Some time → time < I.period) [
+-- a window is one of the period
+pub window_within : (I : Network) (n : ℕ) (w : Interval) → IsNetwork I → window_of I n ≡ Some w → IsWindow I.period w
+window_within I n w network =
+    elim (event_of I n) as (λ o. event_of I n ≡ o → option_and_then (λ (x : Event). x.window) o ≡ Some w → IsWindow I.period w) [
       | None ↦ λ is none. absurd (cc)
-      | Some x ↦ λ is fixed.
-          let within = (IfSome-with_number (λ (e : Event). e.id) (IsEvent I.period) n I.events x network.events_within is).fixed in
-          subst (λ o. IfSome o (λ t. t < I.period)) fixed within
+      | Some x ↦ λ is window.
+          let within = (IfSome-with_number (λ (e : Event). e.id) (IsEvent I.period) n I.events x network.events_within is).window in
+          subst (λ o. IfSome o (IsWindow I.period)) window within
     ] refl

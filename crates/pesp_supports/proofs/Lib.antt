@@ -15,4 +15,4 @@ pub mod Spread
 pub mod Supporters
 pub mod Taken
 pub mod Waiting
-pub mod Windowed
+pub mod Partners

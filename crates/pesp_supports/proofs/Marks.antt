@@ -5,8 +5,7 @@ use Rattle.std.proofs.lemmas.Bool.{cases_Bool, cases_lt, false≢true}
 use Rattle.std.proofs.lemmas.List.Elements.{All-append, Contains-get_or}
 use Rattle.std.proofs.lemmas.List.{get_or_past, get_or-append_right, length-append}
 use Rattle.std.proofs.lemmas.List.Folds.{list_any-append}
-use Rattle.pesp_domains.proofs.Pushes.{limited}
-use Rattle.pesp_domains.specs.Sweeps.{Of, Pairs}
+use Rattle.pesp_domains.specs.Sweeps.{Of, Pairs, narrowed_to}
 use Rattle.pesp_supports.specs.declared.trail.Placed.{Placed}
 use Rattle.pesp_supports.specs.Counts.{ArePending, KeepsClosed, has_at}
 use Rattle.pesp_supports.specs.Resting.{AreAtRest, AreLive, IsNarrowed}
@@ -120,15 +119,15 @@ keeps_like links period period' S S' R same like keeps =
       keeps = λ R' closed within. k.keeps R' closed (λ p r h. like p r ∙ within p r h);
     }
 
--- pairs but one of a place go, and what is left without a partner
-pub narrowed : (links : Links) (s m n : Supports) (p x : ℕ) → AreAtRest links s → ((q r : ℕ) → has_at m.rows q r ≡ limited (has_at s.rows) p x q r) → IsTaken s m → Keeps s m
-    → ArePending m.period links.ends links.lists n.counts (has_at n.counted) (has_at n.rows) n.trail (length n.trail) → KeepsClosed m.period links.ends links.lists (has_at m.rows) (has_at n.rows) → IsTaken m n → HaveSameShape m n → IsNarrowed links p x s n
-narrowed links s m n p x h rows taken keeps pending closed more shape =
+-- the pairs of a place that do not pass a test go, and what is left without a partner
+pub narrowed : (links : Links) (s m n : Supports) (p : ℕ) (test : ℕ → Bool) → AreAtRest links s → ((q r : ℕ) → has_at m.rows q r ≡ narrowed_to (has_at s.rows) p test q r) → IsTaken s m → Keeps s m
+    → ArePending m.period links.ends links.lists n.counts (has_at n.counted) (has_at n.rows) n.trail (length n.trail) → KeepsClosed m.period links.ends links.lists (has_at m.rows) (has_at n.rows) → IsTaken m n → HaveSameShape m n → IsNarrowed links p test s n
+narrowed links s m n p test h rows taken keeps pending closed more shape =
     let both = taken_then s m n taken more in
     let whole = shape_then s m n (kept_shape s m keeps) shape in
     record {
       rest = pending_rest links m n shape.period (λ q r i. let l = h.below q r (taken_fewer s n both q r i) in omega (arith, l, whole.period)) (out_more s n h.out h.below whole both) pending;
       taken = both;
       shape = whole;
-      keeps = keeps_like links s.period m.period (limited (has_at s.rows) p x) (has_at m.rows) (has_at n.rows) keeps.period rows closed;
+      keeps = keeps_like links s.period m.period (narrowed_to (has_at s.rows) p test) (has_at m.rows) (has_at n.rows) keeps.period rows closed;
     }

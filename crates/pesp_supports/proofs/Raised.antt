@@ -49,6 +49,17 @@ rise_more from q before now after le within is rose i =
           rw (value, same) (rose i)
     ]
 
+-- a count that is to be raised is what it was
+pub now_is : (from q : ℕ) (before now : List ℕ) → ((i : ℕ) → get_or now i 0 ≡ get_or before i 0 + one (is_from_to from q i)) → get_or now q 0 ≡ get_or before q 0
+now_is from q before now rose =
+    let over : nat_lt q q ≡ false = grind arith in
+    let none : one (is_from_to from q q) ≡ 0 = rw over (zero_of (nat_le from q)) in
+    omega (arith, rose q, none)
+  where
+    zero_of : (b : Bool) → one (b && false) ≡ 0
+    zero_of true = refl
+    zero_of false = refl
+
 -- ---- one end
 
 -- as a residue comes, the count rises by one where it passes
@@ -248,8 +259,9 @@ abbrev pub with_counts : List ℕ → Supports → Supports
 with_counts counts s = record { period = s.period; counts = counts; counted = s.counted; rows = s.rows; trail = s.trail; room = s.room; probes = s.probes }
 
 -- and they are as sound
-pub supports_with : (counts : List ℕ) (s : Supports) → AreSupports s → AreSupports (with_counts counts s)
-supports_with counts s a = record { period = a.period; rows = a.rows; counted = a.counted; even = a.even; room = a.room; all_room = a.all_room }
+pub supports_with : (counts : List ℕ) (s : Supports) (before now : ℕ) → s.period ≤ now → AreSupports s before → AreSupports (with_counts counts s) now
+supports_with counts s before now fits a =
+    record { period = a.period; rows = a.rows; counted = a.counted; even = a.even; room = a.room; all_room = a.all_room; fits = fits }
 
 -- ---- a residue that is put into a row
 

@@ -1,8 +1,7 @@
 -- Rows at rest, with nothing waiting to be counted out, and rows of which some pairs wait.
-use Rattle.std.specs.Prelude.{◌≡◌, ℕ, ◌*◌, ◌<◌, ◌≤◌, false, IsTrue, List, length}
+use Rattle.std.specs.Prelude.{◌≡◌, ℕ, ◌*◌, ◌<◌, ◌≤◌, Bool, false, IsTrue, List, length}
 use Rattle.std.specs.List.{Contains}
-use Rattle.pesp_domains.proofs.Pushes.{limited}
-use Rattle.pesp_domains.specs.Sweeps.{Of}
+use Rattle.pesp_domains.specs.Sweeps.{Of, narrowed_to}
 use Rattle.pesp_supports.specs.declared.trail.Placed.{Placed}
 use Rattle.pesp_links.specs.Ends.{ends_of}
 use Rattle.pesp_links.specs.Links.{Links}
@@ -26,12 +25,12 @@ pub record HaveRoom (s : Supports) (for_back for_restored : ℕ) : Type 0 where
   pub back : length s.rows * s.period ≤ for_back
   pub restored : length s.rows * s.period ≤ for_restored
 
--- all pairs but one of a place go, and of the others those that are left without a partner
-pub record IsNarrowed (links : Links) (p r : ℕ) (before after : Supports) : Type 0 where
+-- the pairs of a place that do not pass a test go, and of the others those that are left without a partner
+pub record IsNarrowed (links : Links) (p : ℕ) (test : ℕ → Bool) (before after : Supports) : Type 0 where
   pub rest : AreAtRest links after
   pub taken : IsTaken before after
   pub shape : HaveSameShape before after
-  pub keeps : KeepsClosed before.period links.ends links.lists (limited (has_at before.rows) p r) (has_at after.rows)
+  pub keeps : KeepsClosed before.period links.ends links.lists (narrowed_to (has_at before.rows) p test) (has_at after.rows)
 
 -- pairs of the rows but those of a list have counts above 0, and what was taken out of the rows waits in the trail
 pub record ArePendingBut (links : Links) (s : Supports) (back : List Placed) : Type 0 where

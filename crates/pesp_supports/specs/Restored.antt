@@ -1,12 +1,13 @@
 -- The steps of a pass that puts pairs back.
 use Rattle.std.specs.Prelude.{◌≡◌, ◌≢◌, ℕ, ◌+◌, ◌*◌, ◌≤◌, Bool, true, false, ◌==◌, ◌&&◌, ◌||◌, not, List, ◌++◌, Option, length, AllPairs}
 use Rattle.std.specs.List.{Contains, list_any}
+use Rattle.pesp_base.specs.Windows.{is_held}
 use Rattle.pesp_instance.specs.Network.{Network}
 use Rattle.pesp_domains.specs.Sweeps.{Pairs}
 use Rattle.pesp_supports.specs.declared.bringing.Admitted.{Admitted}
-use Rattle.pesp_supports.specs.declared.bringing.Admitted.TheVariants.{Nothing, One, Any}
+use Rattle.pesp_supports.specs.declared.bringing.Admitted.TheVariants.{Nothing, Within, Any}
 use Rattle.pesp_links.specs.declared.end.End.{End}
-use Rattle.pesp_links.specs.declared.end.Window.{Window}
+use Rattle.pesp_links.specs.declared.end.Ranges.{Ranges}
 use Rattle.pesp_supports.specs.declared.trail.Placed.{Placed}
 use Rattle.pesp_links.specs.Ends.{end_at, ends_of, is_from_to, passes}
 use Rattle.pesp_supports.specs.Counts.{IsExactAt, has_at}
@@ -18,14 +19,14 @@ use Rattle.pesp_supports.specs.Supports.{HaveSameShape, Supports, held, is_in}
 -- ---- which pairs a step may bring
 
 -- whether the residue is in one of the two ranges of a window
-abbrev pub in_window : Window → ℕ → Bool
-in_window w r = is_from_to w.start w.end r || is_from_to 0 w.wrapped r
+abbrev pub in_ranges : Ranges → ℕ → Bool
+in_ranges w r = is_from_to w.start w.end r || is_from_to 0 w.wrapped r
 
--- whether the residue is among those that a fixed time leaves
-abbrev pub admitted_by : Admitted → ℕ → Bool
-admitted_by Nothing r = false
-admitted_by (One time) r = time == r
-admitted_by Any r = true
+-- whether the residue is among those that an event's window leaves
+abbrev pub admitted_by : ℕ → Admitted → ℕ → Bool
+admitted_by period Nothing r = false
+admitted_by period (Within window) r = is_held period window r
+admitted_by period Any r = true
 
 -- one pair
 abbrev pub of_pair : ℕ → ℕ → Pairs
@@ -35,13 +36,13 @@ of_pair place residue p r = p == place && r == residue
 abbrev pub of_range : ℕ → ℕ → ℕ → Pairs
 of_range place low high p r = p == place && is_from_to low high r
 
--- those of a place in a window that the fixed time leaves
-abbrev pub of_window : ℕ → Window → Admitted → Pairs
-of_window place w admitted p r = p == place && (in_window w r && admitted_by admitted r)
+-- those of a place in the ranges of an end that the event's window leaves
+abbrev pub of_ranges : ℕ → ℕ → Ranges → Admitted → Pairs
+of_ranges period place w admitted p r = p == place && (in_ranges w r && admitted_by period admitted r)
 
 -- those of a place in a window that are admitted there
-abbrev pub of_admitted : Network → Links → ℕ → Window → Pairs
-of_admitted I links place w p r = p == place && (in_window w r && admits_at I links place r)
+abbrev pub of_admitted : Network → Links → ℕ → Ranges → Pairs
+of_admitted I links place w p r = p == place && (in_ranges w r && admits_at I links place r)
 
 -- the admitted ones that go with a residue along an activity
 abbrev pub of_end : ℕ → Network → Links → ℕ → End → Pairs

@@ -11,7 +11,7 @@ use Rattle.pesp_links.specs.Links.{Links}
 use Rattle.pesp_links.specs.Places.{number_at}
 use Rattle.pesp_supports.specs.Supports.{AreLevel, HaveSameShape, Supports, is_in}
 
--- whether the event at the place admits the residue by its fixed time; where no event has the place, none is admitted
+-- whether the event at the place admits the residue by its window; where no event has the place, none is admitted
 abbrev pub admits_at : Network → Links → Pairs
 admits_at I links p r = option_map_or (λ e. nat_lt r I.period && admits I e r) (number_at links.events p) false
 

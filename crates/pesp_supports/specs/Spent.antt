@@ -1,8 +1,8 @@
 -- What is spent by place.
 use Rattle.std.specs.Prelude.{ℕ, List, length, sum_by}
 use Rattle.pesp_supports.specs.declared.bringing.Admitted.{Admitted}
-use Rattle.pesp_supports.specs.declared.bringing.Admitted.TheVariants.{Nothing, One, Any}
-use Rattle.pesp_links.specs.declared.end.Window.{Window}
+use Rattle.pesp_supports.specs.declared.bringing.Admitted.TheVariants.{Nothing, Within, Any}
+use Rattle.pesp_links.specs.declared.end.Ranges.{Ranges}
 use Rattle.pesp_supports.specs.declared.trail.Placed.{Placed}
 use Rattle.pesp_links.specs.Ends.{ends_of}
 use Rattle.pesp_links.specs.Links.{Links}
@@ -15,8 +15,8 @@ most_probes = 18446744073709551615
 abbrev pub ends_at : Links → List Placed → ℕ
 ends_at links pairs = sum_by (λ x. length (ends_of links.lists x.place)) pairs
 
--- at most so many residues of a window are looked at, where this is admitted
-abbrev pub looked : Admitted → Window → ℕ
+-- at most so many residues are looked at for the ranges of an end, where this is admitted
+abbrev pub looked : Admitted → Ranges → ℕ
 looked Nothing w = 0
-looked (One time) w = 1
+looked (Within window) w = window.length
 looked Any w = w.end

@@ -23,14 +23,15 @@ pub record Supports : Type 0 where
 abbrev pub held : List (List Bool) → ℕ
 held rows = sum_by held_in rows
 
--- there are as many rows of either kind, each row has a test for each residue, and the trail has room for each pair that the rows hold, and for all that they may hold
-pub record AreSupports (s : Supports) : Type 0 where
+-- there are as many rows of either kind, each row has a test for each residue, the trail has room for each pair that the rows hold, and for all that they may hold, and a count can be as great as the period
+pub record AreSupports (s : Supports) (most : ℕ) : Type 0 where
   pub period : 2 * s.period < 65536
   pub rows : All (λ row. length row ≡ s.period) s.rows
   pub counted : All (λ row. length row ≡ s.period) s.counted
   pub even : length s.counted ≡ length s.rows
   pub room : length s.trail + held s.rows ≤ s.room
   pub all_room : length s.rows * s.period ≤ s.room
+  pub fits : s.period ≤ most
 
 -- there are rows where ends are listed, and counts for each listed end
 pub record Fit (links : Links) (s : Supports) : Type 0 where

@@ -48,13 +48,15 @@ fn recount_block(
     probes: &mut Probes,
 )
     requires period { period ≤ greatest_period }
+    requires fits { period ≤ (counts.old).most }
     requires first { end.first < period }
     requires width { end.width ≤ period }
-    requires within { base + period ≤ length counts.old }
+    requires within { base + period ≤ length (counts.old).values }
     requires small { base + period < 18446744073709551616 }
-    ensures long { length counts.new ≡ length counts.old }
-    ensures here { (r : ℕ) → r < period → slice_index_or counts.new (base + r) 0 ≡ around period (holds row.now) (r + end.first) end.width }
-    ensures elsewhere { (i : ℕ) → i < base ⊎ base + period ≤ i → slice_index_or counts.new i 0 ≡ slice_index_or counts.old i 0 }
+    ensures most { (counts.new).most ≡ (counts.old).most }
+    ensures long { length (counts.new).values ≡ length (counts.old).values }
+    ensures here { (r : ℕ) → r < period → slice_index_or (counts.new).values (base + r) 0 ≡ around period (holds row.now) (r + end.first) end.width }
+    ensures elsewhere { (i : ℕ) → i < base ⊎ base + period ≤ i → slice_index_or (counts.new).values i 0 ≡ slice_index_or (counts.old).values i 0 }
     ensures probes { probes.new ≤ probes.old + 3 * period }
 {
     let mut count = count_around(row, period, end.first, end.width, probes);
@@ -71,26 +73,27 @@ fn recount_block(
 
 /// Makes each count of an end, whose counts begin at `base`, the same.
 fn fill_block(counts: &mut Counts, base: usize, period: u16, count: u16)
-    requires low { count ≤ greatest_period }
-    requires within { base + period ≤ length counts.old }
+    requires low { count ≤ (counts.old).most }
+    requires within { base + period ≤ length (counts.old).values }
     requires small { base + period < 18446744073709551616 }
-    ensures long { length counts.new ≡ length counts.old }
-    ensures here { (r : ℕ) → r < period → slice_index_or counts.new (base + r) 0 ≡ count }
-    ensures elsewhere { (i : ℕ) → i < base ⊎ base + period ≤ i → slice_index_or counts.new i 0 ≡ slice_index_or counts.old i 0 }
+    ensures most { (counts.new).most ≡ (counts.old).most }
+    ensures long { length (counts.new).values ≡ length (counts.old).values }
+    ensures here { (r : ℕ) → r < period → slice_index_or (counts.new).values (base + r) 0 ≡ count }
+    ensures elsewhere { (i : ℕ) → i < base ⊎ base + period ≤ i → slice_index_or (counts.new).values i 0 ≡ slice_index_or (counts.old).values i 0 }
 {
-    for residue in 0..period {
-        counts.set(base + residue as usize, count);
-    }
+    counts.fill_range(base, base + period as usize, count);
 }
 
 /// Makes each count of the ends at a place the width of its end.
 fn widen(counts: &mut Counts, period: u16, links: &Links, place: usize)
     requires period { period ≤ greatest_period }
+    requires fits { period ≤ (counts.old).most }
     requires linked { AreLinked period links.now.ends links.now.lists }
-    requires within { (k : ℕ) → Contains (ends_of links.now.lists place) k → k * period + period ≤ length counts.old }
-    ensures long { length counts.new ≡ length counts.old }
-    ensures wide { (k : ℕ) → Contains (ends_of links.now.lists place) k → IsWide period links.now.ends counts.new k }
-    ensures kept { (k : ℕ) → IsWide period links.now.ends counts.old k → IsWide period links.now.ends counts.new k }
+    requires within { (k : ℕ) → Contains (ends_of links.now.lists place) k → k * period + period ≤ length (counts.old).values }
+    ensures most { (counts.new).most ≡ (counts.old).most }
+    ensures long { length (counts.new).values ≡ length (counts.old).values }
+    ensures wide { (k : ℕ) → Contains (ends_of links.now.lists place) k → IsWide period links.now.ends (counts.new).values k }
+    ensures kept { (k : ℕ) → IsWide period links.now.ends (counts.old).values k → IsWide period links.now.ends (counts.new).values k }
 {
     for number in links.at(place) {
         let base = counts.base(number, period);
@@ -101,10 +104,12 @@ fn widen(counts: &mut Counts, period: u16, links: &Links, place: usize)
 /// Makes each count of the ends at so many places the width of its end.
 fn widen_all(counts: &mut Counts, period: u16, links: &Links, places: usize)
     requires period { period ≤ greatest_period }
+    requires fits { period ≤ (counts.old).most }
     requires linked { AreLinked period links.now.ends links.now.lists }
-    requires within { (p k : ℕ) → Contains (ends_of links.now.lists p) k → k * period + period ≤ length counts.old }
-    ensures long { length counts.new ≡ length counts.old }
-    ensures wide { (p k : ℕ) → p < places → Contains (ends_of links.now.lists p) k → IsWide period links.now.ends counts.new k }
+    requires within { (p k : ℕ) → Contains (ends_of links.now.lists p) k → k * period + period ≤ length (counts.old).values }
+    ensures most { (counts.new).most ≡ (counts.old).most }
+    ensures long { length (counts.new).values ≡ length (counts.old).values }
+    ensures wide { (p k : ℕ) → p < places → Contains (ends_of links.now.lists p) k → IsWide period links.now.ends (counts.new).values k }
 {
     for place in 0..places {
         widen(counts, period, links, place);
@@ -118,7 +123,7 @@ fn fill(rows: &mut Vec<Row>)
     ensures full { (p r : ℕ) → has_at rows.new.items p r ≡ nat_lt r (length (slice_index_or rows.old.items p [])) }
 {
     for place in 0..rows.len() {
-        rows[place].open(None);
+        rows[place].fill();
     }
 }
 

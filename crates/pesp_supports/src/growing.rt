@@ -128,7 +128,7 @@ impl Supports {
         ensures shape { HaveSameShape self.old self.new }
         ensures probes { (self.new).probes ≡ (self.old).probes }
     {
-        self.rows[place].open(None);
-        self.counted[place].open(None);
+        self.rows[place].fill();
+        self.counted[place].fill();
     }
 }

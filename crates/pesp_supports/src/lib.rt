@@ -12,6 +12,7 @@ mod restoring;
 mod supports;
 mod taking;
 mod trail;
+mod widths;
 
 pub use back::Back;
 pub use supports::Supports;

@@ -1,7 +1,6 @@
 //! Pairs are put back, with the counts for them.
 
 ghost use Rattle.std.specs.Prelude.{◌≡◌, ◌<◌, ◌≤◌, ◌*◌, ◌+◌, ◌||◌, ◌⊎◌, cond, drop, take, false, ℕ, All, IsTrue, length, slice_index_or};
-ghost use Rattle.pesp_base.specs.Limits.{greatest_period};
 ghost use Rattle.pesp_links.specs.Ends.{AreLinked, is_from_to, passes};
 ghost use Rattle.pesp_supports.specs.Counts.{has_at};
 ghost use Rattle.pesp_supports.specs.Supports.{AreExact, AreLevel, AreOut, Fit, HaveSameShape, held, is_in, joined};
@@ -11,40 +10,24 @@ use crate::counts::Counts;
 use crate::supports::Supports;
 use pesp_links::{End, Links};
 
-/// Makes each count of a range one more.
-fn raise_range(counts: &mut Counts, from: usize, to: usize)
-    requires order { from ≤ to }
-    requires within { to ≤ length counts.old }
-    requires low { (i : ℕ) → from ≤ i → i < to → slice_index_or counts.old i 0 < greatest_period }
-    ensures long { length counts.new ≡ length counts.old }
-    ensures counts { (i : ℕ) → slice_index_or counts.new i 0 ≡ slice_index_or counts.old i 0 + cond (is_from_to from to i) 1 0 }
-{
-    for at in from..to {
-        counts.raise(at);
-    }
-}
-
 /// Counts a residue in at the other end of an activity, whose counts begin at `base`: the residues there that go with it have one
 /// partner more.
-fn raise_window(counts: &mut Counts, period: u16, base: usize, end: End, residue: u16)
+fn raise_ranges(counts: &mut Counts, period: u16, base: usize, end: End, residue: u16)
     requires period { 2 * period < 65536 }
     requires residue { residue < period }
     requires first { end.first < period }
     requires width { end.width ≤ period }
-    requires within { base + period ≤ length counts.old }
+    requires within { base + period ≤ length (counts.old).values }
     requires small { base + period < 18446744073709551616 }
-    requires low { (r : ℕ) → r < period → IsTrue (passes period end residue r) → slice_index_or counts.old (base + r) 0 < greatest_period }
-    ensures long { length counts.new ≡ length counts.old }
-    ensures here { (r : ℕ) → r < period → slice_index_or counts.new (base + r) 0 ≡ slice_index_or counts.old (base + r) 0 + cond (passes period end residue r) 1 0 }
-    ensures elsewhere { (i : ℕ) → i < base ⊎ base + period ≤ i → slice_index_or counts.new i 0 ≡ slice_index_or counts.old i 0 }
+    requires low { (r : ℕ) → r < period → IsTrue (passes period end residue r) → slice_index_or (counts.old).values (base + r) 0 < (counts.old).most }
+    ensures most { (counts.new).most ≡ (counts.old).most }
+    ensures long { length (counts.new).values ≡ length (counts.old).values }
+    ensures here { (r : ℕ) → r < period → slice_index_or (counts.new).values (base + r) 0 ≡ slice_index_or (counts.old).values (base + r) 0 + cond (passes period end residue r) 1 0 }
+    ensures elsewhere { (i : ℕ) → i < base ⊎ base + period ≤ i → slice_index_or (counts.new).values i 0 ≡ slice_index_or (counts.old).values i 0 }
 {
-    let window = end.window(period, residue);
-    raise_range(
-        counts,
-        base + window.start as usize,
-        base + window.end as usize,
-    );
-    raise_range(counts, base, base + window.wrapped as usize);
+    let ranges = end.ranges(period, residue);
+    counts.raise_range(base + ranges.start as usize, base + ranges.end as usize);
+    counts.raise_range(base, base + ranges.wrapped as usize);
 }
 
 impl Supports {
@@ -108,7 +91,7 @@ impl Supports {
         for number in links.at(pair.place) {
             let end = links.end(number);
             let base = self.counts.base(end.mate, period);
-            raise_window(&mut self.counts, period, base, end, pair.residue);
+            raise_ranges(&mut self.counts, period, base, end, pair.residue);
         }
     }
 }

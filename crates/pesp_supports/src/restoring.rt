@@ -1,12 +1,11 @@
 //! Pairs that an edit reaches are put back, with the counts for them.
 
-ghost use Rattle.std.specs.Prelude.{◌≡◌, ◌≢◌, ◌<◌, ◌≤◌, ◌*◌, ◌+◌, ◌⊎◌, cond, ℕ, [], false, All, IsTrue, length, slice_index_or};
+ghost use Rattle.std.specs.Prelude.{◌≡◌, ◌≢◌, ◌<◌, ◌≤◌, ◌*◌, ◌+◌, ◌-◌, ◌⊎◌, cond, ℕ, [], false, All, IsTrue, length, slice_index_or};
 ghost use Rattle.std.specs.List.{Contains};
-ghost use Rattle.pesp_base.specs.Limits.{greatest_period};
 ghost use Rattle.pesp_domains.specs.Domains.{holds};
 ghost use Rattle.pesp_links.specs.Ends.{AreLinked, end_at, ends_of, is_from_to, passes};
 ghost use Rattle.pesp_supports.specs.Counts.{IsExactAt, count_at, has_at};
-ghost use Rattle.pesp_supports.specs.Restored.{AreExactBut, AreSparedTogether, HasRoom, IsBrought, in_window, of_end, of_ends, of_starts};
+ghost use Rattle.pesp_supports.specs.Restored.{AreExactBut, AreSparedTogether, HasRoom, IsBrought, in_ranges, of_end, of_ends, of_starts};
 ghost use Rattle.pesp_supports.specs.Restoring.{IsRestored, is_spared};
 ghost use Rattle.pesp_supports.specs.Supports.{AreLevel, Fit, HaveSameShape, joined};
 ghost use Rattle.pesp_supports.specs.Spent.{ends_at};
@@ -18,7 +17,7 @@ use crate::probes::Probes;
 use crate::supports::Supports;
 use pesp_domains::Row;
 use pesp_instance::Instance;
-use pesp_links::{End, Links, Window};
+use pesp_links::{End, Links, Ranges};
 
 /// Makes the counts of a range of residues one more, of which the first begin at `base`, and tells whether the row holds them all.
 fn raise_beside(
@@ -30,45 +29,47 @@ fn raise_beside(
     probes: &mut Probes,
 ) -> bool
     requires order { low ≤ high }
-    requires within { base + high ≤ length counts.old }
+    requires within { base + high ≤ length (counts.old).values }
     requires small { base + high < 18446744073709551616 }
-    requires low { (i : ℕ) → IsTrue (is_from_to (base + low) (base + high) i) → slice_index_or counts.old i 0 < greatest_period }
-    ensures long { length counts.new ≡ length counts.old }
-    ensures counts { (i : ℕ) → slice_index_or counts.new i 0 ≡ slice_index_or counts.old i 0 + cond (is_from_to (base + low) (base + high) i) 1 0 }
+    requires low { (i : ℕ) → IsTrue (is_from_to (base + low) (base + high) i) → slice_index_or (counts.old).values i 0 < (counts.old).most }
+    ensures most { (counts.new).most ≡ (counts.old).most }
+    ensures long { length (counts.new).values ≡ length (counts.old).values }
+    ensures counts { (i : ℕ) → slice_index_or (counts.new).values i 0 ≡ slice_index_or (counts.old).values i 0 + cond (is_from_to (base + low) (base + high) i) 1 0 }
     ensures full { IsTrue result → (r : ℕ) → IsTrue (is_from_to low high r) → IsTrue (holds row.now r) }
     ensures lacks { result ≡ false → (r : ℕ) × IsTrue (is_from_to low high r) × (holds row.now r ≡ false) }
     ensures probes { probes.new + low ≤ probes.old + high }
 {
     let mut full = true;
+    counts.raise_range(base + low as usize, base + high as usize);
     for residue in probes.over(low, high) {
-        counts.raise(base + residue as usize);
         full = full && row.holds(residue);
     }
     full
 }
 
-/// Makes the counts of a window one more, and tells whether the row holds all of it.
-fn raise_window_beside(
+/// Makes the counts of both ranges one more, and tells whether the row holds all of them.
+fn raise_ranges_beside(
     counts: &mut Counts,
     base: usize,
     row: &Row,
-    window: Window,
+    ranges: Ranges,
     probes: &mut Probes,
 ) -> bool
-    requires order { window.start ≤ window.end }
-    requires wrapped { window.wrapped ≤ window.start }
-    requires within { base + window.end ≤ length counts.old }
-    requires small { base + window.end < 18446744073709551616 }
-    requires low { (r : ℕ) → IsTrue (in_window window r) → slice_index_or counts.old (base + r) 0 < greatest_period }
-    ensures long { length counts.new ≡ length counts.old }
-    ensures here { (r : ℕ) → slice_index_or counts.new (base + r) 0 ≡ slice_index_or counts.old (base + r) 0 + cond (in_window window r) 1 0 }
-    ensures elsewhere { (i : ℕ) → i < base ⊎ base + window.end ≤ i → slice_index_or counts.new i 0 ≡ slice_index_or counts.old i 0 }
-    ensures full { IsTrue result → (r : ℕ) → IsTrue (in_window window r) → IsTrue (holds row.now r) }
-    ensures lacks { result ≡ false → (r : ℕ) × IsTrue (in_window window r) × (holds row.now r ≡ false) }
-    ensures probes { probes.new ≤ probes.old + window.end }
+    requires order { ranges.start ≤ ranges.end }
+    requires wrapped { ranges.wrapped ≤ ranges.start }
+    requires within { base + ranges.end ≤ length (counts.old).values }
+    requires small { base + ranges.end < 18446744073709551616 }
+    requires low { (r : ℕ) → IsTrue (in_ranges ranges r) → slice_index_or (counts.old).values (base + r) 0 < (counts.old).most }
+    ensures most { (counts.new).most ≡ (counts.old).most }
+    ensures long { length (counts.new).values ≡ length (counts.old).values }
+    ensures here { (r : ℕ) → slice_index_or (counts.new).values (base + r) 0 ≡ slice_index_or (counts.old).values (base + r) 0 + cond (in_ranges ranges r) 1 0 }
+    ensures elsewhere { (i : ℕ) → i < base ⊎ base + ranges.end ≤ i → slice_index_or (counts.new).values i 0 ≡ slice_index_or (counts.old).values i 0 }
+    ensures full { IsTrue result → (r : ℕ) → IsTrue (in_ranges ranges r) → IsTrue (holds row.now r) }
+    ensures lacks { result ≡ false → (r : ℕ) × IsTrue (in_ranges ranges r) × (holds row.now r ≡ false) }
+    ensures probes { probes.new ≤ probes.old + ranges.end }
 {
-    let first = raise_beside(counts, base, row, window.start, window.end, probes);
-    let second = raise_beside(counts, base, row, 0, window.wrapped, probes);
+    let first = raise_beside(counts, base, row, ranges.start, ranges.end, probes);
+    let second = raise_beside(counts, base, row, 0, ranges.wrapped, probes);
     first && second
 }
 
@@ -97,15 +98,15 @@ impl Supports {
         ensures counts { (r : ℕ) → r < (self.old).period → count_at (self.old).period (self.new).counts end.mate r ≡ count_at (self.old).period (self.old).counts end.mate r + cond (passes (self.old).period end residue r) 1 0 }
         ensures elsewhere { (k r : ℕ) → k ≢ end.mate → r < (self.old).period → count_at (self.old).period (self.new).counts k r ≡ count_at (self.old).period (self.old).counts k r }
         ensures brought { IsBrought (of_end (self.old).period instance.now links.now residue end) self.old self.new back.old back.new }
-        ensures probes { (self.new).probes + (self.old).period * length back.old.pairs ≤ (self.old).probes + (self.old).period + 1 + (self.old).period * length back.new.pairs }
+        ensures probes { (self.new).probes + (self.old).period * length back.old.pairs ≤ (self.old).probes + (2 * (self.old).period - 1) + (self.old).period * length back.new.pairs }
     {
         let period = self.period.get();
-        let window = end.window(period, residue);
+        let ranges = end.ranges(period, residue);
         let base = self.counts.base(end.mate, period);
         let row = &self.rows[end.looks_at];
-        let full = raise_window_beside(&mut self.counts, base, row, window, &mut self.probes);
+        let full = raise_ranges_beside(&mut self.counts, base, row, ranges, &mut self.probes);
         if !full {
-            self.bring_admitted(instance, links, end.looks_at, window, back);
+            self.bring_admitted(instance, links, end.looks_at, ranges, back);
         }
     }
 
@@ -129,7 +130,7 @@ impl Supports {
         requires room { HasRoom self.old back.old }
         ensures exact { AreExactBut links.now spared self.new (joined (has_at (self.old).counted) pair.place pair.residue) }
         ensures brought { IsBrought (of_ends (self.old).period instance.now links.now spared pair.residue (ends_of (links.now).lists pair.place)) self.old self.new back.old back.new }
-        ensures probes { (self.new).probes + (self.old).period * length back.old.pairs ≤ (self.old).probes + ((self.old).period + 1) * length (ends_of (links.now).lists pair.place) + (self.old).period * length back.new.pairs }
+        ensures probes { (self.new).probes + (self.old).period * length back.old.pairs ≤ (self.old).probes + (2 * (self.old).period - 1) * length (ends_of (links.now).lists pair.place) + (self.old).period * length back.new.pairs }
     {
         for number in links.at(pair.place) {
             if !is_spared_end(spared, number) {
@@ -196,8 +197,10 @@ impl Supports {
         requires room { length (self.old).rows * (self.old).period ≤ back.old.room }
         ensures restored { IsRestored instance.now links.now starts.now spared self.old self.new back.new.pairs }
         ensures room { back.new.room ≡ back.old.room }
-        ensures probes { (self.new).probes ≤ (self.old).probes + ((self.old).period + 1) * ends_at links.now back.new.pairs + (self.old).period * length back.new.pairs }
+        ensures period { 1 ≤ (self.old).period }
+        ensures probes { (self.new).probes ≤ (self.old).probes + (2 * (self.old).period - 1) * ends_at links.now back.new.pairs + (self.old).period * length back.new.pairs }
     {
+        let _period = instance.period();
         self.bring_starts(instance, links, starts, back);
         let mut next = 0;
         while next < back.len() {

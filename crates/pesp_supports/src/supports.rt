@@ -1,8 +1,7 @@
 //! Counts of partners, the rows that they belong to, and the trail of what was taken out.
 
 ghost use Rattle.std.specs.Prelude.{◌≡◌, ◌<◌, ◌≤◌, ◌*◌, ◌+◌, ◌==◌, ◌&&◌, ◌||◌, not, nat_lt, ℕ, [], IsTrue, length, slice_index_or, take, drop, OnOk, OnErr};
-ghost use Rattle.pesp_domains.specs.Sweeps.{Of};
-ghost use Rattle.pesp_domains.proofs.Pushes.{limited};
+ghost use Rattle.pesp_domains.specs.Sweeps.{Of, limited};
 ghost use Rattle.pesp_links.specs.Ends.{AreLinked, end_at, ends_of, passes};
 ghost use Rattle.pesp_supports.specs.Counts.{ArePending, KeepsClosed, count_at, has_at, supporters};
 ghost use Rattle.pesp_supports.specs.Supports.{AreExact, AreLevel, AreOut, Fit, HaveSameShape, IsRoomier, IsTaken, Keeps, is_in};
@@ -37,9 +36,9 @@ impl Model for Supports {
 
     ghost Value = { words.Supports };
 
-    ghost view = { λ a. record { period = a.period; counts = a.counts; counted = a.counted.items; rows = a.rows.items; trail = a.trail.items; room = vec_capacity a.trail; probes = a.probes } };
+    ghost view = { λ a. record { period = a.period; counts = a.counts.values; counted = a.counted.items; rows = a.rows.items; trail = a.trail.items; room = vec_capacity a.trail; probes = a.probes } };
 
-    ghost invariant = { λ a. words.AreSupports (record { period = a.period; counts = a.counts; counted = a.counted.items; rows = a.rows.items; trail = a.trail.items; room = vec_capacity a.trail; probes = a.probes }) };
+    ghost invariant = { λ a. words.AreSupports (record { period = a.period; counts = a.counts.values; counted = a.counted.items; rows = a.rows.items; trail = a.trail.items; room = vec_capacity a.trail; probes = a.probes }) a.counts.most };
 }
 
 impl Supports {
@@ -49,7 +48,7 @@ impl Supports {
     {
         Supports {
             period,
-            counts: Counts::new(alloc),
+            counts: Counts::new(alloc, period),
             counted: Vec::new(alloc),
             rows: Vec::new(alloc),
             trail: Vec::new(alloc),

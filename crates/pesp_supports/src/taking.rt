@@ -2,9 +2,9 @@
 
 ghost use Rattle.std.specs.Prelude.{◌≡◌, ◌<◌, ◌≤◌, ◌*◌, ◌+◌, ◌==◌, ◌&&◌, not, cond, ℕ, false, [], IsTrue, drop, length, slice_index_or};
 ghost use Rattle.std.specs.List.{Contains};
-ghost use Rattle.pesp_domains.specs.Sweeps.{Of};
+ghost use Rattle.pesp_base.specs.Windows.{is_held};
+ghost use Rattle.pesp_domains.specs.Sweeps.{Of, limited, narrowed_to};
 ghost use Rattle.pesp_domains.specs.Removals.{without};
-ghost use Rattle.pesp_domains.proofs.Pushes.{limited};
 ghost use Rattle.pesp_links.specs.Ends.{AreLinked, end_at, ends_of, is_from_to, passes};
 ghost use Rattle.pesp_supports.specs.Counts.{ArePending, IsLiveAt, KeepsClosed, count_at, has_at};
 ghost use Rattle.pesp_supports.specs.Ranges.{Fall, Thins};
@@ -15,6 +15,7 @@ ghost use Rattle.pesp_supports.specs.Spent.{ends_at};
 use crate::Placed;
 use crate::probes::Probes;
 use crate::supports::Supports;
+use pesp_base::Window;
 use pesp_links::{End, Links};
 
 impl Supports {
@@ -102,11 +103,11 @@ impl Supports {
         ensures shape { HaveSameShape self.old self.new }
         ensures probes { (self.new).probes ≤ (self.old).probes + (self.old).period }
     {
-        let window = end.window(self.period.get(), residue);
+        let ranges = end.ranges(self.period.get(), residue);
         let place = end.looks_at;
         let mate = end.mate;
-        self.lower(place, mate, window.start, window.end);
-        self.lower(place, mate, 0, window.wrapped);
+        self.lower(place, mate, ranges.start, ranges.end);
+        self.lower(place, mate, 0, ranges.wrapped);
     }
 
     /// Counts one partner out for each residue of a range at an end of the place, and takes those out that have none left.
@@ -141,6 +142,22 @@ impl Supports {
     {
         for other in 0..self.period.get() {
             if other != residue && self.holds(place, other) {
+                self.take_out(place, other);
+            }
+        }
+    }
+
+    /// Takes the residues at a place out that are not in a window.
+    pub fn limit_to(&mut self, place: usize, window: Window)
+        requires { place < length (self.old).rows }
+        ensures rows { (p r : ℕ) → has_at (self.new).rows p r ≡ narrowed_to (has_at (self.old).rows) place (is_held (self.old).period window) p r }
+        ensures taken { IsTaken self.old self.new }
+        ensures keeps { Keeps self.old self.new }
+        ensures probes { (self.new).probes ≡ (self.old).probes }
+    {
+        let period = self.period;
+        for other in 0..period.get() {
+            if !window.holds(period, other) && self.holds(place, other) {
                 self.take_out(place, other);
             }
         }

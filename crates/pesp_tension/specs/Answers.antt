@@ -35,15 +35,15 @@ meets m a = is_met m.period a.span (time_at m a.from) (time_at m a.to)
 abbrev pub unmet_among : Times → List Activity → List Violation
 unmet_among m activities = map (λ a. of_.Activity a.id) (filter (λ a. not (meets m a)) activities)
 
--- whether the event's time agrees with its fixed time
+-- whether the event's time is in its window
 abbrev pub agrees : Times → Event → Bool
-agrees m e = agrees_with m.period e.fixed (time_at m e.id)
+agrees m e = agrees_with m.period e.window (time_at m e.id)
 
--- the events of a list that stand at another time than their fixed one
+-- the events of a list whose times are not in their windows
 abbrev pub moved_among : Times → List Event → List Violation
 moved_among m events = map (λ e. of_.Event e.id) (filter (λ e. not (agrees m e)) events)
 
--- the activities that are not met, and the events that stand at another time than their fixed one
+-- the activities that are not met, and the events whose times are not in their windows
 abbrev pub violations_of : Network → Times → List Violation
 violations_of I m = unmet_among m I.activities ++ moved_among m I.events
 

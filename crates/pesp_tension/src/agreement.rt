@@ -4,7 +4,7 @@ ghost use Rattle.std.specs.Prelude.{◌≡◌, ◌↔◌, All, IsTrue, None};
 ghost use Rattle.pesp_tension.specs.Answers.{agrees, first_missing, meets};
 
 use crate::Timetable;
-use crate::answers::{is_at_fixed, is_met};
+use crate::answers::{is_in_window, is_met};
 use pesp_instance::Instance;
 
 /// Whether each activity is met, where each event of the instance has a time. It takes no memory.
@@ -20,14 +20,14 @@ pub fn meets_all(instance: &Instance, timetable: &Timetable) -> bool
     true
 }
 
-/// Whether each event stands at its fixed time, if it has one, where each event of the instance has a time.
+/// Whether each event's time is in its window, if it has one, where each event of the instance has a time.
 /// It takes no memory.
 pub fn agrees_with_all(instance: &Instance, timetable: &Timetable) -> bool
     requires { first_missing instance.now timetable.now ≡ None }
     ensures { IsTrue result ↔ All (λ x. IsTrue (agrees timetable.now x)) (instance.now).events }
 {
     for event in instance.events() {
-        if !is_at_fixed(event, timetable) {
+        if !is_in_window(event, timetable) {
             return false;
         }
     }

@@ -93,8 +93,8 @@ pub fn cost_of_activity(activity: &Activity, timetable: &Timetable) -> u64
     cost_at(activity, tension_of(activity, timetable).slack)
 }
 
-/// Whether an event stands at its fixed time, if it has one.
-pub(crate) fn is_at_fixed(event: &Event, timetable: &Timetable) -> bool
+/// Whether an event's time is in its window, if it has one.
+pub(crate) fn is_in_window(event: &Event, timetable: &Timetable) -> bool
     requires { IsSome (time_of timetable.now event.now.id) }
     ensures { result ≡ agrees timetable.now event.now }
 {
@@ -149,7 +149,7 @@ fn list_unmet(
     Ok(())
 }
 
-/// Puts the events that stand at another time than their fixed one behind the violations.
+/// Puts the events whose times are not in their windows behind the violations.
 pub(crate) fn list_moved(
     violations: &mut Violations,
     instance: &Instance,
@@ -159,7 +159,7 @@ pub(crate) fn list_moved(
     ensures { OnOk result (violations.new.items ≡ violations.old.items ++ moved_among timetable.now (instance.now).events) }
 {
     for event in instance.events() {
-        if !is_at_fixed(event, timetable) {
+        if !is_in_window(event, timetable) {
             violations.push(Violation::Event(event.id))?;
         }
     }
@@ -180,8 +180,8 @@ fn list_violations(
     Ok(violations)
 }
 
-/// The activities that are not met, and then the events that stand at another time than their fixed
-/// one, each in ascending order.
+/// The activities that are not met, and then the events whose times are not in their windows,
+/// each in ascending order.
 ///
 /// Refusals in order: 11 with the least event of the instance that has no time; 10.
 pub fn violations(

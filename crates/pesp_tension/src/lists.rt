@@ -18,7 +18,7 @@ pub type Tensions = Vec<ActivityTension>;
 pub enum Violation {
     /// The activity is not met.
     Activity(ActivityId),
-    /// The event's time is not its fixed time.
+    /// The event's time is not in its window.
     Event(EventId),
 }
 

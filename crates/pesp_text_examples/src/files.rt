@@ -1,8 +1,9 @@
 //! Files written: the worked examples.
 
 use crate::asserts::same_text;
-use crate::made::lone_event;
+use crate::made::{apply, event, lone_event};
 use crate::reading::{read_both, timetable};
+use pesp_instance::Edit;
 use pesplib_writer::{write_activities, write_fixed, write_times};
 use std::process::Abort;
 use std::test::Fail;
@@ -24,6 +25,18 @@ fn fixed_written(
     fixed: &str,
 ) -> Result<Vec<u8>, Fail> {
     let instance = read_both(rt, activities, fixed)?;
+    Ok(write_fixed(rt.alloc(), &instance)?)
+}
+
+/// The fixed times of an instance of one event with a window, of this first residue and length, written.
+fn window_written(
+    rt: &(impl Abort + AllocGlobal),
+    number: u32,
+    window: (u16, u16),
+) -> Result<Vec<u8>, Fail> {
+    let mut instance = lone_event(rt, number);
+    let edit = Edit::SetWindow(event(rt, number), window.0, window.1);
+    apply(rt, &mut instance, edit);
     Ok(write_fixed(rt.alloc(), &instance)?)
 }
 
@@ -84,6 +97,21 @@ const FIXED_FILES: &[(&str, &str, &str)] = &[
 fn fixed_times_are_written(rt: HostRuntime) -> Result<(), Fail> {
     for (given, expected, message) in FIXED_FILES {
         let text = fixed_written(&rt, ACTIVITIES, given)?;
+        same_text(&rt, text.as_slice(), expected, message);
+    }
+    Ok(())
+}
+
+const WINDOWS: &[((u16, u16), &str, &str)] = &[
+    ((3, 1), "7; 3\n", "a window of one residue"),
+    ((3, 2), "", "of two"),
+    ((0, 10), "", "of all"),
+];
+
+#[test]
+fn wide_windows_are_no_fixed_times(rt: HostRuntime) -> Result<(), Fail> {
+    for (window, expected, message) in WINDOWS {
+        let text = window_written(&rt, 7, *window)?;
         same_text(&rt, text.as_slice(), expected, message);
     }
     Ok(())

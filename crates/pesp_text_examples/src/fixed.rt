@@ -1,9 +1,9 @@
 //! Files of fixed times: the worked examples.
 
 use crate::asserts::{refused, same};
-use crate::made::assert_fixed;
+use crate::made::{apply, assert_fixed, event};
 use crate::reading::{fix, read_both};
-use pesp_instance::Instance;
+use pesp_instance::{Edit, Instance};
 use pesplib_reader::FaultKind;
 use std::process::Abort;
 use std::test::Fail;
@@ -50,6 +50,14 @@ const REFUSED: &[(&str, u64, FaultKind)] = &[
     ("1; 0\n2; 3; 4", 2, FaultKind::FieldCount),
 ];
 
+/// A fixed time from a file takes the place of a window of any length.
+fn fix_in_place_of_a_window(rt: &(impl Abort + AllocGlobal), instance: &mut Instance) {
+    apply(rt, instance, Edit::SetWindow(event(rt, 2), 0, 3));
+    assert_fixed(rt, instance, (Some(3), None), "a window of three residues");
+    let times = (Some(3), Some(7));
+    assert_taken(rt, instance, "2; 7\n", times, "in place of a window");
+}
+
 /// Faulty files first, and then two that are taken.
 fn assert_files(rt: &(impl Abort + AllocGlobal), instance: &mut Instance) {
     for (text, place, kind) in REFUSED {
@@ -64,5 +72,6 @@ fn assert_files(rt: &(impl Abort + AllocGlobal), instance: &mut Instance) {
 fn times_are_fixed_together_or_not_at_all(rt: HostRuntime) -> Result<(), Fail> {
     let mut instance = read_both(&rt, "1; 1; 2; 3; 5; 2\n2; 2; 1; 4; 6; 1\n", "")?;
     assert_files(&rt, &mut instance);
+    fix_in_place_of_a_window(&rt, &mut instance);
     Ok(())
 }

@@ -65,11 +65,11 @@ pub(crate) fn lone_event(rt: &(impl Abort + AllocGlobal), number: u32) -> Instan
     instance
 }
 
-/// An event of this number, without a fixed time.
+/// An event of this number, without a window.
 fn unfixed(rt: &impl Abort, number: u32) -> Event {
     Event {
         id: event(rt, number),
-        fixed: None,
+        window: None,
     }
 }
 

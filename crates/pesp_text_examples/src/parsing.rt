@@ -24,6 +24,11 @@ fn every_edit_is_read(rt: HostRuntime) {
         ("add event 7", Edit::AddEvent(event(&rt, 7))),
         ("drop event 7", Edit::DropEvent(event(&rt, 7))),
         ("fix 7 65535", Edit::Fix(event(&rt, 7), 65_535)),
+        ("window 7 9 3", Edit::SetWindow(event(&rt, 7), 9, 3)),
+        (
+            "window 7 65535 0",
+            Edit::SetWindow(event(&rt, 7), 65_535, 0),
+        ),
         ("unfix 7", Edit::Unfix(event(&rt, 7))),
         (
             "add activity 999999999 1 2 -1000000 1000000 1000000000",
@@ -98,6 +103,23 @@ const FAULTS: &[(&str, ParseFault, &str)] = &[
     ),
     ("fix 1 70000", ParseFault::OutOfRange(3), "a late time"),
     ("fix 1 -1", ParseFault::OutOfRange(3), "a time below 0"),
+    ("window 7 9", ParseFault::WordCount, "no length"),
+    (
+        "windows 7 9 3",
+        ParseFault::UnknownCommand,
+        "one letter more",
+    ),
+    ("window 7 x 3", ParseFault::BadNumber(3), "no first residue"),
+    (
+        "window 7 9 65536",
+        ParseFault::OutOfRange(4),
+        "a length too great",
+    ),
+    (
+        "window 7 9 -1",
+        ParseFault::OutOfRange(4),
+        "a length below 0",
+    ),
     (
         "drop event 1234567890123456789012345678901234567890",
         ParseFault::OutOfRange(3),

@@ -62,6 +62,8 @@ fn dumps_are_replayed(rt: HostRuntime) -> Result<(), Fail> {
     for script in [
         "# period 10 lines 0\n",
         "# period 10 lines 2\nadd event 7\nfix 7 3\n",
+        "# period 10 lines 2\nadd event 7\nwindow 7 9 10\n",
+        "# period 10 lines 4\nadd event 1\nadd event 2\nfix 1 4\nwindow 2 9 3\n",
         "# period 10 lines 4\nadd event 1\nadd event 2\nadd activity 1 1 2 3 5 2\nadd activity 2 2 1 4 6 1\n",
         "# period 10 lines 5\nadd event 1\nadd event 2\nfix 1 5\nadd activity 1 1 2 3 5 2\nadd activity 2 2 1 -4 6 1\n",
     ] {
@@ -85,7 +87,9 @@ fn assert_fixed_by(
 #[test]
 fn fixed_times_are_replayed(rt: HostRuntime) -> Result<(), Fail> {
     let script = "add event 1\nadd event 2\nfix 1 4\nfix 2 9\nunfix 1\n";
-    assert_fixed_by(&rt, script, (None, Some(9)))
+    assert_fixed_by(&rt, script, (None, Some(9)))?;
+    let script = "add event 1\nadd event 2\nwindow 1 9 3\nfix 1 4\nfix 2 9\nwindow 2 9 2\n";
+    assert_fixed_by(&rt, script, (Some(4), None))
 }
 
 #[test]
@@ -112,6 +116,11 @@ fn first_faulty_line_is_named(rt: HostRuntime) {
             "add event 1\nfix 1 10\ncost",
             2,
             ReplayKind::Refused(Refusal::TimeOutOfRange(10)),
+        ),
+        (
+            "add event 1\nwindow 1 9 11\n",
+            2,
+            ReplayKind::Refused(Refusal::LengthOutOfRange(11)),
         ),
         (
             "add event 1\nadd",

@@ -87,6 +87,45 @@ fn violations_with_a_fixed_event(rt: HostRuntime) {
     assert_session(&rt, VIOLATIONS);
 }
 
+/// Windows one after another: domains, optima and a time outside.
+const WINDOWS: &[(&str, &str)] = &[
+    ("window 1 9 3", "ok\n"),
+    ("domains", "domains 2\n1: 0 1 9\n2: 3 4 5 6\n"),
+    ("optimum", OPTIMUM),
+    ("dump", SCRIPT_WITH_A_WINDOW),
+    ("window 1 0 2", "ok\n"),
+    ("domains", "domains 2\n1: 0 1\n2: 4 5 6\n"),
+    ("optimum", OPTIMUM),
+    ("window 1 1 2", "ok\n"),
+    ("domains", "domains 2\n1: 1 2\n2: 5 6 7\n"),
+    ("optimum", "optimum 4 2\n1 1\n2 5\n"),
+    ("time 1 0", "ok\n"),
+    ("time 2 4", "ok\n"),
+    ("violations", "violations 1\nevent 1\n"),
+];
+
+#[test]
+fn windows(rt: HostRuntime) {
+    assert_session(&rt, WINDOWS);
+}
+
+/// Windows that are refused, and one of all residues.
+const REFUSED_WINDOWS: &[(&str, &str)] = &[
+    ("window 9 0 1", "refused 2 no event 9\n"),
+    ("window 1 10 0", "refused 4 time 10 is out of range\n"),
+    ("window 1 0 0", "refused 13 length 0 is out of range\n"),
+    ("window 1 0 11", "refused 13 length 11 is out of range\n"),
+    ("window 1 0 10", "ok\n"),
+    ("domain 1", "1: 0 1 2 3 4 5 6 7 8 9\n"),
+    ("unfix 1", "ok\n"),
+    ("unfix 1", "refused 9 event 1 is not fixed\n"),
+];
+
+#[test]
+fn refused_windows(rt: HostRuntime) {
+    assert_session(&rt, REFUSED_WINDOWS);
+}
+
 /// The optimum of the two activities.
 const OPTIMUM: &str = "optimum 4 2\n1 0\n2 4\n";
 
@@ -110,6 +149,10 @@ fn limited_tries(rt: HostRuntime) {
 /// The script of the two activities.
 const SCRIPT: &str =
     "# period 10 lines 4\nadd event 1\nadd event 2\nadd activity 1 1 2 3 5 2\nadd activity 2 2 1 4 6 1\n";
+
+/// The script with the window that wraps.
+const SCRIPT_WITH_A_WINDOW: &str =
+    "# period 10 lines 5\nadd event 1\nadd event 2\nwindow 1 9 3\nadd activity 1 1 2 3 5 2\nadd activity 2 2 1 4 6 1\n";
 
 /// Refused edits, a faulty line, and the script.
 const REFUSALS_AND_DUMP: &[(&str, &str)] = &[

@@ -16,14 +16,15 @@ fn dumped(rt: &(impl Abort + AllocGlobal), activities: &str, fixed: &str) -> Res
     Ok(dump(rt.alloc(), &instance)?)
 }
 
-/// The script of an instance of one event, which is fixed, and nothing else.
+/// The script of an instance of one event with a window, of this first residue and length, and nothing else.
 fn lone_event_dumped(
     rt: &(impl Abort + AllocGlobal),
     number: u32,
-    time: u16,
+    window: (u16, u16),
 ) -> Result<Vec<u8>, Fail> {
     let mut instance = lone_event(rt, number);
-    apply(rt, &mut instance, Edit::Fix(event(rt, number), time));
+    let edit = Edit::SetWindow(event(rt, number), window.0, window.1);
+    apply(rt, &mut instance, edit);
     Ok(dump(rt.alloc(), &instance)?)
 }
 
@@ -52,10 +53,29 @@ fn instances_are_dumped(rt: HostRuntime) -> Result<(), Fail> {
     Ok(())
 }
 
+const LONE_EVENTS: &[((u16, u16), &str, &str)] = &[
+    (
+        (3, 1),
+        "# period 10 lines 2\nadd event 7\nfix 7 3\n",
+        "a fixed event",
+    ),
+    (
+        (9, 3),
+        "# period 10 lines 2\nadd event 7\nwindow 7 9 3\n",
+        "a window that wraps",
+    ),
+    (
+        (4, 10),
+        "# period 10 lines 2\nadd event 7\nwindow 7 4 10\n",
+        "a window of all residues",
+    ),
+];
+
 #[test]
 fn lone_event_is_dumped(rt: HostRuntime) -> Result<(), Fail> {
-    let text = lone_event_dumped(&rt, 7, 3)?;
-    let script = "# period 10 lines 2\nadd event 7\nfix 7 3\n";
-    same_text(&rt, text.as_slice(), script, "a fixed event");
+    for (window, script, message) in LONE_EVENTS {
+        let text = lone_event_dumped(&rt, 7, *window)?;
+        same_text(&rt, text.as_slice(), script, message);
+    }
     Ok(())
 }

@@ -9,6 +9,7 @@ use Rattle.pesplib_reader.specs.declared.fault.FaultKind.{FaultKind}
 use Rattle.pesplib_reader.specs.declared.fault.FaultKind.TheVariants as fault
 use Rattle.pesplib_reader.specs.Records.{trim}
 use Rattle.pesplib_reader.specs.Rows.{weight_fault, weight_value}
+use Rattle.pesp_base.specs.Windows.{at_time}
 use Rattle.pesplib_reader.specs.Reading.{activities_read, times_read, fixed_read, with_fixed}
 use Rattle.pesp_base.proofs.Samples.{arc}
 
@@ -115,7 +116,7 @@ one_fixed : fixed_read two (codes "1; 12") ≡ Ok (record { period = 10; entries
 unfolding records_from strip_bom next_record weight_fault
 one_fixed = refl
 
-event_fixed : with_fixed two (record { period = 10; entries = (2, 4) ∷ [] }) ≡ record two { events = new_event 1 ∷ record { id = 2; fixed = Some 4 } ∷ [] }
+event_fixed : with_fixed two (record { period = 10; entries = (2, 4) ∷ [] }) ≡ record two { events = new_event 1 ∷ record { id = 2; window = Some (at_time 4) } ∷ [] }
 event_fixed = refl
 
 weight_with_a_point : weight_fault (codes "2.") ≡ None

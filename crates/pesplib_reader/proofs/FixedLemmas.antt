@@ -10,6 +10,7 @@ use Rattle.pesp_base.specs.declared.refusal.Refusal.TheVariants as no
 use Rattle.pesp_base.specs.Refusals.{unless_refused, when}
 use Rattle.pesp_base.specs.Tensions.{residue}
 use Rattle.pesp_base.proofs.Laws.{residue_below}
+use Rattle.pesp_base.specs.Windows.{at_time}
 use Rattle.pesp_instance.specs.declared.edit.Edit.TheVariants.{Fix}
 use Rattle.pesp_instance.specs.declared.event.Event.{Event}
 use Rattle.pesp_instance.specs.Edited.{IsRefusal, edited, effect}
@@ -102,7 +103,7 @@ module _ (J : Network) (e t : ℕ) (known : has_event J e ≡ true) (below : t <
 
   still_there : (f : ℕ) → has_event (with_fix J (e, t)) f ≡ has_event J f
   still_there f =
-      ap is_some (with_number-change_in (λ (x : Event). x.id) f e (λ (x : Event). record x { fixed = Some t }) (λ x. refl) J.events)
+      ap is_some (with_number-change_in (λ (x : Event). x.id) f e (λ (x : Event). record x { window = Some (at_time t) }) (λ x. refl) J.events)
       ∙ mapped _ (event_of J f)
     where
       mapped : (g : Event → Event) (o : Option Event) → is_some (option_map g o) ≡ is_some o

@@ -110,7 +110,7 @@ fn take_activity(instance: &mut Instance, fields: &ByteRecord) -> Result<(), Fau
 
 /// The instance that a file of activities stands for, or the fault of its first faulty row.
 ///
-/// The events are the ends of the activities, and none has a fixed time. A row has the number of an
+/// The events are the ends of the activities, and none has a window. A row has the number of an
 /// activity, its ends, its lower and its upper bound, and its weight. Of the faults of a row the first
 /// is named: `FieldCount`, `BadNumber`, `FractionalWeight` or `OutOfRange` from left to right,
 /// `Crossed`, `DuplicateActivity`, `TooManyEvents`, `TooManyActivities`. `Memory` is answered at the

@@ -82,7 +82,7 @@ fn fix_all(instance: &mut Instance, times: &Timetable)
 
 /// Fixes the times of a file of fixed times, or answers the fault of its first faulty row.
 ///
-/// An earlier fixed time of an event is replaced. The whole file is read before the first event is
+/// An earlier window of an event is replaced. The whole file is read before the first event is
 /// fixed, and after a fault the instance is as it was. A row has an event and a time, which is taken
 /// modulo the period. Of the faults of a row the first is named: `FieldCount`, `BadNumber` or
 /// `OutOfRange` from left to right, `DuplicateEvent`, `NoEvent`. `Memory` is answered at the number of

@@ -7,7 +7,7 @@ ghost use Rattle.std.specs.Char.{is_ascii_digit};
 ghost use Rattle.std.specs.List.{list_all, list_any};
 ghost use Rattle.pesp_base.specs.Refusals.{unless_refused};
 ghost use Rattle.pesp_base.specs.Limits.{greatest_bound, greatest_number, greatest_weight, least_bound};
-ghost use Rattle.pesp_base.specs.declared.number.TheConstants.{NUMBER_CAP};
+ghost use Rattle.pesp_base.specs.Numbers.{number_cap};
 ghost use Rattle.pesplib_reader.specs.Rows.{number_fault, value, natural, whole_part, decimals, is_not_zero, weight_fault, weight_value};
 
 use crate::FaultKind;
@@ -39,8 +39,8 @@ pub(crate) struct TimeRow<'a> {
 
 /// The number of a field, where it is within the limits.
 fn number_field(field: u8, text: &[u8], low: i64, high: i64) -> Result<i64, FaultKind>
-    requires low { neg_ℤ (pos NUMBER_CAP) <ℤ low }
-    requires high { high <ℤ pos NUMBER_CAP }
+    requires low { neg_ℤ (pos number_cap) <ℤ low }
+    requires high { high <ℤ pos number_cap }
     ensures no_fault { IfOk result (λ number. number_fault field low high text.now ≡ None) }
     ensures value { IfOk result (λ number. number ≡ value text.now) }
     ensures within { IfOk result (λ number. (low ≤ℤ number) × (number ≤ℤ high)) }

@@ -68,7 +68,7 @@ module _ (period : ℕ) (events : List Event) (rises : Rises event_number events
   same_test : (f g : ℕ → Bool) (done : List Activity) → ((n : ℕ) → f n ≡ g n) → holding f done ≡ holding g done
   same_test f g done same = ap (λ test. holding test done) (fun_ext same)
 
-  -- the event is there, without a fixed time
+  -- the event is there, without a window
   abbrev pub IsBare : ℕ → Type 0
   IsBare e = with_number event_number e events ≡ Some (new_event e)
 

@@ -17,7 +17,7 @@ use Rattle.pesp_tension.specs.Timetables.{IsTimetable, Times, timed_events}
 use Rattle.pesplib_reader.specs.Reading.{activities_read, activity_faults_behind, time_faults_behind, times_read, with_activity_row, with_time_row}
 use Rattle.pesplib_reader.specs.Records.{rows_of}
 use Rattle.pesplib_reader.specs.Taking.{taken}
-use Rattle.pesplib_writer.specs.Texts.{AreUsed, activities_text, activity_fields, activity_row, row_line, time_row, times_text, unfixed, unfixed_event}
+use Rattle.pesplib_writer.specs.Texts.{AreUsed, activities_text, activity_fields, activity_row, row_line, time_row, times_text, without_windows, without_window}
 use Rattle.pesplib_writer.proofs.ActivityLaws.{IsTakable, activities_are_rows, activities_taken, built, is_used}
 use Rattle.pesplib_writer.proofs.EndLaws.{kept}
 use Rattle.pesplib_writer.proofs.FieldLaws.{event_within, time_fields}
@@ -26,28 +26,28 @@ use Rattle.pesplib_writer.proofs.RowLaws.{numbered, rows_stand}
 use Rattle.pesplib_writer.proofs.TimeLaws.{timed, times_are, times_are_rows, times_taken}
 use Rattle.pesp_instance.proofs.Numbers.{activity_number, event_number}
 
--- ---- events without their fixed times
+-- ---- events without their windows
 
 -- they keep their numbers
-same_numbers : (events : List Event) → map event_number (map unfixed_event events) ≡ map event_number events
+same_numbers : (events : List Event) → map event_number (map without_window events) ≡ map event_number events
 same_numbers [] = refl
 same_numbers (e ∷ events) = ap (λ ns. e.id ∷ ns) (same_numbers events)
 
 -- each is found under its number
-bare_found : (n : ℕ) (events : List Event) → IsTrue (is_some (with_number event_number n events)) → with_number event_number n (map unfixed_event events) ≡ Some (new_event n)
+bare_found : (n : ℕ) (events : List Event) → IsTrue (is_some (with_number event_number n events)) → with_number event_number n (map without_window events) ≡ Some (new_event n)
 bare_found n [] is = absurd (cc is)
 bare_found n (e ∷ events) is =
-    elim (e.id == n) as (λ b. (e.id == n) ≡ b → is_some (cond b (Some e) (with_number event_number n events)) ≡ true → cond b (Some (unfixed_event e)) (with_number event_number n (map unfixed_event events)) ≡ Some (new_event n)) [
+    elim (e.id == n) as (λ b. (e.id == n) ≡ b → is_some (cond b (Some e) (with_number event_number n events)) ≡ true → cond b (Some (without_window e)) (with_number event_number n (map without_window events)) ≡ Some (new_event n)) [
       | true ↦ λ same _. ap (λ m. Some (new_event m)) (eqb-true e.id n same)
       | false ↦ λ _ later. bare_found n events later
     ] refl is
 
 -- where each passes a test, all are kept
-all_kept : (test : ℕ → Bool) (events : List Event) → All (λ e. IsTrue (test e.id)) events → kept event_number test (map unfixed_event events) ≡ map unfixed_event events
+all_kept : (test : ℕ → Bool) (events : List Event) → All (λ e. IsTrue (test e.id)) events → kept event_number test (map without_window events) ≡ map without_window events
 all_kept test [] all = refl
 all_kept test (e ∷ events) all =
     let passes : test e.id ≡ true = All-head (λ (x : Event). IsTrue (test x.id)) e events all in
-    rw passes (ap (λ es. unfixed_event e ∷ es) (all_kept test events (All-tail (λ (x : Event). IsTrue (test x.id)) e events all)))
+    rw passes (ap (λ es. without_window e ∷ es) (all_kept test events (All-tail (λ (x : Event). IsTrue (test x.id)) e events all)))
 
 -- without an activity, none is an end
 none_kept : (events : List Event) → kept event_number (is_used []) events ≡ []
@@ -58,7 +58,7 @@ none_kept (e ∷ events) = none_kept events
 
 module _ (I : Network) (net : IsNetwork I) where
   abbrev events : List Event
-  events = map unfixed_event I.events
+  events = map without_window I.events
 
   -- they still rise
   rising : Rises event_number events
@@ -84,18 +84,18 @@ module _ (I : Network) (net : IsNetwork I) where
       ∙ rows_stand (map activity_fields I.activities) (activities_are_rows I.period events rising I.activities takable)
 
   few_events : length events ≤ max_events I.period
-  few_events = omega (arith, net.few_events, length-map I.events unfixed_event)
+  few_events = omega (arith, net.few_events, length-map I.events without_window)
 
-  unfixed_back : AreUsed I → activities_read I.period (activities_text I) ≡ Ok (unfixed I)
-  unfixed_back used =
+  windowless_back : AreUsed I → activities_read I.period (activities_text I) ≡ Ok (without_windows I)
+  windowless_back used =
       ap (λ es. taken activity_faults_behind with_activity_row (record { period = I.period; events = es; activities = [] }) (rows_of (activities_text I))) (sym (none_kept events))
       ∙ ap (taken activity_faults_behind with_activity_row (built I.period events rising [])) activity_rows
       ∙ activities_taken I.period events rising [] I.activities 1 takable (Rises-from_increasing activity_number I.activities net.activities_rise) few_events net.few_activities
       ∙ ap (λ es. Ok (record { period = I.period; events = es; activities = I.activities })) (all_kept (is_used I.activities) I.events used)
 
--- what is written of the activities of an instance reads back as the instance without its fixed times, where each event is an end of an activity
-pub activities_stand : (I : Network) → IsNetwork I → AreUsed I → activities_read I.period (activities_text I) ≡ Ok (unfixed I)
-activities_stand I net used = unfixed_back I net used
+-- what is written of the activities of an instance reads back as the instance without its windows, where each event is an end of an activity
+pub activities_stand : (I : Network) → IsNetwork I → AreUsed I → activities_read I.period (activities_text I) ≡ Ok (without_windows I)
+activities_stand I net used = windowless_back I net used
 
 -- ---- the text of a timetable
 

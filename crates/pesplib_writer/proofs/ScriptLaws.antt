@@ -1,7 +1,7 @@
 -- The edits of an instance's script, applied to the instance without events, give the instance.
-use Rattle.std.proofs.Common.{◌≡◌, ℕ, ◌+◌, ◌<◌, ◌≤◌, Bool, true, false, not, nat_le, ◌==◌, List, [], ◌∷◌, ◌++◌, length, map, filter_map, Option, Some, None, option_map, Ok, Err, is_some, refl, sym, ap, ◌∙◌, append_assoc, append-nil, length-append, arith, All}
+use Rattle.std.proofs.Common.{◌≡◌, ℕ, ◌+◌, ◌<◌, ◌≤◌, Bool, true, false, not, nat_le, nat_lt, ◌==◌, if◌then◌else◌, List, [], ◌∷◌, ◌++◌, length, map, filter_map, Option, Some, None, option_map, Ok, Err, is_some, refl, sym, ap, ◌∙◌, append_assoc, append-nil, length-append, arith, All}
 use Rattle.std.specs.List.{cons_option}
-use Rattle.std.proofs.lemmas.Bool.{lt-leb, ne_eqb, eq-eqb}
+use Rattle.std.proofs.lemmas.Bool.{le-ltb, lt-leb, ne_eqb, eq-eqb, eqb-true}
 use Rattle.std.proofs.lemmas.List.{length-map}
 use Rattle.std.proofs.lemmas.List.Elements.{All-head, All-tail}
 use Rattle.pesp_base.specs.declared.activity.Activity.{Activity}
@@ -9,15 +9,16 @@ use Rattle.pesp_base.specs.declared.refusal.Refusal.{Refusal}
 use Rattle.pesp_base.specs.Limits.{max_events, max_activities}
 use Rattle.pesp_base.specs.Numbered.{with_number, put_in, change_in}
 use Rattle.pesp_base.specs.Refusals.{unless_refused, when}
+use Rattle.pesp_base.specs.Windows.{Interval, IsWindow, at_time}
 use Rattle.pesp_instance.specs.declared.edit.Edit.{Edit}
-use Rattle.pesp_instance.specs.declared.edit.Edit.TheVariants.{AddEvent, Fix, AddActivity}
+use Rattle.pesp_instance.specs.declared.edit.Edit.TheVariants.{AddEvent, Fix, SetWindow, AddActivity}
 use Rattle.pesp_instance.specs.Edited.{edited, effect, empty_network}
 use Rattle.pesp_instance.specs.declared.event.Event.{Event}
 use Rattle.pesp_instance.specs.Network.{Network, IsNetwork, IsEvent, HasEnds, event_ids, has_event, activity_of, new_event}
 use Rattle.pesp_instance.proofs.Rising.{IsAbove, Rises, Rises-from_increasing, change_in-above}
 use Rattle.pesplib_reader.proofs.FixedLemmas.{fix_edited}
-use Rattle.pesplib_writer.specs.Script.{applied, fix_edit, on_accepted, script_edits}
-use Rattle.pesplib_writer.specs.Texts.{unfixed_event}
+use Rattle.pesplib_writer.specs.Script.{applied, on_accepted, own_edit, script_edits, window_edit}
+use Rattle.pesplib_writer.specs.Texts.{without_window}
 use Rattle.pesplib_writer.proofs.OrderLaws.{above_before, below_after, put_in-below, with_number-below}
 use Rattle.pesp_instance.proofs.Numbers.{activity_number as id_of, event_number as number}
 
@@ -90,57 +91,78 @@ module _ (period : ℕ) where
       ∙ events_added (done ++ new_event e ∷ []) numbers more room
       ∙ ap (λ events. Ok (with_events events)) joins
 
--- ---- their fixed times
+-- ---- their windows
 
-new_event-unfixed : (events : List Event) → map new_event (map number events) ≡ map unfixed_event events
-new_event-unfixed [] = refl
-new_event-unfixed (e ∷ events) = ap (λ rest. unfixed_event e ∷ rest) (new_event-unfixed events)
+-- a window of the period is not refused
+window_edited : (J : Network) (e : ℕ) (w : Interval) → has_event J e ≡ true → IsWindow J.period w → edited J (SetWindow e w.first w.length) ≡ Ok (effect J (SetWindow e w.first w.length))
+window_edited J e w known within =
+    let first : nat_le J.period w.first ≡ false = lt-leb J.period w.first within.first in
+    let some : (w.length == 0) ≡ false = ne_eqb w.length 0 (λ none. absurd (omega (arith, within.some, none))) in
+    let once : nat_lt J.period w.length ≡ false = le-ltb J.period w.length within.once in
+    rw (known, first, some, once) refl
 
-unfixed_above : (n : ℕ) (events : List Event) → IsAbove number n events → IsAbove number n (map unfixed_event events)
-unfixed_above n [] above = tt
-unfixed_above n (e ∷ events) above = (above.0, unfixed_above n events above.1)
+new_event-without_windows : (events : List Event) → map new_event (map number events) ≡ map without_window events
+new_event-without_windows [] = refl
+new_event-without_windows (e ∷ events) = ap (λ rest. without_window e ∷ rest) (new_event-without_windows events)
 
-unfixed_rise : (events : List Event) → Rises number events → Rises number (map unfixed_event events)
-unfixed_rise [] rises = tt
-unfixed_rise (e ∷ events) rises = (unfixed_above e.id events rises.0, unfixed_rise events rises.1)
+windowless_above : (n : ℕ) (events : List Event) → IsAbove number n events → IsAbove number n (map without_window events)
+windowless_above n [] above = tt
+windowless_above n (e ∷ events) above = (above.0, windowless_above n events above.1)
 
-above_unfixed : (n : ℕ) (done events : List Event) → IsAbove number n (done ++ events) → IsAbove number n (done ++ map unfixed_event events)
-above_unfixed n [] events above = unfixed_above n events above
-above_unfixed n (d ∷ done) events above = (above.0, above_unfixed n done events above.1)
+windowless_rise : (events : List Event) → Rises number events → Rises number (map without_window events)
+windowless_rise [] rises = tt
+windowless_rise (e ∷ events) rises = (windowless_above e.id events rises.0, windowless_rise events rises.1)
 
--- what is to be fixed yet rises behind what is fixed
-rises_unfixed : (done events : List Event) → Rises number (done ++ events) → Rises number (done ++ map unfixed_event events)
-rises_unfixed [] events rises = unfixed_rise events rises
-rises_unfixed (d ∷ done) events rises = (above_unfixed d.id done events rises.0, rises_unfixed done events rises.1)
+above_windowless : (n : ℕ) (done events : List Event) → IsAbove number n (done ++ events) → IsAbove number n (done ++ map without_window events)
+above_windowless n [] events above = windowless_above n events above
+above_windowless n (d ∷ done) events above = (above.0, above_windowless n done events above.1)
+
+-- the events whose windows are yet to be set rise behind those whose windows are
+rises_windowless : (done events : List Event) → Rises number (done ++ events) → Rises number (done ++ map without_window events)
+rises_windowless [] events rises = windowless_rise events rises
+rises_windowless (d ∷ done) events rises = (above_windowless d.id done events rises.0, rises_windowless done events rises.1)
 
 module _ (period : ℕ) where
-  -- an event's fixed time is set, with events before and behind it
-  time_fixed : (done rest : List Event) (e : Event) (t : ℕ) → Rises number (done ++ unfixed_event e ∷ rest) → t < period → e.fixed ≡ Some t
-      → edited (with_events period (done ++ unfixed_event e ∷ rest)) (Fix e.id t) ≡ Ok (with_events period (done ++ e ∷ rest))
-  time_fixed done rest e t rises below is =
-      let before = with_events period (done ++ unfixed_event e ∷ rest) in
-      let same : record { id = e.id; fixed = Some t } ≡ e = ap (λ (fixed : Option ℕ). record e { fixed = fixed }) (sym is) in
-      fix_edited before e.id t (ap is_some (found_between number done (unfixed_event e) rest rises)) below
-      ∙ ap (λ events. Ok (with_events period events)) (change_between number (λ x. record x { fixed = Some t }) done (unfixed_event e) rest rises ∙ ap (λ x. done ++ x ∷ rest) same)
+  -- an event's window is set, with events before and behind it
+  changed_to : (done rest : List Event) (e : Event) (w : Interval) → Rises number (done ++ without_window e ∷ rest) → e.window ≡ Some w
+      → with_events period (change_in number e.id (λ x. record x { window = Some w }) (done ++ without_window e ∷ rest)) ≡ with_events period (done ++ e ∷ rest)
+  changed_to done rest e w rises is =
+      let same : record { id = e.id; window = Some w } ≡ e = ap (λ (window : Option Interval). record e { window = window }) (sym is) in
+      ap (with_events period) (change_between number (λ x. record x { window = Some w }) done (without_window e) rest rises ∙ ap (λ x. done ++ x ∷ rest) same)
 
-  times_fixed : (done events : List Event) → Rises number (done ++ events) → All (IsEvent period) events
-      → applied (with_events period (done ++ map unfixed_event events)) (filter_map fix_edit events) ≡ Ok (with_events period (done ++ events))
-  times_fixed done [] rises within = refl
-  times_fixed done (e ∷ events) rises within =
+  window_set : (done rest : List Event) (e : Event) (w : Interval) → Rises number (done ++ without_window e ∷ rest) → IsWindow period w → e.window ≡ Some w
+      → edited (with_events period (done ++ without_window e ∷ rest)) (window_edit e.id w) ≡ Ok (with_events period (done ++ e ∷ rest))
+  window_set done rest e w rises within is =
+      let before = with_events period (done ++ without_window e ∷ rest) in
+      let known = ap is_some (found_between number done (without_window e) rest rises) in
+      elim (w.length == 1) as (λ b. (w.length == 1) ≡ b → edited before (if b then Fix e.id w.first else SetWindow e.id w.first w.length) ≡ Ok (with_events period (done ++ e ∷ rest))) [
+        | true ↦ λ one.
+            let length : w.length ≡ 1 = eqb-true w.length 1 one in
+            let time : at_time w.first ≡ w = ap (λ n. record w { length = n }) (sym length) in
+            fix_edited before e.id w.first known within.first
+            ∙ ap (λ v. Ok (with_events period (change_in number e.id (λ x. record x { window = Some v }) (done ++ without_window e ∷ rest)))) time
+            ∙ ap Ok (changed_to done rest e w rises is)
+        | false ↦ λ more. window_edited before e.id w known within ∙ ap Ok (changed_to done rest e w rises is)
+      ] refl
+
+  windows_set : (done events : List Event) → Rises number (done ++ events) → All (IsEvent period) events
+      → applied (with_events period (done ++ map without_window events)) (filter_map own_edit events) ≡ Ok (with_events period (done ++ events))
+  windows_set done [] rises within = refl
+  windows_set done (e ∷ events) rises within =
       let joins = append_assoc done (e ∷ []) events in
       let more : Rises number ((done ++ e ∷ []) ++ events) = rw joins rises in
-      let later : applied (with_events period (done ++ e ∷ map unfixed_event events)) (filter_map fix_edit events) ≡ Ok (with_events period (done ++ e ∷ events)) =
-      ap (λ es. applied (with_events period es) (filter_map fix_edit events)) (sym (append_assoc done (e ∷ []) (map unfixed_event events)))
-      ∙ times_fixed (done ++ e ∷ []) events more (All-tail (IsEvent period) e events within)
+      let later : applied (with_events period (done ++ e ∷ map without_window events)) (filter_map own_edit events) ≡ Ok (with_events period (done ++ e ∷ events)) =
+      ap (λ es. applied (with_events period es) (filter_map own_edit events)) (sym (append_assoc done (e ∷ []) (map without_window events)))
+      ∙ windows_set (done ++ e ∷ []) events more (All-tail (IsEvent period) e events within)
       ∙ ap (λ es. Ok (with_events period es)) joins in
-      elim e.fixed as (λ o. e.fixed ≡ o → applied (with_events period (done ++ unfixed_event e ∷ map unfixed_event events)) (cons_option (option_map (Fix e.id) o) (filter_map fix_edit events)) ≡ Ok (with_events period (done ++ e ∷ events))) [
+      elim e.window as (λ o. e.window ≡ o → applied (with_events period (done ++ without_window e ∷ map without_window events)) (cons_option (option_map (window_edit e.id) o) (filter_map own_edit events)) ≡ Ok (with_events period (done ++ e ∷ events))) [
         | None ↦ λ is.
-            let same : unfixed_event e ≡ e = ap (λ (fixed : Option ℕ). record e { fixed = fixed }) (sym is) in
-            ap (λ x. applied (with_events period (done ++ x ∷ map unfixed_event events)) (filter_map fix_edit events)) same ∙ later
+            let same : without_window e ≡ e = ap (λ (window : Option Interval). record e { window = window }) (sym is) in
+            ap (λ x. applied (with_events period (done ++ x ∷ map without_window events)) (filter_map own_edit events)) same ∙ later
         | Some t ↦ λ is.
-            let below : t < period = rw is at (All-head (IsEvent period) e events within).fixed in
-            first_applied (with_events period (done ++ unfixed_event e ∷ map unfixed_event events)) (with_events period (done ++ e ∷ map unfixed_event events)) (Fix e.id t) (filter_map fix_edit events)
-            (time_fixed done (map unfixed_event events) e t (rises_unfixed done (e ∷ events) rises) below is)
+            let inside : IsWindow period t = rw is at (All-head (IsEvent period) e events within).window in
+            first_applied (with_events period (done ++ without_window e ∷ map without_window events)) (with_events period (done ++ e ∷ map without_window events)) (window_edit e.id t) (filter_map own_edit events)
+            (window_set done (map without_window events) e t (rises_windowless done (e ∷ events) rises) inside is)
             ∙ later
       ] refl
 
@@ -177,12 +199,12 @@ pub script_builds : (I : Network) → IsNetwork I → applied (empty_network I.p
 script_builds I net =
     let events_rise = Rises-from_increasing number I.events net.events_rise in
     let activities_rise = Rises-from_increasing id_of I.activities net.activities_rise in
-    let bare_rise : Rises number (map new_event (event_ids I)) = rw (new_event-unfixed I.events) (unfixed_rise I.events events_rise) in
+    let bare_rise : Rises number (map new_event (event_ids I)) = rw (new_event-without_windows I.events) (windowless_rise I.events events_rise) in
     let few : length {A = Event} [] + length (event_ids I) ≤ max_events I.period = omega (arith, net.few_events, length-map I.events number) in
     let few_activities : length {A = Activity} [] + length I.activities ≤ max_activities I.period = omega (arith, net.few_activities) in
-    let events : applied (empty_network I.period) (map AddEvent (event_ids I)) ≡ Ok (with_events I.period (map unfixed_event I.events)) =
-    events_added I.period [] (event_ids I) bare_rise few ∙ ap (λ es. Ok (with_events I.period es)) (new_event-unfixed I.events) in
-    ap (applied (empty_network I.period)) (append_assoc (map AddEvent (event_ids I)) (filter_map fix_edit I.events) (map AddActivity I.activities))
-    ∙ then_applied (empty_network I.period) (with_events I.period (map unfixed_event I.events)) (map AddEvent (event_ids I)) (filter_map fix_edit I.events ++ map AddActivity I.activities) events
-    ∙ then_applied (with_events I.period (map unfixed_event I.events)) (with_events I.period I.events) (filter_map fix_edit I.events) (map AddActivity I.activities) (times_fixed I.period [] I.events events_rise net.events_within)
+    let events : applied (empty_network I.period) (map AddEvent (event_ids I)) ≡ Ok (with_events I.period (map without_window I.events)) =
+    events_added I.period [] (event_ids I) bare_rise few ∙ ap (λ es. Ok (with_events I.period es)) (new_event-without_windows I.events) in
+    ap (applied (empty_network I.period)) (append_assoc (map AddEvent (event_ids I)) (filter_map own_edit I.events) (map AddActivity I.activities))
+    ∙ then_applied (empty_network I.period) (with_events I.period (map without_window I.events)) (map AddEvent (event_ids I)) (filter_map own_edit I.events ++ map AddActivity I.activities) events
+    ∙ then_applied (with_events I.period (map without_window I.events)) (with_events I.period I.events) (filter_map own_edit I.events) (map AddActivity I.activities) (windows_set I.period [] I.events events_rise net.events_within)
     ∙ activities_added I.period I.events [] I.activities activities_rise net.ends few_activities

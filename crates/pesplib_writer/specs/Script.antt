@@ -1,28 +1,34 @@
 -- The script that builds an instance.
-use Rattle.std.specs.Prelude.{ℕ, List, [], ◌∷◌, ◌++◌, map, filter_map, length, codes, decimal, Option, option_map, Result, Ok, Err}
+use Rattle.std.specs.Prelude.{ℕ, List, [], ◌∷◌, ◌++◌, map, filter_map, length, codes, decimal, ◌==◌, if◌then◌else◌, Option, option_map, Result, Ok, Err}
 use Rattle.std.specs.Fmt.{signed_decimal}
 use Rattle.pesp_base.specs.declared.refusal.Refusal.{Refusal}
 use Rattle.pesp_base.specs.Texts.{words_line, as_lines}
+use Rattle.pesp_base.specs.Windows.{Interval}
 use Rattle.pesp_instance.specs.declared.edit.Edit.{Edit}
-use Rattle.pesp_instance.specs.declared.edit.Edit.TheVariants.{AddEvent, DropEvent, Fix, Unfix, AddActivity, DropActivity, SetSpan, SetWeight, SetEnds}
+use Rattle.pesp_instance.specs.declared.edit.Edit.TheVariants.{AddEvent, DropEvent, Fix, SetWindow, Unfix, AddActivity, DropActivity, SetSpan, SetWeight, SetEnds}
 use Rattle.pesp_instance.specs.declared.event.Event.{Event}
 use Rattle.pesp_instance.specs.Edited.{edited}
 use Rattle.pesp_instance.specs.Network.{Network, event_ids}
 use Rattle.pesplib_writer.specs.Texts.{activity_fields}
 
--- the edit that sets an event's fixed time, if it has one
-abbrev pub fix_edit : Event → Option Edit
-fix_edit e = option_map (Fix e.id) e.fixed
+-- the edit that gives an event a window: one that fixes its time where there is one residue
+abbrev pub window_edit : ℕ → Interval → Edit
+window_edit e window = if window.length == 1 then Fix e window.first else SetWindow e window.first window.length
 
--- the edits that build an instance: its events, their fixed times, and its activities
+-- the edit that gives an event its window, if it has one
+abbrev pub own_edit : Event → Option Edit
+own_edit e = option_map (window_edit e.id) e.window
+
+-- the edits that build an instance: its events, their windows, and its activities
 abbrev pub script_edits : Network → List Edit
-script_edits I = map AddEvent (event_ids I) ++ filter_map fix_edit I.events ++ map AddActivity I.activities
+script_edits I = map AddEvent (event_ids I) ++ filter_map own_edit I.events ++ map AddActivity I.activities
 
 -- the line that says an edit
 abbrev pub edit_line : Edit → List ℕ
 edit_line (AddEvent e) = words_line (codes "add event" ∷ decimal e ∷ [])
 edit_line (DropEvent e) = words_line (codes "drop event" ∷ decimal e ∷ [])
 edit_line (Fix e t) = words_line (codes "fix" ∷ decimal e ∷ decimal t ∷ [])
+edit_line (SetWindow e first length) = words_line (codes "window" ∷ decimal e ∷ decimal first ∷ decimal length ∷ [])
 edit_line (Unfix e) = words_line (codes "unfix" ∷ decimal e ∷ [])
 edit_line (AddActivity a) = words_line (codes "add activity" ∷ activity_fields a)
 edit_line (DropActivity n) = words_line (codes "drop activity" ∷ decimal n ∷ [])

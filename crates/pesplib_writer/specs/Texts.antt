@@ -4,7 +4,7 @@ use Rattle.std.specs.Fmt.{signed_decimal}
 use Rattle.pesp_base.specs.declared.activity.Activity.{Activity}
 use Rattle.pesp_base.specs.Texts.{separated, as_lines}
 use Rattle.pesp_instance.specs.declared.event.Event.{Event}
-use Rattle.pesp_instance.specs.Network.{Network, is_end_of}
+use Rattle.pesp_instance.specs.Network.{Network, fixed_time, is_end_of}
 use Rattle.pesp_tension.specs.Timetables.{Times}
 
 -- a row's fields, with a semicolon and a space between each two
@@ -33,7 +33,7 @@ entries_text entries = as_lines (map time_row entries)
 
 -- an event's fixed time beside its number, if it has one
 abbrev pub fixed_entry : Event → Option (ℕ × ℕ)
-fixed_entry e = option_map (λ t. (e.id, t)) e.fixed
+fixed_entry e = option_map (λ t. (e.id, t)) (fixed_time e)
 
 -- the fixed events, ascending, and their times
 abbrev pub fixed_entries : Network → List (ℕ × ℕ)
@@ -47,13 +47,13 @@ fixed_text I = entries_text (fixed_entries I)
 abbrev pub times_text : Times → List ℕ
 times_text m = entries_text m.entries
 
--- an event without a fixed time
-abbrev pub unfixed_event : Event → Event
-unfixed_event e = record e { fixed = None }
+-- an event without a window
+abbrev pub without_window : Event → Event
+without_window e = record e { window = None }
 
--- the instance without its fixed times
-abbrev pub unfixed : Network → Network
-unfixed I = record I { events = map unfixed_event I.events }
+-- the instance without its windows
+abbrev pub without_windows : Network → Network
+without_windows I = record I { events = map without_window I.events }
 
 -- each event is an end of an activity
 abbrev pub AreUsed : Network → Type 0

@@ -5,7 +5,7 @@ ghost use Rattle.std.specs.List.Sorted.{IsStrictlyIncreasing};
 ghost use Rattle.pesp_instance.specs.Network.{IsNetwork};
 ghost use Rattle.pesp_tension.specs.Timetables.{IsTimetable, timed_events};
 ghost use Rattle.pesplib_reader.specs.Reading.{activities_read, times_read};
-ghost use Rattle.pesplib_writer.specs.Texts.{AreUsed, activities_text, activity_row, fixed_text, time_row, times_text, unfixed};
+ghost use Rattle.pesplib_writer.specs.Texts.{AreUsed, activities_text, activity_row, fixed_text, time_row, times_text, without_windows};
 
 use crate::fields::put_fields;
 use crate::text::{put, put_between, put_number};
@@ -65,10 +65,10 @@ fn put_times(text: &mut Vec<u8>, timetable: &Timetable) -> Result<(), AllocError
 /// The text of the activities, a row each by rising number: number, from-event, to-event, lower bound,
 /// upper bound and weight.
 ///
-/// Where each event is an end of an activity, the text stands for the instance without its fixed times.
+/// Where each event is an end of an activity, the text stands for the instance without its windows.
 pub fn write_activities(alloc: Global, instance: &Instance) -> Result<Vec<u8>, Memory>
     ensures text { IfOk result (λ text. text.items ≡ activities_text instance.now) }
-    ensures stands { IfOk result (λ text. AreUsed instance.now → activities_read instance.now.period text.items ≡ Ok (unfixed instance.now)) }
+    ensures stands { IfOk result (λ text. AreUsed instance.now → activities_read instance.now.period text.items ≡ Ok (without_windows instance.now)) }
 {
     let mut text = Vec::new(alloc);
     match put_activities(&mut text, instance) {
@@ -77,7 +77,7 @@ pub fn write_activities(alloc: Global, instance: &Instance) -> Result<Vec<u8>, M
     }
 }
 
-/// The text of the fixed times, a row for each fixed event by rising number: event and time.
+/// The text of the fixed times, a row for each event with a window of one residue by rising number: event and time.
 pub fn write_fixed(alloc: Global, instance: &Instance) -> Result<Vec<u8>, Memory>
     ensures text { IfOk result (λ text. text.items ≡ fixed_text instance.now) }
 {

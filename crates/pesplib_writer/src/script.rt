@@ -3,25 +3,25 @@
 ghost use Rattle.std.specs.Prelude.{◌≡◌, ◌≤◌, ◌++◌, [], ◌∷◌, Ok, IfOk, OnOk, length, map, filter_map, decimal, codes};
 ghost use Rattle.pesp_base.specs.Texts.{as_lines, words_line};
 ghost use Rattle.pesp_base.specs.Limits.{max_events};
-ghost use Rattle.pesp_instance.specs.declared.edit.Edit.TheVariants.{AddEvent, Fix, AddActivity};
+ghost use Rattle.pesp_instance.specs.declared.edit.Edit.TheVariants.{AddEvent, Fix, SetWindow, AddActivity};
 ghost use Rattle.pesp_instance.specs.Edited.{empty_network};
 ghost use Rattle.pesp_instance.specs.Network.{IsNetwork, event_ids};
-ghost use Rattle.pesplib_writer.specs.Script.{applied, edit_line, fix_edit, script, script_edits, script_lines};
+ghost use Rattle.pesplib_writer.specs.Script.{applied, edit_line, own_edit, window_edit, script, script_edits, script_lines};
 
 use crate::fields::put_fields;
 use crate::text::{put, put_before, put_between};
-use pesp_base::{Activity, EventId, Memory, Period};
+use pesp_base::{Activity, EventId, Memory, Period, Window};
 use pesp_instance::Instance;
 use std::alloc::{AllocError, Global};
 
-/// How many events have a fixed time.
-fn fixed_count(instance: &Instance) -> usize
-    ensures count { result ≡ length (filter_map fix_edit instance.now.events) }
+/// How many events have a window.
+fn window_count(instance: &Instance) -> usize
+    ensures count { result ≡ length (filter_map own_edit instance.now.events) }
     ensures few { result ≤ max_events instance.now.period }
 {
     let mut count = 0;
     for event in instance.events() {
-        if event.fixed_time().is_some() {
+        if event.window.is_some() {
             count += 1;
         }
     }
@@ -33,7 +33,7 @@ fn line_count(instance: &Instance) -> usize
     ensures count { result ≡ length (script_lines instance.now) }
     ensures network { IsNetwork instance.now }
 {
-    instance.event_count() + fixed_count(instance) + instance.activity_count()
+    instance.event_count() + window_count(instance) + instance.activity_count()
 }
 
 /// The first line, a comment: the period, and how many lines follow.
@@ -61,12 +61,31 @@ fn put_fix(text: &mut Vec<u8>, event: EventId, time: u16) -> Result<(), AllocErr
     put_before(text, u64::from(time), b"\n")
 }
 
-fn put_fixes(text: &mut Vec<u8>, instance: &Instance) -> Result<(), AllocError>
-    ensures { OnOk result (text.new.items ≡ text.old.items ++ as_lines (map edit_line (filter_map fix_edit instance.now.events))) }
+/// The line that gives an event a window that is not one of one residue alone.
+fn put_wide(text: &mut Vec<u8>, event: EventId, window: Window) -> Result<(), AllocError>
+    ensures { OnOk result (text.new.items ≡ text.old.items ++ (edit_line (SetWindow event window.first window.length) ++ 10 ∷ [])) }
+{
+    put_between(text, b"window ", u64::from(event.get()), b" ")?;
+    put_between(text, b"", u64::from(window.first()), b" ")?;
+    put_before(text, u64::from(window.length()), b"\n")
+}
+
+/// The line that gives an event a window.
+fn put_window(text: &mut Vec<u8>, event: EventId, window: Window) -> Result<(), AllocError>
+    ensures { OnOk result (text.new.items ≡ text.old.items ++ (edit_line (window_edit event window) ++ 10 ∷ [])) }
+{
+    match window.only_time() {
+        Some(time) => put_fix(text, event, time),
+        None => put_wide(text, event, window),
+    }
+}
+
+fn put_windows(text: &mut Vec<u8>, instance: &Instance) -> Result<(), AllocError>
+    ensures { OnOk result (text.new.items ≡ text.old.items ++ as_lines (map edit_line (filter_map own_edit instance.now.events))) }
 {
     for event in instance.events() {
-        if let Some(time) = event.fixed_time() {
-            put_fix(text, event.id, time)?;
+        if let Some(window) = event.window {
+            put_window(text, event.id, window)?;
         }
     }
     Ok(())
@@ -96,14 +115,14 @@ fn put_script(text: &mut Vec<u8>, instance: &Instance) -> Result<(), AllocError>
 {
     put_head(text, instance.period(), line_count(instance))?;
     put_events(text, instance)?;
-    put_fixes(text, instance)?;
+    put_windows(text, instance)?;
     put_activities(text, instance)
 }
 
 /// The script that builds the instance from the one of its period without events: a comment with the
 /// period and the number of the lines behind it, and then the edits, a line each.
 ///
-/// The events come first, then the fixed times, then the activities, each by rising number.
+/// The events come first, then their windows, then the activities, each by rising number.
 pub fn dump(alloc: Global, instance: &Instance) -> Result<Vec<u8>, Memory>
     ensures text { IfOk result (λ text. text.items ≡ script instance.now) }
     ensures builds { applied (empty_network instance.now.period) (script_edits instance.now) ≡ Ok instance.now }

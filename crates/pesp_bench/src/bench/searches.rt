@@ -1,6 +1,6 @@
 //! The optimum: found, kept, and taken as the working timetable.
 
-ghost use Rattle.std.specs.Prelude.{◌≡◌, ℕ, IfOk, IfErr, IfSome, IsOkAnd, IsSomeAnd, OnOk, OnErr, Some, None};
+ghost use Rattle.std.specs.Prelude.{◌≡◌, ℕ, IsErr, IfOk, IfErr, IfSome, IsOkAnd, IsSomeAnd, OnOk, OnErr, Some, None};
 ghost use Rattle.pesp_base.specs.declared.refusal.Refusal.TheVariants as no;
 ghost use Rattle.std.specs.List.Sorted.{IsStrictlyIncreasing};
 ghost use Rattle.pesp_tension.specs.Timetables.{timed_events};
@@ -43,6 +43,11 @@ fn optimum_of(alloc: Global, answer: &Answer) -> Result<Timetable, Refusal>
 }
 
 impl<K: Keeper> Bench<K> {
+    ghost use Rattle.std.specs.Prelude.{⊤};
+    ghost use Rattle.std.specs.Borrow.{follows_so, sem};
+    ghost use Rattle.pesp_bench.specs.contracts.bench.Bench.{the_row};
+    ghost use mathlib.Core.Option.{none};
+
     /// Finds the optimum, where it is not known, or refusal 10.
     #[tactic(auto, using(pesp_search::proofs::Sizes::no_nodes))]
     pub fn find_optimum(&mut self, alloc: Global) -> Result<(), Refusal>
@@ -66,15 +71,16 @@ impl<K: Keeper> Bench<K> {
         Ok(())
     }
 
-    /// The optimum, or refusal 10: what [`Bench::find_optimum`] makes known, and a known one as it is.
-    ///
-    /// No clause says what this leaves, since the answer is borrowed from the workbench.
-    pub fn optimum(&mut self, alloc: Global) -> Result<&Answer, Refusal>
+    /// The optimum, or want of memory: what [`Bench::find_optimum`] makes known, and a known one as it is. The working timetable stays.
+    pub(crate) fn known_optimum(&mut self, alloc: Global) -> Result<&Answer, Memory>
+        ensures* leaves { sem 𝓛 (follows_so (the_row K.row K.Keeper) (the_row K.row K.Keeper) self.entry.ghost_name none (λ _ _. ⊤) (λ after. IsSearched self.old after × (after.times ≡ self.old.times))) }
         ensures ok { IfOk result (λ answer. IsAnswer self.old.instance answer.now) }
         ensures kept { IfSome self.old.known (λ known. IsOkAnd result (λ answer. answer.now ≡ known)) }
-        ensures refused { IfErr result (λ refusal. (refusal ≡ no.Memory) × (self.old.known ≡ None)) }
+        ensures refused { IsErr result → self.old.known ≡ None }
     {
-        self.find_optimum(alloc)?;
+        if self.find_optimum(alloc).is_err() {
+            return Err(Memory);
+        }
         Ok(self.known.as_ref().unwrap())
     }
 

@@ -8,7 +8,7 @@ ghost use Rattle.pesp_counts.specs.Loosening.{IsLoosened, WereFollowed};
 ghost use Rattle.pesp_supports.specs.Supports.{HaveSameShape};
 ghost use Rattle.pesp_counts.specs.Works.{IsWorked, KeepPlaces};
 
-use super::limits::limit_event;
+use super::limits::narrow_event;
 use super::loosening::loosen;
 use super::spans::narrow_ends;
 use pesp_base::{ActivityId, Span};
@@ -54,7 +54,9 @@ fn tighten(instance: &Instance, links: &mut Links, supports: &mut Supports, edit
     let _period = instance.period();
     match *edit {
         Edit::DropEvent(event) => links.drop_event(event),
-        Edit::Fix(event, time) => limit_event(links, supports, event, time),
+        Edit::Fix(event, _) => narrow_event(instance, links, supports, event),
+        Edit::SetWindow(event, _, _) => narrow_event(instance, links, supports, event),
+        Edit::Unfix(event) => narrow_event(instance, links, supports, event),
         Edit::SetSpan(id, span) => set_span(instance, links, supports, id, span),
         _ => {}
     }

@@ -1,18 +1,22 @@
 //! Edits that may bring pairs back: what they reach is put back, and what has no partner goes again.
 
-ghost use Rattle.std.specs.Prelude.{◌≡◌, ◌<◌, ◌≤◌, ◌*◌, ℕ, [], ◌∷◌, None, Some, length, All};
+ghost use Rattle.std.specs.Prelude.{◌≡◌, ◌<◌, ◌≤◌, ◌*◌, ℕ, [], ◌∷◌, Option, None, Some, length, All};
 ghost use Rattle.std.specs.List.{Contains};
 ghost use Rattle.pesp_instance.specs.declared.edit.Edit.TheVariants as edits;
-ghost use Rattle.pesp_instance.specs.Network.{Network};
-ghost use Rattle.pesp_domains.proofs.Pushes.{limited};
+ghost use Rattle.pesp_instance.specs.Network.{Network, admits};
+ghost use Rattle.pesp_base.specs.Windows.{Interval};
+ghost use Rattle.pesp_instance.specs.declared.edit.Edit.{Edit as SomeEdit};
+ghost use Rattle.pesp_domains.specs.Sweeps.{narrowed_to};
 ghost use Rattle.pesp_links.specs.Ends.{ends_of};
 ghost use Rattle.pesp_counts.specs.Keeping.{AreAtRestBut, AreFor};
 ghost use Rattle.pesp_supports.specs.Resting.{AreAtRest};
 ghost use Rattle.pesp_counts.specs.Loosening.{IsLoosened, IsPutBack, WereLoose};
 ghost use Rattle.pesp_links.specs.Places.{place_of};
+ghost use Rattle.pesp_counts.specs.Reached.{IsOfWindow};
 ghost use Rattle.pesp_supports.specs.Supports.{HaveSameShape};
 ghost use Rattle.pesp_counts.specs.Works.{IsWorked};
 
+use super::limits::limit_at;
 use super::spans::narrow_ends;
 use pesp_base::{ActivityId, EventId, Span};
 use pesp_instance::{Edit, Instance};
@@ -41,28 +45,29 @@ fn reopen(
     supports.settle_back(links, back.pairs());
 }
 
-/// Puts back what is reached from the place of an event, of whose residues but one is left then, and takes out what has no partner.
-fn reopen_fixed(
+/// Puts back what is reached from the place of an event, of whose residues those of its window are left then, and takes out what has
+/// no partner.
+fn reopen_window(
     instance: &Instance,
     links: &Links,
     supports: &mut Supports,
     back: &mut Back,
+    event: EventId,
     place: usize,
-    time: u16,
 )
     requires fits { AreFor instance.now links.now supports.old }
     requires rest { AreAtRest links.now supports.old }
     requires trail { (supports.old).trail ≡ [] }
-    requires event { (e : ℕ) × (place_of (links.now).events e ≡ Some place) }
+    requires event { place_of (links.now).events event ≡ Some place }
     requires place { place < length (supports.old).rows }
     requires empty { (back.old).pairs ≡ [] }
     requires room { length (supports.old).rows * (supports.old).period ≤ (back.old).room }
-    ensures back { IsPutBack (λ S. limited S place time) instance.now links.now (place ∷ []) None supports.old supports.new (back.new).pairs }
+    ensures back { IsPutBack (λ S. narrowed_to S place (admits instance.now event)) instance.now links.now (place ∷ []) None supports.old supports.new (back.new).pairs }
     ensures room { (back.new).room ≡ (back.old).room }
     ensures worked { IsWorked links.now supports.old supports.new (back.new).pairs }
 {
     supports.restore(instance, links, &[place], None, back);
-    supports.limit(place, time);
+    limit_at(instance, supports, event, place);
     supports.settle_back(links, back.pairs());
 }
 
@@ -90,48 +95,25 @@ fn rejoin(
     narrow_ends(links, supports, links.tail_at(place), back.pairs());
 }
 
-/// Follows a fixed time that is not the one before.
-fn refix(
-    instance: &Instance,
-    links: &Links,
-    supports: &mut Supports,
-    back: &mut Back,
-    event: EventId,
-    time: u16,
-)
-    requires loose { (I : Network) × WereLoose I instance.now (edits.Fix event time) links.now supports.old }
-    requires empty { (back.old).pairs ≡ [] }
-    requires room { length (supports.old).rows * (supports.old).period ≤ (back.old).room }
-    ensures loosened { (I : Network) → WereLoose I instance.now (edits.Fix event time) links.now supports.old → IsLoosened I instance.now (edits.Fix event time) links.now supports.new (back.new).pairs }
-    ensures shape { HaveSameShape supports.old supports.new }
-    ensures room { (back.new).room ≡ (back.old).room }
-    ensures worked { IsWorked links.now supports.old supports.new (back.new).pairs }
-{
-    let _period = instance.period();
-    if let Some(place) = links.event(event) {
-        reopen_fixed(instance, links, supports, back, place, time);
-    }
-}
-
-/// Follows a fixed time that is taken away.
-fn unfix(
+/// Follows a window that is not the one before, or that is taken away.
+fn rewindow(
     instance: &Instance,
     links: &Links,
     supports: &mut Supports,
     back: &mut Back,
     event: EventId,
 )
-    requires loose { (I : Network) × WereLoose I instance.now (edits.Unfix event) links.now supports.old }
+    requires loose { (edit : SomeEdit) × (window : Option Interval) × IsOfWindow edit event window × (I : Network) × WereLoose I instance.now edit links.now supports.old }
     requires empty { (back.old).pairs ≡ [] }
     requires room { length (supports.old).rows * (supports.old).period ≤ (back.old).room }
-    ensures loosened { (I : Network) → WereLoose I instance.now (edits.Unfix event) links.now supports.old → IsLoosened I instance.now (edits.Unfix event) links.now supports.new (back.new).pairs }
+    ensures loosened { (edit : SomeEdit) (window : Option Interval) (I : Network) → IsOfWindow edit event window → WereLoose I instance.now edit links.now supports.old → IsLoosened I instance.now edit links.now supports.new (back.new).pairs }
     ensures shape { HaveSameShape supports.old supports.new }
     ensures room { (back.new).room ≡ (back.old).room }
     ensures worked { IsWorked links.now supports.old supports.new (back.new).pairs }
 {
     let _period = instance.period();
     if let Some(place) = links.event(event) {
-        reopen(instance, links, supports, back, &[place]);
+        reopen_window(instance, links, supports, back, event, place);
     }
 }
 
@@ -231,8 +213,9 @@ pub fn loosen(
     ensures places { (links.new).events ≡ (links.old).events }
 {
     match *edit {
-        Edit::Fix(event, time) => refix(instance, links, supports, back, event, time),
-        Edit::Unfix(event) => unfix(instance, links, supports, back, event),
+        Edit::Fix(event, _) => rewindow(instance, links, supports, back, event),
+        Edit::SetWindow(event, _, _) => rewindow(instance, links, supports, back, event),
+        Edit::Unfix(event) => rewindow(instance, links, supports, back, event),
         Edit::DropActivity(id) => release(instance, links, supports, back, id),
         Edit::SetSpan(id, span) => loosen_span(instance, links, supports, back, id, span),
         Edit::SetEnds(id, from, to) => {

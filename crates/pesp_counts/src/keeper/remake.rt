@@ -4,7 +4,7 @@ ghost use Rattle.std.specs.Prelude.{[]};
 ghost use Rattle.pesp_counts.specs.Keeping.{AreFor, AreSettled};
 ghost use Rattle.pesp_supports.specs.Supports.{HaveSameShape};
 
-use super::limits::limit_fixed;
+use super::limits::limit_windows;
 use pesp_instance::Instance;
 use pesp_links::Links;
 use pesp_supports::Supports;
@@ -16,6 +16,6 @@ pub fn remake(instance: &Instance, links: &Links, supports: &mut Supports)
     ensures shape { HaveSameShape supports.old supports.new }
 {
     supports.refill(links);
-    limit_fixed(instance, links, supports);
+    limit_windows(instance, links, supports);
     supports.settle(links, 0);
 }

@@ -5,7 +5,7 @@ ghost use Rattle.pesp_domains.specs.Loosening.{admits_more};
 ghost use Rattle.pesp_counts.specs.Reached.{starts};
 
 use pesp_base::{Period, Span};
-use pesp_domains::admits_anew;
+use pesp_domains::{is_limited, window_admits_anew};
 use pesp_instance::{Edit, Instance};
 use pesp_links::End;
 
@@ -22,8 +22,11 @@ pub fn restores(instance: &Instance, edit: &Edit) -> bool
     ensures { result ≡ nat_lt 0 (length (starts instance.now edit.now)) }
 {
     match *edit {
-        Edit::Fix(event, time) => admits_anew(instance, event, Some(time)),
-        Edit::Unfix(event) => admits_anew(instance, event, None),
+        Edit::Fix(event, time) => window_admits_anew(instance, event, time, 1),
+        Edit::SetWindow(event, first, length) => {
+            window_admits_anew(instance, event, first, length)
+        }
+        Edit::Unfix(event) => is_limited(instance, event),
         Edit::SetSpan(id, span) => match instance.activity(id) {
             Some(activity) => admits_more(instance.period(), activity.span, span),
             None => false,

@@ -1,12 +1,12 @@
 -- A capped number fits, with either sign.
 use Rattle.std.proofs.Common.{◌≡◌, ℕ, ◌≤◌, min, Option, Some, None, option_map, sym, ◌∙◌, arith}
 use Rattle.std.proofs.lemmas.Int.{ints}
-use Rattle.pesp_base.specs.declared.number.TheConstants.{NUMBER_CAP}
+use Rattle.pesp_base.specs.Numbers.{number_cap}
 use Rattle.pesp_base.proofs.number.capped_number.Goals as goal
 
-at_most_cap : (o : Option ℕ) (n : ℕ) → Some n ≡ option_map (min NUMBER_CAP) o → n ≤ 10000000000000
+at_most_cap : (o : Option ℕ) (n : ℕ) → Some n ≡ option_map (min number_cap) o → n ≤ 10000000000000
 at_most_cap None n is = absurd (cc)
-at_most_cap (Some m) n is = let same : n ≡ min NUMBER_CAP m = cc in omega (arith, same)
+at_most_cap (Some m) n is = let same : n ≡ min number_cap m = cc in omega (arith, same)
 
 -- Found by search, and named so that it is found at once.
 pub overflow_cast-result : goal.overflow_cast-result

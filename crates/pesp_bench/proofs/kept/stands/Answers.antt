@@ -2,7 +2,7 @@
 use Rattle.std.proofs.Common.{◌==◌, true, false, refl, sym, subst}
 use Rattle.pesp_tension.specs.Answers.{IsTimed}
 use Rattle.pesp_bench.specs.Kept.{TellsStay}
-use Rattle.pesp_bench.proofs.Stands.{added_tells, fixed_told, fixed_without, member_timed_at, spanned_tells, unfixed_tells, weighted_tells}
+use Rattle.pesp_bench.proofs.Stands.{added_tells, fixed_told, member_timed_at, spanned_tells, unfixed_tells, weighted_tells, window_told}
 use Rattle.pesp_bench.proofs.kept.stands.Goals as goal
 
 pub cost_of_activity-requires : goal.cost_of_activity-requires
@@ -33,11 +33,15 @@ returns-in-Some-activity c =
     subst (λ e. TellsStay c.args.instance.now e c.args.times.now c.is_met.result) (sym c.in-SetSpan.is)
     (spanned_tells c.args.instance.now c.in-SetSpan.id c.in-SetSpan.span c.args.times.now c.in-Some-activity.activity.now (sym c.in-Some-activity.ensures.value) c.is_met.result c.is_met.ensures)
 
-pub returns-in-Some-get : goal.returns-in-Some-get
-returns-in-Some-get c = subst (λ e. TellsStay c.args.instance.now e c.args.times.now (c.in-Some-get.known == c.in-Fix.time)) (sym c.in-Fix.is) (fixed_told c.args.instance.now c.in-Fix.event c.in-Fix.time c.args.times.now c.in-Some-get.known c.in-Some-get.ensures.time)
+pub returns-in-Fix : goal.returns-in-Fix
+returns-in-Fix c =
+    subst (λ e. TellsStay c.args.instance.now e c.args.times.now c.is_timed_within.result) (sym c.in-Fix.is)
+    (fixed_told c.args.instance.now c.in-Fix.event c.in-Fix.time c.args.times.now c.is_timed_within.result c.is_timed_within.ensures)
 
-pub returns-in-None-get : goal.returns-in-None-get
-returns-in-None-get c = subst (λ e. TellsStay c.args.instance.now e c.args.times.now false) (sym c.in-Fix.is) (fixed_without c.args.instance.now c.in-Fix.event c.in-Fix.time c.args.times.now c.in-None-get.ensures.time)
+pub returns-in-SetWindow : goal.returns-in-SetWindow
+returns-in-SetWindow c =
+    subst (λ e. TellsStay c.args.instance.now e c.args.times.now c.is_timed_within-in-SetWindow.result) (sym c.in-SetWindow.is)
+    (window_told c.args.instance.now c.in-SetWindow.event c.in-SetWindow.first c.in-SetWindow.length c.args.times.now c.is_timed_within-in-SetWindow.result c.is_timed_within-in-SetWindow.ensures)
 
 pub returns-in-Unfix : goal.returns-in-Unfix
 returns-in-Unfix c = subst (λ e. TellsStay c.args.instance.now e c.args.times.now true) (sym c.in-Unfix.is) (unfixed_tells c.args.instance.now c.in-Unfix.field-0 c.args.times.now)

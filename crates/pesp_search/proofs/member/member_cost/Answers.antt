@@ -18,7 +18,7 @@ returns-then-agrees_with_all-clause-member c =
         events = events;
         below = subst (λ T. All (λ t. t < T) (values_of c.args.timetable.now.entries)) same c.times_the_events.ensures.within.times;
         met = c.meets_all.ensures.0 c.if-meets_all.true;
-        fixed = c.agrees_with_all.ensures.0 c.if-agrees_with_all.true;
+        window = c.agrees_with_all.ensures.0 c.if-agrees_with_all.true;
       },
       costs_so c.args.instance.now c.args.timetable.now c.cost.result c.in-Ok.cost events c.cost.ensures c.in-Ok.is,
     )

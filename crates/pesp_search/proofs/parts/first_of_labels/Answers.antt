@@ -1,7 +1,7 @@
 -- Each place takes the marks away that its label rules out.
 use Rattle.std.proofs.Common.{◌≡◌, ◌∙◌, ◌++◌, IsTrue, false, length, take, drop, replicate, get_or, None, sym, ap, subst, arith, rules}
 use Rattle.std.proofs.lemmas.List.{get_or_read, length-replicate}
-use Rattle.pesp_instance.specs.Network.{event_ids, fixed_of}
+use Rattle.pesp_instance.specs.Network.{event_ids, window_of}
 use Rattle.pesp_search.specs.Parts.{IsFirst}
 use Rattle.pesp_search.proofs.Labels.{first_more, first_none, marked_all, none_there, written_back}
 use Rattle.pesp_search.proofs.parts.first_of_labels.Goals as goal
@@ -37,7 +37,7 @@ loop-place-preserved c =
                 (λ same.
                 let w = left.2 same in
                 let low = w.0 in
-                let none : fixed_of I (get_or (event_ids I) place 0) ≡ None = ap (fixed_of I) (sym item) ∙ sym c.fixed.ensures.value ∙ none_there c.fixed.result (sym c.is_some-is_fixed.ensures ∙ w.1) in
+                let none : window_of I (get_or (event_ids I) place 0) ≡ None = ap (window_of I) (sym item) ∙ sym c.window.ensures.value ∙ none_there c.window.result (sym c.is_some-has_window.ensures ∙ w.1) in
                 (omega (arith, low, same), none)),
           );
     }

@@ -2,20 +2,18 @@
 use Rattle.std.proofs.Common.{refl, sym, ap, ◌∙◌}
 use Rattle.std.proofs.lemmas.Result.{IfOk-from_err}
 use Rattle.pesp_instance.specs.Network.{event_ids}
+use Rattle.pesp_search.specs.Found.{under_bound}
 use Rattle.pesp_search.proofs.Beforehand.{bound_of_before, outcome_told}
 use Rattle.pesp_search.proofs.search.search.Goals as goal
-
-pub walk-requires-clause-bound : goal.walk-requires-clause-bound
-walk-requires-clause-bound g c =
-    rw c.lowest-lowest.ensures (bound_of_before (g.K.Keeper.network c.args.keeper.now) c.args.bound c.in_ok-before.before c.requires.bound c.in_ok-before.ensures.found)
 
 pub returns-clause-outcome : goal.returns-clause-outcome
 returns-clause-outcome g c =
     let I = g.K.Keeper.network c.args.keeper.now in
-    let outcome = c.in_ok-outcome.outcome in
+    let outcome = c.walk-outcome.result in
+    let least = bound_of_before I c.args.bound c.in_ok-before.before c.requires.bound c.in_ok-before.ensures.found in
+    let walked = c.walk-outcome.ensures.outcome _ (c.in_ok-incumbent.ensures.start.1 ∙ ap under_bound c.lowest-lowest.ensures) least in
     rw (c.told.ensures.best, c.told.ensures.stopped, c.told.ensures.nodes)
-    (outcome_told I c.args.bound c.args.limit c.in_ok-before.before outcome.best outcome.is_stopped outcome.nodes c.in_ok-before.ensures.found c.in_ok-before.ensures.none
-    (rw c.lowest-lowest.ensures at c.in_ok-outcome.ensures.outcome))
+    (outcome_told I c.args.bound c.args.limit c.in_ok-before.before outcome.best outcome.is_stopped outcome.nodes c.in_ok-before.ensures.found c.in_ok-before.ensures.none walked)
 
 -- ---- found by search, and named so that they are found at once
 
@@ -79,41 +77,56 @@ returns-in_err-before-clause-network g c = refl
 pub returns-in_err-before-clause-pushes : goal.returns-in_err-before-clause-pushes
 returns-in_err-before-clause-pushes g c = c.requires.pushes
 
-pub returns-in_err-outcome-clause-outcome : goal.returns-in_err-outcome-clause-outcome
-returns-in_err-outcome-clause-outcome g c = IfOk-from_err c.from_residual-in_err-outcome.result _ c.from_residual-in_err-outcome.ensures.0
+pub returns-in_err-branch-clause-outcome : goal.returns-in_err-branch-clause-outcome
+returns-in_err-branch-clause-outcome g c = IfOk-from_err c.from_residual-in_err-branch.result _ c.from_residual-in_err-branch.ensures.0
 
-pub returns-in_err-outcome-clause-nodes : goal.returns-in_err-outcome-clause-nodes
-returns-in_err-outcome-clause-nodes g c = IfOk-from_err c.from_residual-in_err-outcome.result _ c.from_residual-in_err-outcome.ensures.0
+pub returns-in_err-branch-clause-nodes : goal.returns-in_err-branch-clause-nodes
+returns-in_err-branch-clause-nodes g c = IfOk-from_err c.from_residual-in_err-branch.result _ c.from_residual-in_err-branch.ensures.0
 
-pub returns-in_err-outcome-clause-is_network : goal.returns-in_err-outcome-clause-is_network
-returns-in_err-outcome-clause-is_network g c = rw c.instance.ensures at c.events_of.ensures.network
+pub returns-in_err-branch-clause-is_network : goal.returns-in_err-branch-clause-is_network
+returns-in_err-branch-clause-is_network g c = rw c.instance.ensures at c.events_of.ensures.network
 
-pub returns-in_err-outcome-clause-network : goal.returns-in_err-outcome-clause-network
-returns-in_err-outcome-clause-network g c = c.walk.ensures.network
+pub returns-in_err-branch-clause-network : goal.returns-in_err-branch-clause-network
+returns-in_err-branch-clause-network g c = refl
 
-pub returns-in_err-outcome-clause-pushes : goal.returns-in_err-outcome-clause-pushes
-returns-in_err-outcome-clause-pushes g c = c.walk.ensures.pushes
+pub returns-in_err-branch-clause-pushes : goal.returns-in_err-branch-clause-pushes
+returns-in_err-branch-clause-pushes g c = c.requires.pushes
+
+pub returns-in_err-incumbent-clause-outcome : goal.returns-in_err-incumbent-clause-outcome
+returns-in_err-incumbent-clause-outcome g c = IfOk-from_err c.from_residual-in_err-incumbent.result _ c.from_residual-in_err-incumbent.ensures.0
+
+pub returns-in_err-incumbent-clause-nodes : goal.returns-in_err-incumbent-clause-nodes
+returns-in_err-incumbent-clause-nodes g c = IfOk-from_err c.from_residual-in_err-incumbent.result _ c.from_residual-in_err-incumbent.ensures.0
+
+pub returns-in_err-incumbent-clause-is_network : goal.returns-in_err-incumbent-clause-is_network
+returns-in_err-incumbent-clause-is_network g c = rw c.instance.ensures at c.events_of.ensures.network
+
+pub returns-in_err-incumbent-clause-network : goal.returns-in_err-incumbent-clause-network
+returns-in_err-incumbent-clause-network g c = refl
+
+pub returns-in_err-incumbent-clause-pushes : goal.returns-in_err-incumbent-clause-pushes
+returns-in_err-incumbent-clause-pushes g c = c.requires.pushes
 
 pub returns-clause-nodes : goal.returns-clause-nodes
-returns-clause-nodes g c = rw c.told.ensures.nodes c.in_ok-outcome.ensures.nodes
+returns-clause-nodes g c = rw c.told.ensures.nodes c.walk-outcome.ensures.nodes
 
 pub returns-clause-is_network : goal.returns-clause-is_network
 returns-clause-is_network g c = rw c.instance.ensures at c.events_of.ensures.network
 
 pub returns-clause-network : goal.returns-clause-network
-returns-clause-network g c = c.walk.ensures.network
+returns-clause-network g c = c.walk-outcome.ensures.network
 
 pub returns-clause-pushes : goal.returns-clause-pushes
-returns-clause-pushes g c = c.walk.ensures.pushes
+returns-clause-pushes g c = c.walk-outcome.ensures.pushes
 
-pub walk-requires-clause-network : goal.walk-requires-clause-network
-walk-requires-clause-network g c = rw c.instance.ensures at c.events_of.ensures.network
+pub walk-outcome-requires-clause-network : goal.walk-outcome-requires-clause-network
+walk-outcome-requires-clause-network g c = rw c.instance.ensures at c.events_of.ensures.network
 
-pub walk-requires-clause-pushes : goal.walk-requires-clause-pushes
-walk-requires-clause-pushes g c = c.requires.pushes
+pub walk-outcome-requires-clause-pushes : goal.walk-outcome-requires-clause-pushes
+walk-outcome-requires-clause-pushes g c = c.requires.pushes
 
-pub walk-requires-clause-guide : goal.walk-requires-clause-guide
-walk-requires-clause-guide g c = c.in_ok-before.ensures.guide
+pub walk-outcome-requires-clause-guide : goal.walk-outcome-requires-clause-guide
+walk-outcome-requires-clause-guide g c = c.in_ok-before.ensures.guide
 
 pub dived-requires-clause-network : goal.dived-requires-clause-network
 dived-requires-clause-network g c = rw c.instance.ensures at c.events_of.ensures.network
@@ -134,8 +147,8 @@ dived-requires-clause-events g c = c.deref-3.ensures.value ∙ c.in_ok-events.en
 pub dived-requires-clause-guide : goal.dived-requires-clause-guide
 dived-requires-clause-guide g c = rw c.instance-3.ensures at c.in_ok-guide.ensures.of
 
-pub walk-requires-clause-events : goal.walk-requires-clause-events
-walk-requires-clause-events g c = c.deref-5.ensures.value ∙ c.in_ok-events.ensures.events ∙ ap event_ids c.instance.ensures
+pub walk-outcome-requires-clause-events : goal.walk-outcome-requires-clause-events
+walk-outcome-requires-clause-events g c = c.deref-5.ensures.value ∙ c.in_ok-events.ensures.events ∙ ap event_ids c.instance.ensures
 
-pub walk-requires-clause-least : goal.walk-requires-clause-least
-walk-requires-clause-least g c = rw c.deref-6.ensures.value (rw c.instance-2.ensures at c.in_ok-least.ensures)
+pub walk-outcome-requires-clause-least : goal.walk-outcome-requires-clause-least
+walk-outcome-requires-clause-least g c = rw c.deref-6.ensures.value (rw c.instance-2.ensures at c.in_ok-least.ensures)

@@ -1,8 +1,9 @@
 -- The search goes from place to place, each with the branch pushed and what comes before it passed over.
-use Rattle.std.proofs.Common.{◌≡◌, ◌+◌, ◌<◌, length, get_or, is_some, refl, sym, ap, ◌∙◌, arith}
+use Rattle.std.proofs.Common.{◌≡◌, true, ◌+◌, ◌<◌, length, get_or, is_some, refl, sym, ap, ◌∙◌, arith}
+use Rattle.std.proofs.lemmas.Bool.{false≢true}
 use Rattle.std.proofs.lemmas.List.{get_or_read, length_push, nil_from_length}
 use Rattle.pesp_instance.specs.Network.{event_ids}
-use Rattle.pesp_search.specs.Found.{AtLeast, under_bound}
+use Rattle.pesp_search.specs.Found.{AtLeast}
 use Rattle.pesp_search.proofs.Ends.{end_outcome, more_within, none_within, stop_outcome}
 use Rattle.pesp_search.proofs.Fronts.{front_none}
 use Rattle.pesp_search.proofs.Rest.{rest_back, rest_down}
@@ -15,18 +16,25 @@ use Rattle.pesp_search.proofs.walk.walk.Goals as goal
 pub places-init : goal.places-init
 places-init g c =
     let I = g.K.Keeper.network c.args.keeper.now in
-    let none = c.in_ok-branch.ensures.times in
+    let none = c.requires.start in
+    let unfound : c.args.incumbent.is_found ≡ true → ⊥ = λ found. false≢true (sym c.requires.none ∙ found) in
     record {
       network = refl;
-      branch = rw c.instance.ensures at c.in_ok-branch.ensures.branch;
-      times = c.in_ok-incumbent.ensures.times ∙ ap length c.requires.events;
-      at = rw none (at_start (AtLeast I c.in_ok-incumbent.incumbent.limit) I (g.K.Keeper.pushes c.args.keeper.now) c.requires.pushes);
+      branch = c.requires.branch;
+      times = c.requires.times ∙ ap length c.requires.events;
+      at = rw none (at_start (AtLeast I c.args.incumbent.limit) I (g.K.Keeper.pushes c.args.keeper.now) c.requires.pushes);
       guide = rw none (sees_start I c.args.guide.ahead c.requires.guide);
       seen = λ later. absurd (omega (arith, later));
-      best = c.in_ok-incumbent.ensures.best I;
+      best = record {
+        none = λ _. refl;
+        limited = λ found. absurd (unfound found);
+        full = λ found. absurd (unfound found);
+        below = λ found. absurd (unfound found);
+        first = λ found. absurd (unfound found);
+      };
       counted = rw none (counted_start I);
       within = none_within c.args.limit;
-      start = λ _. (none, refl, c.in_ok-incumbent.ensures.start.1, c.in_ok-incumbent.ensures.start.0);
+      start = λ _. (none, refl, refl, c.requires.none);
     }
 
 pub visit-requires-clause-network : goal.visit-requires-clause-network
@@ -62,35 +70,35 @@ unwind-requires g c =
     omega (arith, long)
 
 pub best_of-best-requires-clause-network : goal.best_of-best-requires-clause-network
-best_of-best-requires-clause-network g c = rw (c.instance-then-is_spent.ensures, c.unwind.ensures.network, c.places.invariant.network) c.requires.network
+best_of-best-requires-clause-network g c = rw (c.instance.ensures, c.unwind.ensures.network, c.places.invariant.network) c.requires.network
 
 pub best_of-best-requires-clause-events : goal.best_of-best-requires-clause-events
-best_of-best-requires-clause-events g c = c.requires.events ∙ ap event_ids (sym (c.instance-then-is_spent.ensures ∙ c.unwind.ensures.network ∙ c.places.invariant.network))
+best_of-best-requires-clause-events g c = c.requires.events ∙ ap event_ids (sym (c.instance.ensures ∙ c.unwind.ensures.network ∙ c.places.invariant.network))
 
 pub best_of-best-requires-clause-front : goal.best_of-best-requires-clause-front
 best_of-best-requires-clause-front g c =
-    rw (c.instance-then-is_spent.ensures, c.unwind.ensures.network, c.places.invariant.network) (front_none (g.K.Keeper.network c.args.keeper.now) c.visit.new.branch.times.items c.visit.new.branch.timetable (rw c.places.invariant.network at c.visit.ensures.branch).front)
+    rw (c.instance.ensures, c.unwind.ensures.network, c.places.invariant.network) (front_none (g.K.Keeper.network c.args.keeper.now) c.visit.new.branch.times.items c.visit.new.branch.timetable (rw c.places.invariant.network at c.visit.ensures.branch).front)
 
 pub best_of-best-requires-clause-below : goal.best_of-best-requires-clause-below
 best_of-best-requires-clause-below g c found =
-    let best = (rw c.places.invariant.network at c.visit.ensures.best) (under_bound c.args.bound) c.places.invariant.best in
-    rw (c.instance-then-is_spent.ensures, c.unwind.ensures.network, c.places.invariant.network) ((best.full found).below)
+    let best = (rw c.places.invariant.network at c.visit.ensures.best) c.args.incumbent.limit c.places.invariant.best in
+    rw (c.instance.ensures, c.unwind.ensures.network, c.places.invariant.network) ((best.full found).below)
 
 pub best_of-best-requires-clause-costs : goal.best_of-best-requires-clause-costs
 best_of-best-requires-clause-costs g c found =
-    let best = (rw c.places.invariant.network at c.visit.ensures.best) (under_bound c.args.bound) c.places.invariant.best in
+    let best = (rw c.places.invariant.network at c.visit.ensures.best) c.args.incumbent.limit c.places.invariant.best in
     ap is_some (best.limited found)
 
 pub returns-then-is_spent-clause-outcome : goal.returns-then-is_spent-clause-outcome
-returns-then-is_spent-clause-outcome g c =
+returns-then-is_spent-clause-outcome g c bound under is_bound =
     let I = g.K.Keeper.network c.args.keeper.now in
     let at = rw c.places.invariant.network at c.visit.ensures.at in
     let next = rw c.places.invariant.network at c.in-Some.ensures.next in
-    let best = (rw c.places.invariant.network at c.visit.ensures.best) (under_bound c.args.bound) c.places.invariant.best in
-    let told = rw (c.instance-then-is_spent.ensures, c.unwind.ensures.network, c.places.invariant.network) at c.best_of-best.ensures in
+    let best = (rw c.places.invariant.network at c.visit.ensures.best) c.args.incumbent.limit c.places.invariant.best in
+    let told = rw (c.instance.ensures, c.unwind.ensures.network, c.places.invariant.network) at c.best_of-best.ensures in
     let is = c.is_spent.ensures.yes c.if-is_spent.true in
-    stop_outcome I c.args.bound c.args.limit c.visit.new.incumbent.limit c.visit.new.incumbent.is_found c.visit.new.incumbent.times.items c.best_of-best.result _ c.visit.new.branch.times.items c.places.from c.in-Some.residue c.places.nodes c.requires.network is
-    at next best (rw (← c.visit.ensures.path) at c.places.invariant.counted) (λ zero. c.in-Some.ensures.same.1 ∙ (c.places.invariant.start zero).3) told
+    stop_outcome I bound c.args.limit c.visit.new.incumbent.limit c.visit.new.incumbent.is_found c.visit.new.incumbent.times.items c.best_of-best.result _ c.visit.new.branch.times.items c.places.from c.in-Some.residue c.places.nodes c.requires.network is
+    at next (rw under at best) (rw (← c.visit.ensures.path) at c.places.invariant.counted) (λ zero. c.in-Some.ensures.same.1 ∙ (c.places.invariant.start zero).3) told
 
 pub returns-then-is_spent-clause-nodes : goal.returns-then-is_spent-clause-nodes
 returns-then-is_spent-clause-nodes g c = counted_nodes (g.K.Keeper.network c.args.keeper.now) c.places.branch.times.items c.places.from c.places.nodes c.places.invariant.counted
@@ -169,7 +177,7 @@ places-preserved-in-Some g c =
       at = rw (c.descend-nodes.ensures.pushes, c.push.ensures.times, item) (at_take (AtLeast I c.visit.new.incumbent.limit) I _ times c.places.from c.in-Some.residue at next);
       guide = rw c.push.ensures.times (sees_push I c.visit.new.guide.ahead times c.in-Some.residue (rw c.places.invariant.network at c.visit.ensures.guide) (rw c.places.invariant.network at c.in-Some.ensures.seen));
       seen = λ later. absurd (omega (arith, later));
-      best = (rw c.places.invariant.network at c.visit.ensures.best) (under_bound c.args.bound) c.places.invariant.best;
+      best = (rw c.places.invariant.network at c.visit.ensures.best) c.args.incumbent.limit c.places.invariant.best;
       counted =
           rw c.push.ensures.times
           (counted_take (AtLeast I c.visit.new.incumbent.limit) I times c.places.from c.in-Some.residue c.places.nodes c.descend-nodes.result next c.descend-nodes.ensures.more.0 (rw (← c.visit.ensures.path) at c.places.invariant.counted));
@@ -222,7 +230,7 @@ places-preserved g c =
       at = at_back (AtLeast I c.visit.new.incumbent.limit) I _ _ c.pop_fix.ensures.pushes.0 times c.in-Some-pop.residue c.places.from c.pop_fix.ensures.pushes.1 at spent;
       guide = sees_pop I c.visit.new.guide.ahead times c.in-Some-pop.residue along;
       seen = λ _. sees_back I c.visit.new.guide.ahead times c.in-Some-pop.residue along;
-      best = (rw c.places.invariant.network at c.visit.ensures.best) (under_bound c.args.bound) c.places.invariant.best;
+      best = (rw c.places.invariant.network at c.visit.ensures.best) c.args.incumbent.limit c.places.invariant.best;
       counted = counted_back I times c.in-Some-pop.residue c.places.from c.places.nodes (rw (sym c.visit.ensures.path ∙ c.in-Some-pop.ensures.times) at c.places.invariant.counted);
       within = c.places.invariant.within;
       start = λ zero. absurd (omega (arith, ap length (sym c.in-Some-pop.ensures.times ∙ c.visit.ensures.path ∙ (c.places.invariant.start zero).0), length_push times c.in-Some-pop.residue));
@@ -238,24 +246,24 @@ best_of-best-requires-in-None-pop-clause-events g c = c.requires.events ∙ ap e
 
 pub best_of-best-requires-in-None-pop-clause-below : goal.best_of-best-requires-in-None-pop-clause-below
 best_of-best-requires-in-None-pop-clause-below g c found =
-    let best = (rw c.places.invariant.network at c.visit.ensures.best) (under_bound c.args.bound) c.places.invariant.best in
+    let best = (rw c.places.invariant.network at c.visit.ensures.best) c.args.incumbent.limit c.places.invariant.best in
     rw (c.instance-in-None-pop.ensures, c.places.invariant.network) ((best.full found).below)
 
 pub best_of-best-requires-in-None-pop-clause-costs : goal.best_of-best-requires-in-None-pop-clause-costs
 best_of-best-requires-in-None-pop-clause-costs g c found =
-    let best = (rw c.places.invariant.network at c.visit.ensures.best) (under_bound c.args.bound) c.places.invariant.best in
+    let best = (rw c.places.invariant.network at c.visit.ensures.best) c.args.incumbent.limit c.places.invariant.best in
     ap is_some (best.limited found)
 
 pub returns-in-None-pop-clause-outcome : goal.returns-in-None-pop-clause-outcome
-returns-in-None-pop-clause-outcome g c =
+returns-in-None-pop-clause-outcome g c bound under is_bound =
     let I = g.K.Keeper.network c.args.keeper.now in
     let at = rw c.places.invariant.network at c.visit.ensures.at in
     let spent = rw c.places.invariant.network at c.in-None.ensures.next in
     let over = rw c.places.invariant.network at c.in-None.ensures.over in
-    let best = (rw c.places.invariant.network at c.visit.ensures.best) (under_bound c.args.bound) c.places.invariant.best in
+    let best = (rw c.places.invariant.network at c.visit.ensures.best) c.args.incumbent.limit c.places.invariant.best in
     let told = rw (c.instance-in-None-pop.ensures, c.places.invariant.network) at c.best_of-best-in-None-pop.ensures in
-    end_outcome I c.args.bound c.args.limit c.places.incumbent.limit c.visit.new.incumbent.limit c.visit.new.incumbent.is_found c.visit.new.incumbent.times.items c.best_of-best-in-None-pop.result _ c.visit.new.branch.times.items c.places.from c.places.nodes c.requires.network c.requires.bound c.in-None-pop.ensures.times.0
-    at spent best over (λ zero. ((c.places.invariant.start zero).1, (c.places.invariant.start zero).2)) c.places.invariant.within told
+    end_outcome I bound c.args.limit c.places.incumbent.limit c.visit.new.incumbent.limit c.visit.new.incumbent.is_found c.visit.new.incumbent.times.items c.best_of-best-in-None-pop.result _ c.visit.new.branch.times.items c.places.from c.places.nodes c.requires.network is_bound c.in-None-pop.ensures.times.0
+    at spent (rw under at best) over (λ zero. ((c.places.invariant.start zero).1, (c.places.invariant.start zero).2 ∙ under)) c.places.invariant.within told
 
 pub returns-in-None-pop-clause-nodes : goal.returns-in-None-pop-clause-nodes
 returns-in-None-pop-clause-nodes g c = counted_nodes (g.K.Keeper.network c.args.keeper.now) c.places.branch.times.items c.places.from c.places.nodes c.places.invariant.counted

@@ -1,9 +1,14 @@
--- Where writing fails, some first bytes of the whole reply are written.
-use Rattle.std.proofs.Common.{◌≡◌, take, subst, rules}
+-- Where memory is wanted, the line has a reply; where writing fails, some first bytes of the whole reply are written.
+use Rattle.std.proofs.Common.{◌≡◌, take, refl, subst, rules}
+use Rattle.std.proofs.lemmas.Bool.{false≢true}
 use Rattle.std.specs.Io.KnownBytes.{Appends}
+use Rattle.std.proofs.KnownBytes.{Keeps-refl}
 use Rattle.pesp_replies.specs.Legal.{work_of}
 use Rattle.pesp_shell.proofs.AnsweringLemmas.{told}
 use Rattle.pesp_shell.proofs.answering.answer.Goals as goal
+
+pub returns-in_default : goal.returns-in_default
+returns-in_default g c = (c.requires, refl, c.args.line.now, refl, (λ none. absurd (false≢true (c.in_default.ensures.silent none))), Keeps-refl (g.W.ByteSink.written c.args.sink.now))
 
 pub returns : goal.returns
 returns g c =

@@ -1,7 +1,8 @@
--- An event beyond the limit is none of the instance, and so has no fixed time.
-use Rattle.std.proofs.Common.{◌≡◌, ◌<◌, nat_lt, true, arith, refl, sym, subst, rules}
+-- An event beyond the limit is none of the instance, and so has no window; a window as long as the period leaves each residue.
+use Rattle.std.proofs.Common.{◌≡◌, ◌<◌, nat_lt, true, arith, refl, sym, subst}
 use Rattle.pesp_base.specs.Limits.{greatest_number}
-use Rattle.pesp_supports.proofs.Brought.{fixed_below, unfixed_beyond}
+use Rattle.pesp_base.specs.Windows.{Interval}
+use Rattle.pesp_supports.proofs.Brought.{unwindowed_beyond, window_within}
 use Rattle.pesp_supports.proofs.bringing.admitted_at.Goals as goal
 
 pub returns-in_default-new-clause-admitted : goal.returns-in_default-new-clause-admitted
@@ -10,14 +11,13 @@ returns-in_default-new-clause-admitted c r rl =
     let n = c.in-Some.number in
     let beyond : greatest_number < n = omega (arith, c.in_default-new.ensures) in
     let below : nat_lt r I.period ≡ true = grind (arith, rl) in
-    rw (← c.in-Some.ensures) (rw (below, unfixed_beyond I n c.period-period.ensures.network beyond) refl)
+    rw (← c.in-Some.ensures) (rw (below, unwindowed_beyond I n c.period-period.ensures.network beyond) refl)
 
-pub returns-in-Some-fixed-clause-below : goal.returns-in-Some-fixed-clause-below
-returns-in-Some-fixed-clause-below c time is =
+pub returns-then-length-get-clause-within : goal.returns-then-length-get-clause-within
+returns-then-length-get-clause-within c window is =
     let I = c.args.instance.now in
-    let one : c.in-Some-fixed.time ≡ time = cc in
-    subst (λ t. t < I.period) one (fixed_below I c.in-Some-new.event c.in-Some-fixed.time c.period-period.ensures.network (sym c.in-Some-fixed.ensures.value))
-
--- by search, and named so that a wrong body is refused here at once
-pub returns-in-None-clause-admitted : goal.returns-in-None-clause-admitted
-returns-in-None-clause-admitted c = search rules
+    let v = c.in-Some-window.window in
+    let same : v ≡ window = cc in
+    let w = window_within I c.in-Some-new.event v c.period-period.ensures.network (sym c.in-Some-window.ensures.value) in
+    let short : v.length < I.period = omega (arith, c.if-length-get.true, c.length.ensures, c.get.ensures.value, c.period-period.ensures.value) in
+    subst (λ (u : Interval). (u.first < I.period) × (u.length < I.period)) same (w.first, short)

@@ -2,7 +2,7 @@
 use Rattle.std.proofs.Common.{◌≡◌, ◌+◌, ◌%◌, ◌≤◌, ap, ◌∙◌, arith}
 use Rattle.pesp_domains.specs.Domains.{holds}
 use Rattle.pesp_supports.proofs.Supporters.{one}
-use Rattle.pesp_supports.proofs.Windowed.{around_le, around_more, byte_is, mod_next, one_le}
+use Rattle.pesp_supports.proofs.Partners.{around_le, around_more, byte_is, mod_next, one_le}
 use Rattle.pesp_supports.proofs.counting.count_around.Goals as goal
 
 pub overflow_add-count : goal.overflow_add-count

@@ -5,13 +5,13 @@ use Rattle.std.proofs.lemmas.List.{get_or-set_other, get_or-set_same, length-set
 use Rattle.std.proofs.Math.Nat.{mod-lt}
 use Rattle.pesp_domains.specs.Domains.{holds}
 use Rattle.pesp_supports.proofs.Supporters.{one}
-use Rattle.pesp_supports.proofs.Windowed.{around_le, byte_is, count_on, left_counts, mod_next, one_le}
+use Rattle.pesp_supports.proofs.Partners.{around_le, byte_is, count_on, left_counts, mod_next, one_le}
 use Rattle.pesp_supports.proofs.counting.recount_block.Goals as goal
 
 pub set-requires-clause-low : goal.set-requires-clause-low
 set-requires-clause-low c =
     let few = around_le c.args.period (holds c.args.row.now) (c.loop-residue.residue-iterator.start + c.args.end.first) c.args.end.width in
-    omega (arith, few, c.loop-residue.invariant.count, c.requires.width, c.requires.period)
+    omega (arith, few, c.loop-residue.invariant.count, c.loop-residue.invariant.most, c.requires.width, c.requires.fits)
 
 pub overflow_add-count : goal.overflow_add-count
 overflow_add-count c =
@@ -57,8 +57,8 @@ loop-residue-preserved c =
     let steps = c.in-Some.ensures.steps in
     let at : ℕ = c.args.base + r in
     let below : r < T = omega (arith, steps.1.0, i.end) in
-    let set_is : c.set.new.self ≡ set c.loop-residue.counts at c.loop-residue.count = c.set.ensures ∙ ap (λ n. set c.loop-residue.counts (c.args.base + n) c.loop-residue.count) steps.1.1 in
-    let within : at < length c.loop-residue.counts = omega (arith, i.long, c.requires.within, below) in
+    let set_is : c.set.new.self.values ≡ set c.loop-residue.counts.values at c.loop-residue.count = c.set.ensures.count ∙ ap (λ n. set c.loop-residue.counts.values (c.args.base + n) c.loop-residue.count) steps.1.1 in
+    let within : at < length c.loop-residue.counts.values = omega (arith, i.long, c.requires.within, below) in
     rw steps.1.2
     (record {
       can_next = tt;
@@ -67,18 +67,19 @@ loop-residue-preserved c =
       count = rw (comes, goes) on;
       leaves = c.after-leaves.ensures ∙ ap (λ n. (n + 1) % T) i.leaves ∙ mod_next T (r + c.args.end.first) ∙ ap (λ n. n % T) (sym next);
       enters = c.after-enters.ensures ∙ ap (λ n. (n + 1) % T) i.enters ∙ mod_next T (r + c.args.end.first + c.args.end.width) ∙ ap (λ n. n % T) after_next;
-      long = ap length set_is ∙ length-set c.loop-residue.counts at c.loop-residue.count ∙ i.long;
+      most = c.set.ensures.most ∙ i.most;
+      long = ap length set_is ∙ length-set c.loop-residue.counts.values at c.loop-residue.count ∙ i.long;
       here = λ q l.
           elim (cases_eq q r) [
             | inl same ↦
-                let value : slice_index_or c.set.new.self at 0 ≡ c.loop-residue.count = ap (λ xs. slice_index_or xs at 0) set_is ∙ get_or-set_same c.loop-residue.counts at c.loop-residue.count 0 within in
+                let value : slice_index_or c.set.new.self.values at 0 ≡ c.loop-residue.count = ap (λ xs. slice_index_or xs at 0) set_is ∙ get_or-set_same c.loop-residue.counts.values at c.loop-residue.count 0 within in
                 rw same (value ∙ i.count)
             | inr apart ↦
                 let other : c.args.base + q ≢ at = λ e. apart (omega (arith, e)) in
-                ap (λ xs. slice_index_or xs (c.args.base + q) 0) set_is ∙ get_or-set_other c.loop-residue.counts at (c.args.base + q) c.loop-residue.count 0 other ∙ i.here q (omega (arith, l, apart))
+                ap (λ xs. slice_index_or xs (c.args.base + q) 0) set_is ∙ get_or-set_other c.loop-residue.counts.values at (c.args.base + q) c.loop-residue.count 0 other ∙ i.here q (omega (arith, l, apart))
           ];
       elsewhere = λ j out.
           let other : j ≢ at = apart_from c.args.base T r j below out in
-          ap (λ xs. slice_index_or xs j 0) set_is ∙ get_or-set_other c.loop-residue.counts at j c.loop-residue.count 0 other ∙ i.elsewhere j out;
+          ap (λ xs. slice_index_or xs j 0) set_is ∙ get_or-set_other c.loop-residue.counts.values at j c.loop-residue.count 0 other ∙ i.elsewhere j out;
       probes = i.probes;
     })

@@ -13,8 +13,9 @@ invariant-loop-residue l =
       count : l.count ≡ around l.period (holds l.row) (l.residue-iterator.start + l.fn.end.first) l.fn.end.width;
       leaves : l.leaves ≡ (l.residue-iterator.start + l.fn.end.first) % l.period;
       enters : l.enters ≡ (l.residue-iterator.start + l.fn.end.first + l.fn.end.width) % l.period;
-      long : length l.counts ≡ length l.fn.counts;
-      here : (r : ℕ) → r < l.residue-iterator.start → slice_index_or l.counts (l.base + r) 0 ≡ around l.period (holds l.row) (r + l.fn.end.first) l.fn.end.width;
-      elsewhere : (i : ℕ) → (i < l.base) ⊎ (l.base + l.period ≤ i) → slice_index_or l.counts i 0 ≡ slice_index_or l.fn.counts i 0;
+      most : l.counts.most ≡ l.fn.counts.most;
+      long : length l.counts.values ≡ length l.fn.counts.values;
+      here : (r : ℕ) → r < l.residue-iterator.start → slice_index_or l.counts.values (l.base + r) 0 ≡ around l.period (holds l.row) (r + l.fn.end.first) l.fn.end.width;
+      elsewhere : (i : ℕ) → (i < l.base) ⊎ (l.base + l.period ≤ i) → slice_index_or l.counts.values i 0 ≡ slice_index_or l.fn.counts.values i 0;
       probes : l.probes ≤ l.fn.probes + 3 * l.period;
     }

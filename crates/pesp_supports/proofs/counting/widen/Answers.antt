@@ -3,7 +3,7 @@ use Rattle.std.proofs.Common.{inl, inr, subst, sym, ap, ◌∙◌, arith}
 use Rattle.std.specs.List.{Contains}
 use Rattle.pesp_domains.proofs.Families.{here, here_or_there, not_in_none, there}
 use Rattle.pesp_links.specs.declared.end.End.{End}
-use Rattle.pesp_supports.proofs.Windowed.{wide_here, wide_still}
+use Rattle.pesp_supports.proofs.Partners.{wide_here, wide_still}
 use Rattle.pesp_supports.proofs.counting.widen.Goals as goal
 
 pub end-requires : goal.end-requires
@@ -15,7 +15,7 @@ pub fill_block-requires-clause-low : goal.fill_block-requires-clause-low
 fill_block-requires-clause-low c =
     let listed = c.loop-number.invariant.listed c.in-Some.number (subst (λ xs. Contains xs c.in-Some.number) (sym c.in-Some.ensures.steps) (here c.in-Some.number c.next.new.self)) in
     let is = ap (λ (e : End). e.width) c.end.ensures in
-    omega (arith, is, (c.requires.linked.each c.args.place c.in-Some.number listed).width, c.requires.period)
+    omega (arith, is, (c.requires.linked.each c.args.place c.in-Some.number listed).width, c.loop-number.invariant.most, c.requires.fits)
 
 pub loop-number-preserved : goal.loop-number-preserved
 loop-number-preserved c =
@@ -24,8 +24,8 @@ loop-number-preserved c =
     let ends = c.args.links.now.ends in
     let m = c.in-Some.number in
     let rest = c.next.new.self in
-    let counts = c.loop-number.counts in
-    let changed = c.fill_block.new.counts in
+    let counts = c.loop-number.counts.values in
+    let changed = c.fill_block.new.counts.values in
     let width = c.end.result.width in
     let base = c.base-base.result in
     let is = ap (λ (e : End). e.width) c.end.ensures in
@@ -33,6 +33,7 @@ loop-number-preserved c =
       can = tt;
       finite = tt;
       listed = λ k l. i.listed k (subst (λ xs. Contains xs k) (sym c.in-Some.ensures.steps) (there k m rest l));
+      most = c.fill_block.ensures.most ∙ i.most;
       long = c.fill_block.ensures.long ∙ i.long;
       wide = λ k l.
           elim (i.wide k l) [

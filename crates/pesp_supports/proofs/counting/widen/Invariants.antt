@@ -11,7 +11,8 @@ invariant-loop-number l =
       can : (goal.iterator-loop-number).can_next l.number-iterator;
       finite : (goal.iterator-loop-number).is_finite l.number-iterator;
       listed : (k : ℕ) → Contains l.number-iterator k → Contains (ends_of l.fn.links.lists l.fn.place) k;
-      long : length l.counts ≡ length l.fn.counts;
-      wide : (k : ℕ) → Contains (ends_of l.fn.links.lists l.fn.place) k → Contains l.number-iterator k ⊎ IsWide l.fn.period l.fn.links.ends l.counts k;
-      kept : (k : ℕ) → IsWide l.fn.period l.fn.links.ends l.fn.counts k → IsWide l.fn.period l.fn.links.ends l.counts k;
+      most : l.counts.most ≡ l.fn.counts.most;
+      long : length l.counts.values ≡ length l.fn.counts.values;
+      wide : (k : ℕ) → Contains (ends_of l.fn.links.lists l.fn.place) k → Contains l.number-iterator k ⊎ IsWide l.fn.period l.fn.links.ends l.counts.values k;
+      kept : (k : ℕ) → IsWide l.fn.period l.fn.links.ends l.fn.counts.values k → IsWide l.fn.period l.fn.links.ends l.counts.values k;
     }

@@ -12,6 +12,7 @@ pub loop-place-preserved : goal.loop-place-preserved
 loop-place-preserved c =
     let i = c.loop-place.invariant in
     record {
+      most = c.widen.ensures.most ∙ i.most;
       long = c.widen.ensures.long ∙ i.long;
       wide = λ p k below l.
           elim (cases_eq p c.loop-place.place) [

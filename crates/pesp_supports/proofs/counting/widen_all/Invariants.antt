@@ -8,6 +8,7 @@ use Rattle.pesp_supports.proofs.counting.widen_all.Given as goal
 abbrev pub invariant-loop-place : goal.invariant-loop-place
 invariant-loop-place l =
     record {
-      long : length l.counts ≡ length l.fn.counts;
-      wide : (p k : ℕ) → p < l.place → Contains (ends_of l.fn.links.lists p) k → IsWide l.fn.period l.fn.links.ends l.counts k;
+      most : l.counts.most ≡ l.fn.counts.most;
+      long : length l.counts.values ≡ length l.fn.counts.values;
+      wide : (p k : ℕ) → p < l.place → Contains (ends_of l.fn.links.lists p) k → IsWide l.fn.period l.fn.links.ends l.counts.values k;
     }

@@ -17,8 +17,8 @@ loop-event-init c =
       timed = rw all (events_timed c.args.timetable.now (c.args.instance.now).events c.requires);
     }
 
-pub is_at_fixed-requires : goal.is_at_fixed-requires
-is_at_fixed-requires c =
+pub is_in_window-requires : goal.is_in_window-requires
+is_in_window-requires c =
     All-head (λ e. IsSome (time_of c.args.timetable.now e.id)) c.in-Some.event.now c.next.new.self (rw c.in-Some.ensures.steps at c.loop-event.invariant.timed)
 
 pub loop-event-preserved : goal.loop-event-preserved

@@ -1,4 +1,4 @@
--- Each event stands at its fixed time where those that are left do, and they have times.
+-- Each event stands in its window where those that are left do, and they have times.
 use Rattle.std.proofs.Common.{◌↔◌, All, IsSome, IsTrue}
 use Rattle.pesp_tension.specs.Answers.{agrees}
 use Rattle.pesp_tension.specs.Timetables.{time_of}

@@ -44,6 +44,6 @@ loop-event-preserved c =
       timed = tail_of (λ e. IsSome (time_of c.args.timetable.now e.id)) c.in-Some.event.now c.next.new.self (rw c.in-Some.ensures.steps at c.loop-event.invariant.timed);
     }
 
-pub is_at_fixed-requires : goal.is_at_fixed-requires
-is_at_fixed-requires c =
+pub is_in_window-requires : goal.is_in_window-requires
+is_in_window-requires c =
     head_of (λ e. IsSome (time_of c.args.timetable.now e.id)) c.in-Some.event.now c.next.new.self (rw c.in-Some.ensures.steps at c.loop-event.invariant.timed)

@@ -1,4 +1,4 @@
--- The text stands for the instance without its fixed times.
+-- The text stands for the instance without its windows.
 use Rattle.std.proofs.Common.{◌≡◌, rules}
 use Rattle.pesplib_writer.specs.Texts.{activities_text}
 use Rattle.pesplib_writer.proofs.FileLaws.{activities_stand}

@@ -1,5 +1,5 @@
 -- Limiting takes pairs out that wait, and settling counts them out.
-use Rattle.std.proofs.Common.{◌≡◌, sym, subst, ◌∙◌, ◌≤◌, ◌+◌, ◌*◌, drop, length}
+use Rattle.std.proofs.Common.{◌≡◌, sym, subst, ◌∙◌, ◌≤◌, ◌+◌, ◌*◌, ◌==◌, drop, length}
 use Rattle.pesp_supports.specs.Resting.{IsNarrowed}
 use Rattle.pesp_links.specs.Places.{place_of}
 use Rattle.pesp_counts.proofs.Bridge.{the_same}
@@ -17,8 +17,8 @@ settle-requires-clause-pending c = rw c.mark-mark.ensures (rest_pending c.args.l
 pub returns-in-Some-clause-narrowed : goal.returns-in-Some-clause-narrowed
 returns-in-Some-clause-narrowed c p at =
     let same : c.in-Some.place ≡ p = the_same (place_of c.args.links.now.events c.args.event) c.in-Some.place p (sym c.event.ensures ∙ c.in-Some.is) at in
-    subst (λ q. IsNarrowed c.args.links.now q c.args.residue c.args.supports.now c.settle.new.self) same
-    (narrowed c.args.links.now c.args.supports.now c.limit.new.self c.settle.new.self c.in-Some.place c.args.residue c.requires.rest c.limit.ensures.rows c.limit.ensures.taken c.limit.ensures.keeps c.settle.ensures.pending c.settle.ensures.keeps c.settle.ensures.taken c.settle.ensures.shape)
+    subst (λ q. IsNarrowed c.args.links.now q (λ r. r == c.args.residue) c.args.supports.now c.settle.new.self) same
+    (narrowed c.args.links.now c.args.supports.now c.limit.new.self c.settle.new.self c.in-Some.place (λ r. r == c.args.residue) c.requires.rest c.limit.ensures.rows c.limit.ensures.taken c.limit.ensures.keeps c.settle.ensures.pending c.settle.ensures.keeps c.settle.ensures.taken c.settle.ensures.shape)
 
 pub returns-in-Some-clause-probes : goal.returns-in-Some-clause-probes
 returns-in-Some-clause-probes c =

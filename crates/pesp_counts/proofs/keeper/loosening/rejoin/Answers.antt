@@ -42,7 +42,7 @@ returns-clause-worked c =
     let spent = subst (λ xs. n.probes ≤ m.probes + 8 * m.period + ends_at links xs + m.period * ends_at links n.trail) c.pairs.ensures c.narrow_ends.ensures.probes in
     worked_is links s m n back c.requires.rest.trail r.trail r.rows c.narrow_ends.ensures.taken
     (gone_placed c.args.instance.now links m.period (has_at m.rows) (has_at n.rows) c.requires.fits.stand c.narrow_ends.ensures.keeps)
-    (rejoined_probes s.period m.period s.probes m.probes n.probes (ends_at links back) (length back) (ends_at links n.trail) r.shape.period c.restore.ensures.probes spent)
+    (rejoined_probes s.period m.period s.probes m.probes n.probes (ends_at links back) (length back) (ends_at links n.trail) c.restore.ensures.period r.shape.period c.restore.ensures.probes spent)
 
 -- by search, and named so that a wrong body is refused here at once
 pub returns-clause-back : goal.returns-clause-back

@@ -38,4 +38,4 @@ returns-clause-worked c =
     let spent = subst (λ xs. n.probes ≤ m.probes + ends_at links xs + m.period * ends_at links n.trail) c.pairs.ensures c.settle_back.ensures.probes in
     worked_is links s m n back c.requires.trail r.trail r.rows c.settle_back.ensures.taken
     (gone_placed c.args.instance.now links m.period (has_at m.rows) (has_at n.rows) c.requires.fits.stand c.settle_back.ensures.keeps)
-    (reopened_probes s.period m.period s.probes m.probes n.probes (ends_at links back) (length back) (ends_at links n.trail) r.shape.period c.restore.ensures.probes spent)
+    (reopened_probes s.period m.period s.probes m.probes n.probes (ends_at links back) (length back) (ends_at links n.trail) c.restore.ensures.period r.shape.period c.restore.ensures.probes spent)

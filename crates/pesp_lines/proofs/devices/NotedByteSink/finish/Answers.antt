@@ -4,3 +4,6 @@ use Rattle.pesp_lines.proofs.devices.NotedByteSink.finish.Goals as goal
 
 pub returns-then-is_err-clause-failure : goal.returns-then-is_err-clause-failure
 returns-then-is_err-clause-failure g c = search rules
+
+pub returns-clause-passed : goal.returns-clause-passed
+returns-clause-passed g c = search rules

@@ -45,6 +45,7 @@ invariant_of-self c =
       even = v.even ∙ sym (length-set rows place c.put_in.new.self);
       room = omega (arith, few, area, none, v.all_room);
       all_room = omega (arith, area, v.all_room);
+      fits = v.fits;
     }
 
 pub returns-then-not-holds-clause-brought : goal.returns-then-not-holds-clause-brought

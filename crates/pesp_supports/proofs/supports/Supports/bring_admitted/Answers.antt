@@ -1,7 +1,9 @@
--- What the fixed time leaves is what is admitted.
-use Rattle.std.proofs.Common.{◌≤◌, arith}
-use Rattle.pesp_supports.specs.Restored.{of_admitted, of_window}
-use Rattle.pesp_supports.proofs.Brought.{brought_as, window_admitted}
+-- What the event's window leaves is what is admitted.
+use Rattle.std.proofs.Common.{◌≡◌, ◌<◌, ◌≤◌, arith, subst}
+use Rattle.pesp_base.specs.Windows.{Interval}
+use Rattle.pesp_supports.specs.declared.bringing.Admitted.TheVariants.{Within}
+use Rattle.pesp_supports.specs.Restored.{IsBrought, of_admitted, of_ranges}
+use Rattle.pesp_supports.proofs.Brought.{brought_as, ranges_admitted}
 use Rattle.pesp_supports.proofs.Looked.{looked_paid}
 use Rattle.pesp_supports.proofs.supports.Supports.bring_admitted.Goals as goal
 
@@ -9,14 +11,19 @@ pub returns-clause-brought : goal.returns-clause-brought
 returns-clause-brought c =
     let I = c.args.instance.now in
     let links = c.args.links.now in
-    let w = c.args.window in
+    let w = c.args.ranges in
     let end : w.end ≤ I.period = omega (arith, c.requires.period, c.requires.end) in
     let wrapped : w.wrapped ≤ I.period = omega (arith, end, c.requires.order, c.requires.wrapped) in
-    brought_as (of_window c.args.place w c.admitted_at-admitted.result) (of_admitted I links c.args.place w) c.args.self.now c.bring_window.new.self c.args.back.now c.bring_window.new.back
-    (window_admitted I links c.args.place w c.admitted_at-admitted.result end wrapped c.admitted_at-admitted.ensures.admitted) c.bring_window.ensures.brought
+    brought_as (of_ranges I.period c.args.place w c.admitted_at-admitted.result) (of_admitted I links c.args.place w) c.args.self.now c.bring_ranges.new.self c.args.back.now c.bring_ranges.new.back
+    (ranges_admitted I links c.args.place w c.admitted_at-admitted.result end wrapped c.admitted_at-admitted.ensures.admitted) (subst (λ n. IsBrought (of_ranges n c.args.place w c.admitted_at-admitted.result) c.args.self.now c.bring_ranges.new.self c.args.back.now c.bring_ranges.new.back) c.requires.period c.bring_ranges.ensures.brought)
+
+pub bring_ranges-requires-clause-within : goal.bring_ranges-requires-clause-within
+bring_ranges-requires-clause-within c event is = rw c.requires.period (c.admitted_at-admitted.ensures.within event is)
 
 pub returns-clause-probes : goal.returns-clause-probes
 returns-clause-probes c =
     let start = c.args.self.now in
-    let paid = looked_paid c.admitted_at-admitted.result c.args.window c.args.place start.period start c.bring_window.new.self c.args.back.now c.bring_window.new.back c.requires.end c.requires.lacks c.bring_window.ensures.brought in
-    omega (arith, c.bring_window.ensures.probes, paid)
+    let some : 1 ≤ start.period = omega (arith, c.requires.period, c.admitted_at-admitted.ensures.period) in
+    let within : (event : Interval) → c.admitted_at-admitted.result ≡ Within event → (event.first < start.period) × (event.length < start.period) = λ event is. rw c.requires.period (c.admitted_at-admitted.ensures.within event is) in
+    let paid = looked_paid c.admitted_at-admitted.result c.args.ranges c.args.place start.period start c.bring_ranges.new.self c.args.back.now c.bring_ranges.new.back c.requires.end some within c.requires.lacks c.bring_ranges.ensures.brought in
+    omega (arith, c.bring_ranges.ensures.probes, paid)

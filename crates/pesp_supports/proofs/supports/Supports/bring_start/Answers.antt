@@ -1,4 +1,4 @@
--- Nothing, one residue, or all of them.
+-- Nothing, the residues of a window, or all of them.
 use Rattle.pesp_supports.specs.Restored.{of_start}
 use Rattle.pesp_supports.proofs.AlongEnds.{start_none}
 use Rattle.pesp_supports.proofs.Brought.{brought_none}

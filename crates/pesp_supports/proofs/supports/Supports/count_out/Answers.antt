@@ -24,35 +24,35 @@ returns-clause-counts c k r rl =
     let start = c.args.self.now in
     let mid = c.lower.new.self in
     let last = c.lower-2.new.self in
-    let w = c.window-window.result in
+    let w = c.ranges-ranges.result in
     let end = c.args.end in
     let s = c.args.residue in
     let same : mid.period ≡ start.period = c.lower.ensures.shape.period in
     let period : c.get.result ≡ start.period = c.get.ensures.value ∙ ap (λ (x : Supports). x.period) c.self.view_is in
     let is : passes start.period end s r ≡ (is_from_to w.start w.end r || is_from_to 0 w.wrapped r) =
-    subst (λ n. r < n → passes n end s r ≡ (is_from_to w.start w.end r || is_from_to 0 w.wrapped r)) period (c.window-window.ensures.passes r) rl
+    subst (λ n. r < n → passes n end s r ≡ (is_from_to w.start w.end r || is_from_to 0 w.wrapped r)) period (c.ranges-ranges.ensures.passes r) rl
     in
     let fall = subst (λ n. Fall n end.mate 0 w.wrapped mid.counts last.counts) same c.lower-2.ensures.counts in
     fall_both (k == end.mate) (passes start.period end s r) (is_from_to w.start w.end r) (is_from_to 0 w.wrapped r) _ _ _ is
-    (one_of_two w.start w.end w.wrapped r c.window-window.ensures.wrapped) (c.lower.ensures.counts k r rl) (fall k r rl)
+    (one_of_two w.start w.end w.wrapped r c.ranges-ranges.ensures.wrapped) (c.lower.ensures.counts k r rl) (fall k r rl)
 
 pub returns-clause-rows : goal.returns-clause-rows
 returns-clause-rows c p r rl =
     let start = c.args.self.now in
     let mid = c.lower.new.self in
     let last = c.lower-2.new.self in
-    let w = c.window-window.result in
+    let w = c.ranges-ranges.result in
     let end = c.args.end in
     let s = c.args.residue in
     let same : mid.period ≡ start.period = c.lower.ensures.shape.period in
     let period : c.get.result ≡ start.period = c.get.ensures.value ∙ ap (λ (k : Supports). k.period) c.self.view_is in
     let is : passes start.period end s r ≡ (is_from_to w.start w.end r || is_from_to 0 w.wrapped r) =
-    subst (λ n. r < n → passes n end s r ≡ (is_from_to w.start w.end r || is_from_to 0 w.wrapped r)) period (c.window-window.ensures.passes r) rl
+    subst (λ n. r < n → passes n end s r ≡ (is_from_to w.start w.end r || is_from_to 0 w.wrapped r)) period (c.ranges-ranges.ensures.passes r) rl
     in
     let fall = subst (λ n. Fall n end.mate 0 w.wrapped mid.counts last.counts) same c.lower-2.ensures.counts in
     let thin = subst (λ n. Thins n end.looks_at end.mate 0 w.wrapped mid.counts mid.rows last.rows) same c.lower-2.ensures.rows in
     both_thin start.period end.looks_at end.mate (passes start.period end s r) (is_from_to w.start w.end r) (is_from_to 0 w.wrapped r) start.counts mid.counts last.counts start.rows mid.rows last.rows p r
-    is (one_of_two w.start w.end w.wrapped r c.window-window.ensures.wrapped)
+    is (one_of_two w.start w.end w.wrapped r c.ranges-ranges.ensures.wrapped)
     (c.lower.ensures.counts end.mate r rl) (fall end.mate r rl)
     (c.lower.ensures.rows p r) (thin p r)
 
@@ -61,6 +61,6 @@ returns-clause-taken c = taken_then c.args.self.now c.lower.new.self c.lower-2.n
 
 pub returns-clause-probes : goal.returns-clause-probes
 returns-clause-probes c =
-    let window = c.window-window.ensures in
+    let ranges = c.ranges-ranges.ensures in
     let period : c.get.result ≡ c.args.self.now.period = c.get.ensures.value ∙ ap (λ (x : Supports). x.period) c.self.view_is in
-    omega (arith, c.lower.ensures.probes, c.lower-2.ensures.probes, window.order, window.below, window.wrapped, period)
+    omega (arith, c.lower.ensures.probes, c.lower-2.ensures.probes, ranges.order, ranges.below, ranges.wrapped, period)

@@ -14,7 +14,7 @@ count-requires-clause-end c =
     let k = c.in-Some.end in
     let listed = c.loop-end.invariant.listed k (subst (λ xs. Contains xs k) (sym c.in-Some.ensures.steps) (here k c.next.new.self)) in
     let same = c.self.view_is ∙ c.loop-end.invariant.same in
-    subst (λ (n : ℕ). k * n + n ≤ length c.self.inside.counts) (sym (ap (λ (s : Supports). s.period) same))
+    subst (λ (n : ℕ). k * n + n ≤ length c.self.inside.counts.values) (sym (ap (λ (s : Supports). s.period) same))
     (subst (λ xs. k * c.args.self.now.period + c.args.self.now.period ≤ length xs) (sym (ap (λ (s : Supports). s.counts) same))
     (c.requires.fit.counts c.args.pair.place k listed))
 
@@ -28,7 +28,7 @@ loop-end-preserved c =
     let inside = c.self.inside in
     let same = c.self.view_is ∙ inv.same in
     let count : c.count.result ≡ count_at s.period s.counts m r =
-    c.count.ensures ∙ ap (λ n. count_at inside.period inside.counts m n) c.at-residue.ensures.same ∙ ap (λ (t : Supports). count_at t.period t.counts m r) same
+    c.count.ensures ∙ ap (λ n. count_at inside.period inside.counts.values m n) c.at-residue.ensures.same ∙ ap (λ (t : Supports). count_at t.period t.counts m r) same
     in
     let some : (count_at s.period s.counts m r == 0) ≡ false = ne_eqb _ 0 (λ none. c.if-count-eq0.false (count ∙ none)) in
     let few : c.at-residue.new.self ≤ inside.probes + 1 = at_most inside.probes 1 most_probes c.at-residue.new.self c.at-residue.ensures.counted in

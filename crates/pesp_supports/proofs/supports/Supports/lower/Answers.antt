@@ -59,11 +59,11 @@ loop-residue-init c =
     let low = c.args.low in
     let view = c.self.view_is in
     let inside = c.self.inside in
-    let mid : Supports = record { period = inside.period; counts = inside.counts; counted = inside.counted.items; rows = inside.rows.items; trail = inside.trail.items; room = vec_capacity inside.trail; probes = c.over-residue-items.new.self } in
+    let mid : Supports = record { period = inside.period; counts = inside.counts.values; counted = inside.counted.items; rows = inside.rows.items; trail = inside.trail.items; room = vec_capacity inside.trail; probes = c.over-residue-items.new.self } in
     let same : mid ≡ record start { probes = mid.probes } = ap (λ (s : Supports). record { period = s.period; counts = s.counts; counted = s.counted; rows = s.rows; trail = s.trail; room = s.room; probes = c.over-residue-items.new.self }) view in
     let probes : inside.probes ≡ start.probes = ap (λ (s : Supports). s.probes) view in
     let few : c.over-residue-items.new.self ≤ inside.probes + (c.args.high - low) = at_most inside.probes (c.args.high - low) most_probes c.over-residue-items.new.self c.over-residue-items.ensures.counted in
-    let counts : Fall T c.args.end low low start.counts inside.counts =
+    let counts : Fall T c.args.end low low start.counts inside.counts.values =
     λ k r rl.
     let none : one (k == c.args.end && is_from_to low low r) ≡ 0 = rw (empty low r, no_and (k == c.args.end)) refl in
     omega (arith, none, ap (λ (s : Supports). count_at T s.counts k r) view)
@@ -98,8 +98,8 @@ loop-residue-preserved-then-holds c =
     let steps = c.in-Some.ensures.steps in
     let q = c.loop-residue.residue-iterator.start in
     let T = start.period in
-    let before : Supports = record { period = inside.period; counts = inside.counts; counted = inside.counted.items; rows = inside.rows.items; trail = inside.trail.items; room = vec_capacity inside.trail; probes = inside.probes } in
-    let mid : Supports = record before { counts = c.lower-none_left.new.self } in
+    let before : Supports = record { period = inside.period; counts = inside.counts.values; counted = inside.counted.items; rows = inside.rows.items; trail = inside.trail.items; room = vec_capacity inside.trail; probes = inside.probes } in
+    let mid : Supports = record before { counts = c.lower-none_left.new.self.values } in
     let high : q < c.args.high = omega (arith, steps.1.0, inv.end) in
     let below : q < T = omega (arith, high, c.requires.high) in
     let base : c.base-base.result ≡ c.args.end * T = c.base-base.ensures.base ∙ ap (λ n. c.args.end * n) (c.get.ensures.value ∙ ap (λ (s : Supports). s.period) c.self.view_is) in
@@ -137,8 +137,8 @@ loop-residue-preserved c =
     let steps = c.in-Some.ensures.steps in
     let q = c.loop-residue.residue-iterator.start in
     let T = start.period in
-    let before : Supports = record { period = inside.period; counts = inside.counts; counted = inside.counted.items; rows = inside.rows.items; trail = inside.trail.items; room = vec_capacity inside.trail; probes = inside.probes } in
-    let mid : Supports = record before { counts = c.lower-none_left.new.self } in
+    let before : Supports = record { period = inside.period; counts = inside.counts.values; counted = inside.counted.items; rows = inside.rows.items; trail = inside.trail.items; room = vec_capacity inside.trail; probes = inside.probes } in
+    let mid : Supports = record before { counts = c.lower-none_left.new.self.values } in
     let high : q < c.args.high = omega (arith, steps.1.0, inv.end) in
     let below : q < T = omega (arith, high, c.requires.high) in
     let base : c.base-base.result ≡ c.args.end * T = c.base-base.ensures.base ∙ ap (λ n. c.args.end * n) (c.get.ensures.value ∙ ap (λ (s : Supports). s.period) c.self.view_is) in

@@ -18,6 +18,7 @@ invariant_of-self-2 c =
       even = a.even;
       room = omega (arith, v.room, a.rows.held, c.reserve.ensures.len, c.reserve.ensures.capacity);
       all_room = room_for (length c.add_rows.new.rows.items) (length c.self.inside.rows.items) c.args.places c.self.inside.period (vec_capacity c.reserve.new.self) a.few (omega (arith, v.all_room, c.reserve.ensures.capacity)) (omega (arith, room, asked, product));
+      fits = v.fits;
     }
 
 -- by search, and named so that a wrong body is refused here at once

@@ -37,6 +37,7 @@ invariant_of-self c =
       even = length-set counted place c.put_in.new.self ∙ v.even ∙ sym (length-set rows place c.put_in-2.new.self);
       room = omega (arith, more, trail_is, held_is, room_is, c.requires.room);
       all_room = omega (arith, area, v.all_room);
+      fits = v.fits;
     }
 
 pub returns-clause-exact : goal.returns-clause-exact

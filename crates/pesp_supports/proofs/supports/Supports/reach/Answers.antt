@@ -1,13 +1,13 @@
 -- The counts rise in the block of the mate alone, and what the window lacks comes to the row.
-use Rattle.std.proofs.Common.{◌≡◌, ◌+◌, ◌*◌, ◌<◌, ◌≤◌, ◌⊎◌, ℕ, [], List, Bool, cond, length, slice_index_or, refl, sym, ap, subst, ◌∙◌, inl, inr, arith, IsTrue}
+use Rattle.std.proofs.Common.{◌-◌, ◌≡◌, ◌+◌, ◌*◌, ◌<◌, ◌≤◌, ◌⊎◌, ℕ, [], List, Bool, cond, length, slice_index_or, refl, sym, ap, subst, ◌∙◌, inl, inr, arith, IsTrue}
 use Rattle.std.proofs.lemmas.List.{get_or_read}
 use Rattle.pesp_domains.specs.Domains.{holds}
 use Rattle.pesp_links.specs.Ends.{passes}
 use Rattle.pesp_supports.specs.Counts.{count_at, has_at}
-use Rattle.pesp_supports.specs.Restored.{HasRoom, in_window, of_admitted, of_end}
+use Rattle.pesp_supports.specs.Restored.{HasRoom, in_ranges, of_admitted, of_end}
 use Rattle.pesp_supports.specs.Supports.{Supports}
-use Rattle.pesp_supports.proofs.AlongEnds.{brought_from, window_end, window_full}
-use Rattle.pesp_supports.proofs.Brought.{brought_as, brought_none, in_window_below}
+use Rattle.pesp_supports.proofs.AlongEnds.{brought_from, ranges_end, ranges_full}
+use Rattle.pesp_supports.proofs.Brought.{brought_as, brought_none, in_ranges_below}
 use Rattle.pesp_supports.proofs.Raised.{block_out}
 use Rattle.pesp_supports.proofs.supports.Supports.reach.Goals as goal
 
@@ -22,10 +22,10 @@ returns-then-not-full-clause-elsewhere c k r apart rl =
     let k' : ℕ = c.args.end.mate in
     let period_is = c.get-period.ensures.value ∙ ap (λ (s : Supports). s.period) c.self.view_is in
     let base_is = c.base-base.ensures.base ∙ ap (λ n. k' * n) period_is in
-    let end : c.window-window.result.end ≤ T = omega (arith, c.window-window.ensures.below, period_is) in
-    let out = outside c.base-base.result (k' * T) T c.window-window.result.end (k * T + r) base_is end (block_out T k k' r apart rl) in
+    let end : c.ranges-ranges.result.end ≤ T = omega (arith, c.ranges-ranges.ensures.below, period_is) in
+    let out = outside c.base-base.result (k' * T) T c.ranges-ranges.result.end (k * T + r) base_is end (block_out T k k' r apart rl) in
     ap (λ xs. slice_index_or xs (k * T + r) 0) c.bring_admitted.ensures.counts
-    ∙ c.raise_window_beside-full.ensures.elsewhere (k * T + r) out
+    ∙ c.raise_ranges_beside-full.ensures.elsewhere (k * T + r) out
     ∙ ap (λ (s : Supports). slice_index_or s.counts (k * T + r) 0) c.self.view_is
 
 pub returns-else-not-full-clause-elsewhere : goal.returns-else-not-full-clause-elsewhere
@@ -34,9 +34,9 @@ returns-else-not-full-clause-elsewhere c k r apart rl =
     let k' : ℕ = c.args.end.mate in
     let period_is = c.get-period.ensures.value ∙ ap (λ (s : Supports). s.period) c.self.view_is in
     let base_is = c.base-base.ensures.base ∙ ap (λ n. k' * n) period_is in
-    let end : c.window-window.result.end ≤ T = omega (arith, c.window-window.ensures.below, period_is) in
-    let out = outside c.base-base.result (k' * T) T c.window-window.result.end (k * T + r) base_is end (block_out T k k' r apart rl) in
-    c.raise_window_beside-full.ensures.elsewhere (k * T + r) out
+    let end : c.ranges-ranges.result.end ≤ T = omega (arith, c.ranges-ranges.ensures.below, period_is) in
+    let out = outside c.base-base.result (k' * T) T c.ranges-ranges.result.end (k * T + r) base_is end (block_out T k k' r apart rl) in
+    c.raise_ranges_beside-full.ensures.elsewhere (k * T + r) out
     ∙ ap (λ (s : Supports). slice_index_or s.counts (k * T + r) 0) c.self.view_is
 
 pub returns-then-not-full-clause-brought : goal.returns-then-not-full-clause-brought
@@ -45,17 +45,17 @@ returns-then-not-full-clause-brought c =
     let links = c.args.links.now in
     let end = c.args.end in
     let s = c.args.residue in
-    let w = c.window-window.result in
+    let w = c.ranges-ranges.result in
     let T = c.args.self.now.period in
     let period_is = c.get-period.ensures.value ∙ ap (λ (s : Supports). s.period) c.self.view_is in
-    let passing = subst (λ n. (r : ℕ) → r < n → passes n end s r ≡ in_window w r) period_is c.window-window.ensures.passes in
+    let passing = subst (λ n. (r : ℕ) → r < n → passes n end s r ≡ in_ranges w r) period_is c.ranges-ranges.ensures.passes in
     brought_as (of_admitted I links end.looks_at w) (of_end T I links s end) c.args.self.now c.bring_admitted.new.self c.args.back.now c.bring_admitted.new.back
-    (window_end T I links s end w c.requires.period passing)
+    (ranges_end T I links s end w c.requires.period passing)
     (brought_from (of_admitted I links end.looks_at w) c.args.self.now _ c.bring_admitted.new.self c.args.back.now c.bring_admitted.new.back
     (ap (λ (s : Supports). s.rows) c.self.view_is) (ap (λ (s : Supports). s.counted) c.self.view_is) (ap (λ (s : Supports). s.trail) c.self.view_is)
     (record {
       period = ap (λ (s : Supports). s.period) c.self.view_is;
-      counts = c.raise_window_beside-full.ensures.long ∙ ap (λ (s : Supports). length s.counts) c.self.view_is;
+      counts = c.raise_ranges_beside-full.ensures.long ∙ ap (λ (s : Supports). length s.counts) c.self.view_is;
       counted = ap (λ (s : Supports). length s.counted) c.self.view_is;
       rows = ap (λ (s : Supports). length s.rows) c.self.view_is;
       room = ap (λ (s : Supports). s.room) c.self.view_is;
@@ -68,27 +68,27 @@ returns-else-not-full-clause-brought c =
     let links = c.args.links.now in
     let end = c.args.end in
     let s = c.args.residue in
-    let w = c.window-window.result in
+    let w = c.ranges-ranges.result in
     let T = c.args.self.now.period in
     let may = of_end T I links s end in
     let rows = c.self.inside.rows.items in
     let period_is = c.get-period.ensures.value ∙ ap (λ (s : Supports). s.period) c.self.view_is in
-    let passing = subst (λ n. (r : ℕ) → r < n → passes n end s r ≡ in_window w r) period_is c.window-window.ensures.passes in
-    let full = c.raise_window_beside-full.ensures.full c.if-not-full.false in
+    let passing = subst (λ n. (r : ℕ) → r < n → passes n end s r ≡ in_ranges w r) period_is c.ranges-ranges.ensures.passes in
+    let full = c.raise_ranges_beside-full.ensures.full c.if-not-full.false in
     let within = subst (λ (s : Supports). end.looks_at < length s.rows) (sym c.self.view_is) c.requires.looks in
-    let all : (r : ℕ) → IsTrue (in_window w r) → IsTrue (has_at rows end.looks_at r) =
+    let all : (r : ℕ) → IsTrue (in_ranges w r) → IsTrue (has_at rows end.looks_at r) =
     λ r h. subst (λ xs. IsTrue (holds xs r)) (get_or_read rows end.looks_at c.index-row.result.now within c.index-row.ensures []) (full r h)
     in
     brought_from may c.args.self.now _ _ c.args.back.now c.args.back.now
     (ap (λ (s : Supports). s.rows) c.self.view_is) (ap (λ (s : Supports). s.counted) c.self.view_is) (ap (λ (s : Supports). s.trail) c.self.view_is)
     (record {
       period = ap (λ (s : Supports). s.period) c.self.view_is;
-      counts = c.raise_window_beside-full.ensures.long ∙ ap (λ (s : Supports). length s.counts) c.self.view_is;
+      counts = c.raise_ranges_beside-full.ensures.long ∙ ap (λ (s : Supports). length s.counts) c.self.view_is;
       counted = ap (λ (s : Supports). length s.counted) c.self.view_is;
       rows = ap (λ (s : Supports). length s.rows) c.self.view_is;
       room = ap (λ (s : Supports). s.room) c.self.view_is;
     })
-    (brought_none may _ c.args.back.now (window_full T I links s end w rows c.requires.period passing all))
+    (brought_none may _ c.args.back.now (ranges_full T I links s end w rows c.requires.period passing all))
 
 -- a count that rose, where the block and the test have other names
 risen : (xs ys : List ℕ) (base base_is r : ℕ) (b b_is : Bool) → base ≡ base_is → b ≡ b_is → slice_index_or ys (base + r) 0 ≡ slice_index_or xs (base + r) 0 + cond b 1 0 → slice_index_or ys (base_is + r) 0 ≡ slice_index_or xs (base_is + r) 0 + cond b_is 1 0
@@ -101,32 +101,32 @@ base-base-requires c =
     let counts_is = ap (λ (s : Supports). length s.counts) c.self.view_is in
     rw (period_is, counts_is) c.requires.block
 
-pub raise_window_beside-full-requires-clause-within : goal.raise_window_beside-full-requires-clause-within
-raise_window_beside-full-requires-clause-within c =
+pub raise_ranges_beside-full-requires-clause-within : goal.raise_ranges_beside-full-requires-clause-within
+raise_ranges_beside-full-requires-clause-within c =
     let T = c.args.self.now.period in
     let k : ℕ = c.args.end.mate in
     let period_is = c.get-period.ensures.value ∙ ap (λ (s : Supports). s.period) c.self.view_is in
     let counts_is = ap (λ (s : Supports). length s.counts) c.self.view_is in
     let base_is = c.base-base.ensures.base ∙ ap (λ n. k * n) period_is in
-    omega (arith, base_is, period_is, counts_is, c.window-window.ensures.below, c.requires.block)
+    omega (arith, base_is, period_is, counts_is, c.ranges-ranges.ensures.below, c.requires.block)
 
-pub raise_window_beside-full-requires-clause-low : goal.raise_window_beside-full-requires-clause-low
-raise_window_beside-full-requires-clause-low c r h =
+pub raise_ranges_beside-full-requires-clause-low : goal.raise_ranges_beside-full-requires-clause-low
+raise_ranges_beside-full-requires-clause-low c r h =
     let T = c.args.self.now.period in
     let k : ℕ = c.args.end.mate in
     let s = c.args.residue in
-    let w = c.window-window.result in
+    let w = c.ranges-ranges.result in
     let period_is = c.get-period.ensures.value ∙ ap (λ (s : Supports). s.period) c.self.view_is in
     let base_is = c.base-base.ensures.base ∙ ap (λ n. k * n) period_is in
-    let passing = subst (λ n. (q : ℕ) → q < n → passes n c.args.end s q ≡ in_window w q) period_is c.window-window.ensures.passes in
-    let end : w.end ≤ T = omega (arith, c.window-window.ensures.below, period_is) in
-    let wrapped : w.wrapped ≤ T = omega (arith, c.window-window.ensures.order, c.window-window.ensures.wrapped, end) in
-    let below = in_window_below w T r end wrapped h in
+    let passing = subst (λ n. (q : ℕ) → q < n → passes n c.args.end s q ≡ in_ranges w q) period_is c.ranges-ranges.ensures.passes in
+    let end : w.end ≤ T = omega (arith, c.ranges-ranges.ensures.below, period_is) in
+    let wrapped : w.wrapped ≤ T = omega (arith, c.ranges-ranges.ensures.order, c.ranges-ranges.ensures.wrapped, end) in
+    let below = in_ranges_below w T r end wrapped h in
     let few : count_at T c.args.self.now.counts k r < T = c.requires.low r below (subst IsTrue (sym (passing r below)) h) in
-    let here : slice_index_or c.self.inside.counts (c.base-base.result + r) 0 ≡ count_at T c.args.self.now.counts k r =
-    ap (λ i. slice_index_or c.self.inside.counts (i + r) 0) base_is ∙ ap (λ (s : Supports). count_at T s.counts k r) c.self.view_is
+    let here : slice_index_or c.self.inside.counts.values (c.base-base.result + r) 0 ≡ count_at T c.args.self.now.counts k r =
+    ap (λ i. slice_index_or c.self.inside.counts.values (i + r) 0) base_is ∙ ap (λ (s : Supports). count_at T s.counts k r) c.self.view_is
     in
-    omega (arith, few, here, c.get-period.ensures.limits.1, c.get-period.ensures.value, period_is)
+    omega (arith, few, here, c.self.invariant.fits, c.get-period.ensures.value, period_is)
 
 pub invariant_of-self : goal.invariant_of-self
 invariant_of-self c =
@@ -138,6 +138,7 @@ invariant_of-self c =
       even = v.even;
       room = v.room;
       all_room = v.all_room;
+      fits = omega (arith, v.fits, c.raise_ranges_beside-full.ensures.most);
     }
 
 pub invariant_of-self-else-not-full : goal.invariant_of-self-else-not-full
@@ -150,13 +151,14 @@ invariant_of-self-else-not-full c =
       even = v.even;
       room = v.room;
       all_room = v.all_room;
+      fits = omega (arith, v.fits, c.raise_ranges_beside-full.ensures.most);
     }
 
 pub bring_admitted-requires-clause-lacks : goal.bring_admitted-requires-clause-lacks
 bring_admitted-requires-clause-lacks c =
     let rows = c.self.inside.rows.items in
     let looks = c.args.end.looks_at in
-    let w = c.window-window.result in
+    let w = c.ranges-ranges.result in
     let lacking = c.if-not-full.ensures.lacks refl in
     let within = subst (λ (s : Supports). looks < length s.rows) (sym c.self.view_is) c.requires.looks in
     let row_is = get_or_read rows looks c.index-row.result.now within c.index-row.ensures [] in
@@ -170,12 +172,12 @@ returns-then-not-full-clause-counts c r below =
     let T = c.args.self.now.period in
     let k : ℕ = c.args.end.mate in
     let s = c.args.residue in
-    let w = c.window-window.result in
+    let w = c.ranges-ranges.result in
     let period_is = c.get-period.ensures.value ∙ ap (λ (s : Supports). s.period) c.self.view_is in
     let base_is = c.base-base.ensures.base ∙ ap (λ n. k * n) period_is in
-    let passing = subst (λ n. (q : ℕ) → q < n → passes n c.args.end s q ≡ in_window w q) period_is c.window-window.ensures.passes in
+    let passing = subst (λ n. (q : ℕ) → q < n → passes n c.args.end s q ≡ in_ranges w q) period_is c.ranges-ranges.ensures.passes in
     ap (λ xs. slice_index_or xs (k * T + r) 0) c.bring_admitted.ensures.counts
-    ∙ risen c.self.inside.counts c.raise_window_beside-full.new.counts c.base-base.result (k * T) r (in_window w r) (passes T c.args.end s r) base_is (sym (passing r below)) (c.raise_window_beside-full.ensures.here r)
+    ∙ risen c.self.inside.counts.values c.raise_ranges_beside-full.new.counts.values c.base-base.result (k * T) r (in_ranges w r) (passes T c.args.end s r) base_is (sym (passing r below)) (c.raise_ranges_beside-full.ensures.here r)
     ∙ ap (λ (s : Supports). slice_index_or s.counts (k * T + r) 0 + cond (passes T c.args.end c.args.residue r) 1 0) c.self.view_is
 
 pub returns-else-not-full-clause-counts : goal.returns-else-not-full-clause-counts
@@ -183,22 +185,22 @@ returns-else-not-full-clause-counts c r below =
     let T = c.args.self.now.period in
     let k : ℕ = c.args.end.mate in
     let s = c.args.residue in
-    let w = c.window-window.result in
+    let w = c.ranges-ranges.result in
     let period_is = c.get-period.ensures.value ∙ ap (λ (s : Supports). s.period) c.self.view_is in
     let base_is = c.base-base.ensures.base ∙ ap (λ n. k * n) period_is in
-    let passing = subst (λ n. (q : ℕ) → q < n → passes n c.args.end s q ≡ in_window w q) period_is c.window-window.ensures.passes in
-    risen c.self.inside.counts c.raise_window_beside-full.new.counts c.base-base.result (k * T) r (in_window w r) (passes T c.args.end s r) base_is (sym (passing r below)) (c.raise_window_beside-full.ensures.here r)
+    let passing = subst (λ n. (q : ℕ) → q < n → passes n c.args.end s q ≡ in_ranges w q) period_is c.ranges-ranges.ensures.passes in
+    risen c.self.inside.counts.values c.raise_ranges_beside-full.new.counts.values c.base-base.result (k * T) r (in_ranges w r) (passes T c.args.end s r) base_is (sym (passing r below)) (c.raise_ranges_beside-full.ensures.here r)
     ∙ ap (λ (s : Supports). slice_index_or s.counts (k * T + r) 0 + cond (passes T c.args.end c.args.residue r) 1 0) c.self.view_is
 
 pub returns-then-not-full-clause-probes : goal.returns-then-not-full-clause-probes
 returns-then-not-full-clause-probes c =
     let period_is = c.get-period.ensures.value ∙ ap (λ (s : Supports). s.period) c.self.view_is in
     let probes_is = ap (λ (s : Supports). s.probes) c.self.view_is in
-    let paid = subst (λ n. c.bring_admitted.new.self.probes + n * length c.args.back.now.pairs ≤ c.raise_window_beside-full.new.probes + 1 + n * length c.bring_admitted.new.back.pairs) (ap (λ (s : Supports). s.period) c.self.view_is) c.bring_admitted.ensures.probes in
-    omega (arith, paid, period_is, probes_is, c.raise_window_beside-full.ensures.probes, c.window-window.ensures.below)
+    let paid = subst (λ n. c.bring_admitted.new.self.probes + n * length c.args.back.now.pairs ≤ c.raise_ranges_beside-full.new.probes + (n - 1) + n * length c.bring_admitted.new.back.pairs) (ap (λ (s : Supports). s.period) c.self.view_is) c.bring_admitted.ensures.probes in
+    omega (arith, paid, period_is, probes_is, c.raise_ranges_beside-full.ensures.probes, c.ranges-ranges.ensures.below)
 
 pub returns-else-not-full-clause-probes : goal.returns-else-not-full-clause-probes
 returns-else-not-full-clause-probes c =
     let period_is = c.get-period.ensures.value ∙ ap (λ (s : Supports). s.period) c.self.view_is in
     let probes_is = ap (λ (s : Supports). s.probes) c.self.view_is in
-    omega (arith, period_is, probes_is, c.raise_window_beside-full.ensures.probes, c.window-window.ensures.below)
+    omega (arith, period_is, probes_is, c.raise_ranges_beside-full.ensures.probes, c.ranges-ranges.ensures.below)

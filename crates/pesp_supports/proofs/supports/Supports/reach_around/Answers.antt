@@ -1,5 +1,5 @@
 -- An end more is behind, and the first of those to come is at the place.
-use Rattle.std.proofs.Common.{◌≡◌, ◌≢◌, ◌<◌, ◌≤◌, ◌+◌, ◌*◌, ◌∷◌, ◌++◌, ◌||◌, cond, false, [], ℕ, length, filter, AllPairs, sym, ap, subst, ◌∙◌, append_assoc, arith}
+use Rattle.std.proofs.Common.{◌≡◌, ◌≢◌, ◌<◌, ◌≤◌, ◌+◌, ◌-◌, ◌*◌, ◌∷◌, ◌++◌, ◌||◌, cond, false, [], ℕ, length, filter, AllPairs, sym, ap, subst, ◌∙◌, append_assoc, arith}
 use Rattle.std.proofs.lemmas.Bool.{false≢true}
 use Rattle.std.specs.List.{Contains}
 use Rattle.pesp_links.specs.declared.end.End.{End}
@@ -29,7 +29,7 @@ loop-number-init c =
       walked = ([], all, brought_none (of_ends start.period c.args.instance.now links c.args.spared s []) start c.args.back.now (λ p r h. absurd (false≢true h)));
       joined = subst (λ xs. AreJoined start.period links.ends (kept c.args.spared links.lists) start.counts S p s (filter (is_kept c.args.spared) xs)) (sym all)
           (but_start start.period links.ends links.lists c.args.spared c.requires.linked c.requires.mates S p s c.requires.residue c.requires.absent start.counts c.requires.exact);
-      probes = let long = ap (λ xs. (start.period + 1) * length xs) all in omega (arith, long);
+      probes = let long = ap (λ xs. (2 * start.period - 1) * length xs) all in omega (arith, long);
     }
 
 pub end-end-requires : goal.end-end-requires
@@ -123,7 +123,7 @@ loop-number-preserved-then-not-is_spared_end c =
     subst (λ (e : End). IsBrought (of_end T I links s e) now after c.loop-number.back c.reach.new.back) c.end-end.ensures
     (subst (λ n. IsBrought (of_end n I links s c.end-end.result) now after c.loop-number.back c.reach.new.back) w.2.shape.period c.reach.ensures.brought)
     in
-    let looked = subst (λ n. after.probes + n * length c.loop-number.back.pairs ≤ now.probes + n + 1 + n * length c.reach.new.back.pairs) w.2.shape.period c.reach.ensures.probes in
+    let looked = subst (λ n. after.probes + n * length c.loop-number.back.pairs ≤ now.probes + (2 * n - 1) + n * length c.reach.new.back.pairs) w.2.shape.period c.reach.ensures.probes in
     record {
       can_next = tt;
       is_finite = tt;

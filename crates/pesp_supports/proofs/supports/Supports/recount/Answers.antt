@@ -4,7 +4,7 @@ use Rattle.std.proofs.lemmas.List.{get_or_read}
 use Rattle.pesp_domains.specs.Domains.{holds}
 use Rattle.pesp_supports.specs.Supports.{Supports, around}
 use Rattle.pesp_supports.proofs.Raised.{block_out}
-use Rattle.pesp_supports.proofs.Windowed.{supporters_around}
+use Rattle.pesp_supports.proofs.Partners.{supporters_around}
 use Rattle.pesp_supports.proofs.supports.Supports.recount.Goals as goal
 
 pub returns-clause-exact : goal.returns-clause-exact
@@ -17,7 +17,7 @@ returns-clause-exact c r rl =
     let within = subst (λ xs. end.looks_at < length xs) (sym counted_is) c.requires.looks in
     let row = get_or_read c.self.inside.counted.items end.looks_at c.index-row.result.now within c.index-row.ensures [] ∙ ap (λ xs. slice_index_or xs end.looks_at []) counted_is in
     let here = c.recount_block.ensures.here r (omega (arith, rl, is)) in
-    ap (λ b. slice_index_or c.recount_block.new.counts (b + r) 0) (sym base_is)
+    ap (λ b. slice_index_or c.recount_block.new.counts.values (b + r) 0) (sym base_is)
     ∙ here
     ∙ ap (λ n. around n (holds c.index-row.result.now) (r + end.first) end.width) is
     ∙ ap (λ xs. around T (holds xs) (r + end.first) end.width) row

@@ -7,7 +7,7 @@ use Rattle.pesp_links.specs.Ends.{AreLinked, end_at}
 use Rattle.pesp_supports.specs.Counts.{has_at}
 use Rattle.pesp_supports.specs.Supports.{IsWide, Supports}
 use Rattle.pesp_supports.proofs.Grown.{held_le, long_as}
-use Rattle.pesp_supports.proofs.Windowed.{exact_full}
+use Rattle.pesp_supports.proofs.Partners.{exact_full}
 use Rattle.pesp_supports.proofs.supports.Supports.refill.Goals as goal
 
 pub widen_all-requires-clause-within : goal.widen_all-requires-clause-within
@@ -32,6 +32,7 @@ invariant_of-self c =
       even = c.fill-2.ensures.many ∙ v.even ∙ sym c.fill.ensures.many;
       room = omega (arith, few, area, none, v.all_room, c.clear.ensures.capacity);
       all_room = omega (arith, area, v.all_room, c.clear.ensures.capacity);
+      fits = omega (arith, v.fits, c.widen_all.ensures.most);
     }
 
 pub returns-clause-exact : goal.returns-clause-exact
@@ -46,8 +47,8 @@ returns-clause-exact c p k l =
     let below : p < c.len.result = omega (arith, c.requires.fit.rows p k l, inside_rows, c.fill.ensures.many, c.len.ensures) in
     let there : (end_at ends k).looks_at < length c.self.inside.counted.items = omega (arith, c.requires.fit.counted _ _ at.mate_there, inside_counted) in
     let long : length (slice_index_or c.self.inside.counted.items (end_at ends k).looks_at []) ≡ n = All-get_or (λ row. length row ≡ n) c.self.inside.counted.items (end_at ends k).looks_at [] there c.self.invariant.counted in
-    let wide = subst (λ t. IsWide t ends c.widen_all.new.counts k) is (c.widen_all.ensures.wide p k below l) in
-    exact_full n ends c.widen_all.new.counts (has_at c.fill-2.new.rows.items) k (omega (arith, at.first)) at.width
+    let wide = subst (λ t. IsWide t ends c.widen_all.new.counts.values k) is (c.widen_all.ensures.wide p k below l) in
+    exact_full n ends c.widen_all.new.counts.values (has_at c.fill-2.new.rows.items) k (omega (arith, at.first)) at.width
     (λ s sl. c.fill-2.ensures.full (end_at ends k).looks_at s ∙ ap (nat_lt s) long ∙ lt-ltb s n sl)
     wide
 

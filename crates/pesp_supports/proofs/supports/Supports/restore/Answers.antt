@@ -1,5 +1,5 @@
 -- The next pair of the list is followed, until none is left.
-use Rattle.std.proofs.Common.{◌≡◌, ◌<◌, ◌≤◌, ◌+◌, ◌*◌, length, ap, subst, ◌∙◌, arith, rules}
+use Rattle.std.proofs.Common.{◌≡◌, ◌<◌, ◌≤◌, ◌+◌, ◌-◌, ◌*◌, length, ap, subst, ◌∙◌, arith, rules}
 use Rattle.std.proofs.lemmas.List.{take_all}
 use Rattle.pesp_supports.specs.Restored.{HasRoom, IsBrought, of_ends}
 use Rattle.pesp_links.specs.Ends.{ends_of}
@@ -59,8 +59,8 @@ loop-next-preserved c =
     let within : c.loop-next.next < length c.loop-next.back.pairs = omega (arith, c.loop-next-test.true, c.len.ensures.count) in
     let came = subst (λ n. IsBrought (of_ends n I links c.args.spared x.residue (ends_of links.lists x.place)) now mid c.loop-next.back c.reach_around.new.back) inv.coming.shape.period c.reach_around.ensures.brought in
     let T = c.args.self.now.period in
-    let looked = subst (λ n. mid.probes + n * length c.loop-next.back.pairs ≤ now.probes + (n + 1) * length (ends_of links.lists x.place) + n * length c.reach_around.new.back.pairs) inv.coming.shape.period c.reach_around.ensures.probes in
-    let ends = ap (λ n. (T + 1) * n) (ends_more links c.loop-next.back.pairs came.more c.reach_around.new.back.pairs c.loop-next.next x came.listed within c.get-pair.ensures) in
+    let looked = subst (λ n. mid.probes + n * length c.loop-next.back.pairs ≤ now.probes + (2 * n - 1) * length (ends_of links.lists x.place) + n * length c.reach_around.new.back.pairs) inv.coming.shape.period c.reach_around.ensures.probes in
+    let ends = ap (λ n. (2 * T - 1) * n) (ends_more links c.loop-next.back.pairs came.more c.reach_around.new.back.pairs c.loop-next.next x came.listed within c.get-pair.ensures) in
     record {
       coming = coming_more I links c.args.starts.now c.args.spared c.args.self.now now c.loop-next.back c.loop-next.next x within c.get-pair.ensures c.requires.period inv.coming
           mid c.count_pair.new.self c.reach_around.new.back c.requires.linked c.requires.mates came c.reach_around.ensures.exact
@@ -77,7 +77,7 @@ returns-clause-restored c =
 pub returns-clause-probes : goal.returns-clause-probes
 returns-clause-probes c =
     let over : length c.loop-next.back.pairs ≤ c.loop-next.next = omega (arith, c.loop-next-test.false, c.len.ensures.count) in
-    let all = ap (λ xs. (c.args.self.now.period + 1) * ends_at c.args.links.now xs) (take_all c.loop-next.next c.loop-next.back.pairs over) in
+    let all = ap (λ xs. (2 * c.args.self.now.period - 1) * ends_at c.args.links.now xs) (take_all c.loop-next.next c.loop-next.back.pairs over) in
     omega (arith, all, c.loop-next.invariant.probes)
 
 -- by search, and named so that a wrong body is refused here at once

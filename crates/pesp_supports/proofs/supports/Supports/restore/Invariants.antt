@@ -9,7 +9,7 @@ invariant-loop-next l =
     record {
       coming : AreComing l.instance l.links l.starts l.spared l.fn.self l.self l.back l.next;
       room : l.back.room ≡ l.fn.back.room;
-      probes : l.self.probes ≤ l.fn.self.probes + (l.fn.self.period + 1) * ends_at l.links (take l.next l.back.pairs) + l.fn.self.period * length l.back.pairs;
+      probes : l.self.probes ≤ l.fn.self.probes + (2 * l.fn.self.period - 1) * ends_at l.links (take l.next l.back.pairs) + l.fn.self.period * length l.back.pairs;
     }
 
 abbrev pub decreases-loop-next : goal.decreases-loop-next

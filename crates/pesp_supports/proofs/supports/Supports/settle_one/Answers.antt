@@ -117,6 +117,7 @@ invariant_of-self c =
       even = length-set counted pair.place c.take_out.new.self ∙ v.even;
       room = v.room;
       all_room = v.all_room;
+      fits = v.fits;
     }
 
 pub returns-then-not-holds-clause-keeps : goal.returns-then-not-holds-clause-keeps

@@ -35,6 +35,7 @@ invariant_of-self c =
       even = rw (length-set rows c.args.place c.take_out.new.self) c.self.invariant.even;
       room = omega (arith, fewer, more, c.push_reserved.ensures.capacity, c.self.invariant.room);
       all_room = rw (length-set rows c.args.place c.take_out.new.self, c.push_reserved.ensures.capacity) c.self.invariant.all_room;
+      fits = c.self.invariant.fits;
     }
 
 pub returns-clause-taken : goal.returns-clause-taken

@@ -1,6 +1,0 @@
--- What is admitted anew depends on the two fixed times alone.
-use Rattle.pesp_domains.proofs.Anew.{fix_is, unfix_is}
-use Rattle.pesp_bench.proofs.laws.fixed_times_admit.Goals as goal
-
-pub returns : goal.returns
-returns c = (fix_is, unfix_is)

@@ -1,0 +1,176 @@
+"""A network for tests/model.py: its edits with their refusals, and what the rules of docs/RULES.md say of it.
+
+It is slow and plain: domains are found by taking pairs away until nothing changes, and the optimum by trying every
+time of every event in order.
+"""
+
+from tests.limits import most_activities, most_events
+
+
+class Refused(Exception):
+    """Why a command is not done."""
+
+
+class Network:
+    """A period, events, windows and activities.
+
+    A window is a pair of its first residue and its length, by event; a fixed time is one of length 1. An activity is
+    its two events, its bounds and its weight, by its number.
+    """
+
+    def __init__(self, period, activities=(), fixed=None):
+        self.period = period
+        self.activities = {row[0]: tuple(row[1:]) for row in activities}
+        self.events = {event for row in self.activities.values() for event in row[:2]}
+        self.windows = {event: (time % period, 1) for event, time in (fixed or {}).items()}
+
+    # Refusals
+
+    def no_event(self, *events):
+        for event in events:
+            if event not in self.events:
+                raise Refused(f"2 no event {event}")
+
+    def no_activity(self, activity):
+        if activity not in self.activities:
+            raise Refused(f"6 no activity {activity}")
+
+    def late(self, time):
+        if time >= self.period:
+            raise Refused(f"4 time {time} is out of range")
+
+    # Edits
+
+    def add_event(self, event):
+        if event in self.events:
+            raise Refused(f"1 event {event} exists")
+        if len(self.events) == most_events(self.period):
+            raise Refused("7 too many events")
+        self.events.add(event)
+
+    def drop_event(self, event):
+        self.no_event(event)
+        users = [activity for activity, row in self.activities.items() if event in row[:2]]
+        if users:
+            raise Refused(f"3 event {event} is used by activity {min(users)}")
+        self.events.remove(event)
+        self.windows.pop(event, None)
+
+    def fix(self, event, time):
+        self.no_event(event)
+        self.late(time)
+        self.windows[event] = (time, 1)
+
+    def window(self, event, first, length):
+        self.no_event(event)
+        self.late(first)
+        if length not in range(1, self.period + 1):
+            raise Refused(f"13 length {length} is out of range")
+        self.windows[event] = (first, length)
+
+    def unfix(self, event):
+        self.no_event(event)
+        if event not in self.windows:
+            raise Refused(f"9 event {event} is not fixed")
+        del self.windows[event]
+
+    def add_activity(self, activity, first, last, lower, upper, weight):
+        if activity in self.activities:
+            raise Refused(f"5 activity {activity} exists")
+        self.no_event(first, last)
+        if len(self.activities) == most_activities(self.period):
+            raise Refused("8 too many activities")
+        self.activities[activity] = (first, last, lower, upper, weight)
+
+    def drop_activity(self, activity):
+        self.no_activity(activity)
+        del self.activities[activity]
+
+    def change(self, activity, place, values):
+        row = self.activities[activity]
+        self.activities[activity] = row[:place] + values + row[place + len(values) :]
+
+    def span(self, activity, lower, upper):
+        self.no_activity(activity)
+        self.change(activity, 2, (lower, upper))
+
+    def weight(self, activity, weight):
+        self.no_activity(activity)
+        self.change(activity, 4, (weight,))
+
+    def ends(self, activity, first, last):
+        self.no_activity(activity)
+        self.no_event(first, last)
+        self.change(activity, 0, (first, last))
+
+    # The rules
+
+    def admits(self, event, residue):
+        """Whether the event may stand at the residue, which is below the period, by its window."""
+        first, length = self.windows.get(event, (0, self.period))
+        return (residue - first) % self.period < length
+
+    def admitted(self, event):
+        return [residue for residue in range(self.period) if self.admits(event, residue)]
+
+    def slack(self, row, times):
+        first, last, lower, _, _ = row
+        return (times[last] - times[first] - lower) % self.period
+
+    def met(self, row, times):
+        return self.slack(row, times) <= row[3] - row[2]
+
+    def cost_of(self, times):
+        return sum(row[4] * self.slack(row, times) for row in self.activities.values())
+
+    def allows(self, row, first_time, last_time):
+        return (last_time - first_time - row[2]) % self.period <= row[3] - row[2]
+
+    def rows(self, pushed=None):
+        """The domains: pairs are taken away as long as one of them lacks a partner."""
+        rows = {event: set(self.admitted(event)) for event in self.events}
+        for event, time in (pushed or {}).items():
+            rows[event] &= {time}
+        changed = True
+        while changed:
+            changed = False
+            for row in self.activities.values():
+                first, last = rows[row[0]], rows[row[1]]
+                lone = {r for r in first if not any(self.allows(row, r, s) for s in last)}
+                first -= lone
+                lonely = {s for s in last if not any(self.allows(row, r, s) for r in first)}
+                last -= lonely
+                changed = changed or lone or lonely
+        return rows
+
+    def best(self):
+        """The first timetable of least cost, with its cost, or None.
+
+        Events are taken ascending and the smaller time first, and times that cost as much as the best are left.
+        """
+        events = sorted(self.events)
+        # The activities that have both times once an event has its own.
+        closed = {event: [row for row in self.activities.values() if max(row[:2]) == event] for event in events}
+        best, times = None, {}
+
+        def walk(cost):
+            nonlocal best
+            if best is not None and cost >= best[0]:
+                return
+            if len(times) == len(events):
+                best = cost, dict(times)
+                return
+            event = events[len(times)]
+            for time in self.admitted(event):
+                times[event] = time
+                if all(self.met(row, times) for row in closed[event]):
+                    walk(cost + sum(row[4] * self.slack(row, times) for row in closed[event]))
+                del times[event]
+
+        walk(0)
+        return best
+
+    def is_member(self, times):
+        kept = all(self.admits(event, time) for event, time in times.items())
+        below = all(time in range(self.period) for time in times.values())
+        return below and kept and all(self.met(row, times) for row in self.activities.values())
