@@ -8,6 +8,7 @@ import pathlib
 import re
 import shutil
 import subprocess
+from typing import Dict, List, Sequence, Tuple
 
 FIRST, SECOND = "must-fail", "wrong-bodies"
 # The toolchain's line on an edit; what is in brackets behind the first words takes from what a refusal shows.
@@ -23,17 +24,19 @@ class Unread(Exception):
     """Why an edit cannot be applied."""
 
 
-def edits(top, shelf, crate="*"):
+def edits(top: pathlib.Path, shelf: str, crate: str = "*") -> List[pathlib.Path]:
     """The edits of a shelf, of one crate or of all, ascending by path."""
-    return sorted(pathlib.Path(top).glob(f"crates/{crate}/{shelf}/*.edit"))
+    return sorted(top.glob(f"crates/{crate}/{shelf}/*.edit"))
 
 
-def applied(edit):
+def applied(edit: pathlib.Path) -> Dict[pathlib.Path, str]:
     """The texts of the files that an edit changes, by their paths, with its changes.
 
-    Raises Unread where it names no file, where a text that it changes does not stand there once, or if nothing changes.
+    Raises Unread where it names no file, where a text that it changes does not stand there once, or where it changes
+    nothing.
     """
-    texts, path, old = {}, None, None
+    texts: Dict[pathlib.Path, str] = {}
+    path, old = None, None
     for line in edit.read_text().splitlines():
         kind, _, rest = line.partition(": ")
         if kind == "file":
@@ -52,13 +55,13 @@ def applied(edit):
     return texts
 
 
-def breaks_of(edit):
-    """The clause that an edit breaks and an input that shows it, as its line `breaks:` says; empty where it has none."""
-    found = [line[len("breaks:") :].strip() for line in edit.read_text().splitlines() if line.startswith("breaks:")]
-    return found[0] if found else ""
+def breaks_of(edit: pathlib.Path) -> str:
+    """The clause that an edit breaks and an input that shows it, as its line `breaks:` says, or nothing."""
+    found = [line for line in edit.read_text().splitlines() if line.startswith("breaks:")]
+    return found[0].partition(":")[2].strip() if found else ""
 
 
-def crates_of(top, names):
+def crates_of(top: pathlib.Path, names: Sequence[str]) -> List[str]:
     """The crates that are tried: those named, or all with a second shelf.
 
     Raises Missing where a name is no crate with one.
@@ -67,37 +70,40 @@ def crates_of(top, names):
     for name in names:
         if name not in found:
             raise Missing(f"{name} is no crate with a folder {SECOND}")
-    return names or found
+    return list(names) or found
 
 
-def copy_tree(top, to, crate):
-    """Copies what a check of the crate reads, with the second shelf of that crate where the gate looks for the first."""
+def copy_tree(top: pathlib.Path, to: pathlib.Path, crate: str) -> None:
+    """Copies what a check of the crate reads, with its second shelf where the gate looks for the first."""
     shutil.copytree(top / "crates", to / "crates", ignore=shutil.ignore_patterns("out", FIRST, SECOND))
     for name in ["crates.txt", "HANDLES"]:
         shutil.copy(top / name, to / name)
     shutil.copytree(top / "crates" / crate / SECOND, to / "crates" / crate / FIRST)
 
 
-def called(words, folder):
+def called(words: Sequence[str], folder: pathlib.Path) -> Tuple[int, List[str]]:
     """The status of a command of the toolchain, and the lines that it wrote."""
     done = subprocess.run(words, cwd=folder, stdin=subprocess.DEVNULL, stdout=subprocess.PIPE, stderr=subprocess.STDOUT)
     return done.returncode, done.stdout.decode(errors="replace").splitlines()
 
 
-def told_of(lines):
+def told_of(lines: Sequence[str]) -> Dict[str, str]:
     """What the toolchain said of each edit, by its file's name; further lines are of the edit before them."""
-    told, name = {}, None
+    told: Dict[str, str] = {}
+    name = ""
     for line in lines:
         match = LINE.fullmatch(line)
-        name = match["name"] if match else None if line.startswith("rt: ") else name
         if match:
+            name = match["name"]
             told[name] = match["told"]
+        elif line.startswith("rt: "):
+            name = ""
         elif name:
             told[name] += f"\n  {line}"
     return told
 
 
-def try_crate(top, room, crate):
+def try_crate(top: pathlib.Path, room: pathlib.Path, crate: str) -> Dict[str, str]:
     """What is told of each edit of the crate's second shelf, by its file's name.
 
     A crate that is not proved would refuse whatever is tried, so it is checked first, where the tree itself stands:
@@ -113,10 +119,10 @@ def try_crate(top, room, crate):
     return {name: told.get(name, "NOT TRIED: no word of it") for name in names}
 
 
-def is_refused(told):
+def is_refused(told: str) -> bool:
     return told.startswith(REFUSED)
 
 
-def is_plain(told):
+def is_plain(told: str) -> bool:
     """Whether the edit is refused, and without a remark in brackets, which says that this shows less."""
     return is_refused(told) and not told[len(REFUSED) :].lstrip().startswith("(")

@@ -5,7 +5,9 @@ pair of an event and a time, and `pop`. A model follows them, by the plain rules
 """
 
 import copy
+import random
 import re
+from typing import Dict, List, NamedTuple, Optional, Sequence, Set, Tuple
 
 from tests.changes import restored
 from tests.network import Network, Refused
@@ -14,19 +16,38 @@ from tests.parsing import parse
 # The numbers of events and activities of which the program tells something are below this.
 NUMBERS = 8
 
+# An event and a residue of the period.
+Pair = Tuple[int, int]
+# The residues that each event can take.
+Rows = Dict[int, Set[int]]
+
+
+class Wanted(NamedTuple):
+    """What is to be told behind a line: most of it word for word, and what the last accepted edit took."""
+
+    lines: List[str]
+    restored: Set[Pair]
+    removed: int
+    most_probes: int
+
 
 class Kept:
     """A network, the pushed times by event, the last push last, and what the last accepted edit took."""
 
-    def __init__(self, period):
+    def __init__(self, period: int) -> None:
         self.network = Network(period)
-        self.pushed = {}
-        self.restored = set()
+        self.pushed: Dict[int, int] = {}
+        self.restored: Set[Pair] = set()
         self.removed = 0
         self.most_probes = 0
 
-    def follow(self, line):
-        """Does what the line asks for. What the program answers."""
+    def follow(self, line: str) -> Wanted:
+        """Does what the line asks for. What the program is to tell then."""
+        rows = [self.answer(line), *self.rows()]
+        lines = ["plain", *rows, "counted", *rows, *self.counts()]
+        return Wanted(lines, self.restored, self.removed, self.most_probes)
+
+    def answer(self, line: str) -> str:
         if line == "pop":
             self.pushed.popitem()
             return "ok"
@@ -36,7 +57,7 @@ class Kept:
             return "ok"
         return self.edit(name, numbers)
 
-    def edit(self, name, numbers):
+    def edit(self, name: str, numbers: List[int]) -> str:
         before = copy.deepcopy(self.network)
         try:
             getattr(self.network, name.replace(" ", "_"))(*numbers)
@@ -49,17 +70,17 @@ class Kept:
         self.most_probes = most_probes(before, self.network, [*self.restored, *gone])
         return "ok"
 
-    def rows(self):
+    def rows(self) -> List[str]:
         """A line for each number of an event: how many residues its row has, and a mark for each residue."""
         rows = self.network.rows(self.pushed)
         return [f"row {number} {row_text(rows.get(number), self.network.period)}" for number in range(NUMBERS)]
 
-    def counts(self):
-        """A line for each number of an activity: for each residue at both ends, how many of the other end go with it."""
+    def counts(self) -> List[str]:
+        """A line for each number of an activity: for each residue at both ends, how many at the other go with it."""
         rows = self.network.rows(self.pushed)
         return [f"counts {number}{self.counts_of(number, rows)}" for number in range(NUMBERS)]
 
-    def counts_of(self, number, rows):
+    def counts_of(self, number: int, rows: Rows) -> str:
         row = self.network.activities.get(number)
         residues = range(self.network.period)
         if row is None:
@@ -70,22 +91,22 @@ class Kept:
         return "".join(f" {count}" for count in [*tail, "/", *head])
 
 
-def pairs_of(rows):
+def pairs_of(rows: Rows) -> Set[Pair]:
     return {(event, residue) for event, row in rows.items() for residue in row}
 
 
-def row_text(row, period):
+def row_text(row: Optional[Set[int]], period: int) -> str:
     if row is None:
         return f"0 {'-' * period}"
     return f"{len(row)} {''.join('#' if residue in row else '.' for residue in range(period))}"
 
 
-def degree(network, event):
+def degree(network: Network, event: int) -> int:
     """How many ends of activities are at the event."""
     return sum((row[0] == event) + (row[1] == event) for row in network.activities.values())
 
 
-def most_probes(before, after, pairs):
+def most_probes(before: Network, after: Network, pairs: Sequence[Pair]) -> int:
     """The most looks at one residue along one activity that an edit may take which moves these pairs."""
     period = before.period
     weight = sum(max(degree(before, event), degree(after, event)) + 1 for event, _ in pairs)
@@ -95,20 +116,14 @@ def most_probes(before, after, pairs):
 # The lines of the program, and what is wrong with them
 
 
-def first_lines(kept, answer):
-    """What the program tells behind a line of input, but for the two lines on the last edit."""
-    rows = [answer, *kept.rows()]
-    return ["plain", *rows, "counted", *rows, *kept.counts()]
-
-
-def right_lines(kept, answer):
+def right_lines(wanted: Wanted) -> List[str]:
     """What a program tells that takes as many probes as it may."""
-    pairs = "".join(f" {event}:{residue}" for event, residue in sorted(kept.restored))
-    work = f"work {len(kept.restored)} {kept.removed} {kept.most_probes}"
-    return [*first_lines(kept, answer), f"restored{pairs}", work]
+    pairs = "".join(f" {event}:{residue}" for event, residue in sorted(wanted.restored))
+    work = f"work {len(wanted.restored)} {wanted.removed} {wanted.most_probes}"
+    return [*wanted.lines, f"restored{pairs}", work]
 
 
-def damaged(draw, lines):
+def damaged(draw: random.Random, lines: List[str]) -> List[str]:
     """The lines with one number, one more, or one mark of them changed, or a line left out."""
     place = draw.randrange(len(lines))
     parts = list(re.finditer(r"\d+|[#.-]", lines[place]))
@@ -119,33 +134,34 @@ def damaged(draw, lines):
     return [*lines[:place], lines[place][: part.start()] + other + lines[place][part.end() :], *lines[place + 1 :]]
 
 
-def fault(kept, answer, lines):
-    """What is wrong with the lines behind one line of input, once the model has followed it; None where nothing is."""
-    wanted = first_lines(kept, answer)
-    for place, line in enumerate(wanted):
+def fault(wanted: Wanted, lines: List[str]) -> Optional[str]:
+    """What is wrong with the lines behind one line of input; None where nothing is."""
+    for place, line in enumerate(wanted.lines):
         came = lines[place] if place < len(lines) else "nothing"
         if came != line:
             return f"'{line}' is wanted, and '{came}' came"
-    return fault_of_work(kept, lines[len(wanted) :])
+    return fault_of_work(wanted, lines[len(wanted.lines) :])
 
 
-def fault_of_work(kept, lines):
+def fault_of_work(wanted: Wanted, lines: List[str]) -> Optional[str]:
     """What is wrong with the restored pairs, each of which is told once, and with the work of the last edit."""
     if [line.split()[0] for line in lines] != ["restored", "work"]:
         return f"a line on restored pairs and one on work are wanted, and these came: {lines}"
     told = [tuple(map(int, pair.split(":"))) for pair in lines[0].split()[1:]]
-    if sorted(told) != sorted(kept.restored):
-        return f"these pairs are restored: {sorted(kept.restored)}, and these are told: {told}"
-    came, removed, probes = map(int, lines[1].split()[1:])
-    if (came, removed) != (len(told), kept.removed):
-        return f"{len(told)} pairs came and {kept.removed} went, and this is told: {lines[1]}"
-    return None if probes <= kept.most_probes else f"at most {kept.most_probes} probes are taken, and {probes} are told"
+    if sorted(told) != sorted(wanted.restored):
+        return f"these pairs are restored: {sorted(wanted.restored)}, and these are told: {told}"
+    restored_pairs, removed, probes = map(int, lines[1].split()[1:])
+    if (restored_pairs, removed) != (len(told), wanted.removed):
+        return f"{len(told)} pairs came and {wanted.removed} went, and this is told: {lines[1]}"
+    if probes > wanted.most_probes:
+        return f"at most {wanted.most_probes} probes are taken, and {probes} are told"
+    return None
 
 
 # Drawn lines
 
 
-def drawn_edit(draw, period):
+def drawn_edit(draw: random.Random, period: int) -> str:
     """An edit of few events and activities, most of which are there."""
     event, activity = draw.randint(0, 5), draw.randint(0, 6)
     ends = [draw.randint(1, 5), draw.randint(1, 5)]
@@ -168,7 +184,7 @@ def drawn_edit(draw, period):
     return " ".join(map(str, [name, *numbers[name]]))
 
 
-def drawn_line(draw, kept):
+def drawn_line(draw: random.Random, kept: Kept) -> str:
     """A line that both keepers can follow: no edit where something is pushed, and no event twice."""
     free = sorted(kept.network.events - kept.pushed.keys())
     if kept.pushed and (not free or draw.randrange(3) == 0):
@@ -178,7 +194,7 @@ def drawn_line(draw, kept):
     return "pop" if kept.pushed else drawn_edit(draw, kept.network.period)
 
 
-def network_lines(draw, period):
+def network_lines(draw: random.Random, period: int) -> List[str]:
     """Events and activities with which most streams begin, so that later edits have something to change."""
     lines = [f"add event {event}" for event in range(1, draw.randint(2, 6))]
     edits = [drawn_edit(draw, period) for _ in range(40)]

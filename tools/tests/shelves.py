@@ -1,4 +1,4 @@
-"""The two shelves of wrong bodies, and the tool that tries the second one, with a toolchain that only says what it is told."""
+"""The two shelves of wrong bodies, and the tool that tries the second, with a toolchain that says what it is told."""
 
 import re
 import shutil
@@ -60,7 +60,7 @@ def shelves(suite):
 
 
 def faults_of(edit):
-    """Why the edit cannot be applied, if it cannot. The gate tells that of the first shelf alone, and fails nothing for it."""
+    """Why the edit cannot be applied, if it cannot: the gate tells that of the first shelf alone, and goes on."""
     try:
         applied(edit)
     except Unread as fault:
@@ -111,7 +111,8 @@ def second_shelf(suite):
     suite.note("the tree of the second shelf", {"files": before}, {"files": files_of(top)})
     calls = [line for line in (top / "log").read_text().splitlines() if line.startswith("must-fail ")]
     here = [line for line in calls if f" in {top}" in line]
-    suite.note("what is tried is a copy", {"calls": True, "in the tree": []}, {"calls": bool(calls), "in the tree": here})
+    suite.holds("something is tried", calls)
+    suite.note("what is tried is a copy", {"in the tree": []}, {"in the tree": here})
 
 
 def files_of(top):

@@ -97,8 +97,8 @@ class Tree:
 
     def begin(self):
         """A start that goes on beside the test."""
-        how = {"cwd": self.suite.folder, "env": self.environment, "stdin": subprocess.DEVNULL, "stdout": subprocess.PIPE}
-        return subprocess.Popen([self.link, "a ", "b"], stderr=subprocess.PIPE, **how)
+        pipes = {"stdin": subprocess.DEVNULL, "stdout": subprocess.PIPE, "stderr": subprocess.PIPE}
+        return subprocess.Popen([self.link, "a ", "b"], cwd=self.suite.folder, env=self.environment, **pipes)
 
     def is_half_made(self):
         """Waits until the toolchain has made a part of the program."""

@@ -52,7 +52,7 @@ def unproved(suite):
 
 
 def whole_input(suite):
-    """The toolchain takes standard input as it comes, and ends it at a pause; so it is called once all of it is there."""
+    """The toolchain takes standard input as it comes, and ends it at a pause: it is called once all of it is there."""
     tree = Tree(suite)
     pipes = dict.fromkeys(["stdin", "stdout", "stderr"], subprocess.PIPE)
     process = subprocess.Popen([tree.link, "--unproved"], env=tree.environment, **pipes)
