@@ -123,10 +123,10 @@ class Folders(Case):
 
     def test_drawn(self) -> None:
         for seed in range(8):
-            with drawn_bench(seed, 12, 18, period=20) as bench:
+            with drawn_bench(seed, 8, 12, period=20, room=3) as bench:
                 draw = random.Random(seed)
-                bench.many(f"window {draw.randrange(12)} {draw.randrange(20)} {draw.randint(1, 20)}" for _ in range(3))
-                bench.many(f"time {draw.randrange(12)} {draw.randrange(20)}" for _ in range(20))
+                bench.many(f"window {draw.randrange(8)} {draw.randrange(20)} {draw.randint(9, 20)}" for _ in range(2))
+                bench.many(f"time {draw.randrange(8)} {draw.randrange(20)}" for _ in range(20))
                 bench.save(self.folder / str(seed))
                 with Bench.load(self.folder / str(seed), program=PROGRAM) as other:
                     self.same(bench, other)
