@@ -7,7 +7,7 @@ import re
 import subprocess
 import unittest
 
-from typing import Dict
+from typing import Mapping
 
 from pespbench import Bench, FileFault, Labels, Window, files
 from pespbench.labels import EventLabel
@@ -42,7 +42,8 @@ class Reading(Case):
         wanted = self.told(words, kind)
         try:
             came = ""
-            read: Dict[int, object] = {**(files.read_activities(path) if kind == "activities" else files.read_times(path))}
+            read: Mapping[int, object] = files.read_times(path) if kind == "times" else {}
+            read = files.read_activities(path) if kind == "activities" else read
         except FileFault as fault:
             came = f"record {fault.record}: {fault.text}"
         self.assertEqual(came, wanted, text)

@@ -66,11 +66,10 @@ class Variants(Case):
 
     def test_refusals(self) -> None:
         with small(3) as bench, ThreadPoolExecutor(1) as executor:
-            came = variants(bench, [["fix 9 0"], ["costs"], [], ["fix 0 x"]], ask="cost", executor=executor, progress=False)
+            came = variants(bench, [["fix 9 0"], ["fix 0"], [], ["fix 0 x"]], ask="cost", executor=executor, progress=False)
             self.assertEqual([type(answer) for answer in came], [Refused, Fault, Refused, Fault])
-            for wrong in ["cost", "", "# x", "dump"]:
-                if wrong:
-                    self.assertRaises(ValueError, variants, bench, [[wrong]], executor=executor)
+            for wrong in ["cost", "", "# x", "dump", "fix 1 0\ncost"]:
+                self.assertRaises(ValueError, variants, bench, [[wrong]], executor=executor)
             self.assertRaises(ValueError, variants, bench, [[]], ask="", executor=executor)
 
     def test_a_program_that_dies(self) -> None:
@@ -117,7 +116,7 @@ class Parts(Case):
             for seed in range(200):
                 with small(seed) as bench:
                     if seed % 3 == 0:
-                        bench.many([f"fix 0 {seed % 10}", f"span 1 {seed % 7} {seed % 7 + 12}"])
+                        bench.many(f"span {number} {seed * number % 10} {seed * number % 10 + 2}" for number in range(6))
                     wanted = bench.optimum()
                     before = bench.dump()
                     came = optimum_in_parts(bench, executor=executor, spans=1 + seed % 3, ranges=1 + seed % 4)
