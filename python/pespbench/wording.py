@@ -6,7 +6,11 @@ What is named here has the attributes of an event (`number`, `line`, `to`, `stat
 
 from __future__ import annotations
 
-from typing import Protocol
+from dataclasses import dataclass
+from typing import Mapping, Protocol
+
+from pespbench.labels import EventLabel, Labels
+from pespbench.network import Activity
 
 
 class NamedEvent(Protocol):
@@ -109,3 +113,43 @@ def short_name(activity: NamedActivity, first: NamedEvent, last: NamedEvent) -> 
         return train_name(first) + where
     where = first.station if first.station == last.station else f"{first.station} → {last.station}"
     return f"{where}: {train_name(first)} → {train_name(last)}"
+
+
+@dataclass(frozen=True)
+class Named:
+    """An event with its label."""
+
+    number: int
+    line: str
+    to: str
+    station: str
+    kind: str
+
+
+@dataclass(frozen=True)
+class NamedKind:
+    """An activity with its kind."""
+
+    number: int
+    kind: str
+
+
+class Names:
+    """The names of a network's events and activities."""
+
+    def __init__(self, labels: Labels, activities: Mapping[int, Activity]) -> None:
+        self.labels, self.activities = labels, activities
+
+    def event(self, number: int) -> str:
+        """An event in words."""
+        return event_name(self._named(number))
+
+    def activity(self, number: int) -> str:
+        """An activity in words, by the events that it leads from and to."""
+        activity = self.activities[number]
+        kind = NamedKind(number, self.labels.kind(number))
+        return activity_name(kind, self._named(activity.from_event), self._named(activity.to_event))
+
+    def _named(self, number: int) -> Named:
+        label = self.labels.events.get(number, EventLabel())
+        return Named(number, label.line, label.to, label.station, label.kind)

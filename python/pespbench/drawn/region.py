@@ -88,8 +88,9 @@ class Region:
 
     def _files(self) -> dict[str, list[Sequence[object]]]:
         rows = [(each.number, each.first, each.last, each.lower, each.upper, each.weight) for each in self.activities]
-        labels: list[Sequence[object]] = [(e.number, e.line, e.to, e.station, e.kind) for e in self.events]
-        labels += [(activity.number, activity.kind) for activity in self.activities]
+        labels: list[Sequence[object]] = [("event", "line", "to", "station", "kind")]
+        labels += [(each.number, each.line, each.to, each.station, each.kind) for each in self.events]
+        labels += [("activity", "kind"), *((each.number, each.kind) for each in self.activities)]
         return {
             "activities": [("activity", "from", "to", "lower", "upper", "weight"), *rows],
             "times": [("event", "time"), *self.times.items()],

@@ -3,6 +3,7 @@
 from __future__ import annotations
 
 from dataclasses import dataclass
+from typing import Sequence
 
 from pespbench.report.content import Content
 from pespbench.report.markup import Element, append, drawing, element
@@ -93,7 +94,7 @@ def points(frame: Frame, train: Train) -> list[tuple[float, float]]:
     return [(minute, frame.heights[event.station]) for minute, event in zip(minutes, train.events)]
 
 
-def way(frame: Frame, placed: list[tuple[float, float]], color: str, width: float, dashes: str | None = None) -> list[Element]:
+def way(frame: Frame, placed: Sequence[tuple[float, float]], color: str, width: float, dashes: str | None = None) -> list[Element]:
     """A way through minutes and heights, as often as a part of it comes into the period."""
     made = []
     for shift in frame.shifts(min(minute for minute, _ in placed), max(minute for minute, _ in placed)):

@@ -7,6 +7,8 @@ import math
 from pathlib import Path
 from typing import Mapping
 
+from pespbench.faults import FileFault
+
 Place = tuple[float, float]
 Track = tuple[str, str]
 # So many moves of a station towards where its distances want it; fewer where there are many stations.
@@ -18,20 +20,19 @@ def read_places(path: Path) -> dict[str, Place]:
 
     Raises:
         OSError: the file cannot be read.
-        ValueError: a row has not three fields, or a place is no number; the text names the row.
+        FileFault: a row has not three fields, or a place is no number.
     """
     places: dict[str, Place] = {}
     with open(path, encoding="utf-8-sig", newline="") as file:
-        for number, row in enumerate(csv.reader(file, delimiter=";"), start=1):
-            fields = [each.strip() for each in row]
-            is_header = fields[1:] == ["x", "y"]
-            if not any(fields) or fields[0].startswith("#") or is_header:
-                continue
-            try:
-                station, x, y = fields
-                places[station] = finite(x), finite(y)
-            except ValueError:
-                raise ValueError(f"places file, row {number}: wanted station; x; y") from None
+        reader = csv.reader(file, delimiter=";")
+        try:
+            for row in reader:
+                fields = [each.strip() for each in row]
+                if any(fields) and not fields[0].startswith("#") and fields[1:] != ["x", "y"]:
+                    station, x, y = fields
+                    places[station] = finite(x), finite(y)
+        except (ValueError, csv.Error):
+            raise FileFault(str(path), reader.line_num, "wanted station; x; y") from None
     return places
 
 
