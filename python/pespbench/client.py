@@ -3,127 +3,239 @@
 from __future__ import annotations
 
 import os
-from typing import Dict, Iterable, Iterator, List, Mapping, Optional, Sequence, Tuple, Union
+import time as clock
 from contextlib import contextmanager
+from typing import Dict, Iterable, Iterator, List, Mapping, Optional, Union
 
-from pespbench.answers import Answer, Domain, Found, Infeasible, Optimum, Stopped, Tension, Violations
+from pespbench import files
+from pespbench.answers import Answer, Found, Stopped
+from pespbench.commands import MOST_NODES, checked
 from pespbench.faults import Fault, Refused
 from pespbench.labels import Labels
+from pespbench.methods import Commands, found_by
 from pespbench.network import Network
+from pespbench.process import OutOfTime, find_program
+from pespbench.session import Outcome, Session
+from pespbench.work import Work
 
 Path = Union[str, "os.PathLike[str]"]
 
 
-class Bench:
+class Bench(Commands):
     """A network in a running program.
 
-    Each method sends one command and raises Refused where the program refuses it, Fault where it takes the line for no
-    command, and Ended where it ends. An accepted edit is kept: where a search is killed (Ctrl-C, `search`) or the
-    program ends, the next use starts it again with all of them. It is for one thread at a time.
+    There is a method for each command (Commands). What was accepted is kept: where a search is killed (Ctrl-C, `search`),
+    or the program ends, the next use starts it again with all of that. A bench is for one thread at a time, and for a
+    `with` statement, which closes it.
     """
 
-    labels: Labels
+    def __init__(self, session: Session, labels: Optional[Labels] = None) -> None:
+        """Takes a session; `open`, `from_script` and `load` make one."""
+        self._session = session
+        self.labels = Labels() if labels is None else labels
 
     @classmethod
-    def open(cls, activities: Optional[Path], *, fixed: Optional[Path] = None, times: Optional[Path] = None, period: int = 60,
-             labels: Union[Path, Labels, None] = None, program: Optional[Path] = None) -> "Bench":
-        """Opens files as the program reads them; `activities` may be None for a network without events.
+    def open(
+        cls,
+        activities: Optional[Path],
+        *,
+        fixed: Optional[Path] = None,
+        times: Optional[Path] = None,
+        period: int = 60,
+        labels: Union[Path, Labels, None] = None,
+        program: Optional[Path] = None,
+    ) -> "Bench":
+        """Opens files as the program reads them; `activities` may be None, for a network without events.
 
-        `program` is that which is run; where it is None, that of the environment's PESPBENCH, else `pespbench` on the
-        path. Raises Ended where the program does not take the files, FileNotFoundError where there is no program.
+        `program` is what is run; where it is None, that is the program of the environment's PESPBENCH, else `pespbench` on
+        the path. The times are read here too, so their file has to be one that can be read twice. Raises Ended where the
+        program does not take the files or the period, FileNotFoundError where there is no program, and of the labels OSError
+        and FileFault.
         """
-        raise NotImplementedError
+        named = labels if labels is None or isinstance(labels, Labels) else Labels.read(labels)
+        options = {"fixed": fixed, "times": times}
+        words = [f"--{name}={os.fspath(path)}" for name, path in options.items() if path is not None]
+        words += [] if activities is None else ["--", os.fspath(activities)]
+        session = Session.opened(find_program(program), period, words)
+        bench = cls(session, named)
+        try:
+            given = {} if times is None else files.read_times(times)
+        except BaseException:
+            bench.close()
+            raise
+        events = session.work.network.windows
+        session.work.times = {event: given[event] % period for event in sorted(given) if event in events}
+        return bench
 
     @classmethod
-    def from_script(cls, script: str, *, period: Optional[int] = None, times: Optional[Mapping[int, int]] = None,
-                    labels: Union[Path, Labels, None] = None, program: Optional[Path] = None) -> "Bench":
-        """Opens the network that a script makes (`dump`), at the period of its first line where none is given."""
-        raise NotImplementedError
+    def from_script(
+        cls,
+        script: str,
+        *,
+        period: Optional[int] = None,
+        labels: Union[Path, Labels, None] = None,
+        program: Optional[Path] = None,
+    ) -> "Bench":
+        """Opens the network that the lines of a script make, as `dump` gives them.
+
+        The period is that of its comment `# period T lines N` where none is given, and else 60. Raises Refused or Fault for
+        the first line that is not accepted, Ended for a period that the program does not take, and what `open` raises of the
+        program and of the labels.
+        """
+        lines = script.splitlines()
+        told = [line.split() for line in lines if line.split()[:2] == ["#", "period"]]
+        if period is None:
+            period = int(told[0][2]) if told else 60
+        bench = cls.open(None, period=period, labels=labels, program=program)
+        try:
+            bench._all(line for line in lines if line.split() and not line.split()[0].startswith("#"))
+            bench._session.journal.clear()
+        except BaseException:
+            bench.close()
+            raise
+        return bench
 
     @classmethod
     def load(cls, folder: Path, *, program: Optional[Path] = None) -> "Bench":
-        """Opens what `save` has written."""
-        raise NotImplementedError
+        """Opens what `save` has written. Raises OSError, FileFault, and what `open` raises."""
+        from pespbench.folders import load
+
+        return load(folder, program)
 
     def save(self, folder: Path) -> None:
-        """Writes network, times and labels to a folder, which is made where it is not there. Raises OSError."""
-        raise NotImplementedError
+        """Writes network, times and labels to a folder, which is made where it is not there. Raises OSError.
 
-    def close(self) -> None: ...
-    def __enter__(self) -> "Bench": ...
-    def __exit__(self, *_: object) -> None: ...
+        Its files `activities`, `fixed` and `times` are such as `pespbench --check` reads.
+        """
+        from pespbench.folders import save
 
-    # what the client knows
+        save(self, folder)
+
+    def close(self) -> None:
+        """Ends the program. Each other method but those for what the client knows raises ValueError then."""
+        self._session.close()
+
+    def __enter__(self) -> "Bench":
+        return self
+
+    def __exit__(self, *_: object) -> None:
+        self.close()
+
+    # What the client knows, without asking.
+
     @property
-    def network(self) -> Network:
-        """The network that the accepted commands left."""
-        raise NotImplementedError
+    def program(self) -> str:
+        """The path of the program."""
+        return self._session.program
 
     @property
     def period(self) -> int:
-        raise NotImplementedError
+        """The period, in units of time."""
+        return self._session.work.network.period
 
     @property
-    def times(self) -> Mapping[int, int]:
-        """The working timetable: the time of each event that has one, below the period."""
-        raise NotImplementedError
+    def network(self) -> Network:
+        """The network as the accepted commands left it. It changes with them; it is there to be read."""
+        return self._session.work.network
+
+    @property
+    def times(self) -> Dict[int, int]:
+        """The working timetable: the time of each event that has one, below the period, ascending by event; a copy."""
+        known = self._session.work.times
+        return {event: known[event] for event in sorted(known)}
 
     def set_times(self, times: Mapping[int, int]) -> None:
-        """Makes these the working timetable, in one write; other events have no time then. All or none is done."""
-        raise NotImplementedError
+        """Makes these the working timetable, in one write; events that are left out have no time then.
 
-    # edits
-    def add_event(self, event: int) -> None: ...
-    def drop_event(self, event: int) -> None: ...
-    def fix(self, event: int, time: int) -> None: ...
-    def window(self, event: int, first: int, length: int) -> None: ...
-    def unfix(self, event: int) -> None: ...
-    def add_activity(self, activity: int, from_event: int, to_event: int, lower: int, upper: int, weight: int = 0) -> None: ...
-    def drop_activity(self, activity: int) -> None: ...
-    def span(self, activity: int, lower: int, upper: int) -> None: ...
-    def weight(self, activity: int, weight: int) -> None: ...
-    def ends(self, activity: int, from_event: int, to_event: int) -> None: ...
+        All is done or nothing. Raises Refused for an event that is not there (2) and for a time that is not below the period
+        (4), and what each command raises.
+        """
+        mark = len(self._session.journal)
+        with self._all_or_nothing():
+            self._all(Work.change_to(self._session.work.times, times))
+        self._session.join(mark)
 
-    # the working timetable
-    def time(self, event: int, time: int) -> None: ...
-    def untime(self, event: int) -> None: ...
-    def adopt(self) -> Optimum:
-        """Makes the optimum the working timetable, and gives it. Raises Refused with number 12 where there is none."""
-        raise NotImplementedError
+    # Lines and searches.
 
-    # questions
-    def domain(self, event: int) -> Domain: raise NotImplementedError
-    def domains(self) -> Dict[int, Domain]: raise NotImplementedError
-    def tensions(self) -> Dict[int, Tension]: raise NotImplementedError
-    def violations(self) -> Violations: raise NotImplementedError
-    def cost(self) -> int: raise NotImplementedError
-    def optimum(self) -> Union[Optimum, Infeasible]: raise NotImplementedError
-    def attempt(self, nodes: int) -> Found:
-        """`try N`"""
-        raise NotImplementedError
-
-    def dump(self) -> str: raise NotImplementedError
-
-    def search(self, seconds: float, nodes: int = 1000) -> Found:
-        """The optimum, where it is found in time: `try` with more and more nodes; else the best that was found."""
-        raise NotImplementedError
-
-    # lines
     def ask(self, command: str) -> Answer:
-        """The answer to a command line; an edit's is None."""
-        raise NotImplementedError
+        """The answer to a command line: None for an edit. Raises ValueError for a line that has no reply."""
+        return self._one(command, None)
 
-    def many(self, commands: Iterable[str]) -> List[Union[Answer, Refused, Fault]]:
-        """The answers to many command lines, which are written while replies are read; refusals are values here."""
-        raise NotImplementedError
+    def many(self, commands: Iterable[str]) -> List[Outcome]:
+        """The answers to command lines, which are written while replies are read.
 
-    # the journal
+        A refusal or a fault is a value of the list here, and the rest goes on. Raises ValueError, before anything is sent,
+        for a line that has no reply, and Ended and BadReply; what was accepted before that is kept.
+        """
+        return list(self._session.outcomes([checked(command) for command in commands]))
+
+    def search(self, seconds: float, nodes: int = 1_000) -> Found:
+        """The optimum where it is found within a time, and else the best timetable that was found.
+
+        It tries `nodes` nodes, twice as many, and so on; what is under way when the time is over is killed.
+        """
+        deadline = clock.monotonic() + seconds
+        best = Stopped()
+        while True:
+            try:
+                found = found_by(self._one(f"try {nodes}", deadline))
+            except OutOfTime:
+                return best
+            if not isinstance(found, Stopped):
+                return found
+            if best.cost is None or found.cost is not None and found.cost < best.cost:
+                best = found
+            if nodes == MOST_NODES:
+                return best
+            nodes = min(2 * nodes, MOST_NODES)
+
+    # The journal.
+
     @property
-    def journal(self) -> List[str]: raise NotImplementedError
-    def undo(self) -> List[str]: raise NotImplementedError
+    def journal(self) -> List[str]:
+        """What was accepted since the bench was opened and not taken back, as command lines."""
+        return [command for change in self._session.journal for command in change.commands]
+
+    def undo(self) -> List[str]:
+        """Takes back the last accepted change, and gives its commands; `adopt` and `set_times` are one change each.
+
+        Raises ValueError where there is none, within a trial where it has none.
+        """
+        if len(self._session.journal) <= self._session.floor:
+            raise ValueError("there is nothing to take back")
+        return self._session.take_back(len(self._session.journal) - 1)
 
     @contextmanager
     def trial(self) -> Iterator["Bench"]:
-        """What is accepted within is taken back at its end."""
-        raise NotImplementedError
-        yield self
+        """What is accepted within the `with` statement is taken back at its end, whatever ends it."""
+        session = self._session
+        floor, mark = session.floor, len(session.journal)
+        session.floor = mark
+        try:
+            yield self
+        finally:
+            session.floor = floor
+            session.take_back(mark)
+
+    # How a command is asked.
+
+    def _one(self, command: str, deadline: Optional[float]) -> Answer:
+        [outcome] = self._session.outcomes([checked(command)], deadline)
+        if isinstance(outcome, (Refused, Fault)):
+            raise outcome
+        return outcome
+
+    def _all(self, commands: Iterable[str]) -> None:
+        """Does commands, of which none may be refused. Raises the first refusal or fault."""
+        for outcome in self.many(commands):
+            if isinstance(outcome, (Refused, Fault)):
+                raise outcome
+
+    @contextmanager
+    def _all_or_nothing(self) -> Iterator[None]:
+        mark = len(self._session.journal)
+        try:
+            yield
+        except BaseException:
+            self._session.take_back(mark)
+            raise

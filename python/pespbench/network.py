@@ -2,8 +2,8 @@
 
 from __future__ import annotations
 
-from dataclasses import dataclass, field, replace
-from typing import Dict, Iterator, List, Optional
+from dataclasses import dataclass, field
+from typing import Dict, List, Mapping, Optional
 
 
 @dataclass(frozen=True)
@@ -35,7 +35,7 @@ class Activity:
     upper: int
     weight: int = 0
 
-    def slack(self, period: int, times: Dict[int, int]) -> int:
+    def slack(self, period: int, times: Mapping[int, int]) -> int:
         """How far it is above its lower bound in a timetable, below the period. Raises KeyError where an end has no time."""
         return (times[self.to_event] - times[self.from_event] - self.lower) % period
 
@@ -61,8 +61,7 @@ class Network:
             if window is not None:
                 lines.append(window_command(event, window))
         for number in sorted(self.activities):
-            each = self.activities[number]
-            lines.append(f"add activity {number} {each.from_event} {each.to_event} {each.lower} {each.upper} {each.weight}")
+            lines.append(activity_command(self.activities[number]))
         return lines
 
     def text(self) -> str:
@@ -76,3 +75,9 @@ def window_command(event: int, window: Window) -> str:
     if window.length == 1:
         return f"fix {event} {window.first}"
     return f"window {event} {window.first} {window.length}"
+
+
+def activity_command(activity: Activity) -> str:
+    """The command that adds an activity."""
+    ends = f"{activity.from_event} {activity.to_event}"
+    return f"add activity {activity.number} {ends} {activity.lower} {activity.upper} {activity.weight}"
