@@ -13,13 +13,16 @@ with a point, and weights are whole, so all are multiplied by the least power of
 
 from __future__ import annotations
 
+import argparse
 import csv
+import sys
 from dataclasses import dataclass, field
 from decimal import Decimal, InvalidOperation
 from pathlib import Path
 from typing import Iterator, Sequence
 
 from pespbench.faults import FileFault
+from pespbench.files import read_times, write_activities, write_rows, write_text, write_times
 from pespbench.labels import EventLabel, Labels
 from pespbench.network import Activity
 
@@ -171,4 +174,51 @@ def last_events(read: LinTim) -> dict[int, int]:
 def write_timetable(path: Path, times: dict[int, int]) -> None:
     """Writes times as LinTim's Timetable-periodic.tim. Raises OSError."""
     rows = "".join(f"{event}; {time}\n" for event, time in sorted(times.items()))
-    path.write_text("# event_index; time\n" + rows, encoding="utf-8")
+    write_text(path, "# event_index; time\n" + rows)
+
+
+def save_lintim(read: LinTim, folder: Path, period: int) -> None:
+    """Writes what was read as a folder that `Bench.load` takes, with a file of places where stops were read.
+
+    Raises:
+        OSError: the folder cannot be made, or a file cannot be written.
+    """
+    folder.mkdir(parents=True, exist_ok=True)
+    write_rows(folder / "period", ["period"], [[period]])
+    write_activities(folder / "activities", read.activities)
+    write_times(folder / "times", {event: time % period for event, time in read.times.items()})
+    read.labels.write(folder / "labels")
+    if read.places:
+        rows = "".join(f"{station}; {x}; {y}\n" for station, (x, y) in read.places.items())
+        write_text(folder / "places", "station; x; y\n" + rows)
+
+
+def add_parser(subparsers: argparse._SubParsersAction[argparse.ArgumentParser]) -> None:
+    """Adds the parsers of both subcommands."""
+    parser = subparsers.add_parser("from-lintim", help="LinTim's periodic files as a folder of pespbench")
+    parser.add_argument("activities", type=Path, metavar="ACTIVITIES", help="Activities-periodic.giv")
+    parser.add_argument("folder", type=Path, metavar="FOLDER", help="where the folder is written")
+    parser.add_argument("--timetable", type=Path, metavar="FILE", help="Timetable-periodic.tim")
+    parser.add_argument("--events", type=Path, metavar="FILE", help="Events-periodic.giv, for labels")
+    parser.add_argument("--stops", type=Path, metavar="FILE", help="Stops.giv, for the names and places of stations")
+    parser.add_argument("--period", type=int, default=60, help="the period, 2 to 120 [default: 60]")
+    parser.set_defaults(run=run)
+    back = subparsers.add_parser("to-lintim", help="times as LinTim's Timetable-periodic.tim")
+    back.add_argument("times", type=Path, metavar="TIMES", help="a file of times")
+    back.add_argument("timetable", type=Path, metavar="FILE", help="where the timetable is written")
+    back.set_defaults(run=run_back)
+
+
+def run(words: argparse.Namespace) -> int:
+    """Writes the folder, and tells how weights were scaled where they were."""
+    read = read_lintim(words.activities, words.timetable, words.events, words.stops)
+    save_lintim(read, words.folder, words.period)
+    if read.scale > 1:
+        print(f"weights are {read.scale} times the passengers, so that they are whole; so is the cost", file=sys.stderr)
+    return 0
+
+
+def run_back(words: argparse.Namespace) -> int:
+    """Writes the timetable."""
+    write_timetable(words.timetable, read_times(words.times))
+    return 0

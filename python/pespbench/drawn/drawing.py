@@ -136,7 +136,7 @@ def headway_pairs(drawing: Drawing) -> Iterator[tuple[RegionEvent, RegionEvent]]
                 yield first, last
 
 
-def draw_region(seed: int, feasible: bool = True, change_widths: tuple[int, int] = (20, 35)) -> Region:
+def draw_region(seed: int, feasible: bool = True, change_widths: tuple[int, int] = (10, 35)) -> Region:
     """The region of a seed.
 
     The span of a change allows from the first to the second of `change_widths` minutes above its lower bound, or as

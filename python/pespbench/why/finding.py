@@ -23,7 +23,7 @@ FIXED = "fixed"
 def why(bench: Bench, hard: Collection[str] = (), nodes: int = 2_000, seconds: float = 10.0) -> Why:
     """A least set of activities, fixed times and windows of a network that cannot be met together.
 
-    The bench is as it was afterwards. First what is no part of the conflict is let go by halves, as long as single
+    The bench is not changed, for a program of its own is asked. First what is no part of the conflict is let go by halves, as long as single
     activities alone show an empty domain; then by searches.
 
     Args:
@@ -38,8 +38,8 @@ def why(bench: Bench, hard: Collection[str] = (), nodes: int = 2_000, seconds: f
     """
     if nodes < 1 or seconds <= 0:
         raise ValueError("nodes and seconds have to be above 0")
-    with bench.trial():
-        return Finding(Probe(bench), hard_members(bench, hard), nodes, seconds).answer()
+    with Bench.from_script(bench.dump(), period=bench.period, program=bench.program) as copy:
+        return Finding(Probe(copy), hard_members(bench, hard), nodes, seconds).answer()
 
 
 def hard_members(bench: Bench, kinds: Collection[str]) -> frozenset[Member]:

@@ -11,7 +11,7 @@ from pespbench.why.members import Bounds, Held, Kept, Member, Span, Verdict
 from pespbench.why.probe import GREATEST_BOUND, Probe
 from pespbench.why.shapes import Shape
 
-RANKS = {Verdict.POSSIBLE: 0, Verdict.UNDECIDED: 1, None: 1, Verdict.INFEASIBLE: 2}
+RANKS = {Verdict.POSSIBLE: 0, None: 1, Verdict.UNDECIDED: 2, Verdict.INFEASIBLE: 3}
 
 
 class Mending:

@@ -19,7 +19,7 @@ Timetable = dict[int, int]
 
 
 class Probe:
-    """A bench while sets are asked about. Its edits stand within a trial of the caller, and weights are 0 from the first."""
+    """A bench while sets are asked about, which is left changed: its weights are 0 from the first."""
 
     def __init__(self, bench: Bench) -> None:
         network = bench.network
@@ -29,6 +29,8 @@ class Probe:
         self.ends = {number: (each.from_event, each.to_event) for number, each in network.activities.items()}
         self.spans = {number: Span(each.lower, each.upper) for number, each in network.activities.items()}
         self.windows: dict[int, Optional[Window]] = dict(network.windows)
+        # The events that no activity joins that was asked for last.
+        self.alone: set[int] = set()
         # The events that are held before others, in the parts that have them.
         self.preferred: list[int] = []
         self.tests = 0
@@ -38,7 +40,7 @@ class Probe:
 
     def by_domains(self, kept: Kept) -> Verdict:
         """Whether a domain is empty with the set alone: then it is infeasible, and else nothing is said."""
-        self._keep(kept)
+        self._keep(kept, is_all_held=False)
         answers = self.bench.many(f"domain {root}" for root in self.roots)
         is_empty = any(isinstance(answer, Domain) and not answer.residues for answer in answers)
         return Verdict.INFEASIBLE if is_empty else Verdict.UNDECIDED
@@ -49,7 +51,7 @@ class Probe:
 
     def search(self, kept: Kept, nodes: int) -> tuple[Verdict, Timetable]:
         """What a search of so many nodes says of the set alone, and the timetable that it found, where it found one."""
-        self._keep(kept)
+        self._keep(kept, is_all_held=True)
         answer = self.bench.attempt(nodes)
         if isinstance(answer, Infeasible):
             return Verdict.INFEASIBLE, {}
@@ -57,42 +59,50 @@ class Probe:
             return Verdict.POSSIBLE, dict(answer.times)
         return Verdict.UNDECIDED, {}
 
-    def _keep(self, kept: Kept) -> None:
-        """Makes the edits by which just the set is asked for."""
+    def _keep(self, kept: Kept, is_all_held: bool) -> None:
+        """Makes the edits by which just the set is asked for; events without an activity of it are held if all are."""
         self.tests += 1
-        commands = []
-        for number, span in self.spans.items():
-            wanted = kept.get(Member(Of.ACTIVITY, number), self._let_go(number))
-            if wanted != span and isinstance(wanted, Span):
-                commands.append(f"span {number} {wanted.lower} {wanted.upper}")
-                self.spans[number] = wanted
-        wanted_windows = self._wanted_windows(kept)
-        for event, window in self.windows.items():
-            held = wanted_windows.get(event)
-            if held != window:
-                commands.append(window_command(event, held) if held else f"unfix {event}")
-                self.windows[event] = held
+        spans = {number: self._span(kept, number) for number in self.spans}
+        changed = [number for number, span in spans.items() if span != self.spans[number]]
+        windows, alone = self._wanted_windows(kept, is_all_held)
+        # Spans are changed while domains are full, since each change costs the minutes that come and go: so what holds
+        # events goes first and comes last, but for events that nothing binds before and after.
+        lifted = [event for event, window in self.windows.items() if window and event not in self.alone & alone]
+        lifted = [event for event in lifted if changed or windows.get(event) != self.windows[event]]
+        commands = [f"unfix {event}" for event in lifted]
+        self.windows.update((event, None) for event in lifted)
+        commands += [f"span {number} {spans[number].lower} {spans[number].upper}" for number in changed]
+        held = [(event, window) for event, window in windows.items() if window != self.windows[event]]
+        commands += [window_command(event, window) for event, window in held]
+        commands += [f"unfix {event}" for event, window in self.windows.items() if window and event not in windows]
+        self.windows.update({event: windows.get(event) for event in self.windows})
+        self.spans, self.alone = spans, alone
         self._edit(commands)
+
+    def _span(self, kept: Kept, number: int) -> Span:
+        """The span of an activity in a set; where it is not in it, one that every two times meet."""
+        bounds = kept.get(Member(Of.ACTIVITY, number))
+        return bounds if isinstance(bounds, Span) else self._let_go(number)
 
     def _let_go(self, number: int) -> Span:
         """A span that every two times meet, near the one that stands so that few domains change."""
         lower = min(self.spans[number].lower, GREATEST_BOUND - self.period + 1)
         return Span(lower, lower + self.period - 1)
 
-    def _wanted_windows(self, kept: Kept) -> dict[int, Window]:
-        """The windows of the set, and one held event for each part that has none."""
+    def _wanted_windows(self, kept: Kept, is_all_held: bool) -> tuple[dict[int, Window], set[int]]:
+        """The windows of the set with one held event for each part that has none, and the events that nothing joins."""
         windows = {member.number: bounds for member, bounds in kept.items() if isinstance(bounds, Held)}
         windows = {event: held for event, held in windows.items() if held.is_binding(self.period)}
         wanted = {event: Window(held.first, held.length) for event, held in windows.items()}
         joins = [self.ends[member.number] for member, bounds in kept.items() if self._joins(bounds)]
         degrees = dict.fromkeys(self.windows, 0)
-        for ends in joins:
-            for event in ends:
-                degrees[event] += 1
+        for event in (event for ends in joins for event in ends):
+            degrees[event] += 1
         for part in parts_of(self.windows, joins):
-            if not any(event in windows for event in part):
-                wanted[self._held(part, degrees)] = Window(0, 1)
-        return wanted
+            held = self._held(part, degrees)
+            if (is_all_held or degrees[held]) and not any(event in windows for event in part):
+                wanted[held] = Window(0, 1)
+        return wanted, {event for event, degree in degrees.items() if not degree}
 
     def _joins(self, bounds: Span | Held) -> bool:
         return isinstance(bounds, Span) and bounds.is_binding(self.period)

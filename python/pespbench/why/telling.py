@@ -7,12 +7,12 @@ from pespbench.why.members import Bounds, Held, Member, Of, Verdict
 from pespbench.why.shapes import Circle, Shape
 from pespbench.wording import Names, minutes, span_text, window_text
 
-# What is said of the whole network behind a mend.
+# What is said above the mends with which the whole network is as a search says of it.
 WHOLE = {
-    Verdict.POSSIBLE: "; the whole network then has a timetable",
-    Verdict.INFEASIBLE: "; another conflict is then left",
-    Verdict.UNDECIDED: "; whether the whole network then has a timetable is undecided",
-    None: "; the whole network was not tried with it",
+    Verdict.POSSIBLE: "with each of these the whole network has a timetable:",
+    None: "these mend the conflict, and the whole network was not tried with them:",
+    Verdict.UNDECIDED: "these mend the conflict, and whether the whole network has a timetable then is undecided:",
+    Verdict.INFEASIBLE: "with each of these another conflict is left:",
 }
 
 
@@ -99,10 +99,16 @@ def mends_text(conflict: Conflict, names: Names) -> str:
     """What mends the conflict, best first."""
     if not conflict.mends:
         return "No member that may be changed is seen to mend it alone.\n"
-    return "\n".join(["What mends it, best first:", "", *(mend_line(mend, names) for mend in conflict.mends)]) + "\n"
+    blocks = ["The least that mends it, for one member alone, best first;"]
+    for verdict, words in WHOLE.items():
+        listed = [mend for mend in conflict.mends if mend.whole is verdict]
+        if listed:
+            width = max(len(member_name(mend.member, names)) for mend in listed)
+            blocks.append("\n".join([words, "", *(mend_line(mend, names, width) for mend in listed)]) + "\n")
+    return "\n".join(blocks)
 
 
-def mend_line(mend: Mend, names: Names) -> str:
+def mend_line(mend: Mend, names: Names, width: int) -> str:
     """One mend in a line."""
     change = f"{bounds_text(mend.after)} in place of {bounds_text(mend.before).removesuffix(' minutes')}"
-    return f"  {minutes(mend.minutes)} more: {member_name(mend.member, names)}, {change}{WHOLE[mend.whole]}"
+    return f"  {minutes(mend.minutes):>10} more  {member_name(mend.member, names):<{width}}  {change}"
