@@ -15,10 +15,12 @@ COUNT_PLACES = {"domains": 1, "tensions": 1, "violations": 1, "optimum": 2, "sto
 def following(first: str) -> int:
     """How many lines follow the first line of a reply. Raises BadReply where the line does not say so."""
     words = first.split()
-    place = COUNT_PLACES.get(words[0], len(words)) if words else 0
-    if place >= len(words) > 0:
+    if not words:
+        raise BadReply(first)
+    if words[0] not in COUNT_PLACES or words == ["stopped", "none"]:
         return 0
-    if not words or not words[place].isdigit():
+    place = COUNT_PLACES[words[0]]
+    if place >= len(words) or not re.fullmatch("[0-9]{1,7}", words[place]):
         raise BadReply(first)
     return int(words[place])
 
