@@ -109,8 +109,9 @@ def short_name(activity: NamedActivity, first: NamedEvent, last: NamedEvent) -> 
     if not (first.station and last.station):
         return f"event {first.number} → event {last.number}"
     if (first.line, first.to) == (last.line, last.to):
-        where = f" at {first.station}" if first.station == last.station else f": {first.station} → {last.station}"
-        return train_name(first) + where
+        if first.station == last.station:
+            return f"{train_name(first)} at {first.station}"
+        return f"{first.line or train_name(first)}: {first.station} → {last.station}"
     where = first.station if first.station == last.station else f"{first.station} → {last.station}"
     return f"{where}: {train_name(first)} → {train_name(last)}"
 

@@ -192,8 +192,7 @@ class Regions(Case):
     def test_infeasible_region(self) -> None:
         region = draw_region(3, feasible=False)
         region.save(self.folder)
-        files = {"labels": self.folder / "labels", "program": PROGRAM}
-        with Bench.open(self.folder / "activities", **files) as bench:
+        with Bench.open(self.folder / "activities", labels=self.folder / "labels", program=PROGRAM) as bench:
             answer = why(bench, ("run", "dwell", "headway"))
             assert isinstance(answer, Conflict)
             self.assertTrue(answer.is_least)

@@ -136,29 +136,26 @@ class Netgraph:
     def _station(self, station: str) -> list[Element]:
         x, y = self.places[station]
         ring = element("circle", cx=x, cy=y, r=self.radius[station], fill="#fff", stroke=INK, stroke_width=2.5)
-        left, base = self._label_place(station)
-        name = element("text", station, x=left, y=base, font_size=NAME, font_weight=700, fill=INK)
+        x, base, anchor = max(self._label_places(station), key=lambda place: self._room(station, *place))
+        name = element("text", station, x=x, y=base, text_anchor=anchor, font_size=NAME, font_weight=700, fill=INK)
         name.attrib.update({"stroke": "#fff", "stroke-width": "4", "paint-order": "stroke"})
         return [ring, name]
 
-    def _label_place(self, station: str) -> tuple[float, float]:
-        """Where a name begins: on that side of its ring where most room is left between tracks and their numbers."""
-        return max(self._label_places(station), key=lambda place: self._room(station, *place))
-
-    def _label_places(self, station: str) -> list[tuple[float, float]]:
-        """Places of a name round its ring, with the ones that read best first."""
+    def _label_places(self, station: str) -> list[tuple[float, float, str]]:
+        """Places of a name round its ring, with the ones that read best first: x, base line, and where x is in the name."""
         x, y = self.places[station]
-        width, reach = width_of(station), self.radius[station] + 6
+        reach = self.radius[station] + 6
         made = []
         for turn in (6, 2, 0, 4, 5, 7, 1, 3):
             across, down = math.cos(turn * math.pi / 4), math.sin(turn * math.pi / 4)
-            left = x + across * reach - width * (0.5 - across / 2)
-            made.append((left, y + down * (reach + NAME / 2) + NAME * 0.36))
+            anchor = "middle" if abs(across) < 0.5 else "start" if across > 0 else "end"
+            made.append((x + across * reach, y + down * (reach + NAME / 2) + NAME * 0.36, anchor))
         return made
 
-    def _room(self, station: str, left: float, base: float) -> float:
+    def _room(self, station: str, x: float, base: float, anchor: str) -> float:
         """The least distance of a name from what lies about it, up to what is enough."""
         width = width_of(station)
+        left = x - width * {"start": 0.0, "middle": 0.5, "end": 1.0}[anchor]
         spots = [(left + width * part / 4, base - NAME * height) for part in range(5) for height in (0.0, 0.7)]
         room = ENOUGH
         for ends, lanes in self.tracks.items():
@@ -171,7 +168,7 @@ class Netgraph:
 
 def width_of(name: str) -> float:
     """About how wide the name of a station is."""
-    return 0.63 * NAME * len(name)
+    return 0.7 * NAME * len(name)
 
 
 def beside(spot: Place, start: Place, end: Place) -> float:

@@ -9,7 +9,7 @@ from pespbench.report.markup import Element, append, element, text_of
 from pespbench.report.netgraph import Netgraph, legend
 from pespbench.report.strips import narrowed, strips
 from pespbench.report.style import SHEET, color_of
-from pespbench.report.tables import activities_table, kinds_of, kinds_table, violations_table
+from pespbench.report.tables import activities_tables, kinds_of, kinds_table, violations_table
 from pespbench.report.trains import Line, lines_of
 
 
@@ -94,7 +94,7 @@ def lines_part(content: Content, lines: list[Line]) -> Element | None:
     for place, line in enumerate(lines):
         color = color_of(place)
         pill = element("span", line.name, class_="pill", style=f"background:{color}")
-        title = element("h3", pill, " – ".join([line.stations[0], line.stations[-1]]))
+        title = element("h3", pill, " – ".join(dict.fromkeys([line.stations[0], line.stations[-1]])))
         picture = diagram(content, lines, line, color)
         name = "line wide" if len(line.trains) > TRAINS_BESIDE else "line"
         table = element("div", title, line_table(line))
@@ -118,10 +118,8 @@ def activities_part(content: Content) -> Element:
     kinds = kinds_of(content)
     note = "The slack is what an activity takes above its lower bound, and its cost is weight times slack. Dearest first."
     made = part("activities", "Activities by kind", note, kinds_table(kinds, content.cost))
-    tables = element("div", class_="kinds")
     for kind in kinds:
-        append(tables, element("h3", f"{kind.name[:1].upper()}{kind.name[1:]}"), activities_table(content, kind))
-    append(made, tables)
+        append(made, element("h3", f"{kind.name[:1].upper()}{kind.name[1:]}"), *activities_tables(content, kind))
     return made
 
 

@@ -49,12 +49,13 @@ nav a { color: #1b6ca8; text-decoration: none; margin-right: 18px; }
 .strip svg { grid-column: 1 / 3; max-width: none !important; }
 .strip span:nth-child(2) { text-align: right; }
 .bar { width: 120px; }
-.kinds { columns: 2; column-gap: 40px; margin-top: 20px; }
-.kinds table { width: 100%; font-size: 13px; }
-.kinds th, .kinds td { padding-right: 8px; }
-.kinds h3:first-child, .strips h3:first-child { margin-top: 0; }
+.beside { display: grid; grid-template-columns: 1fr 1fr; gap: 0 44px; align-items: start; }
+.beside table { width: 100%; }
+#activities table { font-size: 13px; }
+.strips h3:first-child { margin-top: 0; }
 footer { margin-top: 48px; color: #5f6c7a; font-size: 12.5px; border-top: 1px solid #dfe4ea; padding-top: 10px; }
-@media (max-width: 760px) { main { padding: 20px 16px; } .line { grid-template-columns: 1fr; } .strips, .kinds { columns: 1; } }
+@media (max-width: 760px) { main { padding: 20px 16px; } .line { grid-template-columns: 1fr; } .strips { columns: 1; }
+  .beside { grid-template-columns: 1fr; } }
 @page { size: A4; margin: 14mm 13mm 15mm; }
 @media print {
   body { background: #fff; font-size: 10pt; -webkit-print-color-adjust: exact; print-color-adjust: exact; }
@@ -67,8 +68,10 @@ footer { margin-top: 48px; color: #5f6c7a; font-size: 12.5px; border-top: 1px so
   tr, .line, .figure, svg { break-inside: avoid; }
   .line { grid-template-columns: minmax(66mm, max-content) minmax(0, 1fr); gap: 4mm 6mm; margin-bottom: 5mm; }
   .line > div { overflow: visible; }
+  .figures { gap: 2mm; margin: 8pt 0; } .figure { padding: 3pt 7pt 2pt; min-width: 0; }
+  .figure b { font-size: 13pt; } .figure span { font-size: 7.5pt; }
   .strip { font-size: 8pt; }
-  .kinds { column-gap: 7mm; } .kinds table { font-size: 7.5pt; } .kinds th { font-size: 7pt; }
+  .beside { gap: 0 7mm; } #activities table { font-size: 8pt; } #activities th { font-size: 7.5pt; }
 }
 """
 

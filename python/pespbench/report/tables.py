@@ -10,6 +10,8 @@ from pespbench.report.style import FAINT
 from pespbench.wording import activity_name, clock, event_name, minutes, short_name, span_text, window_text
 
 BAR = 120.0
+# Tables stand beside each other from so many rows on, where no name is longer than this.
+LEAST_ROWS_BESIDE, LONGEST_NAME_BESIDE = 10, 30
 
 
 def row_of(tag: str, *texts: str | Element, numbers_from: int, **attributes: object) -> Element:
@@ -99,16 +101,25 @@ def share(cost: int, total: int | None) -> Element:
     return bar
 
 
-def activities_table(content: Content, kind: Kind) -> Element:
-    """The activities of a kind."""
+def activities_tables(content: Content, kind: Kind) -> list[Element]:
+    """The activities of a kind: in two tables beside each other where there are many and their names are short."""
+    names = {each.number: short_name(each, *content.ends(each)) for each in kind.activities}
+    if len(names) < LEAST_ROWS_BESIDE or max(map(len, names.values())) > LONGEST_NAME_BESIDE:
+        return [activities_table(kind.activities, names)]
+    middle = (len(kind.activities) + 1) // 2
+    halves = kind.activities[:middle], kind.activities[middle:]
+    return [element("div", *(activities_table(half, names) for half in halves), class_="beside")]
+
+
+def activities_table(activities: list[Activity], names: dict[int, str]) -> Element:
+    """A row for each of some activities."""
     titles = "Activity", "no.", "span", "takes", "slack", "weight", "cost"
     body = element("tbody")
-    for activity in kind.activities:
+    for activity in activities:
         known = activity.tension, activity.slack, activity.weight, activity.cost
         texts = [str(activity.number), span_text(activity.lower, activity.upper)]
         texts += ["–" if number is None else f"{number:,}" for number in known]
-        name = short_name(activity, *content.ends(activity))
-        row = row_of("td", name, *texts, numbers_from=1, data_activity=activity.number)
+        row = row_of("td", names[activity.number], *texts, numbers_from=1, data_activity=activity.number)
         if activity.is_violated:
             row.set("class", "alarm")
         append(body, row)
