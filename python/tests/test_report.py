@@ -64,8 +64,9 @@ class Region(Case):
             kind = self.bench.labels.kind(row.number("data-activity"))
             costs.setdefault(kind, []).append(int(row.children[-1].text.replace(",", "")))
         self.assertTrue(all(listed == sorted(listed, reverse=True) for listed in costs.values()))
-        self.assertEqual([sum(listed) for listed in costs.values()], sorted(map(sum, costs.values()), reverse=True))
-        self.assertEqual(sum(map(sum, costs.values())), self.bench.cost())
+        sums = [sum(listed) for listed in costs.values()]
+        self.assertEqual(sums, sorted(sums, reverse=True))
+        self.assertEqual(sum(sums), self.bench.cost())
 
     def test_violations(self) -> None:
         violations = self.bench.violations()
