@@ -1,0 +1,103 @@
+"""Spreads places over a drawing, so that there is room for stations and for numbers along tracks."""
+
+from __future__ import annotations
+
+import math
+
+from pespbench.report.places import Place, Track
+
+ROUNDS = 300
+# Of what two stations are too near, so much is mended in a round.
+SHARE = 0.3
+CLEARANCE = 26.0
+
+
+def spread(
+    places: dict[str, Place], tracks: list[Track], radius: dict[str, float], size: tuple[float, float], room: float
+) -> dict[str, Place]:
+    """Places in the units of a drawing of about a size, near where they were, with room for numbers.
+
+    Args:
+        places: places in any unit, y downwards.
+        radius: the radius of each station as it is drawn.
+        size: width and height of the drawing; it becomes larger where the stations want it.
+        room: what a track has at least between the rings of its two stations.
+    """
+    spreading = Spreading(fitted(places, size), tracks, radius, room)
+    for _ in range(ROUNDS):
+        if not spreading.step():
+            break
+    return spreading.places
+
+
+def fitted(places: dict[str, Place], size: tuple[float, float]) -> dict[str, Place]:
+    """The places at a scale at which they fit into a size; up to twice as tall as they are, where that fills it."""
+    left, top = min(x for x, _ in places.values()), min(y for _, y in places.values())
+    width = max(x for x, _ in places.values()) - left
+    height = max(y for _, y in places.values()) - top
+    across = size[0] / width if width else math.inf
+    down = size[1] / height if height else math.inf
+    scale = min(across, down)
+    scale = 1.0 if scale == math.inf else scale
+    # The order of names breaks ties between stations at one place.
+    return {
+        name: ((x - left) * min(across, scale * 1.5) if width else place * 0.01, (y - top) * min(down, scale * 1.5) if height else place * 0.01)
+        for place, (name, (x, y)) in enumerate(places.items())
+    }
+
+
+class Spreading:
+    """Places while they are spread."""
+
+    def __init__(self, places: dict[str, Place], tracks: list[Track], radius: dict[str, float], room: float) -> None:
+        self.places, self.tracks, self.radius, self.room = places, tracks, radius, room
+        self.names = list(places)
+        self.joined = {frozenset(track) for track in tracks}
+        self.is_moved = False
+
+    def step(self) -> bool:
+        """Mends each lack of room in part; False where there was none."""
+        self.is_moved = False
+        for place, first in enumerate(self.names):
+            for last in self.names[place + 1 :]:
+                room = self.room if frozenset((first, last)) in self.joined else 2 * CLEARANCE
+                self.push(first, last, self.radius[first] + self.radius[last] + room)
+        for track in self.tracks:
+            for station in self.names:
+                if station not in track:
+                    self.clear(station, track)
+        return self.is_moved
+
+    def push(self, first: str, last: str, wanted: float) -> None:
+        """Pushes two stations apart that are nearer than wanted."""
+        here, there = self.places[first], self.places[last]
+        apart = math.dist(here, there)
+        if apart >= wanted - 0.5:
+            return
+        x, y = ((there[0] - here[0]) / apart, (there[1] - here[1]) / apart) if apart > 1e-6 else (1.0, 0.0)
+        self.move(last, x, y, SHARE * (wanted - apart))
+        self.move(first, -x, -y, SHARE * (wanted - apart))
+
+    def clear(self, station: str, track: Track) -> None:
+        """Pushes a station away from a track that passes too near, and the track's ends a little the other way."""
+        here = self.places[station]
+        start, end = (self.places[name] for name in track)
+        length = math.dist(start, end)
+        if length < 1e-6:
+            return
+        along = (end[0] - start[0]) / length, (end[1] - start[1]) / length
+        at = (here[0] - start[0]) * along[0] + (here[1] - start[1]) * along[1]
+        beside = (here[1] - start[1]) * along[0] - (here[0] - start[0]) * along[1]
+        lack = self.radius[station] + CLEARANCE - abs(beside)
+        if not 0 < at < length or lack <= 0.5:
+            return
+        side = 1.0 if beside >= 0 else -1.0
+        self.move(station, -along[1] * side, along[0] * side, SHARE * lack)
+        for name in track:
+            self.move(name, along[1] * side, -along[0] * side, SHARE * lack / 2)
+
+    def move(self, station: str, x: float, y: float, length: float) -> None:
+        """Moves a station along a direction."""
+        here = self.places[station]
+        self.places[station] = here[0] + x * length, here[1] + y * length
+        self.is_moved = True
