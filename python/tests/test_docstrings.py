@@ -45,7 +45,7 @@ class Docstrings(unittest.TestCase):
                 with self.subTest(path=path.name, name=name):
                     self.assertTrue(told or is_plain(node) or "Hands" in name, "there is no docstring")
                     if raises(node) and node.name not in SAID_ELSEWHERE and "NotImplementedError" not in ast.dump(node):
-                        self.assertIn("aises ", told)
+                        self.assertIn("aises", told)
 
 
 if __name__ == "__main__":
