@@ -4,6 +4,7 @@ from __future__ import annotations
 
 import importlib
 import importlib.util
+import logging
 import os
 import signal
 import unittest
@@ -22,7 +23,8 @@ class Dask(Case):
 
     def setUp(self) -> None:
         super().setUp()
-        how: "dict[str, Any]" = {"n_workers": 2, "threads_per_worker": 1, "processes": True, "dashboard_address": None}
+        logging.getLogger("distributed").setLevel(logging.CRITICAL)
+        how: "dict[str, Any]" = {"silence_logs": logging.CRITICAL, "n_workers": 2, "threads_per_worker": 1, "processes": True, "dashboard_address": None}
         self.cluster = distributed.LocalCluster(host="127.0.0.1", local_directory=str(self.folder), **how)
         self.addCleanup(self.cluster.close)
         self.client = distributed.Client(self.cluster)
