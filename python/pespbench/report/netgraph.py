@@ -4,6 +4,7 @@ from __future__ import annotations
 
 import math
 from dataclasses import dataclass, field
+from typing import Iterator
 
 from pespbench.report.content import Event
 from pespbench.report.markup import Element, append, drawing, element
@@ -17,6 +18,8 @@ WIDTH, HEIGHT, MARGIN = 1020, 640, 64
 LANE, RING, NUMBERS = 29, 11, 112
 # The size of the names of stations, and how far from all else a name is far enough.
 NAME, ENOUGH = 14.5, 16.0
+# What is farther than this from a name is not near it.
+FAR = 150.0
 # How far a number reaches to the side of its track, and what two numbers and the name of the line want along half of it.
 ROW, LEAST_ROOM = 13.0, 38.0
 
@@ -158,12 +161,23 @@ class Netgraph:
         left = x - width * {"start": 0.0, "middle": 0.5, "end": 1.0}[anchor]
         spots = [(left + width * part / 4, base - NAME * height) for part in range(5) for height in (0.0, 0.7)]
         room = ENOUGH
-        for ends, lanes in self.tracks.items():
+        for ends, lanes in self._near(spots):
             half = (len(lanes) - 1) * LANE / 2 + NAME
             room = min(room, *(beside(spot, self.places[ends[0]], self.places[ends[1]]) - half for spot in spots))
         for other, radius in self.radius.items():
+            if abs(self.places[other][0] - x) > FAR or abs(self.places[other][1] - base) > FAR:
+                continue
             room = min(room, *(math.dist(spot, self.places[other]) - radius + (NAME if other == station else 0) for spot in spots))
         return room
+
+    def _near(self, spots: list[Place]) -> Iterator[tuple[tuple[str, str], list[Lane]]]:
+        """The tracks that are not far from some spots."""
+        left, right = min(x for x, _ in spots) - FAR, max(x for x, _ in spots) + FAR
+        top, bottom = min(y for _, y in spots) - FAR, max(y for _, y in spots) + FAR
+        for ends, lanes in self.tracks.items():
+            (x, y), (other_x, other_y) = (self.places[end] for end in ends)
+            if min(x, other_x) < right and max(x, other_x) > left and min(y, other_y) < bottom and max(y, other_y) > top:
+                yield ends, lanes
 
 
 def width_of(name: str) -> float:

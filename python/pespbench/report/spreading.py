@@ -6,7 +6,8 @@ import math
 
 from pespbench.report.places import Place, Track
 
-ROUNDS = 300
+# So many rounds, and fewer where there are many stations and tracks.
+MOST_ROUNDS, MOST_LOOKS = 300, 2_000_000
 # Of what two stations are too near, so much is mended in a round.
 SHARE = 0.3
 CLEARANCE = 26.0
@@ -24,24 +25,26 @@ def spread(
         room: what a track has at least between the rings of its two stations.
     """
     spreading = Spreading(fitted(places, size), tracks, radius, room)
-    for _ in range(ROUNDS):
+    looks = len(places) * (len(places) / 2 + len(tracks)) + 1
+    for _ in range(min(MOST_ROUNDS, int(MOST_LOOKS / looks) + 5)):
         if not spreading.step():
             break
     return spreading.places
 
 
 def fitted(places: dict[str, Place], size: tuple[float, float]) -> dict[str, Place]:
-    """The places at a scale at which they fit into a size; up to twice as tall as they are, where that fills it."""
+    """The places at a scale at which they fit into a size, stretched up to a half more one way where that fills it."""
     left, top = min(x for x, _ in places.values()), min(y for _, y in places.values())
     width = max(x for x, _ in places.values()) - left
     height = max(y for _, y in places.values()) - top
-    across = size[0] / width if width else math.inf
-    down = size[1] / height if height else math.inf
-    scale = min(across, down)
-    scale = 1.0 if scale == math.inf else scale
-    # The order of names breaks ties between stations at one place.
+    across = size[0] / width if width else 1.0
+    down = size[1] / height if height else 1.0
+    scale = min(across if width else down, down if height else across)
+    across, down = min(across, 1.5 * scale), min(down, 1.5 * scale)
+    # Stations in one place, or on one line, are kept apart by their order.
+    shift = 0.01
     return {
-        name: ((x - left) * min(across, scale * 1.5) if width else place * 0.01, (y - top) * min(down, scale * 1.5) if height else place * 0.01)
+        name: ((x - left) * across + place * shift, (y - top) * down + place * shift)
         for place, (name, (x, y)) in enumerate(places.items())
     }
 

@@ -76,10 +76,13 @@ class Finding:
         """Whether a domain is empty, with some event of each free part held; that event is held first from then on."""
         if self._by_domains(list(self.probe.members)):
             return True
+        until = time.monotonic() + self.seconds
         for event in self.probe.windows:
             self.probe.preferred = [event]
             if self._by_domains(list(self.probe.members)):
                 return True
+            if time.monotonic() > until:
+                break
         self.probe.preferred = []
         return False
 
