@@ -12,8 +12,12 @@ from pespbench.client import Bench
 from pespbench.faults import BadReply, Ended, Fault, FileFault, PespbenchError, Refused
 from pespbench.labels import EventLabel, Labels
 from pespbench.network import Activity, Network, Window
+from pespbench.parts import optimum_in_parts
+from pespbench.variants import variants
+from pespbench.workers import Lost
 
 __all__ = [
     "Activity", "Answer", "BadReply", "Bench", "Domain", "Ended", "EventLabel", "Fault", "FileFault", "Found", "Infeasible",
-    "Labels", "Network", "Optimum", "PespbenchError", "Refused", "Stopped", "Tension", "Violations", "Window",
+    "Labels", "Lost", "Network", "Optimum", "PespbenchError", "Refused", "Stopped", "Tension", "Violations", "Window",
+    "optimum_in_parts", "variants",
 ]

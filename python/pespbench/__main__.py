@@ -12,7 +12,7 @@ from typing import List, Optional
 
 from pespbench.faults import PespbenchError
 
-MODULES: List[str] = []
+MODULES = ["shell", "search", "why", "report", "compare", "lintim"]
 
 
 def main(words: Optional[List[str]] = None) -> int:

@@ -29,7 +29,7 @@ class Domain:
         return ", ".join(str(a) if a == b else f"{a}-{b}" for a, b in runs(self.residues)) or "none"
 
     def text(self) -> str:
-        """The domain line of the program."""
+        """The domain line of the program, without its end."""
         return " ".join([f"{self.event}:", *map(str, self.residues)])
 
 
@@ -41,6 +41,10 @@ class Tension:
     tension: int
     slack: int
 
+    def text(self) -> str:
+        """The line of the program, without its end."""
+        return f"{self.activity} {self.tension} {self.slack}"
+
 
 @dataclass(frozen=True)
 class Violations:
@@ -51,6 +55,11 @@ class Violations:
 
     def __len__(self) -> int:
         return len(self.activities) + len(self.events)
+
+    def text(self) -> str:
+        """The reply of the program."""
+        lines = [f"violations {len(self)}", *(f"activity {number}" for number in self.activities)]
+        return "".join(f"{line}\n" for line in [*lines, *(f"event {number}" for number in self.events)])
 
 
 @dataclass(frozen=True)

@@ -8,7 +8,8 @@ import shutil
 import subprocess
 import tempfile
 import time
-from typing import Iterator, List, Optional, Sequence, Tuple, Union
+import weakref
+from typing import IO, Iterator, List, Optional, Sequence, Tuple, Union
 
 from pespbench.faults import Ended
 from pespbench.replies import Assembler
@@ -50,6 +51,8 @@ class Process:
         self._selector.register(self._output, selectors.EVENT_READ)
         self._assembler = Assembler()
         self.lines = 0
+        # One that nobody closed goes with its object, or with the interpreter.
+        self._let_go = weakref.finalize(self, let_go, self._child, self._selector, self._errors, os.getpid())
 
     def replies(self, commands: Sequence[str], deadline: Optional[float] = None) -> Iterator[List[str]]:
         """Sends commands, and gives the reply to each as it comes.
@@ -118,8 +121,16 @@ class Process:
 
     def kill(self) -> None:
         """Ends the program by force."""
-        self._child.kill()
-        self._child.wait()
-        self._selector.close()
-        for file in (self._input, self._output, self._errors):
+        self._let_go()
+
+
+def let_go(child: "subprocess.Popen[bytes]", selector: selectors.BaseSelector, errors: IO[bytes], owner: int) -> None:
+    """Ends a program by force, and closes all that leads to it; a process that was forked leaves its parent's program alone."""
+    if os.getpid() != owner:
+        return
+    child.kill()
+    child.wait()
+    selector.close()
+    for file in (child.stdin, child.stdout, errors):
+        if file is not None:
             file.close()

@@ -3,7 +3,7 @@
 from __future__ import annotations
 
 import re
-from typing import Dict, Iterator, List, Optional, Sequence
+from typing import Dict, Iterator, List, Optional, Sequence, Union
 
 from pespbench.answers import Answer, Domain, Infeasible, Optimum, Stopped, Tension, Violations
 from pespbench.faults import BadReply, Fault, Refused
@@ -99,6 +99,22 @@ def _answer(words: List[str], reply: Sequence[str]) -> Answer:
     if name == "stopped":
         return Stopped() if words[1] == "none" else Stopped(int(words[1]), _times(rows))
     raise ValueError(name)
+
+
+def text_of(command: str, outcome: Union[Answer, Refused, Fault]) -> str:
+    """The reply that has such an outcome, to a command."""
+    name = command.split()[0]
+    if isinstance(outcome, (Refused, Fault)):
+        return f"{outcome}\n"
+    if outcome is None or name == "adopt":
+        return "ok\n"
+    if isinstance(outcome, int):
+        return f"cost {outcome}\n"
+    if isinstance(outcome, str):
+        return outcome
+    if isinstance(outcome, dict):
+        return "".join(f"{line}\n" for line in [f"{name} {len(outcome)}", *(each.text() for each in outcome.values())])
+    return f"{outcome.text()}\n" if isinstance(outcome, Domain) else outcome.text()
 
 
 def _domain(line: str) -> Domain:

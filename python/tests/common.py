@@ -74,9 +74,9 @@ def drawn_script(seed: int, events: int, activities: int, period: int = 60, room
     return lines
 
 
-def drawn_bench(seed: int, events: int, activities: int, period: int = 60) -> Bench:
+def drawn_bench(seed: int, events: int, activities: int, period: int = 60, room: int = 12) -> Bench:
     """The drawn network, in the program."""
-    script = "\n".join(drawn_script(seed, events, activities, period))
+    script = "\n".join(drawn_script(seed, events, activities, period, room))
     return Bench.from_script(script, period=period, program=PROGRAM)
 
 

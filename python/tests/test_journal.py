@@ -2,8 +2,8 @@
 
 from __future__ import annotations
 
-import _thread
 import random
+import signal
 import threading
 import time
 import unittest
@@ -108,7 +108,8 @@ class StartedAgain(Case):
         bench = self.hard()
         bench.time(3, 7)
         before, journal = bench.dump(), bench.journal
-        timer = threading.Timer(0.7, _thread.interrupt_main)
+        main = threading.main_thread().ident
+        timer = threading.Timer(0.7, lambda: signal.pthread_kill(main or 0, signal.SIGINT))
         timer.start()
         self.assertRaises(KeyboardInterrupt, bench.optimum)
         timer.join()

@@ -1,5 +1,6 @@
 """The scripts of examples/ that read replies: session.py, draw.py and read_replies.py."""
 
+import os
 import random
 import sys
 from xml.etree import ElementTree
@@ -9,52 +10,54 @@ from tests.harness import SOME, TOP, run
 
 PYTHON = [sys.executable, "-B"]
 DRAW = [*PYTHON, TOP / "examples/draw.py"]
+PACKAGE = {**os.environ, "PYTHONPATH": str(TOP / "python")}
 SHORTEST = """changes of 4 to 8 minutes: infeasible
-changes of 4 to 9 minutes: optimum 349 8 {1: 3, 2: 27, 3: 29, 4: 0, 5: 36, 6: 54, 7: 2, 8: 20}
+changes of 4 to 9 minutes: cost 349, times {1: 3, 2: 27, 3: 29, 4: 0, 5: 36, 6: 54, 7: 2, 8: 20}
+"""
+QUESTIONS = """
+import sys
+from pespbench import Bench, PespbenchError
+text = "try 0/optimum/fix 1 0/domains/domain 2/drop activity 1/drop activity 2/dump/cost/time 2 12/cots//# x/adopt/cost"
+with Bench.open("examples/two-trains/activities", period=10, program=sys.argv[1]) as bench:
+    for command in text.split("/"):
+        try:
+            print(bench.ask(command))
+        except (PespbenchError, ValueError) as why:
+            print(type(why).__name__, why)
+"""
+ANSWERS = """Stopped(cost=None, times={})
+Optimum(cost=4, times={1: 0, 2: 4})
+None
+{1: Domain(event=1, residues=(0,)), 2: Domain(event=2, residues=(4, 5))}
+Domain(event=2, residues=(4, 5))
+None
+None
+# period 10 lines 3
+add event 1
+add event 2
+fix 1 0
+
+Refused refused 11 event 1 has no time
+Refused refused 4 time 12 is out of range
+Fault fault unknown command
+ValueError one command a line; blank lines and comments have no reply
+ValueError one command a line; blank lines and comments have no reply
+Optimum(cost=0, times={1: 0, 2: 0})
+0
 """
 
 
 def session_script(suite):
     script = TOP / "examples/session.py"
-    came = run([*PYTHON, script, suite.program], cwd=TOP)
+    came = run([*PYTHON, script, suite.program], cwd=TOP, env=PACKAGE)
     lines = came["standard output"].decode().splitlines()
     ends = "".join(f"{line.rstrip()}\n" for line in lines[-2:])
     wanted = {"status": 0, "standard error": b"", "last lines": SHORTEST, "lines": 6}
     suite.note("the story of session.py", wanted, {**came, "last lines": ends, "lines": len(lines)})
     suite.holds("session.py has at most 60 lines", len(script.read_text().splitlines()) <= 60)
-    questions = """
-import sys
-sys.path.insert(0, "examples")
-from session import Refused, Session
-session = Session("--period", "10", "examples/two-trains/activities", program=sys.argv[1])
-text = "try 0/optimum/fix 1 0/domains/domain 2/drop activity 1/drop activity 2/dump/cost/time 2 12/cots//# x/adopt/cost"
-for command in text.split("/"):
-    try:
-        print(session.ask(command))
-    except (Refused, ValueError) as why:
-        print(type(why).__name__, why)
-print(session.end())
-"""
-    output = """(['stopped', 'none'], [])
-(['optimum', 4, 2], [[1, 0], [2, 4]])
-(['ok'], [])
-(['domains', 2], [[1, 0], [2, 4, 5]])
-([2, 4, 5], [])
-(['ok'], [])
-(['ok'], [])
-(['#', 'period', 10, 'lines', 3], [['add', 'event', 1], ['add', 'event', 2], ['fix', 1, 0]])
-Refused refused 11 event 1 has no time
-Refused refused 4 time 12 is out of range
-Refused fault unknown command
-ValueError one command a line; blank lines and comments have no reply
-ValueError one command a line; blank lines and comments have no reply
-(['ok'], [])
-(['cost', 0], [])
-0
-"""
-    came = run([*PYTHON, "-c", questions, suite.program], cwd=TOP)
+    came = run([*PYTHON, "-c", QUESTIONS, suite.program], cwd=TOP, env=PACKAGE)
     text = came["standard output"].decode()
-    suite.note("replies as session.py gives them", {"status": 0, "text": output}, {**came, "text": text})
+    suite.note("replies as the package gives them", {"status": 0, "text": ANSWERS}, {**came, "text": text})
 
 
 def pictures(suite):
@@ -148,7 +151,7 @@ def read_replies(suite):
         "no replies": (b"", 1, b"", SOME),
     }
     for name, (given, status, output, error) in table.items():
-        came = run([*PYTHON, script], given=given)
+        came = run([*PYTHON, script], given=given, env=PACKAGE)
         wanted = {"status": status, "standard output": output, "standard error": error}
         suite.note(f"read_replies.py: {name}", wanted, came)
 
