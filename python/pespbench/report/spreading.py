@@ -3,6 +3,8 @@
 from __future__ import annotations
 
 import math
+from dataclasses import dataclass
+from typing import Mapping
 
 from pespbench.report.places import Place, Track
 
@@ -13,18 +15,26 @@ SHARE = 0.3
 CLEARANCE = 26.0
 
 
+@dataclass(frozen=True)
+class Wanted:
+    """The room that a track wants: along it between the rings of its two stations, and to each side."""
+
+    along: float
+    beside: float
+
+
 def spread(
-    places: dict[str, Place], tracks: list[Track], radius: dict[str, float], size: tuple[float, float], room: float
+    places: dict[str, Place], tracks: Mapping[Track, Wanted], radius: dict[str, float], size: tuple[float, float]
 ) -> dict[str, Place]:
     """Places in the units of a drawing of about a size, near where they were, with room for numbers.
 
     Args:
         places: places in any unit, y downwards.
+        tracks: the room that each track wants.
         radius: the radius of each station as it is drawn.
         size: width and height of the drawing; it becomes larger where the stations want it.
-        room: what a track has at least between the rings of its two stations.
     """
-    spreading = Spreading(fitted(places, size), tracks, radius, room)
+    spreading = Spreading(fitted(places, size), tracks, radius)
     looks = len(places) * (len(places) / 2 + len(tracks)) + 1
     for _ in range(min(MOST_ROUNDS, int(MOST_LOOKS / looks) + 5)):
         if not spreading.step():
@@ -52,10 +62,10 @@ def fitted(places: dict[str, Place], size: tuple[float, float]) -> dict[str, Pla
 class Spreading:
     """Places while they are spread."""
 
-    def __init__(self, places: dict[str, Place], tracks: list[Track], radius: dict[str, float], room: float) -> None:
-        self.places, self.tracks, self.radius, self.room = places, tracks, radius, room
+    def __init__(self, places: dict[str, Place], tracks: Mapping[Track, Wanted], radius: dict[str, float]) -> None:
+        self.places, self.tracks, self.radius = places, tracks, radius
         self.names = list(places)
-        self.joined = {frozenset(track) for track in tracks}
+        self.rooms = {frozenset(track): wanted.along for track, wanted in tracks.items()}
         self.is_moved = False
 
     def step(self) -> bool:
@@ -63,7 +73,7 @@ class Spreading:
         self.is_moved = False
         for place, first in enumerate(self.names):
             for last in self.names[place + 1 :]:
-                room = self.room if frozenset((first, last)) in self.joined else 2 * CLEARANCE
+                room = self.rooms.get(frozenset((first, last)), 2 * CLEARANCE)
                 self.push(first, last, self.radius[first] + self.radius[last] + room)
         for track in self.tracks:
             for station in self.names:
@@ -91,7 +101,7 @@ class Spreading:
         along = (end[0] - start[0]) / length, (end[1] - start[1]) / length
         at = (here[0] - start[0]) * along[0] + (here[1] - start[1]) * along[1]
         beside = (here[1] - start[1]) * along[0] - (here[0] - start[0]) * along[1]
-        lack = self.radius[station] + CLEARANCE - abs(beside)
+        lack = self.radius[station] + self.tracks[track].beside + CLEARANCE / 2 - abs(beside)
         if not 0 < at < length or lack <= 0.5:
             return
         side = 1.0 if beside >= 0 else -1.0
