@@ -11,7 +11,7 @@ from pespbench.drawn import draw_region
 from pespbench.report import Activity, Content, Event, read_places
 from pespbench.report.netgraph import Netgraph
 from pespbench.report.places import distances, lay_out
-from pespbench.report.spreading import CLEARANCE, spread
+from pespbench.report.spreading import CLEARANCE, Wanted, spread
 from pespbench.report.trains import Line, lines_of
 from tests.common import Case
 
@@ -73,7 +73,7 @@ class Layout(unittest.TestCase):
                     self.assertGreater(room, netgraph.radius[first] + netgraph.radius[last] + CLEARANCE)
 
     def test_same_place(self) -> None:
-        places = spread({"a": (0, 0), "b": (0, 0), "c": (0, 0)}, [("a", "b")], dict.fromkeys("abc", 10.0), (500, 300), 80)
+        places = spread({"a": (0, 0), "b": (0, 0), "c": (0, 0)}, {("a", "b"): Wanted(80, 10)}, dict.fromkeys("abc", 10.0), (500, 300))
         self.assertGreater(min(math.dist(places[x], places[y]) for x, y in combinations("abc", 2)), 40)
 
     def test_distances(self) -> None:

@@ -92,9 +92,13 @@ class Shapes(unittest.TestCase):
         self.assertEqual((circle.least, circle.most, circle.wanted), (44, 48, ((0, 0), (60, 60))))
 
     def test_turned_circle(self) -> None:
-        circle = self.shape([(2, 1, 10, 12), (2, 3, 5, 6), (3, 1, 1, 2)], {})
+        circle = self.shape([(1, 2, 3, 4), (3, 2, 10, 12), (1, 3, 2, 2)], {})
         assert isinstance(circle, Circle)
-        self.assertEqual(sum(step.is_forward for step in circle.steps), 2)
+        self.assertEqual([(step.activity.number, step.is_forward) for step in circle.steps], [(2, True), (1, True), (0, False)])
+        self.assertEqual((circle.least, circle.most), (8, 11))
+        even = self.shape([(1, 2, 3, 4), (3, 2, 5, 5), (1, 3, -2, -1)], {})
+        assert isinstance(even, Circle)
+        self.assertEqual(sum(step.is_forward for step in even.steps), 2)
 
     def test_two_between_the_same(self) -> None:
         circle = self.shape([(1, 2, 70, 71), (2, 1, 3, 4)], {})

@@ -17,6 +17,8 @@ from pespbench.wording import Names
 from tests.common import PROGRAM, Case
 
 NETWORKS = 1_000
+# Long enough for a program that was built without its proofs, which takes a hundred times as long.
+SECONDS = 1_000.0
 
 
 def small_network(seed: int) -> Network:
@@ -193,7 +195,7 @@ class Regions(Case):
         region = draw_region(3, feasible=False)
         region.save(self.folder)
         with Bench.open(self.folder / "activities", labels=self.folder / "labels", program=PROGRAM) as bench:
-            answer = why(bench, ("run", "dwell", "headway"))
+            answer = why(bench, ("run", "dwell", "headway"), seconds=SECONDS)
             assert isinstance(answer, Conflict)
             self.assertTrue(answer.is_least)
             self.assertTrue(answer.mends)

@@ -7,7 +7,7 @@ from pespbench.report.markup import Element, append, element
 from pespbench.report.trains import Line, Stop, Train
 
 # With more trains than this the diagram stands below the table and not beside it.
-TRAINS_BESIDE = 2
+TRAINS_BESIDE = 4
 
 
 def line_table(line: Line) -> Element:

@@ -4,21 +4,26 @@ from __future__ import annotations
 
 import math
 from dataclasses import dataclass, field
+from typing import Iterator
 
 from pespbench.report.content import Event
 from pespbench.report.markup import Element, append, drawing, element
 from pespbench.report.places import Place, lay_out
-from pespbench.report.spreading import spread
+from pespbench.report.spreading import Wanted, spread
 from pespbench.report.style import INK, color_of
 from pespbench.report.trains import Line
 
 # Units of the drawing, which are pixels where the page is wide enough.
-WIDTH, HEIGHT, MARGIN = 1020, 640, 64
-LANE, RING, NUMBERS = 29, 11, 112
+WIDTH, HEIGHT, MARGIN, EDGE = 1020, 640, 64, 8
+LANE, RING = 29, 11
+# What the name of a line takes of a track with some space, and what each number takes at each of its ends.
+ROOM, NUMBER = 70.0, 21.0
 # The size of the names of stations, and how far from all else a name is far enough.
 NAME, ENOUGH = 14.5, 16.0
-# How far a number reaches to the side of its track, and what two numbers and the name of the line want along half of it.
-ROW, LEAST_ROOM = 13.0, 38.0
+# What is farther than this from a name is not near it.
+FAR = 150.0
+# How far a number reaches to the side of its track.
+ROW = 13.0
 
 
 @dataclass
@@ -31,6 +36,12 @@ class Lane:
 
 
 Tracks = dict[tuple[str, str], list[Lane]]
+
+
+def most_of(lanes: list[Lane]) -> int:
+    """The most numbers that stand in a row at an end of some lanes."""
+    rows = [events for lane in lanes for side in (lane.leaving, lane.arriving) for events in side.values()]
+    return max(map(len, rows), default=1)
 
 
 def tracks_of(lines: list[Line]) -> Tracks:
@@ -72,7 +83,10 @@ class Netgraph:
         if not all(station in places for station in stations):
             places = lay_out(stations, lengths_of(lines))
         chosen = {station: (places[station][0], -places[station][1]) for station in stations}
-        self.places = spread(chosen, list(self.tracks), self.radius, (WIDTH - 2 * MARGIN, HEIGHT - 2 * MARGIN), NUMBERS)
+        wanted = {
+            ends: Wanted(ROOM + 2 * NUMBER * most_of(lanes), self._half_width(ends)) for ends, lanes in self.tracks.items()
+        }
+        self.places = spread(chosen, wanted, self.radius, (WIDTH - 2 * MARGIN, HEIGHT - 2 * MARGIN))
 
     def _radius(self, station: str) -> float:
         most = max((len(lanes) for ends, lanes in self.tracks.items() if station in ends), default=1)
@@ -80,16 +94,17 @@ class Netgraph:
 
     def draw(self) -> Element:
         """The whole drawing."""
-        across = [x for x, _ in self.places.values()]
-        down = [y for _, y in self.places.values()]
-        left, top = min(across) - MARGIN - 20, min(down) - MARGIN
-        size = max(across) + MARGIN + 20 - left, max(down) + MARGIN - top
-        page = drawing(*size, "Netgraph", left=left, top=top)
+        labels = {station: self._label_place(station) for station in self.places}
+        spans = [span_of(station, *label) for station, label in labels.items()]
+        left, right = min(first for first, _ in spans) - EDGE, max(last for _, last in spans) + EDGE
+        bottom = max(y + self.radius[station] for station, (_, y) in self.places.items()) + EDGE + 2 * NAME
+        top = min(y - self.radius[station] for station, (_, y) in self.places.items()) - EDGE - 2 * NAME
+        page = drawing(right - left, bottom - top, "Netgraph", left=left, top=top)
         for ends, lanes in self.tracks.items():
             for place, lane in enumerate(lanes):
                 append(page, *self._lane(ends, lane, (place - (len(lanes) - 1) / 2) * LANE))
         for station in self.places:
-            append(page, *self._station(station))
+            append(page, *self._station(station, *labels[station]))
         return page
 
     def _lane(self, ends: tuple[str, str], lane: Lane, offset: float) -> list[Element]:
@@ -104,7 +119,9 @@ class Netgraph:
         sign = -1 if is_turned else 1
         color = color_of(lane.line)
         append(frame, element("path", d=f"M0 0H{sign * length:.1f}", stroke=color, stroke_width=3))
-        begins = [min(self._clear(end, ends, offset), length / 2 - LEAST_ROOM) for end in ends]
+        # No farther from its ring than leaves room for the name of the line in the middle.
+        most = (length - sum(self.radius[end] for end in ends)) / 2 - 17 - NUMBER * most_of([lane])
+        begins = [min(self._clear(end, ends, offset), self.radius[end] + max(5.0, most)) for end in ends]
         middle = sign * (length + begins[0] - begins[1]) / 2
         append(frame, *pill(middle, self.lines[lane.line].name, color))
         append(frame, *numbers(lane, ends[0], sign, sign * begins[0]))
@@ -133,13 +150,16 @@ class Netgraph:
         here = self.places[station]
         return math.atan2(other[1] - here[1], other[0] - here[0])
 
-    def _station(self, station: str) -> list[Element]:
+    def _station(self, station: str, left: float, base: float, anchor: str) -> list[Element]:
         x, y = self.places[station]
         ring = element("circle", cx=x, cy=y, r=self.radius[station], fill="#fff", stroke=INK, stroke_width=2.5)
-        x, base, anchor = max(self._label_places(station), key=lambda place: self._room(station, *place))
-        name = element("text", station, x=x, y=base, text_anchor=anchor, font_size=NAME, font_weight=700, fill=INK)
+        name = element("text", station, x=left, y=base, text_anchor=anchor, font_size=NAME, font_weight=700, fill=INK)
         name.attrib.update({"stroke": "#fff", "stroke-width": "4", "paint-order": "stroke"})
         return [ring, name]
+
+    def _label_place(self, station: str) -> tuple[float, float, str]:
+        """The place of a name round its ring at which most room is left."""
+        return max(self._label_places(station), key=lambda place: self._room(station, *place))
 
     def _label_places(self, station: str) -> list[tuple[float, float, str]]:
         """Places of a name round its ring, with the ones that read best first: x, base line, and where x is in the name."""
@@ -154,21 +174,33 @@ class Netgraph:
 
     def _room(self, station: str, x: float, base: float, anchor: str) -> float:
         """The least distance of a name from what lies about it, up to what is enough."""
-        width = width_of(station)
-        left = x - width * {"start": 0.0, "middle": 0.5, "end": 1.0}[anchor]
-        spots = [(left + width * part / 4, base - NAME * height) for part in range(5) for height in (0.0, 0.7)]
+        left, right = span_of(station, x, anchor=anchor)
+        spots = [(left + (right - left) * part / 4, base - NAME * height) for part in range(5) for height in (0.0, 0.7)]
         room = ENOUGH
-        for ends, lanes in self.tracks.items():
+        for ends, lanes in self._near(spots):
             half = (len(lanes) - 1) * LANE / 2 + NAME
             room = min(room, *(beside(spot, self.places[ends[0]], self.places[ends[1]]) - half for spot in spots))
         for other, radius in self.radius.items():
+            if abs(self.places[other][0] - x) > FAR or abs(self.places[other][1] - base) > FAR:
+                continue
             room = min(room, *(math.dist(spot, self.places[other]) - radius + (NAME if other == station else 0) for spot in spots))
         return room
 
+    def _near(self, spots: list[Place]) -> Iterator[tuple[tuple[str, str], list[Lane]]]:
+        """The tracks that are not far from some spots."""
+        left, right = min(x for x, _ in spots) - FAR, max(x for x, _ in spots) + FAR
+        top, bottom = min(y for _, y in spots) - FAR, max(y for _, y in spots) + FAR
+        for ends, lanes in self.tracks.items():
+            (x, y), (other_x, other_y) = (self.places[end] for end in ends)
+            if min(x, other_x) < right and max(x, other_x) > left and min(y, other_y) < bottom and max(y, other_y) > top:
+                yield ends, lanes
 
-def width_of(name: str) -> float:
-    """About how wide the name of a station is."""
-    return 0.7 * NAME * len(name)
+
+def span_of(name: str, x: float, base: float = 0.0, anchor: str = "middle") -> tuple[float, float]:
+    """About where the name of a station begins and ends, from the place of its anchor."""
+    width = 0.7 * NAME * len(name)
+    left = x - width * {"start": 0.0, "middle": 0.5, "end": 1.0}[anchor]
+    return left, left + width
 
 
 def beside(spot: Place, start: Place, end: Place) -> float:

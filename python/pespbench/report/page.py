@@ -5,7 +5,7 @@ from __future__ import annotations
 from pespbench.report.content import Content
 from pespbench.report.diagrams import diagram
 from pespbench.report.line_tables import TRAINS_BESIDE, line_table
-from pespbench.report.markup import Element, append, element, text_of
+from pespbench.report.markup import Element, append, drawing, element, text_of
 from pespbench.report.netgraph import Netgraph, legend
 from pespbench.report.strips import narrowed, strips
 from pespbench.report.style import SHEET, color_of
@@ -26,6 +26,21 @@ def page_of(content: Content) -> str:
     return "<!DOCTYPE html>\n" + text_of(element("html", head, element("body", main), lang="en")) + "\n"
 
 
+def netgraph_of(content: Content) -> str:
+    """The netgraph alone, as a picture in SVG; an empty one where no two stations are known."""
+    lines = lines_of(content)
+    picture = Netgraph(lines, content.places).draw() if stations_in(lines) > 1 else drawing(1, 1, "Netgraph")
+    left, top, width, height = picture.get("viewBox", "").split()
+    picture.insert(1, element("rect", x=left, y=top, width=width, height=height, fill="#fff"))
+    picture.attrib.update({"xmlns": "http://www.w3.org/2000/svg", "width": width, "height": height, "font-family": "sans-serif"})
+    return text_of(picture) + "\n"
+
+
+def stations_in(lines: list[Line]) -> int:
+    """How many stations lines have."""
+    return len({station for line in lines for station in line.stations})
+
+
 def summary(content: Content, lines: list[Line]) -> Element:
     """The figures of the network, and what is known of its timetable."""
     violated = len(content.violated_activities) + len(content.violated_events)
@@ -34,7 +49,7 @@ def summary(content: Content, lines: list[Line]) -> Element:
     if lines:
         trains = sum(len(line.trains) for line in lines)
         append(figures, figure(len(lines), "lines", ""), figure(trains, "trains a period", ""))
-        append(figures, figure(len({station for line in lines for station in line.stations}), "stations", ""))
+        append(figures, figure(stations_in(lines), "stations", ""))
     append(figures, figure(len(content.events), "events", ""), figure(len(content.activities), "activities", ""))
     if content.cost is not None:
         append(figures, figure(violated, "violated", "bad" if violated else "good"), figure(content.cost, "cost", ""))
@@ -78,7 +93,7 @@ def violations_part(content: Content) -> Element | None:
 
 def netgraph_part(content: Content, lines: list[Line]) -> Element | None:
     """The netgraph, where there are two stations."""
-    if len({station for line in lines for station in line.stations}) < 2:
+    if stations_in(lines) < 2:
         return None
     return part("netgraph", "Netgraph", "", legend(), Netgraph(lines, content.places).draw())
 

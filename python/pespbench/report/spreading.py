@@ -3,45 +3,58 @@
 from __future__ import annotations
 
 import math
+from dataclasses import dataclass
+from typing import Mapping
 
 from pespbench.report.places import Place, Track
 
-ROUNDS = 300
+# So many rounds, and fewer where there are many stations and tracks.
+MOST_ROUNDS, MOST_LOOKS = 300, 2_000_000
 # Of what two stations are too near, so much is mended in a round.
 SHARE = 0.3
 CLEARANCE = 26.0
 
 
+@dataclass(frozen=True)
+class Wanted:
+    """The room that a track wants: along it between the rings of its two stations, and to each side."""
+
+    along: float
+    beside: float
+
+
 def spread(
-    places: dict[str, Place], tracks: list[Track], radius: dict[str, float], size: tuple[float, float], room: float
+    places: dict[str, Place], tracks: Mapping[Track, Wanted], radius: dict[str, float], size: tuple[float, float]
 ) -> dict[str, Place]:
     """Places in the units of a drawing of about a size, near where they were, with room for numbers.
 
     Args:
         places: places in any unit, y downwards.
+        tracks: the room that each track wants.
         radius: the radius of each station as it is drawn.
         size: width and height of the drawing; it becomes larger where the stations want it.
-        room: what a track has at least between the rings of its two stations.
     """
-    spreading = Spreading(fitted(places, size), tracks, radius, room)
-    for _ in range(ROUNDS):
+    spreading = Spreading(fitted(places, size), tracks, radius)
+    looks = len(places) * (len(places) / 2 + len(tracks)) + 1
+    for _ in range(min(MOST_ROUNDS, int(MOST_LOOKS / looks) + 5)):
         if not spreading.step():
             break
     return spreading.places
 
 
 def fitted(places: dict[str, Place], size: tuple[float, float]) -> dict[str, Place]:
-    """The places at a scale at which they fit into a size; up to twice as tall as they are, where that fills it."""
+    """The places at a scale at which they fit into a size, stretched up to a half more one way where that fills it."""
     left, top = min(x for x, _ in places.values()), min(y for _, y in places.values())
     width = max(x for x, _ in places.values()) - left
     height = max(y for _, y in places.values()) - top
-    across = size[0] / width if width else math.inf
-    down = size[1] / height if height else math.inf
-    scale = min(across, down)
-    scale = 1.0 if scale == math.inf else scale
-    # The order of names breaks ties between stations at one place.
+    across = size[0] / width if width else 1.0
+    down = size[1] / height if height else 1.0
+    scale = min(across if width else down, down if height else across)
+    across, down = min(across, 1.5 * scale), min(down, 1.5 * scale)
+    # Stations in one place, or on one line, are kept apart by their order.
+    shift = 0.01
     return {
-        name: ((x - left) * min(across, scale * 1.5) if width else place * 0.01, (y - top) * min(down, scale * 1.5) if height else place * 0.01)
+        name: ((x - left) * across + place * shift, (y - top) * down + place * shift)
         for place, (name, (x, y)) in enumerate(places.items())
     }
 
@@ -49,10 +62,10 @@ def fitted(places: dict[str, Place], size: tuple[float, float]) -> dict[str, Pla
 class Spreading:
     """Places while they are spread."""
 
-    def __init__(self, places: dict[str, Place], tracks: list[Track], radius: dict[str, float], room: float) -> None:
-        self.places, self.tracks, self.radius, self.room = places, tracks, radius, room
+    def __init__(self, places: dict[str, Place], tracks: Mapping[Track, Wanted], radius: dict[str, float]) -> None:
+        self.places, self.tracks, self.radius = places, tracks, radius
         self.names = list(places)
-        self.joined = {frozenset(track) for track in tracks}
+        self.rooms = {frozenset(track): wanted.along for track, wanted in tracks.items()}
         self.is_moved = False
 
     def step(self) -> bool:
@@ -60,7 +73,7 @@ class Spreading:
         self.is_moved = False
         for place, first in enumerate(self.names):
             for last in self.names[place + 1 :]:
-                room = self.room if frozenset((first, last)) in self.joined else 2 * CLEARANCE
+                room = self.rooms.get(frozenset((first, last)), 2 * CLEARANCE)
                 self.push(first, last, self.radius[first] + self.radius[last] + room)
         for track in self.tracks:
             for station in self.names:
@@ -88,7 +101,7 @@ class Spreading:
         along = (end[0] - start[0]) / length, (end[1] - start[1]) / length
         at = (here[0] - start[0]) * along[0] + (here[1] - start[1]) * along[1]
         beside = (here[1] - start[1]) * along[0] - (here[0] - start[0]) * along[1]
-        lack = self.radius[station] + CLEARANCE - abs(beside)
+        lack = self.radius[station] + self.tracks[track].beside + CLEARANCE / 2 - abs(beside)
         if not 0 < at < length or lack <= 0.5:
             return
         side = 1.0 if beside >= 0 else -1.0

@@ -28,7 +28,7 @@ def why(bench: Bench, hard: Collection[str] = (), nodes: int = 2_000, seconds: f
 
     Args:
         hard: kinds of activities, by the bench's labels, that are not to be changed; `fixed` are fixed times and windows.
-            They may be in the conflict, but no other member is in it in their place, and no mend changes them.
+            They may be in the conflict, which has as few others as can be, and no mend changes them.
         nodes: the nodes of each search of a part.
         seconds: about the longest that is looked whether the whole network has a timetable, and as long again for mends.
 
@@ -59,7 +59,6 @@ class Finding:
     def answer(self) -> Why:
         """A timetable, a conflict, or neither where none was found in time."""
         if self._is_seen_by_domains():
-            # The last pass is by searches, which see more, so that fewer members may be enough.
             return self._conflict(self._least(list(self.probe.members), self._by_domains))
         nodes, until = FIRST_NODES, time.monotonic() + self.seconds
         while True:
@@ -77,10 +76,13 @@ class Finding:
         """Whether a domain is empty, with some event of each free part held; that event is held first from then on."""
         if self._by_domains(list(self.probe.members)):
             return True
+        until = time.monotonic() + self.seconds
         for event in self.probe.windows:
             self.probe.preferred = [event]
             if self._by_domains(list(self.probe.members)):
                 return True
+            if time.monotonic() > until:
+                break
         self.probe.preferred = []
         return False
 
@@ -101,7 +103,8 @@ class Finding:
         return needed + least(hard, needed, test)
 
     def _conflict(self, members: list[Member]) -> Conflict:
-        members = settled(self._least(members, self._by_search), self._by_search)
+        """What is told of a set; by searches, which see more than domains, some of its members may turn out not to be needed."""
+        members = settled(members, self._by_search)
         kept = {member: self.probe.members[member] for member in sorted(members, key=by_kind)}
         without = {member: self._without(members, member) for member in kept}
         shape = shape_of(kept, self.probe.activities, self.probe.period)

@@ -12,7 +12,8 @@ from pespbench.answers import Domain, Infeasible, Optimum, Stopped
 from pespbench.client import Bench
 from pespbench.faults import PespbenchError
 from pespbench.network import Window, window_command
-from pespbench.why.members import Held, Kept, Member, Of, Span, Verdict, members_of
+from pespbench.session import Outcome
+from pespbench.why.members import Bounds, Held, Kept, Member, Of, Span, Verdict, members_of
 
 GREATEST_BOUND = 1_000_000
 Timetable = dict[int, int]
@@ -33,35 +34,35 @@ class Probe:
         self.alone: set[int] = set()
         # The events that are held before others, in the parts that have them.
         self.preferred: list[int] = []
-        self.tests = 0
+        self.known: dict[tuple[frozenset[tuple[Member, Bounds]], int], Verdict] = {}
         self.roots = sorted({min(part) for part in parts_of(self.windows, self.ends.values())})
         # With all weights 0 a search ends at the first timetable that it finds.
-        self._edit([f"weight {number} 0" for number, each in network.activities.items() if each.weight])
+        self._send([f"weight {number} 0" for number, each in network.activities.items() if each.weight])
 
     def by_domains(self, kept: Kept) -> Verdict:
         """Whether a domain is empty with the set alone: then it is infeasible, and else nothing is said."""
-        self._keep(kept, is_all_held=False)
-        answers = self.bench.many(f"domain {root}" for root in self.roots)
+        answers = self._ask(kept, [f"domain {root}" for root in self.roots], is_all_held=False)
         is_empty = any(isinstance(answer, Domain) and not answer.residues for answer in answers)
         return Verdict.INFEASIBLE if is_empty else Verdict.UNDECIDED
 
     def by_search(self, kept: Kept, nodes: int) -> Verdict:
-        """What a search of so many nodes says of the set alone."""
-        return self.search(kept, nodes)[0]
+        """What a search of so many nodes says of the set alone; the same set is not searched again."""
+        asked = frozenset(kept.items()), nodes
+        if asked not in self.known:
+            self.known[asked] = self.search(kept, nodes)[0]
+        return self.known[asked]
 
     def search(self, kept: Kept, nodes: int) -> tuple[Verdict, Timetable]:
         """What a search of so many nodes says of the set alone, and the timetable that it found, where it found one."""
-        self._keep(kept, is_all_held=True)
-        answer = self.bench.attempt(nodes)
+        [answer] = self._ask(kept, [f"try {nodes}"], is_all_held=True)
         if isinstance(answer, Infeasible):
             return Verdict.INFEASIBLE, {}
         if isinstance(answer, Optimum) or (isinstance(answer, Stopped) and answer.cost is not None):
             return Verdict.POSSIBLE, dict(answer.times)
         return Verdict.UNDECIDED, {}
 
-    def _keep(self, kept: Kept, is_all_held: bool) -> None:
-        """Makes the edits by which just the set is asked for; events without an activity of it are held if all are."""
-        self.tests += 1
+    def _ask(self, kept: Kept, questions: list[str], is_all_held: bool) -> list[Outcome]:
+        """The answers to questions where just the set is asked for; events without an activity of it are held if all are."""
         spans = {number: self._span(kept, number) for number in self.spans}
         changed = [number for number, span in spans.items() if span != self.spans[number]]
         windows, alone = self._wanted_windows(kept, is_all_held)
@@ -77,7 +78,7 @@ class Probe:
         commands += [f"unfix {event}" for event, window in self.windows.items() if window and event not in windows]
         self.windows.update({event: windows.get(event) for event in self.windows})
         self.spans, self.alone = spans, alone
-        self._edit(commands)
+        return self._send([*commands, *questions])[len(commands) :]
 
     def _span(self, kept: Kept, number: int) -> Span:
         """The span of an activity in a set; where it is not in it, one that every two times meet."""
@@ -114,10 +115,13 @@ class Probe:
                 return event
         return max(part, key=lambda event: (degrees[event], -event))
 
-    def _edit(self, commands: list[str]) -> None:
-        for answer in self.bench.many(commands):
+    def _send(self, commands: list[str]) -> list[Outcome]:
+        """The answers to commands, none of which may be refused."""
+        answers = self.bench.many(commands)
+        for answer in answers:
             if isinstance(answer, PespbenchError):
                 raise answer
+        return answers
 
 
 def parts_of(events: Iterable[int], joins: Iterable[tuple[int, int]]) -> list[set[int]]:

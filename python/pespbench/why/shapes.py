@@ -124,8 +124,12 @@ def walk(start: int, activities: Sequence[Activity]) -> list[Step]:
 
 
 def turned(steps: list[Step]) -> list[Step]:
-    """The steps in the direction in which more of them run along their activities."""
-    forward = sum(step.is_forward for step in steps)
-    if 2 * forward >= len(steps):
-        return steps
-    return [Step(step.activity, not step.is_forward) for step in reversed(steps)]
+    """The steps in the direction in which they take time rather than give it back; else in that of most activities."""
+    back = [Step(step.activity, not step.is_forward) for step in reversed(steps)]
+    least, most = least_of(steps), -least_of(back)
+    return steps if (least + most, forward_of(steps)) >= (0, forward_of(back)) else back
+
+
+def forward_of(steps: Sequence[Step]) -> int:
+    """How many steps run along their activities."""
+    return sum(step.is_forward for step in steps)

@@ -33,13 +33,13 @@ def _halves(background: list[Member], is_grown: bool, members: list[Member], tes
 
 def settled(members: Sequence[Member], test: Test) -> list[Member]:
     """The members without those that can be left out one by one: no set with one member less is seen to be infeasible."""
-    kept = list(members)
-    place = 0
-    while place < len(kept):
-        without = kept[:place] + kept[place + 1 :]
-        if test(without):
-            # What could not be left out beside this member perhaps can be now.
-            kept, place = without, 0
-        else:
-            place += 1
+    kept, is_changed = list(members), True
+    # What could not be left out beside a member that went afterwards perhaps can be now, so the last round changes nothing.
+    while is_changed:
+        before = list(kept)
+        for member in before:
+            without = [each for each in kept if each != member]
+            if test(without):
+                kept = without
+        is_changed = len(kept) < len(before)
     return kept
