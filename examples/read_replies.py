@@ -1,12 +1,16 @@
+"""Reads the replies to a check. The exit status is 1 where something is violated or a time is missing.
+
+usage: pespbench --check .. | PYTHONPATH=python python3 examples/read_replies.py
+"""
+
 import sys
 
-replies = {}
-lines = iter(sys.stdin.read().splitlines())
-for line in lines:
-    if line.startswith("refused"):
-        sys.exit(line)
-    name, number = line.split()
-    listed = [] if name == "cost" else [next(lines).split() for _ in range(int(number))]
-    replies[name] = int(number) if name == "cost" else listed
-print(len(replies["violations"]), "violated, cost", replies["cost"])
-sys.exit(1 if replies["violations"] else 0)
+from pespbench import Refused
+from pespbench.replies import answer_of, replies_of
+
+try:
+    tensions, violations, cost = (answer_of(reply) for reply in replies_of(sys.stdin.read()))
+except Refused as refusal:
+    sys.exit(str(refusal))
+print(len(violations), "violated, cost", cost)
+sys.exit(1 if violations else 0)

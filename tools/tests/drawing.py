@@ -1,5 +1,6 @@
 """The scripts of examples/ that read replies: session.py, draw.py and read_replies.py."""
 
+import os
 import random
 import sys
 from xml.etree import ElementTree
@@ -9,52 +10,54 @@ from tests.harness import SOME, TOP, run
 
 PYTHON = [sys.executable, "-B"]
 DRAW = [*PYTHON, TOP / "examples/draw.py"]
+PACKAGE = {**os.environ, "PYTHONPATH": str(TOP / "python")}
 SHORTEST = """changes of 4 to 8 minutes: infeasible
-changes of 4 to 9 minutes: optimum 349 8 {1: 3, 2: 27, 3: 29, 4: 0, 5: 36, 6: 54, 7: 2, 8: 20}
+changes of 4 to 9 minutes: cost 349, times {1: 3, 2: 27, 3: 29, 4: 0, 5: 36, 6: 54, 7: 2, 8: 20}
+"""
+QUESTIONS = """
+import sys
+from pespbench import Bench, PespbenchError
+text = "try 0/optimum/fix 1 0/domains/domain 2/drop activity 1/drop activity 2/dump/cost/time 2 12/cots//# x/adopt/cost"
+with Bench.open("examples/two-trains/activities", period=10, program=sys.argv[1]) as bench:
+    for command in text.split("/"):
+        try:
+            print(bench.ask(command))
+        except (PespbenchError, ValueError) as why:
+            print(type(why).__name__, why)
+"""
+ANSWERS = """Stopped(cost=None, times={})
+Optimum(cost=4, times={1: 0, 2: 4})
+None
+{1: Domain(event=1, residues=(0,)), 2: Domain(event=2, residues=(4, 5))}
+Domain(event=2, residues=(4, 5))
+None
+None
+# period 10 lines 3
+add event 1
+add event 2
+fix 1 0
+
+Refused refused 11 event 1 has no time
+Refused refused 4 time 12 is out of range
+Fault fault unknown command
+ValueError one command a line; blank lines and comments have no reply
+ValueError one command a line; blank lines and comments have no reply
+Optimum(cost=0, times={1: 0, 2: 0})
+0
 """
 
 
 def session_script(suite):
     script = TOP / "examples/session.py"
-    came = run([*PYTHON, script, suite.program], cwd=TOP)
+    came = run([*PYTHON, script, suite.program], cwd=TOP, env=PACKAGE)
     lines = came["standard output"].decode().splitlines()
     ends = "".join(f"{line.rstrip()}\n" for line in lines[-2:])
     wanted = {"status": 0, "standard error": b"", "last lines": SHORTEST, "lines": 6}
     suite.note("the story of session.py", wanted, {**came, "last lines": ends, "lines": len(lines)})
     suite.holds("session.py has at most 60 lines", len(script.read_text().splitlines()) <= 60)
-    questions = """
-import sys
-sys.path.insert(0, "examples")
-from session import Refused, Session
-session = Session("--period", "10", "examples/two-trains/activities", program=sys.argv[1])
-text = "try 0/optimum/fix 1 0/domains/domain 2/drop activity 1/drop activity 2/dump/cost/time 2 12/cots//# x/adopt/cost"
-for command in text.split("/"):
-    try:
-        print(session.ask(command))
-    except (Refused, ValueError) as why:
-        print(type(why).__name__, why)
-print(session.end())
-"""
-    output = """(['stopped', 'none'], [])
-(['optimum', 4, 2], [[1, 0], [2, 4]])
-(['ok'], [])
-(['domains', 2], [[1, 0], [2, 4, 5]])
-([2, 4, 5], [])
-(['ok'], [])
-(['ok'], [])
-(['#', 'period', 10, 'lines', 3], [['add', 'event', 1], ['add', 'event', 2], ['fix', 1, 0]])
-Refused refused 11 event 1 has no time
-Refused refused 4 time 12 is out of range
-Refused fault unknown command
-ValueError one command a line; blank lines and comments have no reply
-ValueError one command a line; blank lines and comments have no reply
-(['ok'], [])
-(['cost', 0], [])
-0
-"""
-    came = run([*PYTHON, "-c", questions, suite.program], cwd=TOP)
+    came = run([*PYTHON, "-c", QUESTIONS, suite.program], cwd=TOP, env=PACKAGE)
     text = came["standard output"].decode()
-    suite.note("replies as session.py gives them", {"status": 0, "text": output}, {**came, "text": text})
+    suite.note("replies as the package gives them", {"status": 0, "text": ANSWERS}, {**came, "text": text})
 
 
 def pictures(suite):
@@ -67,7 +70,7 @@ def pictures(suite):
         given = (folder / "expected").read_bytes()
         picture = (folder / "picture.svg").read_bytes()
         name = f"the picture of examples/{folder.name}"
-        came = run([*DRAW, *times], given=given, cwd=folder)
+        came = run([*DRAW, *times], given=given, cwd=folder, env=PACKAGE)
         suite.note(name, {"status": 0, "standard output": picture, "standard error": b""}, came)
         suite.note(f"{name} stands alone", {"outside": []}, {"outside": outside(picture)})
 
@@ -81,7 +84,7 @@ def outside(picture):
 
 def hostile_words(draw):
     words = ["#", "period", "lines", "domains", "tensions", "violations", "cost", "optimum", "stopped", "none", "ok"]
-    words += ["add", "event", "activity", "fix", "refused", "<script>", '"/>', "&amp;", "nan", "inf", "1e9", "1_0"]
+    words += ["add", "event", "activity", "fix", "window", "refused", "<script>", '"/>', "&amp;", "nan", "inf", "1e9", "1_0"]
     numbers = [0, 1, 2, 3, 10, 60, 120, 121, -1, 10**9, -(10**9), 2**64, 10**400]
     count = draw.randrange(1, 9)
     return " ".join(draw.choice(words) if draw.randrange(3) == 0 else str(draw.choice(numbers)) for _ in range(count))
@@ -106,7 +109,7 @@ def hostile_pages(suite):
     texts += ["\n".join(big)]
     texts += [hostile_replies(draw) for _ in range(60)]
     for number, text in enumerate(texts):
-        came = run([*DRAW], given=text.encode())
+        came = run([*DRAW], given=text.encode(), env=PACKAGE)
         drawn, told = came["standard output"], came["standard error"]
         if came["status"] == 0:
             suite.note(f"hostile replies {number}", {"outside": []}, {"outside": outside(drawn)})
@@ -118,6 +121,18 @@ def hostile_pages(suite):
             suite.holds(f"hostile replies {number} are told by a text", last.startswith(b"draw.py: "))
 
 
+def windows(suite):
+    """A window is a frame over its times, in two where it goes on at the start of the period, and is told by a note."""
+    lines = ["# period 10 lines 4", "add event 1", "add event 2", "window 1 8 4", "window 2 3 10"]
+    came = run([*DRAW], given="\n".join(lines).encode(), env=PACKAGE)
+    page = ElementTree.fromstring(came["standard output"])
+    frames = [element for element in page.iter() if element.get("stroke") == "#d98200" and element.tag.endswith("rect")]
+    widths = [round(float(frame.get("width"))) for frame in frames]
+    suite.note("frames of windows", {"widths": [120, 120, 600]}, {"widths": widths})
+    notes = [element.text for element in page.iter() if element.tag.endswith("text") and (element.text or "").startswith("within ")]
+    suite.note("notes of windows", {"notes": ["within 8 to 1", "within all times"]}, {"notes": [note for note in notes if note != "within the span"]})
+
+
 def many_events(suite):
     """A page of 40 events and 60 activities with the longest numbers: each row has its own line, within the page."""
     rows = [(900_000_000 + number, 999_999_000 + number % 40, 999_999_000 + number * 7 % 40) for number in range(60)]
@@ -126,7 +141,7 @@ def many_events(suite):
     lines += ["domains 40", *(f"{999_999_000 + number}: 0 1 119" for number in range(40))]
     lines += ["tensions 60", *(f"{row[0]} -999881 119" for row in rows)]
     lines += ["violations 60", *(f"activity {row[0]}" for row in rows)]
-    came = run([*DRAW], given="\n".join(lines).encode())
+    came = run([*DRAW], given="\n".join(lines).encode(), env=PACKAGE)
     page = ElementTree.fromstring(came["standard output"])
     texts = [element for element in page.iter() if element.tag.endswith("text")]
     labels = [text for text in texts if text.get("text-anchor") == "end"]
@@ -148,9 +163,9 @@ def read_replies(suite):
         "no replies": (b"", 1, b"", SOME),
     }
     for name, (given, status, output, error) in table.items():
-        came = run([*PYTHON, script], given=given)
+        came = run([*PYTHON, script], given=given, env=PACKAGE)
         wanted = {"status": status, "standard output": output, "standard error": error}
         suite.note(f"read_replies.py: {name}", wanted, came)
 
 
-GROUPS = [session_script, pictures, hostile_pages, many_events, read_replies]
+GROUPS = [session_script, pictures, hostile_pages, windows, many_events, read_replies]

@@ -8,12 +8,12 @@ import signal
 import tempfile
 import time
 
-from tests import arguments, checks, commands, devices, dialogue, documents, drawing, examples, files, rows
-from tests import scripts, shelves, start_script, strangers, streams, unproved
+from tests import arguments, checks, commands, devices, dialogue, documents, drawing, examples, files, package, packaging
+from tests import rows, scripts, shelves, start_script, strangers, streams, unproved
 from tests.harness import PROGRAM, Suite
 
 TOPICS = [examples, commands, dialogue, streams, arguments, files, rows, checks, devices, scripts, drawing, documents]
-TOPICS += [start_script, unproved, shelves, strangers]
+TOPICS += [start_script, unproved, shelves, strangers, packaging, package]
 # A group takes a few seconds; this is the most where it names nothing else.
 SECONDS = 120
 

@@ -1,0 +1,108 @@
+"""What the program answers, as types. Times and lengths are whole units of the period, most often minutes."""
+
+from __future__ import annotations
+
+from dataclasses import dataclass, field
+from typing import Dict, List, Mapping, Optional, Sequence, Tuple, Union
+
+
+def runs(numbers: Sequence[int]) -> List[Tuple[int, int]]:
+    """The runs of neighbours among ascending numbers, each with its first and its last."""
+    found: List[Tuple[int, int]] = []
+    for number in numbers:
+        if found and found[-1][1] == number - 1:
+            found[-1] = (found[-1][0], number)
+        else:
+            found.append((number, number))
+    return found
+
+
+@dataclass(frozen=True)
+class Domain:
+    """When an event can be: `residues` ascend, each below the period. An empty one says that no timetable is possible."""
+
+    event: int
+    residues: Tuple[int, ...]
+
+    def runs(self) -> str:
+        """The residues as text, as in `0-3, 42-53, 58`; `none` where there is none."""
+        return ", ".join(str(a) if a == b else f"{a}-{b}" for a, b in runs(self.residues)) or "none"
+
+    def text(self) -> str:
+        """The domain line of the program, without its end."""
+        return " ".join([f"{self.event}:", *map(str, self.residues)])
+
+
+@dataclass(frozen=True)
+class Tension:
+    """What an activity takes in the working timetable: `tension` is its lower bound and `slack` together."""
+
+    activity: int
+    tension: int
+    slack: int
+
+    def text(self) -> str:
+        """The line of the program, without its end."""
+        return f"{self.activity} {self.tension} {self.slack}"
+
+
+@dataclass(frozen=True)
+class Violations:
+    """What the working timetable violates: activities that are not met, and events that are not in their window, ascending."""
+
+    activities: Tuple[int, ...]
+    events: Tuple[int, ...]
+
+    def __len__(self) -> int:
+        return len(self.activities) + len(self.events)
+
+    def text(self) -> str:
+        """The reply of the program."""
+        lines = [f"violations {len(self)}", *(f"activity {number}" for number in self.activities)]
+        return "".join(f"{line}\n" for line in [*lines, *(f"event {number}" for number in self.events)])
+
+
+@dataclass(frozen=True)
+class Optimum:
+    """The best timetable: its cost, and a time below the period for each event, ascending by event."""
+
+    cost: int
+    times: Mapping[int, int]
+
+    def text(self) -> str:
+        """The reply of the program."""
+        return _timetable("optimum", self.cost, self.times)
+
+
+@dataclass(frozen=True)
+class Infeasible:
+    """No timetable meets everything."""
+
+    def text(self) -> str:
+        """The reply of the program."""
+        return "infeasible\n"
+
+
+@dataclass(frozen=True)
+class Stopped:
+    """A search came to its limit. It says nothing of whether there are other timetables, or better ones.
+
+    `cost` and `times` are those of the best timetable that it had found, which meets everything; they are None and empty
+    where it had found none.
+    """
+
+    cost: Optional[int] = None
+    times: Mapping[int, int] = field(default_factory=dict)
+
+    def text(self) -> str:
+        """The reply of the program."""
+        return "stopped none\n" if self.cost is None else _timetable("stopped", self.cost, self.times)
+
+
+def _timetable(word: str, cost: int, times: Mapping[int, int]) -> str:
+    rows = "".join(f"{event} {times[event]}\n" for event in sorted(times))
+    return f"{word} {cost} {len(times)}\n{rows}"
+
+
+Found = Union[Optimum, Infeasible, Stopped]
+Answer = Union[None, int, str, Domain, Dict[int, Domain], Dict[int, Tension], Violations, Optimum, Infeasible, Stopped]

@@ -1,0 +1,6 @@
+"""Regions to try things on, drawn from a seed."""
+
+from pespbench.drawn.drawing import draw_region
+from pespbench.drawn.region import Region, RegionActivity, RegionEvent
+
+__all__ = ["Region", "RegionActivity", "RegionEvent", "draw_region"]

@@ -1,0 +1,99 @@
+"""What a drawn region is: lines through shared stations, with labels, places and a hidden timetable.
+
+A region has six lines over fifteen stations, 100 to 120 events and 30 to 35 circles (as many as activities lie outside a
+spanning tree). Times are minutes.
+"""
+
+from __future__ import annotations
+
+from dataclasses import dataclass
+from pathlib import Path
+from typing import Sequence
+
+from pespbench.drawn.stations import Stations
+
+PERIOD = 60
+
+
+@dataclass(frozen=True)
+class RegionEvent:
+    """A train of a line leaves a station, or arrives there; `to` is the station at which the train ends."""
+
+    number: int
+    line: str
+    to: str
+    station: str
+    kind: str
+    time: int
+
+
+@dataclass(frozen=True)
+class RegionActivity:
+    """An activity as in a file of activities, with its kind; bounds in minutes, the weight per minute of slack."""
+
+    number: int
+    first: int
+    last: int
+    lower: int
+    upper: int
+    weight: int
+    kind: str
+
+    @property
+    def width(self) -> int:
+        """How many minutes the span allows above its lower bound."""
+        return self.upper - self.lower
+
+
+@dataclass(frozen=True)
+class Region:
+    """A drawn region; `times` are those of the hidden timetable, which an infeasible region does not keep."""
+
+    seed: int
+    events: list[RegionEvent]
+    activities: list[RegionActivity]
+    places: Stations
+    period: int = PERIOD
+
+    @property
+    def times(self) -> dict[int, int]:
+        """The minute of each event in the hidden timetable."""
+        return {event.number: event.time for event in self.events}
+
+    @property
+    def circles(self) -> int:
+        """How many activities lie outside a spanning tree; a region is connected."""
+        return len(self.activities) - len(self.events) + 1
+
+    def is_connected(self) -> bool:
+        """Whether each event is reached from each other along activities."""
+        parts = {event.number: {event.number} for event in self.events}
+        for activity in self.activities:
+            first, last = parts[activity.first], parts[activity.last]
+            if first is not last:
+                first |= last
+                parts.update((event, first) for event in last)
+        return len(parts[self.events[0].number]) == len(parts)
+
+    def save(self, folder: Path) -> None:
+        """Writes the files activities, times, labels and places.
+
+        Raises:
+            OSError: the folder cannot be made, or a file cannot be written.
+        """
+        folder.mkdir(parents=True, exist_ok=True)
+        for name, rows in self._files().items():
+            text = "".join("; ".join(map(str, row)) + "\n" for row in rows)
+            (folder / name).write_text(text, encoding="utf-8")
+
+    def _files(self) -> dict[str, list[Sequence[object]]]:
+        rows = [(each.number, each.first, each.last, each.lower, each.upper, each.weight) for each in self.activities]
+        labels: list[Sequence[object]] = [("event", "line", "to", "station", "kind")]
+        labels += [(each.number, each.line, each.to, each.station, each.kind) for each in self.events]
+        labels += [("activity", "kind"), *((each.number, each.kind) for each in self.activities)]
+        return {
+            "activities": [("activity", "from", "to", "lower", "upper", "weight"), *rows],
+            "times": [("event", "time"), *self.times.items()],
+            "labels": labels,
+            "places": [("station", "x", "y"), *((name, x, y) for name, (x, y) in self.places.places.items())],
+        }

@@ -1,0 +1,83 @@
+"""What is raised: by the program's refusals, by its end, and by files that are not as they have to be."""
+
+from __future__ import annotations
+
+from typing import Optional
+
+
+class PespbenchError(Exception):
+    """What the package raises of its own."""
+
+
+class Refused(PespbenchError):
+    """The program refused a command, and nothing has changed.
+
+    `number` is that of the refusal (docs/FORMATS.md, *Refusals*); `event` and `activity` are those that the reply names, or
+    None. `str` gives the reply.
+    """
+
+    def __init__(self, number: int, event: Optional[int], activity: Optional[int], text: str) -> None:
+        super().__init__(number, event, activity, text)
+        self.number = number
+        self.event = event
+        self.activity = activity
+        self.text = text
+
+    def __str__(self) -> str:
+        return self.text
+
+
+class Fault(PespbenchError):
+    """A line is no command, and nothing has changed.
+
+    `word` is the place of the faulty word, counted from 1, or None where the reply names none. `str` gives the reply.
+    """
+
+    def __init__(self, word: Optional[int], text: str) -> None:
+        super().__init__(word, text)
+        self.word = word
+        self.text = text
+
+    def __str__(self) -> str:
+        return self.text
+
+
+class Ended(PespbenchError):
+    """The program ended before it had answered.
+
+    `status` is its exit status, negative where a signal ended it; `text` is what it wrote to standard error. What the bench
+    had accepted is kept: its next use starts the program again.
+    """
+
+    def __init__(self, status: int, text: str) -> None:
+        super().__init__(status, text)
+        self.status = status
+        self.text = text
+
+    def __str__(self) -> str:
+        return self.text or f"the program ended with status {self.status} and said nothing"
+
+
+class BadReply(PespbenchError):
+    """The program wrote what is no reply of docs/FORMATS.md. `text` is the line."""
+
+    def __init__(self, text: str) -> None:
+        super().__init__(text)
+        self.text = text
+
+    def __str__(self) -> str:
+        return f"no reply of pespbench: {self.text[:200]!r}"
+
+
+class FileFault(PespbenchError):
+    """A file is not as it has to be. `path` is the file; `record` counts its records from 1, and is None for the whole file."""
+
+    def __init__(self, path: str, record: Optional[int], text: str) -> None:
+        super().__init__(path, record, text)
+        self.path = path
+        self.record = record
+        self.text = text
+
+    def __str__(self) -> str:
+        place = "" if self.record is None else f", record {self.record}"
+        return f"{self.path}{place}: {self.text}"

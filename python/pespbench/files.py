@@ -1,0 +1,158 @@
+"""Files of activities, fixed times and times, read as the program reads them, and written (docs/FORMATS.md, *Files*).
+
+Events and activities are numbers, times and bounds whole units of time. What is wrong with a file is told by FileFault,
+with the record and in the words of the program. Limits on the numbers of rows are the program's alone.
+"""
+
+from __future__ import annotations
+
+import csv
+import io
+import os
+import re
+from typing import Callable, Dict, Iterable, Iterator, List, Mapping, Sequence, Tuple, Union
+
+from pespbench.faults import FileFault
+from pespbench.network import Activity, Window
+
+Path = Union[str, "os.PathLike[str]"]
+NUMBERS = range(0, 1_000_000_000)
+BOUNDS = range(-1_000_000, 1_000_001)
+WEIGHTS = range(0, 1_000_000_001)
+TIMES = range(-1_000_000_000, 1_000_000_001)
+RESIDUES = range(0, 65_536)
+MARK = b"\xef\xbb\xbf"
+LONGEST_FILE = 67_108_864
+
+
+def records(path: Path, encoding: str = "latin-1") -> Iterator[Tuple[int, List[str]]]:
+    """The records of a file that are neither blank nor comments, with their numbers and trimmed fields; headers too.
+
+    Raises OSError, and FileFault for a file that is too long.
+    """
+    with open(path, "rb") as file:
+        data = file.read(LONGEST_FILE + 1)
+    if len(data) > LONGEST_FILE:
+        raise FileFault(os.fspath(path), None, "file is too long")
+    data = data[len(MARK) :] if data.startswith(MARK) else data
+    # Before Python 3.11 `csv` takes no null characters; another one that stands in no number serves as well.
+    text = data.replace(b"\0", b"\1").decode(encoding, errors="replace")
+    separator = ";" if ";" in text else ","
+    usual = csv.field_size_limit(LONGEST_FILE)
+    try:
+        listed = list(filter(None, csv.reader(io.StringIO(text, newline=""), delimiter=separator)))
+    finally:
+        csv.field_size_limit(usual)
+    for number, record in enumerate(listed, 1):
+        fields = [field.strip(" \t") for field in record]
+        if not fields[-1]:
+            fields.pop()
+        if fields and not fields[0].startswith("#"):
+            yield number, fields
+
+
+def rows(path: Path) -> Iterator[Tuple[int, List[str]]]:
+    """The rows of a file with their record numbers: a first record that begins with a letter is the header."""
+    for place, (number, fields) in enumerate(records(path)):
+        if place or not re.match("[A-Za-z]", fields[0]):
+            yield number, fields
+
+
+def number_in(place: int, text: str, limits: range) -> int:
+    """The number that field `place` has. Raises ValueError with the text of its fault."""
+    if not re.fullmatch("[+-]?[0-9]+", text):
+        raise ValueError(f"field {place} is not a number")
+    digits = text.lstrip("+-").lstrip("0")
+    # Fourteen digits are beyond all limits, whatever follows them.
+    value = int(digits[:14] or "0") * (-1 if text.startswith("-") else 1)
+    if value not in limits:
+        raise ValueError(f"field {place} is out of range")
+    return value
+
+
+def weight_in(place: int, text: str, limits: range) -> int:
+    """The weight that field `place` has, which may have a point with zeros behind it. Raises ValueError."""
+    whole, point, decimals = text.partition(".")
+    if point and not re.fullmatch("[+-]?[0-9]+", whole) or not re.fullmatch("[0-9]*", decimals):
+        raise ValueError(f"field {place} is not a number")
+    if decimals.strip("0"):
+        raise ValueError("weight has a fraction")
+    return number_in(place, whole, limits)
+
+
+Column = Tuple[Callable[[int, str, range], int], range]
+ACTIVITY: Sequence[Column] = [*[(number_in, NUMBERS)] * 3, *[(number_in, BOUNDS)] * 2, (weight_in, WEIGHTS)]
+TIME: Sequence[Column] = [(number_in, NUMBERS), (number_in, TIMES)]
+WINDOW: Sequence[Column] = [(number_in, NUMBERS), (number_in, RESIDUES), (number_in, RESIDUES)]
+EVENT: Sequence[Column] = [(number_in, NUMBERS)]
+
+
+def values(path: Path, columns: Sequence[Column], twice: str) -> Iterator[List[int]]:
+    """The numbers of each row; `twice` is what is told of a first number that comes again. Raises OSError and FileFault."""
+    seen = set()
+    for record, fields in rows(path):
+        try:
+            if len(fields) != len(columns):
+                raise ValueError("wrong number of fields")
+            row = [read(place, text, limits) for place, (text, (read, limits)) in enumerate(zip(fields, columns), 1)]
+            if columns is ACTIVITY and row[3] > row[4]:
+                raise ValueError("lower bound above upper bound")
+            if row[0] in seen:
+                raise ValueError(twice)
+        except ValueError as fault:
+            raise FileFault(os.fspath(path), record, str(fault)) from None
+        seen.add(row[0])
+        yield row
+
+
+def read_activities(path: Path) -> Dict[int, Activity]:
+    """The activities of a file, by number, in its order. Raises OSError and FileFault."""
+    listed = (Activity(*row) for row in values(path, ACTIVITY, "activity number is repeated"))
+    return {activity.number: activity for activity in listed}
+
+
+def read_times(path: Path) -> Dict[int, int]:
+    """The times, or fixed times, of a file by event, as they stand there: not modulo a period. Raises OSError and FileFault."""
+    return {event: time for event, time in values(path, TIME, "event is repeated")}
+
+
+def read_windows(path: Path) -> Dict[int, Window]:
+    """The windows of a file `event; first; length`, by event. Raises OSError and FileFault."""
+    return {event: Window(first, length) for event, first, length in values(path, WINDOW, "event is repeated")}
+
+
+def read_events(path: Path) -> List[int]:
+    """The events of a file of one column. Raises OSError and FileFault."""
+    return [event for [event] in values(path, EVENT, "event is repeated")]
+
+
+def write_text(path: Path, text: str) -> None:
+    """Writes a file whole or not at all: it takes the place of the old one when it is written. Raises OSError."""
+    part = f"{os.fspath(path)}.part"
+    with open(part, "w", encoding="utf-8", newline="") as file:
+        file.write(text)
+    os.replace(part, path)
+
+
+def write_rows(path: Path, header: Sequence[str], listed: Iterable[Sequence[int]]) -> None:
+    """Writes a file of a header and rows of numbers, as `write_text` does. Raises OSError."""
+    lines = ["; ".join(header), *("; ".join(map(str, row)) for row in listed)]
+    write_text(path, "".join(f"{line}\n" for line in lines))
+
+
+def write_activities(path: Path, activities: Mapping[int, Activity]) -> None:
+    """Writes the file of activities, ascending by number. Raises OSError."""
+    listed = [activities[number] for number in sorted(activities)]
+    fields = [(each.number, each.from_event, each.to_event, each.lower, each.upper, each.weight) for each in listed]
+    write_rows(path, ["activity", "from", "to", "lower", "upper", "weight"], fields)
+
+
+def write_times(path: Path, times: Mapping[int, int]) -> None:
+    """Writes the file of times, or of fixed times, ascending by event. Raises OSError."""
+    write_rows(path, ["event", "time"], sorted(times.items()))
+
+
+def write_windows(path: Path, windows: Mapping[int, Window]) -> None:
+    """Writes the file of windows, ascending by event. Raises OSError."""
+    listed = [(event, windows[event].first, windows[event].length) for event in sorted(windows)]
+    write_rows(path, ["event", "first", "length"], listed)

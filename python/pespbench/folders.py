@@ -1,0 +1,83 @@
+"""A network in a folder of plain files, of which those that the program reads are read by its checks too.
+
+| File | What it has |
+|---|---|
+| `period` | the period, a number |
+| `activities`, `times` | as the program reads them |
+| `fixed` | the fixed times of events that activities name, as the program reads them |
+| `windows` | `event; first; length`: all other windows |
+| `events` | the events that no activity names |
+| `labels` | where there are labels (pespbench.labels) |
+"""
+
+from __future__ import annotations
+
+import os
+from pathlib import Path
+from typing import TYPE_CHECKING, Union
+
+from pespbench import files
+from pespbench.faults import FileFault, Refused
+from pespbench.labels import Labels
+from pespbench.network import window_command
+
+if TYPE_CHECKING:
+    from pespbench.client import Bench
+
+AnyPath = Union[str, "os.PathLike[str]"]
+
+
+def save(bench: "Bench", folder: AnyPath) -> None:
+    """Writes network, times and labels to a folder, which is made where it is not there. Raises OSError."""
+    place = Path(folder)
+    place.mkdir(parents=True, exist_ok=True)
+    network = bench.network
+    named = {event for each in network.activities.values() for event in (each.from_event, each.to_event)}
+    windows = {event: window for event, window in network.windows.items() if window is not None}
+    fixed = {event: window.first for event, window in windows.items() if window.length == 1 and event in named}
+    files.write_rows(place / "period", ["period"], [[network.period]])
+    files.write_activities(place / "activities", network.activities)
+    files.write_times(place / "fixed", fixed)
+    files.write_windows(place / "windows", {event: windows[event] for event in windows if event not in fixed})
+    files.write_rows(place / "events", ["event"], [[event] for event in network.events if event not in named])
+    files.write_times(place / "times", bench.times)
+    if bench.labels.events or bench.labels.activities:
+        bench.labels.write(place / "labels")
+
+
+def load(folder: AnyPath, program: Union[AnyPath, None] = None) -> "Bench":
+    """Opens a folder that was saved. Only `activities` and `period` have to be there. Raises OSError, FileFault and Ended."""
+    from pespbench.client import Bench
+
+    place = Path(folder)
+    there = {name: place / name for name in ("fixed", "times", "labels") if (place / name).exists()}
+    bench = Bench.open(place / "activities", period=period_of(place / "period"), program=program, **there)
+    try:
+        _complete(bench, place)
+        bench._session.journal.clear()
+    except Refused as refusal:
+        bench.close()
+        raise FileFault(os.fspath(place), None, str(refusal)) from None
+    except BaseException:
+        bench.close()
+        raise
+    return bench
+
+
+def period_of(path: Path) -> int:
+    """The period that a file tells. Raises OSError and FileFault."""
+    periods = [period for [period] in files.values(path, files.EVENT, "")]
+    if len(periods) != 1:
+        raise FileFault(os.fspath(path), None, "it is no file of one period")
+    return periods[0]
+
+
+def _complete(bench: "Bench", place: Path) -> None:
+    """Does what the program reads from no file: events without activities with their times, and windows."""
+    events = files.read_events(place / "events") if (place / "events").exists() else []
+    windows = files.read_windows(place / "windows") if (place / "windows").exists() else {}
+    times = files.read_times(place / "times") if (place / "times").exists() else {}
+    commands = [f"add event {event}" for event in events]
+    commands += [window_command(event, windows[event]) for event in windows]
+    commands += [f"time {event} {times[event] % bench.period}" for event in events if event in times]
+    bench._all(commands)

@@ -1,0 +1,117 @@
+"""The optimum in parts: spans are cut into ranges, and each choice of ranges is a smaller search of its own."""
+
+from __future__ import annotations
+
+import itertools
+from concurrent.futures import Executor
+from dataclasses import dataclass
+from typing import Iterator, List, Optional, Tuple, Union
+
+from pespbench.answers import Infeasible, Optimum
+from pespbench.client import Bench
+from pespbench.faults import BadReply
+from pespbench.network import Activity, Network
+from pespbench.variants import Base, Task, answer_task, hands_of
+from pespbench.workers import Driver, Lost, Progress
+
+
+@dataclass(frozen=True)
+class Part:
+    """A choice of one range of each span that is cut; `constant` is what any of its timetables costs at least."""
+
+    constant: int
+    edits: Tuple[str, ...]
+
+
+def cut_activities(network: Network, spans: int) -> List[Activity]:
+    """The activities whose spans are cut: of those with 2 to a period of values, the ones in which most cost is at stake."""
+    period = network.period
+
+    def stake(each: Activity) -> Tuple[int, int]:
+        return -each.weight * (each.upper - each.lower), each.number
+
+    fit = [each for each in network.activities.values() if each.from_event != each.to_event and 1 <= each.upper - each.lower < period]
+    return sorted(fit, key=stake)[:spans]
+
+
+def ranges_of(activity: Activity, ranges: int) -> List[Tuple[int, int]]:
+    """Ranges that part a span, ascending, their lengths as equal as can be."""
+    length = activity.upper - activity.lower + 1
+    count = min(ranges, length)
+    starts = [activity.lower + length * place // count for place in range(count + 1)]
+    return [(first, behind - 1) for first, behind in zip(starts, starts[1:])]
+
+
+def parts_of(network: Network, spans: int, ranges: int) -> List[Part]:
+    """The choices, ascending by constant. Each timetable that meets everything has just one."""
+    activities = cut_activities(network, spans)
+    parts = []
+    for chosen in itertools.product(*(ranges_of(each, ranges) for each in activities)):
+        pairs = list(zip(activities, chosen))
+        constant = sum(each.weight * (first - each.lower) for each, (first, _) in pairs)
+        parts.append(Part(constant, tuple(f"span {each.number} {first} {last}" for each, (first, last) in pairs)))
+    return sorted(parts, key=lambda part: part.constant)
+
+
+def optimum_in_parts(
+    bench: Bench,
+    *,
+    spans: int = 2,
+    ranges: int = 3,
+    executor: Optional[Executor] = None,
+    workers: Optional[int] = None,
+    progress: Optional[bool] = None,
+) -> Union[Optimum, Infeasible]:
+    """The same optimum as `bench.optimum()`, found in up to `ranges` to the power of `spans` searches, side by side.
+
+    The slack of a range counts from its own lower bound, so a part's cost lacks its constant. A part whose constant alone is
+    above the best cost found is not begun: it has no timetable as cheap. One whose constant is that cost may have one that
+    comes first, so it is answered too. `executor`, `workers` and `progress` are as in `variants`. Raises Lost where what
+    had a part in hand died twice, BadReply, and ValueError for spans or ranges below 1.
+    """
+    if spans < 1 or ranges < 1:
+        raise ValueError("there is at least one span, and one range of it")
+    parts = parts_of(bench.network, spans, ranges)
+    search = Search(parts, Base.of(bench), Progress(len(parts), progress))
+    hands = hands_of(executor, workers)
+    try:
+        for place, answer in Driver(answer_task, hands).run(search.tasks()):
+            search.take(place, answer)
+    finally:
+        hands.close()
+    return Infeasible() if search.best is None else search.best
+
+
+class Search:
+    """The parts, and the first of the cheapest timetables that came."""
+
+    def __init__(self, parts: List[Part], base: Base, bar: Progress) -> None:
+        self._parts = parts
+        self._base = base
+        self._bar = bar
+        self.best: Optional[Optimum] = None
+
+    def tasks(self) -> Iterator[Task]:
+        """The parts as tasks, as long as one may have a timetable that is as cheap as the best."""
+        for part in self._parts:
+            if self.best is not None and part.constant > self.best.cost:
+                return
+            yield Task(self._base, part.edits, "optimum")
+
+    def take(self, place: int, answer: object) -> None:
+        """Takes the answer of a part. Raises Lost and BadReply."""
+        self._bar.step()
+        if isinstance(answer, Lost):
+            raise answer
+        if isinstance(answer, Infeasible):
+            return
+        if not isinstance(answer, Optimum):
+            raise BadReply(str(answer))
+        found = Optimum(answer.cost + self._parts[place].constant, answer.times)
+        if self.best is None or order_of(found) < order_of(self.best):
+            self.best = found
+
+
+def order_of(found: Optimum) -> Tuple[int, List[int]]:
+    """By cost, and then by the time of the least event, of the next, ..; the order of optima."""
+    return found.cost, [found.times[event] for event in sorted(found.times)]

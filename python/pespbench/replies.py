@@ -1,0 +1,127 @@
+"""Replies of the program, from its lines to answers (docs/FORMATS.md, *From a program*)."""
+
+from __future__ import annotations
+
+import re
+from typing import Dict, Iterator, List, Optional, Sequence, Union
+
+from pespbench.answers import Answer, Domain, Infeasible, Optimum, Stopped, Tension, Violations
+from pespbench.faults import BadReply, Fault, Refused
+
+# Where in the first line the number of lines that follow stands.
+COUNT_PLACES = {"domains": 1, "tensions": 1, "violations": 1, "optimum": 2, "stopped": 2, "#": 4}
+
+
+def following(first: str) -> int:
+    """How many lines follow the first line of a reply. Raises BadReply where the line does not say so."""
+    words = first.split()
+    if not words:
+        raise BadReply(first)
+    if words[0] not in COUNT_PLACES or words == ["stopped", "none"]:
+        return 0
+    place = COUNT_PLACES[words[0]]
+    if place >= len(words) or not re.fullmatch("[0-9]{1,7}", words[place]):
+        raise BadReply(first)
+    return int(words[place])
+
+
+class Assembler:
+    """Puts the bytes of a stream together to replies, each a list of lines."""
+
+    def __init__(self) -> None:
+        self._held = b""
+        self._lines: List[str] = []
+        self._wanted = 1
+
+    def feed(self, data: bytes) -> Iterator[List[str]]:
+        """Takes bytes, and gives each reply that is whole by them. Raises BadReply where a line is no first line."""
+        *whole, self._held = (self._held + data).split(b"\n")
+        for line in whole:
+            self._lines.append(line.decode(errors="replace"))
+            if len(self._lines) == 1:
+                self._wanted = 1 + following(self._lines[0])
+            if len(self._lines) == self._wanted:
+                reply, self._lines = self._lines, []
+                yield reply
+
+    def is_within_reply(self) -> bool:
+        """Whether a part of a reply is held."""
+        return bool(self._held or self._lines)
+
+
+def replies_of(text: str) -> Iterator[List[str]]:
+    """The replies in a text, each a list of lines. Raises BadReply where a line is no first line, or the last is not whole."""
+    assembler = Assembler()
+    yield from assembler.feed(text.encode() if not text or text.endswith("\n") else f"{text}\n".encode())
+    if assembler.is_within_reply():
+        raise BadReply("the last reply is not whole")
+
+
+def answer_of(reply: Sequence[str]) -> Answer:
+    """The answer that a reply tells; `ok` is None. Raises Refused or Fault for such a reply, BadReply for any other text."""
+    words = reply[0].split()
+    try:
+        if words[0] == "refused":
+            raise Refused(int(words[1]), _named("event", reply[0]), _named("activity", reply[0]), reply[0])
+        if words[0] == "fault":
+            raise Fault(_named("word", reply[0]), reply[0])
+        return _answer(words, reply)
+    except (ValueError, IndexError, KeyError):
+        raise BadReply(reply[0]) from None
+
+
+def _named(what: str, text: str) -> Optional[int]:
+    found = re.search(rf"\b{what} (\d+)", text)
+    return int(found[1]) if found else None
+
+
+def _answer(words: List[str], reply: Sequence[str]) -> Answer:
+    """The answer of a reply that is none of refused and fault. Raises ValueError, IndexError and KeyError for any other text."""
+    name, rows = words[0], reply[1:]
+    if name == "ok" or name == "infeasible":
+        return None if name == "ok" else Infeasible()
+    if name == "cost":
+        return int(words[1])
+    if name == "#":
+        return "".join(f"{line}\n" for line in reply)
+    if name == "domains":
+        return {domain.event: domain for domain in map(_domain, rows)}
+    if name.endswith(":"):
+        return _domain(reply[0])
+    if name == "tensions":
+        return {each.activity: each for each in (Tension(*map(int, row.split())) for row in rows)}
+    if name == "violations":
+        named = [row.split() for row in rows]
+        kinds = {kind: tuple(int(number) for word, number in named if word == kind) for kind in ("activity", "event")}
+        return Violations(kinds["activity"], kinds["event"])
+    if name == "optimum":
+        return Optimum(int(words[1]), _times(rows))
+    if name == "stopped":
+        return Stopped() if words[1] == "none" else Stopped(int(words[1]), _times(rows))
+    raise ValueError(name)
+
+
+def text_of(command: str, outcome: Union[Answer, Refused, Fault]) -> str:
+    """The reply that has such an outcome, to a command."""
+    name = command.split()[0]
+    if isinstance(outcome, (Refused, Fault)):
+        return f"{outcome}\n"
+    if outcome is None or name == "adopt":
+        return "ok\n"
+    if isinstance(outcome, int):
+        return f"cost {outcome}\n"
+    if isinstance(outcome, str):
+        return outcome
+    if isinstance(outcome, dict):
+        return "".join(f"{line}\n" for line in [f"{name} {len(outcome)}", *(each.text() for each in outcome.values())])
+    return f"{outcome.text()}\n" if isinstance(outcome, Domain) else outcome.text()
+
+
+def _domain(line: str) -> Domain:
+    event, _, residues = line.partition(":")
+    return Domain(int(event), tuple(map(int, residues.split())))
+
+
+def _times(rows: Sequence[str]) -> Dict[int, int]:
+    pairs = [row.split() for row in rows]
+    return {int(event): int(time) for event, time in pairs}

@@ -1,0 +1,62 @@
+"""The subcommand `report`."""
+
+from __future__ import annotations
+
+import argparse
+import sys
+from pathlib import Path
+from typing import Optional
+
+from pespbench.answers import Found
+from pespbench.client import Bench
+from pespbench.files import write_text
+from pespbench.opening import add_network, open_network
+from pespbench.report.gathering import gather
+from pespbench.report.page import netgraph_of, page_of
+from pespbench.report.places import Place, read_places
+
+
+def add_parser(subparsers: argparse._SubParsersAction[argparse.ArgumentParser]) -> None:
+    """Adds the subcommand's parser."""
+    parser = subparsers.add_parser("report", help="a report on a network and its timetable, as one HTML file")
+    add_network(parser)
+    places = "places of stations: station; x; y [default: the file places of a folder, else laid out]"
+    parser.add_argument("--places", metavar="FILE", help=places)
+    parser.add_argument("--title", default="Timetable", help="the title [default: Timetable]")
+    parser.add_argument("--output", metavar="FILE", help="where the report is written [default: standard output]")
+    parser.add_argument("--netgraph", metavar="FILE", help="write the netgraph alone too, as an SVG picture")
+    best = "look so long for the best timetable, and report on it where one is found"
+    parser.add_argument("--search", metavar="SECONDS", type=float, help=best)
+    parser.set_defaults(run=run)
+
+
+def run(words: argparse.Namespace) -> int:
+    """Writes the report, and the netgraph alone where it is asked for."""
+    places = places_for(words)
+    with open_network(words) as bench:
+        found = None if words.search is None else searched(bench, words.search)
+        content = gather(bench, words.title, places, found)
+    if words.output is None:
+        sys.stdout.write(page_of(content))
+    else:
+        write_text(words.output, page_of(content))
+    if words.netgraph is not None:
+        write_text(words.netgraph, netgraph_of(content))
+    return 0
+
+
+def places_for(words: argparse.Namespace) -> Optional[dict[str, Place]]:
+    """The places of the file that is named, or of the one in the network's folder; None where there is neither."""
+    beside = Path(words.network) / "places"
+    if words.places is None and not beside.is_file():
+        return None
+    return read_places(beside if words.places is None else Path(words.places))
+
+
+def searched(bench: Bench, seconds: float) -> Optional[Found]:
+    """What a search found; its timetable, where there is one, is the working timetable from then on."""
+    found = bench.search(seconds)
+    times = getattr(found, "times", {})
+    if times:
+        bench.set_times(times)
+    return found

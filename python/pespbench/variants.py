@@ -1,0 +1,120 @@
+"""Many variants of one network, answered on one machine or on many."""
+
+from __future__ import annotations
+
+import os
+import threading
+from concurrent.futures import Executor
+from dataclasses import dataclass
+from typing import List, Optional, Sequence, Tuple, Union
+
+from pespbench.client import Bench
+from pespbench.commands import CHANGES, checked, name_of
+from pespbench.faults import Fault, Refused
+from pespbench.session import Outcome, Session
+from pespbench.work import work_of
+from pespbench.workers import Driver, Hands, LentHands, Lost, OwnHands, Progress
+
+# How many tasks an executor of the caller is given at once.
+AT_ONCE = 1_000
+
+
+@dataclass(frozen=True)
+class Base:
+    """A network that can be sent to other processes: the program that opens it there, and the commands that make it."""
+
+    program: str
+    period: int
+    script: Tuple[str, ...]
+
+    @classmethod
+    def of(cls, bench: Bench, program: Union[str, "os.PathLike[str]", None] = None) -> "Base":
+        """The network and the times of a bench, for another program where one is named."""
+        path = bench.program if program is None else os.fspath(program)
+        return cls(path, bench.period, tuple(bench._session.work.script()))
+
+
+@dataclass(frozen=True)
+class Task:
+    """One variant: the base, the edits on it, and what is asked then."""
+
+    base: Base
+    edits: Tuple[str, ...]
+    question: str
+
+
+class Opened(threading.local):
+    """The program that a worker has opened, with its base; a worker is a thread, of which a process may have many."""
+
+    def __init__(self) -> None:
+        self._base: Optional[Base] = None
+        self._bench: Optional[Bench] = None
+
+    def bench(self, base: Base) -> Bench:
+        """The bench of a base, which is opened where it is another one than before."""
+        if self._bench is None or self._base != base:
+            if self._bench is not None:
+                self._bench.close()
+            self._bench = Bench(Session(base.program, work_of(list(base.script), base.period)))
+            self._base = base
+        return self._bench
+
+
+_opened = Opened()
+
+
+def answer_task(task: Task) -> Outcome:
+    """The answer to a variant, or the first refusal of its edits. Raises Ended and BadReply."""
+    bench = _opened.bench(task.base)
+    with bench.trial():
+        *edits, answer = bench.many([*task.edits, task.question])
+    return next((outcome for outcome in edits if isinstance(outcome, (Refused, Fault))), answer)
+
+
+def variants(
+    base: Bench,
+    lists_of_edits: Sequence[Sequence[str]],
+    *,
+    ask: str = "optimum",
+    executor: Optional[Executor] = None,
+    workers: Optional[int] = None,
+    progress: Optional[bool] = None,
+) -> List[Union[Outcome, Lost]]:
+    """Answers each list of edits on the network of `base` by itself, and gives the answers in the order of the lists.
+
+    `ask` is the command that is asked after the edits: `optimum`, `domains`, `try 5000`, .. The tasks go to `executor`, any of
+    `concurrent.futures` whose workers have this package and the program at the same path; where none is given, to `workers`
+    processes of this machine, as many as it has processors where that is None. Then the caller's main module has to be one
+    that can be imported (`if __name__ == "__main__":`). Each worker keeps one opened program. A bar on standard error shows
+    how far it is where that is a terminal, or as `progress` says.
+
+    A refused edit makes Refused or Fault the answer of its list. What a worker or a program had in hand that died is given
+    out once more, and is Lost, with its place in the lists, where that dies too; a process pool of the caller that broke
+    takes nothing more, so all that is left is Lost then. Raises ValueError for a line that is no change, before anything is
+    sent, and BadReply.
+    """
+    lists = [tuple(map(change, edits)) for edits in lists_of_edits]
+    shared = Base.of(base)
+    tasks = (Task(shared, edits, checked(ask)) for edits in lists)
+    answers: List[Union[Outcome, Lost]] = [None] * len(lists)
+    bar = Progress(len(lists), progress)
+    hands = hands_of(executor, workers)
+    try:
+        for place, answer in Driver(answer_task, hands).run(tasks):
+            answers[place] = answer
+            bar.step()
+    finally:
+        hands.close()
+    return answers
+
+
+def hands_of(executor: Optional[Executor], workers: Optional[int]) -> Hands:
+    """The caller's executor, or processes of this machine."""
+    return OwnHands(workers) if executor is None else LentHands(executor, AT_ONCE)
+
+
+def change(command: str) -> str:
+    """A command that changes something. Raises ValueError for any other text."""
+    if name_of(checked(command)) not in CHANGES and command.split() != ["adopt"]:
+        raise ValueError(f"no edit: {command}")
+    return command

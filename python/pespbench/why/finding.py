@@ -1,0 +1,122 @@
+"""Finds out why a network has no timetable."""
+
+from __future__ import annotations
+
+import time
+from typing import Collection, Sequence
+
+from pespbench.client import Bench
+from pespbench.labels import Labels
+from pespbench.why.answers import Conflict, Possible, Undecided, Why
+from pespbench.why.members import Kept, Member, Of, Verdict
+from pespbench.why.mending import Mending
+from pespbench.why.probe import Probe
+from pespbench.why.shapes import shape_of
+from pespbench.why.shrinking import Test, least, settled
+
+# The nodes of the first search of the whole network, and by how much more each search behind it may have.
+FIRST_NODES, MORE = 500, 4
+# The kind by which fixed times and windows are named where kinds are held hard.
+FIXED = "fixed"
+
+
+def why(bench: Bench, hard: Collection[str] = (), nodes: int = 2_000, seconds: float = 10.0) -> Why:
+    """A least set of activities, fixed times and windows of a network that cannot be met together.
+
+    The bench is not changed, for a program of its own is asked. First what is no part of the conflict is let go by halves, as long as single
+    activities alone show an empty domain; then by searches.
+
+    Args:
+        hard: kinds of activities, by the bench's labels, that are not to be changed; `fixed` are fixed times and windows.
+            They may be in the conflict, which has as few others as can be, and no mend changes them.
+        nodes: the nodes of each search of a part.
+        seconds: about the longest that is looked whether the whole network has a timetable, and as long again for mends.
+
+    Raises:
+        Ended: the program ended.
+        ValueError: a number of nodes or seconds is not above 0.
+    """
+    if nodes < 1 or seconds <= 0:
+        raise ValueError("nodes and seconds have to be above 0")
+    with Bench.from_script(bench.dump(), period=bench.period, program=bench.program) as copy:
+        return Finding(Probe(copy), hard_members(bench, hard), nodes, seconds).answer()
+
+
+def hard_members(bench: Bench, kinds: Collection[str]) -> frozenset[Member]:
+    """The members of some kinds."""
+    labels: Labels = bench.labels
+    activities = {Member(Of.ACTIVITY, number) for number in bench.network.activities if labels.kind(number) in kinds}
+    events = {Member(Of.EVENT, event) for event in bench.network.windows} if FIXED in kinds else set()
+    return frozenset(activities | events)
+
+
+class Finding:
+    """The way to a conflict, over one probe."""
+
+    def __init__(self, probe: Probe, hard: frozenset[Member], nodes: int, seconds: float) -> None:
+        self.probe, self.hard, self.nodes, self.seconds = probe, hard, nodes, seconds
+
+    def answer(self) -> Why:
+        """A timetable, a conflict, or neither where none was found in time."""
+        if self._is_seen_by_domains():
+            return self._conflict(self._least(list(self.probe.members), self._by_domains))
+        nodes, until = FIRST_NODES, time.monotonic() + self.seconds
+        while True:
+            verdict, times = self.probe.search(self.probe.members, nodes)
+            if verdict is Verdict.POSSIBLE:
+                return Possible(times)
+            if verdict is Verdict.INFEASIBLE:
+                self.nodes = max(self.nodes, nodes)
+                return self._conflict(self._least(list(self.probe.members), self._by_search))
+            if time.monotonic() > until:
+                return Undecided(nodes)
+            nodes *= MORE
+
+    def _is_seen_by_domains(self) -> bool:
+        """Whether a domain is empty, with some event of each free part held; that event is held first from then on."""
+        if self._by_domains(list(self.probe.members)):
+            return True
+        until = time.monotonic() + self.seconds
+        for event in self.probe.windows:
+            self.probe.preferred = [event]
+            if self._by_domains(list(self.probe.members)):
+                return True
+            if time.monotonic() > until:
+                break
+        self.probe.preferred = []
+        return False
+
+    def _by_domains(self, members: Sequence[Member]) -> bool:
+        return self.probe.by_domains(self._kept(members)) is Verdict.INFEASIBLE
+
+    def _by_search(self, members: Sequence[Member]) -> bool:
+        return self.probe.by_search(self._kept(members), self.nodes) is Verdict.INFEASIBLE
+
+    def _kept(self, members: Sequence[Member]) -> Kept:
+        return {member: self.probe.members[member] for member in members}
+
+    def _least(self, members: list[Member], test: Test) -> list[Member]:
+        """The least set by a test: as few that may be changed as can be, and then as few of the hard ones."""
+        hard = [member for member in members if member in self.hard]
+        soft = [member for member in members if member not in self.hard]
+        needed = least(soft, hard, test)
+        return needed + least(hard, needed, test)
+
+    def _conflict(self, members: list[Member]) -> Conflict:
+        """What is told of a set; by searches, which see more than domains, some of its members may turn out not to be needed."""
+        members = settled(members, self._by_search)
+        kept = {member: self.probe.members[member] for member in sorted(members, key=by_kind)}
+        without = {member: self._without(members, member) for member in kept}
+        shape = shape_of(kept, self.probe.activities, self.probe.period)
+        mending = Mending(self.probe, kept, shape, self.nodes)
+        mends = mending.mends([member for member in kept if member not in self.hard], time.monotonic() + self.seconds)
+        return Conflict(kept, self.hard & set(kept), self.nodes, without, shape, mends)
+
+    def _without(self, members: list[Member], member: Member) -> Verdict:
+        return self.probe.by_search(self._kept([each for each in members if each != member]), self.nodes)
+
+
+def by_kind(member: Member) -> tuple[str, int]:
+    """A key by which activities come before events, each by number."""
+    return member.of.value, member.number
+

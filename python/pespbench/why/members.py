@@ -1,0 +1,83 @@
+"""What can be in a conflict: the span of an activity, or the fixed time or window of an event."""
+
+from __future__ import annotations
+
+from dataclasses import dataclass
+from enum import Enum
+from typing import Mapping, Union
+
+from pespbench.network import Network
+
+
+class Verdict(Enum):
+    """What a test says of a set of members."""
+
+    INFEASIBLE = "infeasible"
+    POSSIBLE = "possible"
+    UNDECIDED = "undecided"
+
+
+class Of(Enum):
+    """Whose member it is."""
+
+    ACTIVITY = "activity"
+    EVENT = "event"
+
+
+@dataclass(frozen=True)
+class Member:
+    """An activity with its span, or an event with its window, by number."""
+
+    of: Of
+    number: int
+
+
+@dataclass(frozen=True)
+class Span:
+    """The least and the most minutes of an activity."""
+
+    lower: int
+    upper: int
+
+    def is_binding(self, period: int) -> bool:
+        """Whether some two times do not meet it."""
+        return self.upper - self.lower < period - 1
+
+    def widened(self, count: int, is_later: bool) -> Span:
+        """The span with so many minutes more above, or below."""
+        return Span(self.lower, self.upper + count) if is_later else Span(self.lower - count, self.upper)
+
+
+@dataclass(frozen=True)
+class Held:
+    """The window of an event: its first minute, and how many it has."""
+
+    first: int
+    length: int
+    period: int
+
+    def is_binding(self, period: int) -> bool:
+        """Whether some time is outside."""
+        return self.length < period
+
+    def widened(self, count: int, is_later: bool) -> Held:
+        """The window with so many minutes more behind it, or before it."""
+        first = self.first if is_later else (self.first - count) % self.period
+        return Held(first, self.length + count, self.period)
+
+
+Bounds = Union[Span, Held]
+# The members of a set, each with what it asks for.
+Kept = Mapping[Member, Bounds]
+
+
+def members_of(network: Network) -> dict[Member, Bounds]:
+    """The members that rule something out: activities ascending, then events."""
+    period = network.period
+    found: dict[Member, Bounds] = {}
+    for number, activity in sorted(network.activities.items()):
+        found[Member(Of.ACTIVITY, number)] = Span(activity.lower, activity.upper)
+    for event, window in sorted(network.windows.items()):
+        if window is not None:
+            found[Member(Of.EVENT, event)] = Held(window.first, window.length, period)
+    return {member: bounds for member, bounds in found.items() if bounds.is_binding(period)}

@@ -1,0 +1,95 @@
+"""The least widening of each member of a conflict that mends it."""
+
+from __future__ import annotations
+
+import time
+from dataclasses import replace
+from typing import Callable, Optional
+
+from pespbench.why.answers import Mend
+from pespbench.why.members import Bounds, Held, Kept, Member, Span, Verdict
+from pespbench.why.probe import GREATEST_BOUND, Probe
+from pespbench.why.shapes import Shape
+
+RANKS = {Verdict.POSSIBLE: 0, None: 1, Verdict.UNDECIDED: 2, Verdict.INFEASIBLE: 3}
+
+
+class Mending:
+    """The widenings of a conflict's members, tried on a probe by searches of so many nodes."""
+
+    def __init__(self, probe: Probe, kept: dict[Member, Bounds], shape: Optional[Shape], nodes: int) -> None:
+        self.probe, self.kept, self.shape, self.nodes = probe, kept, shape, nodes
+
+    def mends(self, members: list[Member], until: float) -> list[Mend]:
+        """The mends of some members, best first; whether each mends the whole network is asked until a time."""
+        found = [mend for mend in map(self.mend, members) if mend]
+        found.sort(key=by_minutes)
+        found = [self.with_whole(mend) if time.monotonic() < until else mend for mend in found]
+        return sorted(found, key=lambda mend: (RANKS[mend.whole], *by_minutes(mend)))
+
+    def mend(self, member: Member) -> Optional[Mend]:
+        """The least widening of a member, later where earlier takes as many minutes; None where none is seen to mend."""
+        best: Optional[Mend] = None
+        for is_later in (True, False):
+            count = self._least_count(member, is_later, best.minutes - 1 if best else self._most_count(member))
+            if count is not None:
+                before = self.kept[member]
+                best = Mend(member, before, before.widened(count, is_later), count)
+        return best
+
+    def with_whole(self, mend: Mend) -> Mend:
+        """The mend with what a search says of the whole network with it."""
+        whole = {**self.probe.members, mend.member: mend.after}
+        if self.probe.by_domains(whole) is Verdict.INFEASIBLE:
+            return replace(mend, whole=Verdict.INFEASIBLE)
+        return replace(mend, whole=self.probe.by_search(whole, self.nodes))
+
+    def _most_count(self, member: Member) -> int:
+        bounds, period = self.kept[member], self.probe.period
+        return period - bounds.length if isinstance(bounds, Held) else period - 1 - (bounds.upper - bounds.lower)
+
+    def _least_count(self, member: Member, is_later: bool, most: int) -> Optional[int]:
+        """The least number of minutes, up to a most, that mends; None where the most does not."""
+        bounds = self.kept[member]
+        if isinstance(bounds, Span):
+            most = min(most, GREATEST_BOUND - bounds.upper if is_later else GREATEST_BOUND + bounds.lower)
+
+        def is_mended(count: int) -> bool:
+            changed: Kept = {**self.kept, member: bounds.widened(count, is_later)}
+            return self.probe.by_search(changed, self.nodes) is Verdict.POSSIBLE
+
+        return least_number(most, is_mended, self._guess(member, is_later))
+
+    def _guess(self, member: Member, is_later: bool) -> int:
+        """The minutes by which a circle or a way misses what it has to take; 1 where it is neither."""
+        if self.shape is None:
+            return 1
+        (_, below), (above, _) = self.shape.wanted
+        step = next((each for each in self.shape.steps if each.activity.number == member.number), None)
+        is_longer = is_later if step is None or step.is_forward else not is_later
+        if isinstance(self.kept[member], Held):
+            is_longer = is_later == (member.number == self.shape.steps[0].start)
+        return above - self.shape.most if is_longer else self.shape.least - below
+
+
+def least_number(most: int, holds: Callable[[int], bool], guess: int) -> Optional[int]:
+    """The least number from 1 to a most that holds, where a number holds that is above one that does.
+
+    The guess is tried first, and where it is right two tests are enough. None where no number holds.
+    """
+    low, high = 0, most + 1
+    while high - low > 1:
+        if low < guess < high:
+            middle = guess
+        elif guess == high:
+            # The guess holds; where it is the least number, the one below does not.
+            middle, guess = guess - 1, 0
+        else:
+            middle = (low + high) // 2
+        low, high = (low, middle) if holds(middle) else (middle, high)
+    return high if high <= most else None
+
+
+def by_minutes(mend: Mend) -> tuple[int, str, int]:
+    """A key by which mends of few minutes come first, then activities before events, then by number."""
+    return mend.minutes, mend.member.of.value, mend.member.number

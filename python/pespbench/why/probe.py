@@ -1,0 +1,139 @@
+"""Asks a bench about sets of members: what is not in a set is let go, and each free part is held at 0 somewhere.
+
+A part is what the activities of the set join. One without a window can be turned as a whole, for what joins it to others
+was let go, so holding one of its events at 0 takes no timetable away from which another could not be turned.
+"""
+
+from __future__ import annotations
+
+from typing import Iterable, Optional
+
+from pespbench.answers import Domain, Infeasible, Optimum, Stopped
+from pespbench.client import Bench
+from pespbench.faults import PespbenchError
+from pespbench.network import Window, window_command
+from pespbench.session import Outcome
+from pespbench.why.members import Bounds, Held, Kept, Member, Of, Span, Verdict, members_of
+
+GREATEST_BOUND = 1_000_000
+Timetable = dict[int, int]
+
+
+class Probe:
+    """A bench while sets are asked about, which is left changed: its weights are 0 from the first."""
+
+    def __init__(self, bench: Bench) -> None:
+        network = bench.network
+        self.bench, self.period = bench, network.period
+        self.members = members_of(network)
+        self.activities = dict(network.activities)
+        self.ends = {number: (each.from_event, each.to_event) for number, each in network.activities.items()}
+        self.spans = {number: Span(each.lower, each.upper) for number, each in network.activities.items()}
+        self.windows: dict[int, Optional[Window]] = dict(network.windows)
+        # The events that no activity joins that was asked for last.
+        self.alone: set[int] = set()
+        # The events that are held before others, in the parts that have them.
+        self.preferred: list[int] = []
+        self.known: dict[tuple[frozenset[tuple[Member, Bounds]], int], Verdict] = {}
+        self.roots = sorted({min(part) for part in parts_of(self.windows, self.ends.values())})
+        # With all weights 0 a search ends at the first timetable that it finds.
+        self._send([f"weight {number} 0" for number, each in network.activities.items() if each.weight])
+
+    def by_domains(self, kept: Kept) -> Verdict:
+        """Whether a domain is empty with the set alone: then it is infeasible, and else nothing is said."""
+        answers = self._ask(kept, [f"domain {root}" for root in self.roots], is_all_held=False)
+        is_empty = any(isinstance(answer, Domain) and not answer.residues for answer in answers)
+        return Verdict.INFEASIBLE if is_empty else Verdict.UNDECIDED
+
+    def by_search(self, kept: Kept, nodes: int) -> Verdict:
+        """What a search of so many nodes says of the set alone; the same set is not searched again."""
+        asked = frozenset(kept.items()), nodes
+        if asked not in self.known:
+            self.known[asked] = self.search(kept, nodes)[0]
+        return self.known[asked]
+
+    def search(self, kept: Kept, nodes: int) -> tuple[Verdict, Timetable]:
+        """What a search of so many nodes says of the set alone, and the timetable that it found, where it found one."""
+        [answer] = self._ask(kept, [f"try {nodes}"], is_all_held=True)
+        if isinstance(answer, Infeasible):
+            return Verdict.INFEASIBLE, {}
+        if isinstance(answer, Optimum) or (isinstance(answer, Stopped) and answer.cost is not None):
+            return Verdict.POSSIBLE, dict(answer.times)
+        return Verdict.UNDECIDED, {}
+
+    def _ask(self, kept: Kept, questions: list[str], is_all_held: bool) -> list[Outcome]:
+        """The answers to questions where just the set is asked for; events without an activity of it are held if all are."""
+        spans = {number: self._span(kept, number) for number in self.spans}
+        changed = [number for number, span in spans.items() if span != self.spans[number]]
+        windows, alone = self._wanted_windows(kept, is_all_held)
+        # Spans are changed while domains are full, since each change costs the minutes that come and go: so what holds
+        # events goes first and comes last, but for events that nothing binds before and after.
+        lifted = [event for event, window in self.windows.items() if window and event not in self.alone & alone]
+        lifted = [event for event in lifted if changed or windows.get(event) != self.windows[event]]
+        commands = [f"unfix {event}" for event in lifted]
+        self.windows.update((event, None) for event in lifted)
+        commands += [f"span {number} {spans[number].lower} {spans[number].upper}" for number in changed]
+        held = [(event, window) for event, window in windows.items() if window != self.windows[event]]
+        commands += [window_command(event, window) for event, window in held]
+        commands += [f"unfix {event}" for event, window in self.windows.items() if window and event not in windows]
+        self.windows.update({event: windows.get(event) for event in self.windows})
+        self.spans, self.alone = spans, alone
+        return self._send([*commands, *questions])[len(commands) :]
+
+    def _span(self, kept: Kept, number: int) -> Span:
+        """The span of an activity in a set; where it is not in it, one that every two times meet."""
+        bounds = kept.get(Member(Of.ACTIVITY, number))
+        return bounds if isinstance(bounds, Span) else self._let_go(number)
+
+    def _let_go(self, number: int) -> Span:
+        """A span that every two times meet, near the one that stands so that few domains change."""
+        lower = min(self.spans[number].lower, GREATEST_BOUND - self.period + 1)
+        return Span(lower, lower + self.period - 1)
+
+    def _wanted_windows(self, kept: Kept, is_all_held: bool) -> tuple[dict[int, Window], set[int]]:
+        """The windows of the set with one held event for each part that has none, and the events that nothing joins."""
+        windows = {member.number: bounds for member, bounds in kept.items() if isinstance(bounds, Held)}
+        windows = {event: held for event, held in windows.items() if held.is_binding(self.period)}
+        wanted = {event: Window(held.first, held.length) for event, held in windows.items()}
+        joins = [self.ends[member.number] for member, bounds in kept.items() if self._joins(bounds)]
+        degrees = dict.fromkeys(self.windows, 0)
+        for event in (event for ends in joins for event in ends):
+            degrees[event] += 1
+        for part in parts_of(self.windows, joins):
+            held = self._held(part, degrees)
+            if (is_all_held or degrees[held]) and not any(event in windows for event in part):
+                wanted[held] = Window(0, 1)
+        return wanted, {event for event, degree in degrees.items() if not degree}
+
+    def _joins(self, bounds: Span | Held) -> bool:
+        return isinstance(bounds, Span) and bounds.is_binding(self.period)
+
+    def _held(self, part: set[int], degrees: dict[int, int]) -> int:
+        """The event of a free part that is held: a preferred one, else the one with most activities of the set."""
+        for event in self.preferred:
+            if event in part:
+                return event
+        return max(part, key=lambda event: (degrees[event], -event))
+
+    def _send(self, commands: list[str]) -> list[Outcome]:
+        """The answers to commands, none of which may be refused."""
+        answers = self.bench.many(commands)
+        for answer in answers:
+            if isinstance(answer, PespbenchError):
+                raise answer
+        return answers
+
+
+def parts_of(events: Iterable[int], joins: Iterable[tuple[int, int]]) -> list[set[int]]:
+    """The parts into which pairs of joined events divide all events."""
+    parts = {event: {event} for event in events}
+    for first, last in joins:
+        larger, smaller = parts[first], parts[last]
+        if larger is smaller:
+            continue
+        if len(larger) < len(smaller):
+            larger, smaller = smaller, larger
+        larger |= smaller
+        for event in smaller:
+            parts[event] = larger
+    return list({id(part): part for part in parts.values()}.values())

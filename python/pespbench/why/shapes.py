@@ -1,0 +1,135 @@
+"""Whether a conflict is a circle of activities or a path between two windows, and what it takes along it."""
+
+from __future__ import annotations
+
+from dataclasses import dataclass
+from typing import Optional, Sequence, Union
+
+from pespbench.network import Activity
+from pespbench.why.members import Held, Kept, Of
+
+
+@dataclass(frozen=True)
+class Step:
+    """An activity of a way, and whether the way runs along it or against it."""
+
+    activity: Activity
+    is_forward: bool
+
+    @property
+    def start(self) -> int:
+        """The event at which the way comes to the activity."""
+        return self.activity.from_event if self.is_forward else self.activity.to_event
+
+    @property
+    def end(self) -> int:
+        """The event at which the way leaves the activity."""
+        return self.activity.to_event if self.is_forward else self.activity.from_event
+
+
+@dataclass(frozen=True)
+class Circle:
+    """Activities that come back to where they began, so that they have to take a whole number of periods."""
+
+    steps: list[Step]
+    period: int
+
+    @property
+    def least(self) -> int:
+        """The least minutes along the way."""
+        return least_of(self.steps)
+
+    @property
+    def most(self) -> int:
+        """The most minutes along the way."""
+        return -least_of([Step(step.activity, not step.is_forward) for step in self.steps])
+
+    @property
+    def wanted(self) -> tuple[tuple[int, int], tuple[int, int]]:
+        """What the way would have to take: the nearest minutes below, and the nearest above, each from the least to the most."""
+        below = self.most // self.period * self.period
+        return (below, below), (below + self.period, below + self.period)
+
+
+@dataclass(frozen=True)
+class Way:
+    """Activities from one held event to another."""
+
+    steps: list[Step]
+    period: int
+    first: Held
+    last: Held
+
+    @property
+    def least(self) -> int:
+        """The least minutes along the way."""
+        return least_of(self.steps)
+
+    @property
+    def most(self) -> int:
+        """The most minutes along the way."""
+        return -least_of([Step(step.activity, not step.is_forward) for step in self.steps])
+
+    @property
+    def wanted(self) -> tuple[tuple[int, int], tuple[int, int]]:
+        """What the way would have to take, as of a circle."""
+        shortest = self.last.first - (self.first.first + self.first.length - 1)
+        width = self.first.length + self.last.length - 2
+        # The last that begins below the most that the way takes; as none fits, it ends below the least.
+        below = shortest + (self.most - shortest) // self.period * self.period
+        return (below, below + width), (below + self.period, below + self.period + width)
+
+
+Shape = Union[Circle, Way]
+
+
+def least_of(steps: Sequence[Step]) -> int:
+    """The least minutes along some steps; an activity that is gone against takes its minutes away."""
+    return sum(step.activity.lower if step.is_forward else -step.activity.upper for step in steps)
+
+
+def shape_of(kept: Kept, activities: dict[int, Activity], period: int) -> Optional[Shape]:
+    """The circle or the way that a set of members is, or None where it is neither."""
+    used = [activities[member.number] for member in kept if member.of is Of.ACTIVITY]
+    windows = {member.number: bounds for member, bounds in kept.items() if isinstance(bounds, Held)}
+    if len(windows) not in (0, 2) or not used:
+        return None
+    start = min(windows) if windows else used[0].from_event
+    steps = walk(start, used)
+    if len(steps) != len(used):
+        return None
+    events = [start, *(step.end for step in steps)]
+    if not windows:
+        is_circle = events[-1] == start and len(set(events)) == len(steps)
+        return Circle(turned(steps), period) if is_circle else None
+    if set(windows) != {events[0], events[-1]} or len(set(events)) != len(events):
+        return None
+    steps = turned(steps)
+    return Way(steps, period, windows[steps[0].start], windows[steps[-1].end])
+
+
+def walk(start: int, activities: Sequence[Activity]) -> list[Step]:
+    """The steps from an event on, as long as there is just one that was not gone; at the first event of a circle any."""
+    left = list(activities)
+    steps: list[Step] = []
+    event = start
+    while left:
+        following = [each for each in left if event in (each.from_event, each.to_event)]
+        if not following or (steps and len(following) > 1):
+            break
+        steps.append(Step(following[0], following[0].from_event == event))
+        left.remove(following[0])
+        event = steps[-1].end
+    return steps
+
+
+def turned(steps: list[Step]) -> list[Step]:
+    """The steps in the direction in which they take time rather than give it back; else in that of most activities."""
+    back = [Step(step.activity, not step.is_forward) for step in reversed(steps)]
+    least, most = least_of(steps), -least_of(back)
+    return steps if (least + most, forward_of(steps)) >= (0, forward_of(back)) else back
+
+
+def forward_of(steps: Sequence[Step]) -> int:
+    """How many steps run along their activities."""
+    return sum(step.is_forward for step in steps)

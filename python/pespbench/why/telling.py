@@ -1,0 +1,114 @@
+"""The answer to why, in a planner's words."""
+
+from __future__ import annotations
+
+from pespbench.why.answers import Conflict, Mend, Possible, Undecided, Why
+from pespbench.why.members import Bounds, Held, Member, Of, Verdict
+from pespbench.why.shapes import Circle, Shape
+from pespbench.wording import Names, minutes, span_text, window_text
+
+# What is said above the mends with which the whole network is as a search says of it.
+WHOLE = {
+    Verdict.POSSIBLE: "with each of these the whole network has a timetable:",
+    None: "these mend the conflict, and the whole network was not tried with them:",
+    Verdict.UNDECIDED: "these mend the conflict, and whether the whole network has a timetable then is undecided:",
+    Verdict.INFEASIBLE: "with each of these another conflict is left:",
+}
+
+
+def text_of(answer: Why, names: Names) -> str:
+    """The answer as lines of text."""
+    if isinstance(answer, Possible):
+        return "A timetable meets everything, so there is no conflict.\n"
+    if isinstance(answer, Undecided):
+        return f"Undecided: a search of {answer.nodes:,} nodes came to no timetable, and single activities show no conflict.\n"
+    blocks = [members_text(answer, names), shape_text(answer), claim_text(answer, names), mends_text(answer, names)]
+    return "\n".join(filter(None, blocks))
+
+
+def members_text(conflict: Conflict, names: Names) -> str:
+    """What cannot be met together, along the circle or way where it is one."""
+    count = len(conflict.members)
+    lines = [f"These {count} cannot be met together:" if count > 1 else "This cannot be met:", ""]
+    rows = [member_row(member, conflict, names) for member in ordered(conflict)]
+    width = max(len(name) for name, _ in rows)
+    lines += [f"  {name:<{width}}  {bounds}" for name, bounds in rows]
+    return "\n".join(lines) + "\n"
+
+
+def ordered(conflict: Conflict) -> list[Member]:
+    """The members in the order of the circle or way, a window beside the end that it holds; else by number."""
+    if conflict.shape is None:
+        return list(conflict.members)
+    steps = conflict.shape.steps
+    activities = [Member(Of.ACTIVITY, step.activity.number) for step in steps]
+    first, last = Member(Of.EVENT, steps[0].start), Member(Of.EVENT, steps[-1].end)
+    events = [member for member in (first, last) if member in conflict.members]
+    return [*events[:1], *activities, *events[1:]]
+
+
+def member_row(member: Member, conflict: Conflict, names: Names) -> tuple[str, str]:
+    """A member's name and what it asks for."""
+    backward = conflict.shape and {step.activity.number for step in conflict.shape.steps if not step.is_forward}
+    notes = ["against its direction"] if member.of is Of.ACTIVITY and backward and member.number in backward else []
+    notes += ["hard"] if member in conflict.hard else []
+    told = bounds_text(conflict.members[member]) + (f" ({', '.join(notes)})" if notes else "")
+    return member_name(member, names), told
+
+
+def member_name(member: Member, names: Names) -> str:
+    """A member in words."""
+    return names.activity(member.number) if member.of is Of.ACTIVITY else names.event(member.number)
+
+
+def bounds_text(bounds: Bounds) -> str:
+    """What a member asks for."""
+    if isinstance(bounds, Held):
+        return window_text(bounds.first, bounds.length, bounds.period)
+    return f"{span_text(bounds.lower, bounds.upper)} minutes"
+
+
+def shape_text(conflict: Conflict) -> str:
+    """The sum along a circle or a way."""
+    shape = conflict.shape
+    if shape is None:
+        return ""
+    taken, wanted = span_text(shape.least, shape.most), wanted_text(shape)
+    if isinstance(shape, Circle):
+        return f"Once round this circle they take {taken} minutes, and have to take {wanted}: a whole number of periods.\n"
+    return f"On this way from one held event to the other they take {taken} minutes, and have to take {wanted}.\n"
+
+
+def wanted_text(shape: Shape) -> str:
+    """The nearest minutes that a circle or way would have to take; fewer than none is only told where nothing else is."""
+    below, above = shape.wanted
+    told = [span_text(*each) for each in (below, above) if each[0] >= 0 or each is above]
+    return " or ".join(told)
+
+
+def claim_text(conflict: Conflict, names: Names) -> str:
+    """In which sense the set is least."""
+    if conflict.is_least:
+        return "" if len(conflict.members) == 1 else "Without any one of them, the others have a timetable.\n"
+    undecided = [member_name(member, names) for member, verdict in conflict.without.items() if verdict is Verdict.UNDECIDED]
+    told = f"Searches of {conflict.nodes:,} nodes see no conflict in the others without one of them; undecided is that without "
+    return f"{told}{', '.join(undecided)}.\n"
+
+
+def mends_text(conflict: Conflict, names: Names) -> str:
+    """What mends the conflict, best first."""
+    if not conflict.mends:
+        return "No member that may be changed is seen to mend it alone.\n"
+    blocks = ["The least that mends it, for one member alone, best first;"]
+    for verdict, words in WHOLE.items():
+        listed = [mend for mend in conflict.mends if mend.whole is verdict]
+        if listed:
+            width = max(len(member_name(mend.member, names)) for mend in listed)
+            blocks.append("\n".join([words, "", *(mend_line(mend, names, width) for mend in listed)]) + "\n")
+    return "\n".join(blocks)
+
+
+def mend_line(mend: Mend, names: Names, width: int) -> str:
+    """One mend in a line."""
+    change = f"{bounds_text(mend.after)} in place of {bounds_text(mend.before).removesuffix(' minutes')}"
+    return f"  {minutes(mend.minutes):>10} more  {member_name(mend.member, names):<{width}}  {change}"

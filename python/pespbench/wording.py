@@ -1,0 +1,156 @@
+"""Events and activities in a planner's words: by stations and lines where there are labels, else by numbers.
+
+What is named here has the attributes of an event (`number`, `line`, `to`, `station`, `kind`) or of an activity
+(`number`, `first`, `last`, `kind`); a report's values have them.
+"""
+
+from __future__ import annotations
+
+from dataclasses import dataclass
+from typing import Mapping, Protocol
+
+from pespbench.labels import EventLabel, Labels
+from pespbench.network import Activity
+
+
+class NamedEvent(Protocol):
+    """What is read of an event to name it."""
+
+    @property
+    def number(self) -> int: ...
+    @property
+    def line(self) -> str: ...
+    @property
+    def to(self) -> str: ...
+    @property
+    def station(self) -> str: ...
+    @property
+    def kind(self) -> str: ...
+
+
+class NamedActivity(Protocol):
+    """What is read of an activity to name it."""
+
+    @property
+    def number(self) -> int: ...
+    @property
+    def kind(self) -> str: ...
+
+
+# What the line of a train does at a station, by the kind of the event.
+DONE = {"departure": "leaves", "arrival": "arrives at"}
+
+
+def train_name(event: NamedEvent) -> str:
+    """The train of an event, as `R1 to Cranley`."""
+    return " to ".join(filter(None, [event.line, event.to])) or "a train"
+
+
+def event_name(event: NamedEvent) -> str:
+    """An event, as `R1 to Cranley leaves Benton`, or `event 7` where it has no station."""
+    if not event.station:
+        return f"event {event.number}"
+    if event.kind in DONE:
+        return f"{train_name(event)} {DONE[event.kind]} {event.station}"
+    return " ".join(filter(None, [train_name(event), event.kind, "at", event.station]))
+
+
+def activity_name(activity: NamedActivity, first: NamedEvent, last: NamedEvent) -> str:
+    """An activity, as `change at Benton from R1 to Cranley to R3 to Dale`, or by the numbers of its events."""
+    kind = activity.kind or "activity"
+    if not (first.station and last.station):
+        return f"{kind} {activity.number} from event {first.number} to event {last.number}"
+    if (first.line, first.to) == (last.line, last.to):
+        if first.station == last.station:
+            return f"{kind} of {train_name(first)} at {first.station}"
+        return f"{kind} of {first.line or train_name(first)} from {first.station} to {last.station}"
+    if first.line == last.line and first.station == last.station and kind == "turnaround":
+        return f"{kind} of {first.line} at {first.station}"
+    trains = f"from {train_name(first)} into {train_name(last)}"
+    if kind == "headway":
+        trains = f"between {train_name(first)} and {train_name(last)}"
+    where = first.station if first.station == last.station else f"{first.station} and {last.station}"
+    return f"{kind} at {where} {trains}"
+
+
+def minutes(count: int) -> str:
+    """A number of minutes with its word."""
+    return f"{count} minute" if count == 1 else f"{count} minutes"
+
+
+def span_text(lower: int, upper: int) -> str:
+    """A span, as `4 to 10`, or `4` where it has one value."""
+    return str(lower) if lower == upper else f"{lower} to {upper}"
+
+
+def clock(minute: int) -> str:
+    """A minute of the period, as `:07`."""
+    return f":{minute:02d}"
+
+
+def window_text(first: int, length: int, period: int) -> str:
+    """The minutes of a window, as `at :07` or `from :55 to :05`."""
+    return f"at {clock(first)}" if length == 1 else f"from {clock(first)} to {clock((first + length - 1) % period)}"
+
+
+def runs_of(residues: tuple[int, ...] | list[int]) -> list[tuple[int, int]]:
+    """The runs of neighbours among ascending residues, each from its first to its last."""
+    found: list[tuple[int, int]] = []
+    for residue in residues:
+        if found and found[-1][1] == residue - 1:
+            found[-1] = found[-1][0], residue
+        else:
+            found.append((residue, residue))
+    return found
+
+
+def short_name(activity: NamedActivity, first: NamedEvent, last: NamedEvent) -> str:
+    """An activity without its kind, as `Benton: R1 to Cranley → R3 to Dale`."""
+    if not (first.station and last.station):
+        return f"event {first.number} → event {last.number}"
+    if (first.line, first.to) == (last.line, last.to):
+        if first.station == last.station:
+            return f"{train_name(first)} at {first.station}"
+        return f"{first.line or train_name(first)}: {first.station} → {last.station}"
+    where = first.station if first.station == last.station else f"{first.station} → {last.station}"
+    return f"{where}: {train_name(first)} → {train_name(last)}"
+
+
+@dataclass(frozen=True)
+class Named:
+    """An event with its label."""
+
+    number: int
+    line: str
+    to: str
+    station: str
+    kind: str
+
+
+@dataclass(frozen=True)
+class NamedKind:
+    """An activity with its kind."""
+
+    number: int
+    kind: str
+
+
+class Names:
+    """The names of a network's events and activities."""
+
+    def __init__(self, labels: Labels, activities: Mapping[int, Activity]) -> None:
+        self.labels, self.activities = labels, activities
+
+    def event(self, number: int) -> str:
+        """An event in words."""
+        return event_name(self._named(number))
+
+    def activity(self, number: int) -> str:
+        """An activity in words, by the events that it leads from and to."""
+        activity = self.activities[number]
+        kind = NamedKind(number, self.labels.kind(number))
+        return activity_name(kind, self._named(activity.from_event), self._named(activity.to_event))
+
+    def _named(self, number: int) -> Named:
+        label = self.labels.events.get(number, EventLabel())
+        return Named(number, label.line, label.to, label.station, label.kind)

@@ -1,0 +1,110 @@
+"""What the tests share: the program, folders, stand-ins, and networks that are drawn the same in each run."""
+
+from __future__ import annotations
+
+import os
+import random
+import shutil
+import sys
+import tempfile
+import unittest
+from pathlib import Path
+from typing import List
+
+from pespbench import Bench
+
+TOP = Path(__file__).resolve().parents[2]
+EXAMPLES = TOP / "examples"
+PROGRAM = os.path.abspath(os.environ.get("PESPBENCH") or TOP / "crates/pespbench/out/pespbench")
+
+
+class Case(unittest.TestCase):
+    """A test with a folder of its own."""
+
+    def setUp(self) -> None:
+        self.folder = Path(tempfile.mkdtemp(prefix="pespbench-"))
+        self.addCleanup(shutil.rmtree, self.folder)
+
+    def two_trains(self, **files: object) -> Bench:
+        """The example of two trains at period 10, in the program."""
+        bench = Bench.open(EXAMPLES / "two-trains/activities", period=10, program=PROGRAM, **files)  # type: ignore[arg-type]
+        self.addCleanup(bench.close)
+        return bench
+
+    def stand_in(self, answers: str) -> Path:
+        """A program that answers as the body of a function does that is given a line and writes bytes by `write`."""
+        body = "".join(f"    {line}\n" for line in answers.strip().splitlines())
+        text = f"#!{sys.executable} -B\n{STAND_IN.replace('    BODY', body)}"
+        path = self.folder / "stand-in"
+        path.write_text(text)
+        path.chmod(0o755)
+        return path
+
+
+STAND_IN = '''
+import os, pathlib, sys, time
+
+EMPTY = b"# period 10 lines 0\\n"
+starts = pathlib.Path(__file__).with_suffix(".starts")
+starts.write_text(starts.read_text() + "s" if starts.exists() else "s")
+start = len(starts.read_text())
+
+def write(data):
+    while data:
+        data = data[os.write(1, data):]
+
+def answer(line):
+    BODY
+
+for line in iter(sys.stdin.readline, ""):
+    answer(line.strip())
+'''
+
+
+def drawn_script(seed: int, events: int, activities: int, period: int = 60, room: int = 12) -> List[str]:
+    """The commands of a network that is drawn about a timetable, which all but a few spans meet."""
+    draw = random.Random(seed)
+    times = [draw.randrange(period) for _ in range(events)]
+    lines = [f"add event {event}" for event in range(events)]
+    for activity in range(activities):
+        first, last = draw.sample(range(events), 2)
+        lower = (times[last] - times[first]) % period - draw.randrange(room)
+        upper = lower + room + draw.randrange(room)
+        lines.append(f"add activity {activity} {first} {last} {lower} {upper} {draw.randrange(50)}")
+    return lines
+
+
+def drawn_bench(seed: int, events: int, activities: int, period: int = 60, room: int = 12) -> Bench:
+    """The drawn network, in the program."""
+    script = "\n".join(drawn_script(seed, events, activities, period, room))
+    return Bench.from_script(script, period=period, program=PROGRAM)
+
+
+def drawn_changes(draw: random.Random, period: int, count: int) -> List[str]:
+    """Command lines on a few events and activities, of which many are refused."""
+    lines = []
+    for _ in range(count):
+        event, other, activity = draw.randrange(9), draw.randrange(9), draw.randrange(12)
+        time, lower = draw.randrange(period), draw.randrange(-5, period)
+        upper = lower + draw.randrange(period)
+        lines.append(
+            draw.choice(
+                [
+                    f"add event {event}",
+                    f"drop event {event}",
+                    f"fix {event} {time}",
+                    f"window {event} {time} {draw.randrange(1, period + 1)}",
+                    f"unfix {event}",
+                    f"add activity {activity} {event} {other} {lower} {upper} {draw.randrange(9)}",
+                    f"add activity {activity} {event} {other} {lower} {upper} {draw.randrange(9)}",
+                    f"drop activity {activity}",
+                    f"span {activity} {lower} {upper}",
+                    f"weight {activity} {draw.randrange(9)}",
+                    f"ends {activity} {event} {other}",
+                    f"time {event} {time}",
+                    f"untime {event}",
+                    "adopt",
+                ]
+            )
+        )
+    return lines

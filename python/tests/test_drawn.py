@@ -1,0 +1,78 @@
+"""The drawn region: the same for the same seed, of the size that it says, and feasible or not as it was asked for."""
+
+from __future__ import annotations
+
+import unittest
+
+from pespbench import Bench, EventLabel, Labels
+from pespbench.drawn import Region, draw_region
+from pespbench.drawn.circles import Tree, reach
+from pespbench.report import read_places
+from tests.common import PROGRAM, Case
+
+SEEDS = range(1, 25)
+# How the region of seed 7 begins, on every machine.
+FIRST_TIMES = [49, 0, 1, 13, 15, 28]
+FIRST_SPANS = [(11, 12, 136), (1, 2, 102), (12, 14, 101)]
+
+
+def missed(region: Region) -> list[int]:
+    """The activities that the hidden timetable does not meet."""
+    times = region.times
+    slacks = {each.number: (times[each.last] - times[each.first] - each.lower) % 60 for each in region.activities}
+    return [each.number for each in region.activities if slacks[each.number] > each.width]
+
+
+class Drawn(Case):
+    """Regions of many seeds."""
+
+    def test_sizes(self) -> None:
+        for seed in SEEDS:
+            region = draw_region(seed)
+            with self.subTest(seed=seed):
+                self.assertTrue(100 <= len(region.events) <= 120)
+                self.assertTrue(30 <= region.circles <= 35)
+                self.assertTrue(region.is_connected())
+                self.assertEqual(len({event.line for event in region.events}), 6)
+                self.assertEqual({each.kind for each in region.activities}, {"run", "dwell", "turnaround", "change", "headway"})
+                self.assertEqual(missed(region), [])
+                widths = [each.width for each in region.activities if each.kind == "change"]
+                self.assertTrue(10 <= min(widths) and max(widths) <= 35)
+
+    def test_infeasible(self) -> None:
+        for seed in SEEDS:
+            region = draw_region(seed, feasible=False)
+            with self.subTest(seed=seed):
+                self.assertEqual(len(missed(region)), 1)
+                spans = [reach(circle) for circle in Tree(region.activities).circles()]
+                closed = [any(minute % 60 == 0 for minute in range(least, most + 1)) for least, most in spans]
+                self.assertFalse(all(closed))
+
+    def test_same_again(self) -> None:
+        self.assertEqual(draw_region(7), draw_region(7))
+        self.assertNotEqual(draw_region(7).activities, draw_region(8).activities)
+        # The numbers are Python's first ones of the seed, which it keeps from release to release.
+        first = draw_region(7)
+        self.assertEqual([event.time for event in first.events[:6]], FIRST_TIMES)
+        self.assertEqual([(each.lower, each.upper, each.weight) for each in first.activities[:3]], FIRST_SPANS)
+
+    def test_wide_changes(self) -> None:
+        region = draw_region(2, change_widths=(55, 63))
+        self.assertTrue(all(55 <= each.width <= 63 for each in region.activities if each.kind == "change"))
+
+    def test_saved(self) -> None:
+        region = draw_region(5)
+        region.save(self.folder)
+        labels = Labels.read(self.folder / "labels")
+        event = region.events[0]
+        self.assertEqual(labels.events[event.number], EventLabel(event.line, event.to, event.station, event.kind))
+        self.assertEqual({number: labels.kind(number) for number in labels.activities},
+                         {each.number: each.kind for each in region.activities})  # fmt: skip
+        self.assertEqual(read_places(self.folder / "places"), {name: tuple(place) for name, place in region.places.places.items()})
+        with Bench.open(self.folder / "activities", times=self.folder / "times", program=PROGRAM) as bench:
+            self.assertEqual(len(bench.violations()), 0)
+            self.assertEqual(bench.times, region.times)
+
+
+if __name__ == "__main__":
+    unittest.main()

@@ -1,0 +1,207 @@
+"""Why: each told set is infeasible by the program, and none of its members can be left out."""
+
+from __future__ import annotations
+
+import random
+import unittest
+from dataclasses import replace
+from typing import Mapping
+
+from pespbench import Activity, Bench, Found, Infeasible, Network, Optimum, Window
+from pespbench.drawn import draw_region
+from pespbench.network import window_command
+from pespbench.why import Conflict, Member, Mend, Of, Possible, Span, Undecided, Verdict, text_of, why
+from pespbench.why.members import Bounds, Held
+from pespbench.why.shapes import Circle
+from pespbench.wording import Names
+from tests.common import PROGRAM, Case
+
+NETWORKS = 1_000
+# Long enough for a program that was built without its proofs, which takes a hundred times as long.
+SECONDS = 1_000.0
+
+
+def small_network(seed: int) -> Network:
+    """A network of two to six events, which is infeasible more often than not; loops and parallel activities come too."""
+    draw = random.Random(seed)
+    period, count = draw.randrange(4, 13), draw.randrange(2, 7)
+    network = Network(period, {event: None for event in range(1, count + 1)})
+    for event in network.windows:
+        if draw.random() < 0.25:
+            network.windows[event] = Window(draw.randrange(period), draw.choice([1, 1, 2, 3, period]))
+    for number in range(1, draw.randrange(count, 2 * count + 3)):
+        first, last = draw.randint(1, count), draw.randint(1, count)
+        if first == last and draw.random() < 0.8:
+            last = last % count + 1
+        lower = draw.randrange(-3, 2 * period)
+        upper = lower + draw.choice([0, 1, 1, 2, 3, period - 2, period])
+        network.activities[number] = Activity(number, first, last, lower, upper, draw.randrange(4))
+    return network
+
+
+def with_members(network: Network, members: Mapping[Member, Bounds]) -> Network:
+    """The network with just these spans and windows, on all events."""
+    made = Network(network.period, dict.fromkeys(network.windows))
+    for member, bounds in members.items():
+        if isinstance(bounds, Held):
+            made.windows[member.number] = Window(bounds.first, bounds.length)
+        else:
+            activity = network.activities[member.number]
+            made.activities[member.number] = replace(activity, lower=bounds.lower, upper=bounds.upper, weight=0)
+    return made
+
+
+def without(members: Mapping[Member, Bounds], member: Member) -> dict[Member, Bounds]:
+    """The members but one."""
+    return {each: bounds for each, bounds in members.items() if each != member}
+
+
+class Small(Case):
+    """Drawn networks that are so small that the program decides each question about them."""
+
+    def setUp(self) -> None:
+        super().setUp()
+        self.benches: dict[tuple[int, str], Bench] = {}
+
+    def bench(self, period: int, use: str) -> Bench:
+        """A bench without events at a period, for a use."""
+        if (period, use) not in self.benches:
+            self.benches[period, use] = Bench.open(None, period=period, program=PROGRAM)
+            self.addCleanup(self.benches[period, use].close)
+        return self.benches[period, use]
+
+    def decided(self, network: Network) -> Found:
+        """What the program says of a network."""
+        bench = self.bench(network.period, "check")
+        with bench.trial():
+            found = bench.many([*network.script(), "optimum"])[-1]
+        assert isinstance(found, (Infeasible, Optimum))
+        return found
+
+    def test_drawn_networks(self) -> None:
+        told = {Possible: 0, Conflict: 0}
+        for seed in range(NETWORKS):
+            network = small_network(seed)
+            bench = self.bench(network.period, "why")
+            with self.subTest(seed=seed), bench.trial():
+                bench.many(network.script())
+                script = bench.dump()
+                answer = why(bench)
+                self.assertEqual(bench.dump(), script)
+                assert not isinstance(answer, Undecided)
+                told[type(answer)] += 1
+                if isinstance(answer, Possible):
+                    self.check_times(network, answer.times)
+                else:
+                    self.check_conflict(network, answer)
+        self.assertGreater(min(told.values()), NETWORKS // 5)
+
+    def check_times(self, network: Network, times: dict[int, int]) -> None:
+        """A timetable keeps each window and meets each activity."""
+        for event, window in network.windows.items():
+            self.assertTrue(window is None or window.holds(network.period, times[event]))
+        for activity in network.activities.values():
+            self.assertLessEqual(activity.slack(network.period, times), activity.upper - activity.lower)
+
+    def check_conflict(self, network: Network, conflict: Conflict) -> None:
+        """The program says that the set is infeasible, and that there is a timetable without any one member."""
+        for member, bounds in conflict.members.items():
+            self.assertEqual(bounds, bounds_in(network, member))
+        self.assertIsInstance(self.decided(with_members(network, conflict.members)), Infeasible)
+        self.assertTrue(conflict.is_least)
+        for member in conflict.members:
+            self.assertIsInstance(self.decided(with_members(network, without(conflict.members, member))), Optimum)
+        for mend in conflict.mends:
+            self.check_mend(network, conflict, mend)
+        self.assertEqual({mend.member for mend in conflict.mends}, set(conflict.members))
+        if isinstance(conflict.shape, Circle):
+            self.assertFalse(any(each % network.period == 0 for each in range(conflict.shape.least, conflict.shape.most + 1)))
+
+    def check_mend(self, network: Network, conflict: Conflict, mend: Mend) -> None:
+        """A mend mends, one with a minute less does not, and what is said of the whole network is so."""
+        self.assertIsInstance(self.decided(with_members(network, {**conflict.members, mend.member: mend.after})), Optimum)
+        for is_later in (True, False):
+            less = {**conflict.members, mend.member: mend.before.widened(mend.minutes - 1, is_later)}
+            self.assertIsInstance(self.decided(with_members(network, less)), Infeasible)
+        every = {member: bounds_in(network, member) for member in all_members(network)}
+        found = self.decided(with_members(network, {**every, mend.member: mend.after}))
+        self.assertIs(mend.whole, Verdict.POSSIBLE if isinstance(found, Optimum) else Verdict.INFEASIBLE)
+
+
+def bounds_in(network: Network, member: Member) -> Bounds:
+    """What a network asks of a member."""
+    if member.of is Of.ACTIVITY:
+        return Span(network.activities[member.number].lower, network.activities[member.number].upper)
+    window = network.windows[member.number]
+    assert window is not None
+    return Held(window.first, window.length, network.period)
+
+
+def all_members(network: Network) -> list[Member]:
+    """All activities and windows."""
+    held = [event for event, window in network.windows.items() if window is not None]
+    return [Member(Of.ACTIVITY, number) for number in network.activities] + [Member(Of.EVENT, event) for event in held]
+
+
+class Told(Case):
+    """Answers in words."""
+
+    def told(self, commands: list[str], period: int, hard: tuple[str, ...] = (), kinds: dict[int, str] | None = None) -> str:
+        """What is told of a network with few labels."""
+        with Bench.from_script("\n".join(commands), period=period, program=PROGRAM) as bench:
+            bench.labels.activities.update(kinds or {})
+            return text_of(why(bench, hard), Names(bench.labels, bench.network.activities))
+
+    def test_circle(self) -> None:
+        commands = ["add event 1", "add event 2", "add activity 1 1 2 3 3 0", "add activity 2 2 1 4 6 0"]
+        text = self.told(commands, 10)
+        self.assertIn("they take 7 to 9 minutes, and have to take 0 or 10: a whole number of periods", text)
+        self.assertIn("1 minute more  activity 1 from event 1 to event 2  3 to 4 minutes in place of 3\n", text)
+        self.assertIn("1 minute more  activity 2 from event 2 to event 1  4 to 7 minutes in place of 4 to 6\n", text)
+
+    def test_way(self) -> None:
+        commands = ["add event 1", "add event 2", "add activity 1 1 2 3 4 0", "fix 1 9", "window 2 5 2"]
+        text = self.told(commands, 10)
+        self.assertIn("On this way from one held event to the other they take 3 to 4 minutes, and have to take 6 to 7.", text)
+        self.assertIn("2 minutes more  event 1                             from :09 to :01 in place of at :09\n", text)
+        self.assertIn("2 minutes more  activity 1 from event 1 to event 2  3 to 6 minutes in place of 3 to 4\n", text)
+
+    def test_hard_kinds(self) -> None:
+        commands = ["add event 1", "add event 2", "add activity 1 1 2 3 3 0", "add activity 2 2 1 4 6 0"]
+        text = self.told(commands, 10, ("run",), {1: "run", 2: "turnaround"})
+        self.assertIn("run 1 from event 1 to event 2         3 minutes (hard)\n", text)
+        self.assertEqual(text.count("in place of"), 1)
+        both = self.told(commands, 10, ("run", "turnaround"), {1: "run", 2: "turnaround"})
+        self.assertIn("No member that may be changed is seen to mend it alone.", both)
+
+    def test_loop(self) -> None:
+        text = self.told(["add event 1", "add activity 7 1 1 1 2 0"], 10)
+        self.assertIn("This cannot be met:", text)
+        self.assertIn("they take 1 to 2 minutes, and have to take 0 or 10", text)
+
+    def test_nothing(self) -> None:
+        self.assertIn("A timetable meets everything", self.told(["add event 1"], 10))
+
+    def test_bad_numbers(self) -> None:
+        with Bench.open(None, program=PROGRAM) as bench:
+            self.assertRaises(ValueError, why, bench, (), 0)
+            self.assertRaises(ValueError, why, bench, (), 1, 0.0)
+
+
+class Regions(Case):
+    """A region of the size that a planner works on."""
+
+    def test_infeasible_region(self) -> None:
+        region = draw_region(3, feasible=False)
+        region.save(self.folder)
+        with Bench.open(self.folder / "activities", labels=self.folder / "labels", program=PROGRAM) as bench:
+            answer = why(bench, ("run", "dwell", "headway"), seconds=SECONDS)
+            assert isinstance(answer, Conflict)
+            self.assertTrue(answer.is_least)
+            self.assertTrue(answer.mends)
+            soft = {mend.member for mend in answer.mends}
+            self.assertTrue(all(bench.labels.kind(member.number) in ("change", "turnaround") for member in soft))
+
+
+if __name__ == "__main__":
+    unittest.main()

@@ -1,0 +1,103 @@
+"""The subcommands why, report and compare as they are typed."""
+
+from __future__ import annotations
+
+import contextlib
+import io
+import unittest
+from xml.etree import ElementTree
+
+from pespbench.__main__ import main
+from pespbench.drawn import draw_region
+from tests.common import EXAMPLES, PROGRAM, Case
+from tests.pages import Page
+
+LINE = str(EXAMPLES / "hourly-line/activities")
+TIMES = str(EXAMPLES / "hourly-line/times")
+
+
+class Words(Case):
+    """Command lines with what they print."""
+
+    def typed(self, *words: str, status: int = 0) -> str:
+        """What a command line prints, where it ends with a status."""
+        with contextlib.redirect_stdout(io.StringIO()) as told:
+            self.assertEqual(main([*words, "--program", PROGRAM]), status)
+        return told.getvalue()
+
+    def refused(self, *words: str) -> None:
+        """A command line whose words are wrong."""
+        with contextlib.redirect_stderr(io.StringIO()), self.assertRaises(SystemExit) as caught:
+            main(list(words))
+        self.assertEqual(caught.exception.code, 2)
+
+    def test_why(self) -> None:
+        self.assertEqual(self.typed("why", LINE), "A timetable meets everything, so there is no conflict.\n")
+        fixed = self.folder / "fixed"
+        fixed.write_text("1; 0\n2; 30\n")
+        told = self.typed("why", LINE, "--fixed", str(fixed), "--nodes", "50", "--seconds", "2")
+        self.assertIn("they take 24 to 26 minutes, and have to take 30.", told)
+        self.assertIn("  4 minutes more  activity 11 from event 1 to event 2  24 to 30 minutes in place of 24 to 26\n", told)
+
+    def test_hard(self) -> None:
+        draw_region(3, feasible=False).save(self.folder)
+        network = str(self.folder / "activities")
+        told = self.typed("why", network, "--labels", str(self.folder / "labels"), "--hard", "run,dwell,headway")
+        self.assertIn("minutes (hard)\n", told)
+        self.assertIn("The least that mends it", told)
+
+    def test_report(self) -> None:
+        draw_region(3).save(self.folder)
+        files = [f"--{name}={self.folder / name}" for name in ("times", "labels", "places")]
+        output, picture = self.folder / "report.html", self.folder / "netgraph.svg"
+        words = [str(self.folder / "activities"), *files, "--title", "A region", "--netgraph", str(picture)]
+        self.assertEqual(self.typed("report", *words, "--output", str(output)), "")
+        text = output.read_text(encoding="utf-8")
+        self.assertEqual(self.typed("report", *words), text)
+        self.assertIn("Nothing: every activity and every fixed time is met.", text)
+        shown = Page(text).root.all("data-event")
+        netgraph = ElementTree.parse(picture).getroot()
+        drawn = {node.get("data-event") for node in netgraph.iter() if node.get("data-event")}
+        self.assertEqual(drawn, {node.attributes["data-event"] for node in shown})
+
+    def test_places_of_a_folder(self) -> None:
+        draw_region(3).save(self.folder)
+        (self.folder / "period").write_text("60\n")
+        told = self.typed("report", str(self.folder), "--search", "0.01")
+        (self.folder / "places").unlink()
+        laid_out = self.typed("report", str(self.folder), "--search", "0.01")
+        self.assertIn("Netgraph", laid_out)
+        self.assertNotEqual(told.split('id="netgraph"')[1][:3_000], laid_out.split('id="netgraph"')[1][:3_000])
+
+    def test_search(self) -> None:
+        told = self.typed("report", LINE, "--search", "20")
+        self.assertIn("The best timetable costs ", told)
+        fixed = self.folder / "fixed"
+        fixed.write_text("1; 0\n2; 30\n")
+        self.assertIn("No timetable meets everything.", self.typed("report", LINE, "--fixed", str(fixed), "--search", "20"))
+
+    def test_compare(self) -> None:
+        told = self.typed("compare", LINE, LINE, "--times", TIMES, "--other-times", TIMES)
+        self.assertEqual(told.count("no change"), 2)
+        self.assertIn("  in all   ", told)
+
+    def test_wrong_words(self) -> None:
+        self.refused("why", LINE, "--nodes", "0")
+        self.refused("why", LINE, "--seconds", "-1")
+        self.refused("why", LINE, "--seconds", "nan")
+        self.refused("report")
+        self.refused("compare", LINE)
+
+    def test_faults(self) -> None:
+        places = self.folder / "places"
+        places.write_text("Ashford; 1\n")
+        with contextlib.redirect_stderr(io.StringIO()) as told:
+            self.typed("report", LINE, "--places", str(places), status=1)
+            self.typed("report", LINE, "--places", str(self.folder / "missing"), status=1)
+            self.typed("why", str(self.folder / "missing"), status=1)
+        self.assertIn("record 1: wanted station; x; y", told.getvalue())
+        self.assertIn("activities file cannot be read", told.getvalue())
+
+
+if __name__ == "__main__":
+    unittest.main()

@@ -1,0 +1,86 @@
+"""The tests of the Python package, each of which is a case here, and the types of all of it."""
+
+import importlib.util
+import os
+import shutil
+import subprocess
+import sys
+
+from tests.harness import TOP, within
+
+PYTHON = TOP / "python"
+# Debian's own Python, for which its packages are.
+SYSTEM = "/usr/bin/python3"
+
+
+def environment(suite):
+    return {**os.environ, "PESPBENCH": str(suite.program), "PYTHONDONTWRITEBYTECODE": "1", "PYTHONPATH": str(PYTHON)}
+
+
+def run_tests(suite, modules, python=sys.executable):
+    """Notes each test of modules of python/tests; one that is skipped is told, and is no case."""
+    command = [python, "-W", "error", "-m", "tests", *modules]
+    with subprocess.Popen(command, cwd=PYTHON, env=environment(suite), stdout=subprocess.PIPE, text=True) as process:
+        told = 0
+        for line in process.stdout:
+            word, _, name = line.rstrip().partition(" ")
+            if word in ("passed", "failed") and name.startswith("tests."):
+                suite.holds(f"python: {name}", word == "passed")
+                told += 1
+            elif line.strip():
+                print(f"  {line.rstrip()}", flush=True)
+    suite.holds(f"python: the tests of {' '.join(modules)} ran to their end", told and process.returncode in (0, 1))
+
+
+def modules(*names):
+    """The modules of python/tests but these, or none where one is named that is not there."""
+    found = [f"tests.{path.stem}" for path in sorted((PYTHON / "tests").glob("test_*.py"))]
+    return [name for name in found if name not in names]
+
+
+def a_group(name):
+    @within(240)
+    def group(suite):
+        run_tests(suite, [name])
+
+    group.__name__ = name.replace("tests.test_", "python_")
+    return group
+
+
+@within(240)
+def python_dask(suite):
+    """The tests over Dask, by Debian's Python, which alone sees Debian's package."""
+    has_dask = subprocess.run([SYSTEM, "-c", "import distributed"], capture_output=True).returncode == 0
+    if has_dask:
+        run_tests(suite, ["tests.test_dask"], SYSTEM)
+    else:
+        print("  nothing was tried over Dask: python3-distributed is not installed")
+
+
+@within(240)
+def python_types(suite):
+    """The package and its tests pass a type checker, at the oldest Python that they are for."""
+    mypy = shutil.which("mypy")
+    if mypy is None and importlib.util.find_spec("mypy") is None:
+        print("  no type checker was tried: mypy is not installed")
+        return
+    command = [mypy] if mypy else [sys.executable, "-m", "mypy"]
+    words = ["--strict", "--python-version", "3.9", "--cache-dir", str(suite.folder), "pespbench", "tests"]
+    came = subprocess.run([*command, *words], cwd=PYTHON, capture_output=True, text=True)
+    suite.note("python: types", {"status": 0, "told": "Success"}, {"status": came.returncode, "told": came.stdout[:7] or came.stderr})
+
+
+def python_package(suite):
+    """The package stands on the standard library alone, compiles at each Python that is here, and has no compiled leavings."""
+    for path in sorted((PYTHON / "pespbench").rglob("*.py")):
+        text = path.read_text()
+        lines = [line.split() for line in text.splitlines() if line.startswith(("import ", "from "))]
+        roots = {words[1].split(".")[0].rstrip(",") for words in lines}
+        foreign = {root for root in roots if root not in STANDARD | {"pespbench", "__future__"}}
+        suite.note(f"python: {path.name} stands on the standard library", {"foreign": set()}, {"foreign": foreign})
+        suite.holds(f"python: {path.name} has at most 300 lines", len(text.splitlines()) <= 300)
+
+
+STANDARD = set(getattr(sys, "stdlib_module_names", ())) or {"argparse"}
+
+GROUPS = [*map(a_group, modules("tests.test_dask")), python_dask, python_types, python_package]
