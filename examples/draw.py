@@ -1,6 +1,6 @@
 """Draws the replies of pespbench as one SVG page.
 
-usage: pespbench .. <COMMANDS | python3 examples/draw.py [TIMES] >page.svg
+usage: pespbench .. <COMMANDS | PYTHONPATH=python python3 examples/draw.py [TIMES] >page.svg
 
 The commands are `dump`, and of `domains`, `tensions`, `violations`, `cost` and `optimum` those that are to be seen.
 TIMES is a file of times; without it the times are those of the last `optimum` or `try`. A reply that is a refusal or a
@@ -9,49 +9,39 @@ fault is told on standard error, and the rest is drawn.
 
 import sys
 
-COUNTS = {"domains": 1, "tensions": 1, "violations": 1, "optimum": 2, "stopped": 2, "#": 4}
+from pespbench import Domain, Fault, Optimum, PespbenchError, Refused, Stopped, Violations
+from pespbench.answers import runs
+from pespbench.files import read_times
+from pespbench.replies import answer_of, replies_of
+from pespbench.work import network_of
+
 WIDTH, ROW, LETTER = 600, 20, 8
 INK, PALE, RED = "#1f2933", "#6b7785", "#c0182b"
 STRIP, DOMAIN, SPAN, FIXED = "#edf0f3", "#9cc4e8", "#a9d6a5", "#d98200"
 
 
-class Network:
+class Told:
     """What the replies tell."""
 
     def __init__(self):
-        self.period = self.cost = None
-        self.fixed, self.activities, self.domains, self.times, self.tensions = {}, {}, {}, {}, {}
-        self.events, self.violated = [], set()
+        self.network = self.cost = None
+        self.domains, self.times, self.tensions, self.violated = {}, {}, {}, Violations((), ())
 
-    def take(self, words, rows):
-        """One reply: the words of its first line, and those of the lines that follow."""
-        name = words[0]
-        if name == "#" and words[1] == "period":
-            self.period = bounded(int(words[2]), 2, 120)
-            self.take_script(rows)
-        elif name == "cost":
-            self.cost = int(words[1])
-        elif name == "domains" or name.endswith(":"):
-            rows = rows if name == "domains" else [words]
-            self.domains.update((int(row[0].rstrip(":")), sorted(map(int, row[1:]))) for row in rows)
-        elif name == "tensions":
-            self.tensions = {int(row[0]): bounded(int(row[2]), 0, 119) for row in rows}
-        elif name == "violations":
-            self.violated = {(row[0], int(row[1])) for row in rows}
-        elif name in ("optimum", "stopped"):
-            self.times = {int(row[0]): int(row[1]) for row in rows} or self.times
-        elif name in ("refused", "fault"):
-            print(" ".join(words), file=sys.stderr)
-
-    def take_script(self, rows):
-        for row in rows:
-            numbers = [bounded(int(word), -1_000_000_000, 1_000_000_000) for word in row if not word.isalpha()]
-            if row[0] == "fix":
-                self.fixed[numbers[0]] = numbers[1]
-            elif row[1] == "event":
-                self.events.append(numbers[0])
-            else:
-                self.activities[numbers[0]] = numbers[1:]
+    def take(self, answer):
+        """One answer."""
+        if isinstance(answer, str):
+            self.network = network_of(answer)
+        elif isinstance(answer, int):
+            self.cost = answer
+        elif isinstance(answer, Domain):
+            self.domains[answer.event] = answer
+        elif isinstance(answer, Violations):
+            self.violated = answer
+        elif isinstance(answer, (Optimum, Stopped)):
+            self.times = answer.times or self.times
+        elif isinstance(answer, dict):
+            is_domains = all(isinstance(each, Domain) for each in answer.values())
+            (self.domains if is_domains else self.tensions).update(answer)
 
 
 def bounded(value, least, most):
@@ -60,36 +50,18 @@ def bounded(value, least, most):
     return value
 
 
-def read(lines):
-    """The network that replies tell; each header says how many lines follow it."""
-    network = Network()
-    lines = [line.split() for line in lines if line.strip()]
-    while lines:
-        first = lines.pop(0)
-        place = COUNTS.get(first[0], len(first))
-        count = bounded(int(first[place]), 0, len(lines)) if place < len(first) else 0
-        network.take(first, lines[:count])
-        del lines[:count]
-    if network.period is None:
+def read(text):
+    """What replies tell, with a network at a period that there is."""
+    told = Told()
+    for reply in replies_of(text):
+        try:
+            told.take(answer_of(reply))
+        except (Refused, Fault) as refusal:
+            print(refusal, file=sys.stderr)
+    if told.network is None:
         raise ValueError("the reply to `dump` is missing")
-    return network
-
-
-def read_times(lines):
-    """The rows of a file of times in the plain form."""
-    rows = [line.replace(";", " ").replace(",", " ").split() for line in lines]
-    return {int(row[0]): int(row[1]) for row in rows if len(row) == 2 and row[0].lstrip("+-").isdigit()}
-
-
-def runs(residues):
-    """The runs of neighbours among ascending residues, each from its first to behind its last."""
-    found = []
-    for residue in residues:
-        if found and found[-1][1] == residue:
-            found[-1][1] += 1
-        else:
-            found.append([residue, residue + 1])
-    return found
+    bounded(told.network.period, 2, 120)
+    return told
 
 
 class Page:
@@ -132,6 +104,11 @@ class Page:
         place = f'cx="{x:.1f}" cy="{self.top + ROW / 2:.1f}" r="8"'
         self.lines.append(f'<circle {place} fill="none" stroke="{FIXED}" stroke-width="2.5"/>')
 
+    def band(self, start, end):
+        """The mark of a window, a frame around its times."""
+        shape = f'x="{self.x(start):.1f}" y="{self.top + 1.5}" width="{self.x(end) - self.x(start):.1f}" height="{ROW - 3}"'
+        self.lines.append(f'<rect {shape} fill="none" stroke="{FIXED}" stroke-width="2.5"/>')
+
     def axis(self):
         """Numbers over the strips, and thin lines through those that come."""
         step = next(step for step in (1, 2, 5, 10) if self.period / step <= 12 or step == 10)
@@ -155,35 +132,61 @@ class Page:
 class Event:
     """A row of the first part: where an event can be, and where it is."""
 
-    def __init__(self, network, event):
-        time, self.fixed, self.domain = (each.get(event) for each in (network.times, network.fixed, network.domains))
-        self.time = None if time is None else time % network.period
-        self.label, self.is_violated = f"event {event}", ("event", event) in network.violated
+    def __init__(self, told, event):
+        self.window, self.period = told.network.windows[event], told.network.period
+        time, domain = told.times.get(event), told.domains.get(event)
+        self.time = None if time is None else time % self.period
+        self.domain = None if domain is None else sorted(domain.residues)
+        self.label, self.is_violated = f"event {event}", event in told.violated.events
         self.is_wrong = self.is_violated or None not in (self.time, self.domain) and self.time not in self.domain
-        notes = ["" if self.time is None else f"at {self.time}", "" if self.fixed is None else f"fixed at {self.fixed}"]
+        notes = ["" if self.time is None else f"at {self.time}", self.hold()]
         notes += ["" if self.domain is None else f"{len(self.domain)} possible", "violated" if self.is_violated else ""]
         self.note = ", ".join(filter(None, notes))
 
+    def hold(self):
+        """How its window is told."""
+        if self.window is None:
+            return ""
+        first, length = self.window.first, self.window.length
+        if length == self.period:
+            return "within all times"
+        return f"fixed at {first}" if length == 1 else f"within {first} to {(first + length - 1) % self.period}"
+
     def draw(self, page):
         page.strip(self.label, self.note, self.is_violated)
-        for start, end in runs(self.domain or []):
-            page.box(bounded(start, 0, page.period - 1), bounded(end, 1, page.period), DOMAIN)
-        if self.fixed is not None:
-            page.ring(page.x(self.fixed % page.period + 0.5))
+        for first, last in runs(self.domain or []):
+            page.box(bounded(first, 0, self.period - 1), bounded(last + 1, 1, self.period), DOMAIN)
+        self.draw_window(page)
         if self.time is not None:
             page.mark(page.x(self.time + 0.5), self.is_wrong)
         page.top += ROW
+
+    def draw_window(self, page):
+        """A ring for a fixed time; for another window a band, in two where it goes on at the start of the period."""
+        if self.window is None:
+            return
+        first = bounded(self.window.first, 0, self.period - 1)
+        behind = first + bounded(self.window.length, 1, self.period)
+        if self.window.length == 1:
+            page.ring(page.x(first + 0.5))
+            return
+        if self.window.length == self.period:
+            page.band(0, self.period)
+            return
+        page.band(first, min(behind, self.period))
+        if behind > self.period:
+            page.band(0, behind - self.period)
 
 
 class Activity:
     """A row of the second part: the span of an activity above its lower bound, and its slack."""
 
-    def __init__(self, network, activity):
-        first, last, lower, upper, _ = network.activities[activity]
-        self.slack, self.room = network.tensions.get(activity), upper - lower
-        self.label, self.is_wrong = f"{activity}: {first} → {last}", ("activity", activity) in network.violated
-        tension = "" if self.slack is None else f"{lower + self.slack} of "
-        self.note = f"{tension}{lower} to {upper}" + (", violated" if self.is_wrong else "")
+    def __init__(self, told, each):
+        self.room = bounded(each.upper, -1_000_000, 1_000_000) - bounded(each.lower, -1_000_000, 1_000_000)
+        self.slack = told.tensions[each.number].slack if each.number in told.tensions else None
+        self.label, self.is_wrong = f"{each.number}: {each.from_event} → {each.to_event}", each.number in told.violated.activities
+        tension = "" if self.slack is None else f"{each.lower + bounded(self.slack, 0, 119)} of "
+        self.note = f"{tension}{each.lower} to {each.upper}" + (", violated" if self.is_wrong else "")
 
     def draw(self, page):
         page.strip(self.label, self.note, self.is_wrong)
@@ -212,15 +215,15 @@ def draw_legend(page):
     page.top += ROW
 
 
-def draw(network):
+def draw(told):
     """The page, as text."""
-    events = [Event(network, event) for event in network.events]
-    activities = [Activity(network, activity) for activity in network.activities]
+    events = [Event(told, event) for event in told.network.events]
+    activities = [Activity(told, told.network.activities[number]) for number in sorted(told.network.activities)]
     rows = [*events, *activities]
-    page = Page(network.period, longest(row.label for row in rows), longest(row.note for row in rows))
-    told = [f"period {network.period}", f"{len(network.violated)} violated" if network.tensions else ""]
-    told += ["" if network.cost is None else f"cost {network.cost}"]
-    page.text(12, ", ".join(filter(None, told)), weight="bold")
+    page = Page(told.network.period, longest(row.label for row in rows), longest(row.note for row in rows))
+    heads = [f"period {told.network.period}", f"{len(told.violated)} violated" if told.tensions else ""]
+    heads += ["" if told.cost is None else f"cost {told.cost}"]
+    page.text(12, ", ".join(filter(None, heads)), weight="bold")
     page.top += ROW + 4
     draw_legend(page)
     slacks = "the slack of each, which is how far it is above its lower bound, within its span"
@@ -236,15 +239,14 @@ def draw(network):
 
 
 def main(words):
-    network = read(sys.stdin.read().splitlines())
+    told = read(sys.stdin.read())
     if words:
-        with open(words[0], encoding="utf-8") as file:
-            network.times = read_times(file)
-    sys.stdout.write(draw(network))
+        told.times = read_times(words[0])
+    sys.stdout.write(draw(told))
 
 
 if __name__ == "__main__":
     try:
         main(sys.argv[1:])
-    except (ValueError, IndexError, OSError) as fault:
+    except (PespbenchError, ValueError, OSError) as fault:
         sys.exit(f"draw.py: these replies cannot be drawn: {fault}")

@@ -7,7 +7,7 @@ usage: PYTHONPATH=python python3 examples/on_a_cluster.py [FOLDER]
 
 import sys
 
-from pespbench import Bench, Infeasible, variants
+from pespbench import Bench, Infeasible, Names, variants
 
 
 def over_dask(scheduler):
@@ -28,11 +28,12 @@ def main(folder="examples/two-changes", where=None):
     """Without a place to go to, the variants are answered by the processors of this machine."""
     executor = None if where is None else over_mpi() if where == "mpi" else over_dask(where)
     with Bench.load(folder) as bench:
+        names = Names(bench.labels, bench.network.activities)
         activities = list(bench.network.activities.values())
         lists = [[f"span {each.number} {each.lower} {each.upper + 2}"] for each in activities]
         for activity, found in zip(activities, variants(bench, lists, executor=executor)):
             told = "no timetable" if isinstance(found, Infeasible) else f"cost {found.cost}"
-            print(f"{bench.labels.activity(activity.number)}, up to {activity.upper + 2} minutes: {told}")
+            print(f"{names.activity(activity.number)}, up to {activity.upper + 2} minutes: {told}")
 
 
 if __name__ == "__main__":

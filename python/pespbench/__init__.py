@@ -14,10 +14,11 @@ from pespbench.labels import EventLabel, Labels
 from pespbench.network import Activity, Network, Window
 from pespbench.parts import optimum_in_parts
 from pespbench.variants import variants
+from pespbench.wording import Names
 from pespbench.workers import Lost
 
 __all__ = [
     "Activity", "Answer", "BadReply", "Bench", "Domain", "Ended", "EventLabel", "Fault", "FileFault", "Found", "Infeasible",
-    "Labels", "Lost", "Network", "Optimum", "PespbenchError", "Refused", "Stopped", "Tension", "Violations", "Window",
+    "Labels", "Lost", "Names", "Network", "Optimum", "PespbenchError", "Refused", "Stopped", "Tension", "Violations", "Window",
     "optimum_in_parts", "variants",
 ]

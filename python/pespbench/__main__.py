@@ -25,7 +25,8 @@ def main(words: Optional[List[str]] = None) -> int:
     try:
         return int(chosen.run(chosen))
     except (PespbenchError, OSError) as fault:
-        print(f"pespbench: {fault}", file=sys.stderr)
+        # What the program said of its end begins so already.
+        print(f"pespbench: {str(fault).removeprefix('pespbench: ')}", file=sys.stderr)
         return 1
     except KeyboardInterrupt:
         return 130

@@ -36,7 +36,7 @@ class EventLabel:
 
 @dataclass
 class Labels:
-    """The labels of events and the kinds of activities, by number; what has none is named by its number."""
+    """The labels of events and the kinds of activities, by number. `pespbench.Names` makes words of them."""
 
     events: Dict[int, EventLabel] = field(default_factory=dict)
     activities: Dict[int, str] = field(default_factory=dict)
@@ -81,17 +81,6 @@ class Labels:
         csv.writer(text, delimiter=";", lineterminator="\n").writerows(rows)
         files.write_text(path, text.getvalue())
 
-    def event(self, number: int) -> str:
-        """An event in words, as in `M to Cranley, departure at Ashford`, or `event 1`."""
-        label = self.events.get(number, EventLabel())
-        train = " to ".join(filter(None, [label.line, label.to]))
-        place = " at ".join(filter(None, [label.kind, label.station]))
-        return ", ".join(filter(None, [train, place])) or f"event {number}"
-
     def kind(self, activity: int) -> str:
         """The kind of an activity, or an empty text."""
         return self.activities.get(activity, "")
-
-    def activity(self, number: int) -> str:
-        """An activity in a word, as in `run 11`, or `activity 11`."""
-        return f"{self.kind(number) or 'activity'} {number}"

@@ -102,7 +102,10 @@ class Commands:
         return self._is("cost", int)
 
     def optimum(self) -> Union[Optimum, Infeasible]:
-        """The first timetable of least cost. It may take long; Ctrl-C ends it, and nothing that was accepted is lost."""
+        """The first timetable of least cost. It may take long; Ctrl-C ends it, and nothing that was accepted is lost.
+
+        Raises KeyboardInterrupt then.
+        """
         found = self.ask("optimum")
         if isinstance(found, (Optimum, Infeasible)):
             return found

@@ -10,6 +10,7 @@ from pespbench.client import Bench
 from pespbench.faults import PespbenchError
 from pespbench.opening import add_network, open_network
 from pespbench.replies import text_of
+from pespbench.wording import Names
 
 HELP = """Lines are commands of the program (docs/FORMATS.md), or one of these:
   undo             takes back the last accepted change
@@ -69,7 +70,8 @@ def _undo(bench: Bench, _: str) -> str:
 
 
 def _times(bench: Bench, _: str) -> str:
-    return "".join(f"{event} {time}  {bench.labels.event(event)}\n" for event, time in bench.times.items())
+    names = Names(bench.labels, bench.network.activities)
+    return "".join(f"{event} {time}  {names.event(event)}\n" for event, time in bench.times.items())
 
 
 def _save(bench: Bench, folder: str) -> str:

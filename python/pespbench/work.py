@@ -117,3 +117,19 @@ def work_of(script: List[str], period: int) -> Work:
     for line in script:
         work.apply(line)
     return work
+
+
+def network_of(script: str) -> Network:
+    """The network of a reply to `dump`, or of a script with such a first line. Raises ValueError for any other text."""
+    first, *lines = script.splitlines() or [""]
+    words = first.split()
+    if words[:2] != ["#", "period"] or len(words) < 3:
+        raise ValueError("the first line of a script is `# period T lines N`")
+    network = Network(int(words[2]))
+    work = Work(network)
+    for line in lines:
+        try:
+            work.apply(line)
+        except (KeyError, IndexError, TypeError, ValueError):
+            raise ValueError(f"no line of a script: {line[:100]}") from None
+    return network

@@ -38,6 +38,12 @@ class Lines(unittest.TestResult):
         self.tell("failed", test)
         print(self.failures[-1][1], flush=True)
 
+    def addSubTest(self, test: unittest.TestCase, subtest: unittest.TestCase, err: Any) -> None:
+        super().addSubTest(test, subtest, err)
+        if err is not None:
+            self.tell("failed", subtest)
+            print([*self.failures, *self.errors][-1][1].splitlines()[-1], flush=True)
+
     def addError(self, test: unittest.TestCase, err: Any) -> None:
         super().addError(test, err)
         self.tell("failed", test)

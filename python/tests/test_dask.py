@@ -4,15 +4,15 @@ from __future__ import annotations
 
 import importlib
 import importlib.util
+import logging
 import os
 import signal
-import threading
 import unittest
-from typing import Any, List
+from typing import Any
 
 from pespbench import optimum_in_parts, variants
 from tests.common import Case
-from tests.test_variants import drawn_lists, one_by_one, small
+from tests.test_variants import at_step, drawn_lists, one_by_one, small
 
 distributed: Any = importlib.import_module("distributed") if importlib.util.find_spec("distributed") else None
 
@@ -23,27 +23,22 @@ class Dask(Case):
 
     def setUp(self) -> None:
         super().setUp()
-        how: "dict[str, Any]" = {"n_workers": 2, "threads_per_worker": 1, "processes": True, "dashboard_address": None}
+        logging.getLogger("distributed").setLevel(logging.CRITICAL)
+        how: "dict[str, Any]" = {"silence_logs": logging.CRITICAL, "n_workers": 2, "threads_per_worker": 1, "processes": True, "dashboard_address": None}
         self.cluster = distributed.LocalCluster(host="127.0.0.1", local_directory=str(self.folder), **how)
         self.addCleanup(self.cluster.close)
         self.client = distributed.Client(self.cluster)
         self.addCleanup(self.client.close)
 
-    def end_one(self, ended: List[int]) -> None:
-        pids = list(self.client.run(os.getpid).values())
-        os.kill(pids[0], signal.SIGKILL)
-        ended.append(pids[0])
+    def end_one(self) -> None:
+        os.kill(next(iter(self.client.run(os.getpid).values())), signal.SIGKILL)
 
     def test_a_worker_is_ended(self) -> None:
         lists = drawn_lists(1_000)
         with small(1) as bench, self.client.get_executor() as executor:
             wanted = one_by_one(bench, lists)
-            ended: List[int] = []
-            timer = threading.Timer(0.7, self.end_one, [ended])
-            timer.start()
-            self.assertEqual(variants(bench, lists, executor=executor), wanted)
-            timer.join()
-        self.assertEqual(len(ended), 1)
+            with at_step(300, self.end_one):
+                self.assertEqual(variants(bench, lists, executor=executor), wanted)
 
     def test_parts(self) -> None:
         with self.client.get_executor() as executor:

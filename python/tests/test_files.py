@@ -9,7 +9,7 @@ import unittest
 
 from typing import Mapping
 
-from pespbench import Bench, FileFault, Labels, Window, files
+from pespbench import Activity, Bench, FileFault, Labels, Names, Window, files
 from pespbench.labels import EventLabel
 from tests.common import EXAMPLES, PROGRAM, Case, drawn_bench
 
@@ -159,8 +159,11 @@ class LabelFiles(Case):
         labels = self.read("\ufeff# of 2026\nevent; line; to; station; kind\n1; M; Cranley; Ashford; departure\n2;;;Dale\n\nactivity;kind;;;\n7;run;;;\n8\n")
         self.assertEqual(labels.events, {1: EventLabel("M", "Cranley", "Ashford", "departure"), 2: EventLabel(station="Dale")})
         self.assertEqual(labels.activities, {7: "run", 8: ""})
-        told = [labels.event(1), labels.event(2), labels.event(3), labels.activity(7), labels.activity(8), labels.kind(9)]
-        self.assertEqual(told, ["M to Cranley, departure at Ashford", "Dale", "event 3", "run 7", "activity 8", ""])
+        self.assertEqual([labels.kind(7), labels.kind(8), labels.kind(9)], ["run", "", ""])
+        activities = {7: Activity(7, 1, 2, 3, 5), 8: Activity(8, 1, 3, 3, 5)}
+        names = Names(labels, activities)
+        self.assertEqual([names.event(1), names.event(3)], ["M to Cranley leaves Ashford", "event 3"])
+        self.assertEqual(names.activity(8), "activity 8 from event 1 to event 3")
         labels.write(self.folder / "other")
         self.assertEqual(Labels.read(self.folder / "other"), labels)
 
@@ -182,8 +185,8 @@ class LabelFiles(Case):
     def test_opened_with_labels(self) -> None:
         path = self.folder / "labels"
         path.write_text("activity; kind\n1; run\n")
-        self.assertEqual(self.two_trains(labels=path).labels.activity(1), "run 1")
-        self.assertEqual(self.two_trains(labels=Labels(activities={2: "turn"})).labels.activity(2), "turn 2")
+        self.assertEqual(self.two_trains(labels=path).labels.kind(1), "run")
+        self.assertEqual(self.two_trains(labels=Labels(activities={2: "turn"})).labels.kind(2), "turn")
 
 
 if __name__ == "__main__":

@@ -7,16 +7,16 @@ import multiprocessing
 import os
 import random
 import signal
-import threading
-import time
 import unittest
 from concurrent.futures import ProcessPoolExecutor, ThreadPoolExecutor
-from typing import List
+from contextlib import contextmanager
+from typing import Callable, Iterator, List
 from unittest import mock
 
 from pespbench import Bench, Fault, Infeasible, Lost, Optimum, Refused, optimum_in_parts, variants
 from pespbench.network import Activity, Network
 from pespbench.parts import parts_of, ranges_of
+from pespbench.workers import Progress
 from tests.common import PROGRAM, Case, drawn_bench
 
 
@@ -47,12 +47,8 @@ class Variants(Case):
         lists = drawn_lists(1_000)
         with small(1) as bench:
             wanted = one_by_one(bench, lists)
-            ended: List[int] = []
-            timer = threading.Timer(0.7, lambda: end_one(ended))
-            timer.start()
-            self.assertEqual(variants(bench, lists, workers=2), wanted)
-            timer.join()
-        self.assertEqual(len(ended), 1)
+            with at_step(300, end_one):
+                self.assertEqual(variants(bench, lists, workers=2), wanted)
 
     def test_what_is_asked(self) -> None:
         lists = drawn_lists(20)
@@ -99,11 +95,24 @@ class Variants(Case):
             self.assertTrue(written.endswith("#] 2 of 2\n"), written)
 
 
-def end_one(ended: List[int]) -> None:
+@contextmanager
+def at_step(step: int, do: Callable[[], None]) -> Iterator[None]:
+    """Does something once, when so many tasks are done."""
+    steps = itertools.count(1)
+
+    def stepped(_: Progress) -> None:
+        if next(steps) == step:
+            do()
+
+    with mock.patch.object(Progress, "step", stepped):
+        yield
+    assert next(steps) > step, "too few steps"
+
+
+def end_one() -> None:
     """Ends one of this process's workers."""
-    for process in multiprocessing.active_children()[:1]:
-        os.kill(process.pid or 0, signal.SIGKILL)
-        ended.append(process.pid or 0)
+    process = multiprocessing.active_children()[0]
+    os.kill(process.pid or 0, signal.SIGKILL)
 
 
 class Parts(Case):

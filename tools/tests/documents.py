@@ -114,7 +114,7 @@ def named_texts(suite):
 def shown_scripts(suite):
     """A block of Python in a document is a part of a script of examples/."""
     scripts = [path.read_text() for path in (TOP / "examples").glob("*.py")]
-    for name, wanted in {"README.md": "class Refused", "docs/FORMATS.md": "replies = {}"}.items():
+    for name, wanted in {"README.md": "Bench.open(", "docs/FORMATS.md": "replies_of("}.items():
         blocks = re.findall(r"^```python\n(.*?)^```$", (TOP / name).read_text(), re.M | re.S)
         suite.holds(f"{name} shows Python that has '{wanted}'", any(wanted in block for block in blocks))
         for block in blocks:

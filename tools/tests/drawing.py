@@ -70,7 +70,7 @@ def pictures(suite):
         given = (folder / "expected").read_bytes()
         picture = (folder / "picture.svg").read_bytes()
         name = f"the picture of examples/{folder.name}"
-        came = run([*DRAW, *times], given=given, cwd=folder)
+        came = run([*DRAW, *times], given=given, cwd=folder, env=PACKAGE)
         suite.note(name, {"status": 0, "standard output": picture, "standard error": b""}, came)
         suite.note(f"{name} stands alone", {"outside": []}, {"outside": outside(picture)})
 
@@ -84,7 +84,7 @@ def outside(picture):
 
 def hostile_words(draw):
     words = ["#", "period", "lines", "domains", "tensions", "violations", "cost", "optimum", "stopped", "none", "ok"]
-    words += ["add", "event", "activity", "fix", "refused", "<script>", '"/>', "&amp;", "nan", "inf", "1e9", "1_0"]
+    words += ["add", "event", "activity", "fix", "window", "refused", "<script>", '"/>', "&amp;", "nan", "inf", "1e9", "1_0"]
     numbers = [0, 1, 2, 3, 10, 60, 120, 121, -1, 10**9, -(10**9), 2**64, 10**400]
     count = draw.randrange(1, 9)
     return " ".join(draw.choice(words) if draw.randrange(3) == 0 else str(draw.choice(numbers)) for _ in range(count))
@@ -109,7 +109,7 @@ def hostile_pages(suite):
     texts += ["\n".join(big)]
     texts += [hostile_replies(draw) for _ in range(60)]
     for number, text in enumerate(texts):
-        came = run([*DRAW], given=text.encode())
+        came = run([*DRAW], given=text.encode(), env=PACKAGE)
         drawn, told = came["standard output"], came["standard error"]
         if came["status"] == 0:
             suite.note(f"hostile replies {number}", {"outside": []}, {"outside": outside(drawn)})
@@ -121,6 +121,18 @@ def hostile_pages(suite):
             suite.holds(f"hostile replies {number} are told by a text", last.startswith(b"draw.py: "))
 
 
+def windows(suite):
+    """A window is a frame over its times, in two where it goes on at the start of the period, and is told by a note."""
+    lines = ["# period 10 lines 4", "add event 1", "add event 2", "window 1 8 4", "window 2 3 10"]
+    came = run([*DRAW], given="\n".join(lines).encode(), env=PACKAGE)
+    page = ElementTree.fromstring(came["standard output"])
+    frames = [element for element in page.iter() if element.get("stroke") == "#d98200" and element.tag.endswith("rect")]
+    widths = [round(float(frame.get("width"))) for frame in frames]
+    suite.note("frames of windows", {"widths": [120, 120, 600]}, {"widths": widths})
+    notes = [element.text for element in page.iter() if element.tag.endswith("text") and (element.text or "").startswith("within ")]
+    suite.note("notes of windows", {"notes": ["within 8 to 1", "within all times"]}, {"notes": [note for note in notes if note != "within the span"]})
+
+
 def many_events(suite):
     """A page of 40 events and 60 activities with the longest numbers: each row has its own line, within the page."""
     rows = [(900_000_000 + number, 999_999_000 + number % 40, 999_999_000 + number * 7 % 40) for number in range(60)]
@@ -129,7 +141,7 @@ def many_events(suite):
     lines += ["domains 40", *(f"{999_999_000 + number}: 0 1 119" for number in range(40))]
     lines += ["tensions 60", *(f"{row[0]} -999881 119" for row in rows)]
     lines += ["violations 60", *(f"activity {row[0]}" for row in rows)]
-    came = run([*DRAW], given="\n".join(lines).encode())
+    came = run([*DRAW], given="\n".join(lines).encode(), env=PACKAGE)
     page = ElementTree.fromstring(came["standard output"])
     texts = [element for element in page.iter() if element.tag.endswith("text")]
     labels = [text for text in texts if text.get("text-anchor") == "end"]
@@ -156,4 +168,4 @@ def read_replies(suite):
         suite.note(f"read_replies.py: {name}", wanted, came)
 
 
-GROUPS = [session_script, pictures, hostile_pages, many_events, read_replies]
+GROUPS = [session_script, pictures, hostile_pages, windows, many_events, read_replies]

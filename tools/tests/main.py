@@ -8,12 +8,12 @@ import signal
 import tempfile
 import time
 
-from tests import arguments, checks, commands, devices, dialogue, documents, drawing, examples, files, package, rows
-from tests import scripts, start_script, strangers, streams
+from tests import arguments, checks, commands, devices, dialogue, documents, drawing, examples, files, package, packaging
+from tests import rows, scripts, start_script, strangers, streams
 from tests.harness import PROGRAM, Suite
 
 TOPICS = [examples, commands, dialogue, streams, arguments, files, rows, checks, devices, scripts, drawing, documents]
-TOPICS += [start_script, strangers, package]
+TOPICS += [start_script, strangers, packaging, package]
 # A group takes a few seconds; this is the most where it names nothing else.
 SECONDS = 120
 

@@ -1,0 +1,121 @@
+"""The subcommands `shell` and `search`, and what all have in common."""
+
+from __future__ import annotations
+
+import os
+import pty
+import signal
+import subprocess
+import sys
+import time
+import unittest
+from pathlib import Path
+from typing import List, Tuple
+
+from tests.common import EXAMPLES, PROGRAM, TOP, Case, drawn_script
+
+TWO = ["--period", "10", str(EXAMPLES / "two-trains/activities")]
+ENVIRONMENT = {**os.environ, "PESPBENCH": PROGRAM, "PYTHONPATH": str(TOP / "python")}
+
+
+def called(*words: str, given: str = "") -> Tuple[int, str, str]:
+    """The exit status of a subcommand, and what it wrote to standard output and to standard error."""
+    command = [sys.executable, "-m", "pespbench", *words]
+    done = subprocess.run(command, input=given, capture_output=True, text=True, env=ENVIRONMENT, timeout=60)
+    return done.returncode, done.stdout, done.stderr
+
+
+class Shell(Case):
+    """`shell`."""
+
+    def test_replies_are_the_programs(self) -> None:
+        """Each line is answered as the program answers it, byte for byte."""
+        lines = "fix 1 0\ndomains\ndomain 2\nfix 9 0\ncost\ncosts\noptimum\nadopt\ncost\ntensions\nviolations\ntry 3\ndump\n"
+        lines += "# a comment\n\nwindow 2 3 4\nspan 1 3 3\noptimum\ntime 2 9\nviolations\nadd event 7\nunfix 7\nuntime 7\n"
+        wanted = subprocess.run([PROGRAM, *TWO], input=lines, capture_output=True, text=True).stdout
+        self.assertEqual(called("shell", *TWO, given=lines), (0, wanted, ""))
+
+    def test_own_words(self) -> None:
+        folder = str(self.folder / "saved")
+        lines = f"fix 1 0\nundo\nundo\nfix 1 3\nadopt\ntimes\nsearch 5\nsearch x\nsave\nsave {folder}\nhelp\nquit\ncost\n"
+        status, output, error = called("shell", *TWO, given=lines)
+        wanted = "ok\n# taken back: fix 1 0\nthere is nothing to take back\nok\nok\n1 3  event 1\n2 7  event 2\noptimum 4 2\n1 3\n2 7\n"
+        wanted += f"could not convert string to float: 'x'\nsave wants a folder\n# saved: {folder}\n"
+        self.assertTrue(output.startswith(wanted), output)
+        self.assertIn("Ctrl-C", output)
+        self.assertEqual((status, error), (0, ""))
+        self.assertEqual(called("shell", folder, given="cost\n"), (0, "cost 4\n", ""))
+
+    def test_control_c_at_a_terminal(self) -> None:
+        """Ctrl-C in a long search: the edits that were typed are there, and the next line is answered."""
+        script = "\n".join([*drawn_script(11, 100, 320), *(f"span {each} {each % 60} {each % 60 + 45}" for each in range(320))])
+        activities = [line.split()[2:] for line in script.splitlines() if line.startswith("add activity")]
+        path = self.folder / "activities"
+        path.write_text("".join("; ".join([*row[:3], str(int(row[0]) % 60), str(int(row[0]) % 60 + 45), row[5]]) + "\n" for row in activities))
+        leader, follower = pty.openpty()
+        command = [sys.executable, "-m", "pespbench", "shell", str(path)]
+        process = subprocess.Popen(command, stdin=follower, stdout=follower, stderr=follower, env=ENVIRONMENT, start_new_session=True)
+        os.close(follower)
+        try:
+            self.read_to(leader, "> ")
+            os.write(leader, b"fix 3 7\n")
+            self.read_to(leader, "ok")
+            os.write(leader, b"optimum\n")
+            time.sleep(1)
+            os.kill(process.pid, signal.SIGINT)
+            self.read_to(leader, "nothing that was accepted is lost")
+            os.write(leader, b"domain 3\n")
+            self.read_to(leader, "3: 7")
+            os.write(leader, b"quit\n")
+            self.assertEqual(process.wait(10), 0)
+        finally:
+            process.kill()
+            process.wait()
+            os.close(leader)
+
+    def read_to(self, leader: int, text: str) -> None:
+        held = b""
+        until = time.monotonic() + 20
+        while text.encode() not in held:
+            self.assertLess(time.monotonic(), until, held)
+            held += os.read(leader, 1_000)
+
+
+class Searching(Case):
+    """`search`."""
+
+    def test_found_and_saved(self) -> None:
+        variants: List[List[str]] = [[], ["--parts", "--workers", "2"]]
+        for more in variants:
+            folder = str(self.folder / "-".join(["saved", *more]))
+            came = called("search", *TWO, "--save", folder, *more)
+            self.assertEqual(came, (0, "optimum 4 2\n1 0\n2 4\n", ""))
+            self.assertEqual((Path(folder) / "times").read_text(), "event; time\n1; 0\n2; 4\n")
+
+    def test_nothing_found(self) -> None:
+        tight = self.folder / "activities"
+        tight.write_text("1; 1; 2; 3; 3; 1\n2; 2; 1; 3; 3; 1\n")
+        self.assertEqual(called("search", "--period", "10", str(tight)), (1, "infeasible\n", ""))
+        self.assertEqual(called("search", str(tight), "--seconds", "0")[:2], (1, "stopped none\n"))
+
+
+class Faults(Case):
+    """What is told on standard error."""
+
+    def test_told(self) -> None:
+        table: List[Tuple[List[str], int, str]] = [
+            (["search", "none"], 1, "pespbench: activities file cannot be read\n"),
+            (["search", str(self.folder)], 1, f"pespbench: [Errno 2] No such file or directory: '{self.folder}/period'\n"),
+            (["search", *TWO, "--program", "none"], 1, "pespbench: there is no program none;"),
+            ([], 2, "usage:"),
+            (["searches"], 2, "usage:"),
+        ]
+        for words, status, text in table:
+            came = called(*words)
+            self.assertEqual((came[0], came[1]), (status, ""))
+            self.assertTrue(came[2].startswith(text), came[2])
+        self.assertEqual(called("--help")[0], 0)
+
+
+if __name__ == "__main__":
+    unittest.main()
