@@ -23,7 +23,7 @@ fn after(residue: u16, period: u16) -> u16
 }
 
 /// How many of so many residues from one on a row has, around the period.
-fn count_around(row: &Row, period: u16, first: u16, width: u16, probes: &mut Probes) -> u16
+fn count_around(row: &Row, period: u16, first: u16, width: u16, probes: &mut Probes) -> u32
     requires first { first < period }
     ensures count { result ≡ around period (holds row.now) first width }
     ensures probes { probes.new ≤ probes.old + width }
@@ -31,7 +31,7 @@ fn count_around(row: &Row, period: u16, first: u16, width: u16, probes: &mut Pro
     let mut count = 0;
     let mut residue = first;
     for _ in probes.over(0, width) {
-        count += u16::from(row.holds(residue));
+        count += u32::from(row.holds(residue));
         residue = after(residue, period);
     }
     count
@@ -63,9 +63,9 @@ fn recount_block(
     let mut leaves = end.first;
     let mut enters = (end.first + end.width) % period;
     for residue in probes.twice_over(0, period) {
-        counts.set(base + residue as usize, count);
-        count += u16::from(row.holds(enters));
-        count -= u16::from(row.holds(leaves));
+        counts.set(base + residue as usize, count as u16);
+        count += u32::from(row.holds(enters));
+        count -= u32::from(row.holds(leaves));
         leaves = after(leaves, period);
         enters = after(enters, period);
     }

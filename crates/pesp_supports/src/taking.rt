@@ -173,7 +173,7 @@ impl Supports {
         ensures probes { (self.new).probes ≤ (self.old).probes + (self.old).period }
     {
         for residue in self.probes.over(0, self.period.get()) {
-            if self.holds(place, residue) && self.count(end, residue) == 0 {
+            if self.row(place).holds(residue) && self.count(end, residue) == 0 {
                 self.take_out(place, residue);
             }
         }

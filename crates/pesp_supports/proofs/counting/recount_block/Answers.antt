@@ -13,6 +13,11 @@ set-requires-clause-low c =
     let few = around_le c.args.period (holds c.args.row.now) (c.loop-residue.residue-iterator.start + c.args.end.first) c.args.end.width in
     omega (arith, few, c.loop-residue.invariant.count, c.loop-residue.invariant.most, c.requires.width, c.requires.fits)
 
+pub overflow_cast-count : goal.overflow_cast-count
+overflow_cast-count c =
+    let few = around_le c.args.period (holds c.args.row.now) (c.loop-residue.residue-iterator.start + c.args.end.first) c.args.end.width in
+    omega (arith, few, c.loop-residue.invariant.count, c.requires.width, c.requires.period)
+
 pub overflow_add-count : goal.overflow_add-count
 overflow_add-count c =
     let few = around_le c.args.period (holds c.args.row.now) (c.loop-residue.residue-iterator.start + c.args.end.first) c.args.end.width in
