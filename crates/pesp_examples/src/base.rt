@@ -2,9 +2,7 @@
 
 use crate::asserts::{same, same_at};
 use crate::made::span;
-use pesp_base::{
-    GREATEST_BOUND, GREATEST_PERIOD, LEAST_PERIOD, Period, Span, SpanFault, partners, sources,
-};
+use pesp_base::{GREATEST_BOUND, Period, Span, SpanFault, partners, sources};
 use std::process::Abort;
 
 fn assert_period(rt: &impl Abort, value: u16, is_period: bool) {
@@ -21,12 +19,21 @@ fn assert_no_span(rt: &impl Abort, lower: i32, upper: i32, fault: SpanFault) {
     same(rt, Span::new(lower, upper), Err(fault), "no span");
 }
 
+/// Numbers, and whether each is a period.
+const PERIODS: &[(u16, bool)] = &[
+    (1, false),
+    (2, true),
+    (120, true),
+    (121, true),
+    (1_440, true),
+    (1_441, false),
+];
+
 #[test]
 fn limits_of_periods_and_spans(rt: HostRuntime) {
-    assert_period(&rt, LEAST_PERIOD - 1, false);
-    assert_period(&rt, LEAST_PERIOD, true);
-    assert_period(&rt, GREATEST_PERIOD, true);
-    assert_period(&rt, GREATEST_PERIOD + 1, false);
+    for (value, is_period) in PERIODS {
+        assert_period(&rt, *value, *is_period);
+    }
     assert_no_span(&rt, 5, 3, SpanFault::Crossed);
     assert_no_span(&rt, GREATEST_BOUND + 1, 0, SpanFault::OutOfRange);
 }

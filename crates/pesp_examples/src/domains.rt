@@ -49,20 +49,41 @@ fn assert_edits<K: Keeper>(rt: &impl Abort, kept: &mut Unpushed<K>, edits: Edits
 
 fn edited_by<K: Keeper>(
     rt: &(impl Abort + AllocGlobal),
+    period: u16,
     made: &[Change],
     first: Rows<'_>,
     edits: Edits<'_>,
 ) -> Unpushed<K> {
-    let mut kept: Unpushed<K> = Unpushed::made(rt, 10, made);
+    let mut kept: Unpushed<K> = Unpushed::made(rt, period, made);
     assert_rows(rt, &kept.keeper, first, "before the edits");
     assert_edits(rt, &mut kept, edits);
     kept
 }
 
-/// A keeper of either kind of what the first edits make has the first rows, and behind each of the others these.
+/// A keeper of either kind of what the first edits make at period 10 has the first rows, and behind each of the others these.
 fn try_edits(rt: &(impl Abort + AllocGlobal), made: &[Change], first: Rows<'_>, edits: Edits<'_>) {
-    drop(edited_by::<PlainKeeper>(rt, made, first, edits));
-    drop(edited_by::<CountKeeper>(rt, made, first, edits));
+    drop(edited_by::<PlainKeeper>(rt, 10, made, first, edits));
+    drop(edited_by::<CountKeeper>(rt, 10, made, first, edits));
+}
+
+/// Two events at a period of a day, of which the second is a day less a minute behind the first.
+const A_DAY_APART: &[Change] = &[
+    Change::AddEvent(1),
+    Change::AddEvent(2),
+    Change::AddActivity(1, (1, 2), (1439, 1439), 1),
+];
+
+const FIXED_IN_THE_LAST_MINUTE: Edits<'_> = &[(
+    Change::Fix(1, 1439),
+    &[(1, &[1439]), (2, &[1438])],
+    "event 1 at 1439",
+)];
+
+#[test]
+fn domains_at_the_longest_period(rt: HostRuntime) {
+    let edits = FIXED_IN_THE_LAST_MINUTE;
+    drop(edited_by::<PlainKeeper>(&rt, 1_440, A_DAY_APART, &[], edits));
+    drop(edited_by::<CountKeeper>(&rt, 1_440, A_DAY_APART, &[], edits));
 }
 
 const FIXED_EVENT_NARROWS_DOMAINS: Edits<'_> = &[
@@ -141,7 +162,7 @@ fn assert_no_third_event<K: Keeper>(rt: &impl Abort, keeper: &K) {
 }
 
 fn infeasible_instances_by<K: Keeper, R: Abort + AllocGlobal>(rt: &R) {
-    let kept: Unpushed<K> = edited_by(rt, TWO_ACTIVITIES, BOTH, INFEASIBLE_INSTANCES);
+    let kept: Unpushed<K> = edited_by(rt, 10, TWO_ACTIVITIES, BOTH, INFEASIBLE_INSTANCES);
     assert_no_third_event(rt, &kept.keeper);
 }
 

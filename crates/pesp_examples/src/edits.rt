@@ -236,7 +236,7 @@ fn fill_activities(rt: &impl Abort, instance: &mut Instance) {
     let events = max_events(instance.period()) as u32;
     let most = max_activities(instance.period()) as u32;
     for number in 0..most {
-        let one = activity(rt, number, number % events, number / 5);
+        let one = activity(rt, number, number % events, number / 5 % events);
         accepted(rt, instance, Edit::AddActivity(one), "an activity");
     }
     let one_more = Edit::AddActivity(activity(rt, most, 1, 2));
@@ -244,11 +244,28 @@ fn fill_activities(rt: &impl Abort, instance: &mut Instance) {
     refused(rt, instance, one_more, full, "one activity too many");
 }
 
+/// Fills an instance of so many events and activities, which are all that it may have.
+fn fill(rt: &impl Abort, instance: &mut Instance, events: usize, activities: usize) {
+    fill_events(rt, instance);
+    fill_activities(rt, instance);
+    same(rt, instance.event_count(), events, "events");
+    same(rt, instance.activity_count(), activities, "activities");
+}
+
+/// Periods, and how many events and activities an instance may have at each.
+const LIMITS: &[(u16, usize, usize)] = &[
+    (60, 20_000, 100_000),
+    (121, 19_834, 99_173),
+    (1_440, 1_666, 8_333),
+];
+
 #[test]
 fn limits(rt: HostRuntime) {
-    let mut instance = empty(&rt, 60);
-    fill_events(&rt, &mut instance);
-    fill_activities(&rt, &mut instance);
+    for (period, events, activities) in LIMITS {
+        let mut instance = empty(&rt, *period);
+        fill(&rt, &mut instance, *events, *activities);
+        drop(instance);
+    }
 }
 
 const THE_SAME_ENDS: Edits<'_> = &[(

@@ -60,6 +60,10 @@ fn three_command_lines(rt: HostRuntime) -> Result<(), Fail> {
             "pespbench --period 10 --fixed a.fix --check a.act",
             Some((10, Some("a.fix"), None, Some("a.act"), true)),
         ),
+        (
+            "pespbench --period 1440",
+            Some((1_440, None, None, None, false)),
+        ),
         ("pespbench --period 1", None),
     ];
     for (line, wanted) in table {
@@ -72,7 +76,7 @@ fn three_command_lines(rt: HostRuntime) -> Result<(), Fail> {
 #[test]
 fn refused_lines(rt: HostRuntime) -> Result<(), Fail> {
     let table = [
-        ("pespbench --period 121", ErrorKind::ValueValidation),
+        ("pespbench --period 1441", ErrorKind::ValueValidation),
         ("pespbench --period x", ErrorKind::ValueValidation),
         ("pespbench --period", ErrorKind::InvalidValue),
         ("pespbench --times a --times b", ErrorKind::ArgumentConflict),

@@ -181,6 +181,12 @@ fn domains_and_optima(rt: HostRuntime) {
             "ok\ndomains 2\n1: 0 1 9\n2: 3 4 5 6\nok\noptimum 4 2\n1 0\n2 4\nok\noptimum 4 2\n1 1\n2 5\nrefused 13 length 11 is out of range\n",
         ),
         (
+            "domains at the longest period",
+            alone(1_440, "1; 1; 2; 1439; 1439; 1\n"),
+            "fix 1 1439\ndomain 2\noptimum\nunfix 1\noptimum\n",
+            "ok\n2: 1438\noptimum 0 2\n1 1439\n2 1438\nok\noptimum 0 2\n1 0\n2 1439\n",
+        ),
+        (
             "old optimum no longer first",
             alone(10, "1; 1; 2; 3; 5; 0\n"),
             "fix 1 5\noptimum\nunfix 1\noptimum\n",

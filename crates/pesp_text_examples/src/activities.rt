@@ -98,26 +98,45 @@ fn between_two_events(alloc: Global, count: u32) -> Result<String, Fail> {
     Ok(text)
 }
 
+/// The fault of a text stands in the last of so many rows, and in none of them where there is one fewer.
+fn full_at(
+    rt: &(impl Abort + AllocGlobal),
+    length: u16,
+    text: Result<String, Fail>,
+    rows: u32,
+    kind: FaultKind,
+) -> Result<(), Fail> {
+    let fault = fault_of(rt.alloc(), period(rt, length), text?.as_bytes());
+    let place = u64::from(rows);
+    same(
+        rt,
+        fault,
+        Some(ReadFault { place, kind }),
+        "one row too many",
+    );
+    Ok(())
+}
+
+/// Periods, and for each the first event and the first activity that is one too many.
+const LIMITS: &[(u16, u32, u32)] = &[
+    (60, 20_001, 100_001),
+    (121, 19_835, 99_174),
+    (1_440, 1_667, 8_334),
+];
+
 #[test]
 fn limits_on_events_and_activities(rt: HostRuntime) -> Result<(), Fail> {
-    let period = period(&rt, 60);
-    let text = loops(rt.alloc(), 20_001)?;
-    let fault = fault_of(rt.alloc(), period, text.as_bytes());
-    let (place, kind) = (20_001, FaultKind::TooManyEvents);
-    same(
-        &rt,
-        fault,
-        Some(ReadFault { place, kind }),
-        "loops at 20,001 events",
-    );
-    let text = between_two_events(rt.alloc(), 100_001)?;
-    let fault = fault_of(rt.alloc(), period, text.as_bytes());
-    let (place, kind) = (100_001, FaultKind::TooManyActivities);
-    same(
-        &rt,
-        fault,
-        Some(ReadFault { place, kind }),
-        "100,001 activities between two events",
-    );
+    for (length, events, activities) in LIMITS {
+        let text = loops(rt.alloc(), *events);
+        full_at(&rt, *length, text, *events, FaultKind::TooManyEvents)?;
+        let text = between_two_events(rt.alloc(), *activities);
+        full_at(
+            &rt,
+            *length,
+            text,
+            *activities,
+            FaultKind::TooManyActivities,
+        )?;
+    }
     Ok(())
 }
