@@ -252,20 +252,25 @@ fn fill(rt: &impl Abort, instance: &mut Instance, events: usize, activities: usi
     same(rt, instance.activity_count(), activities, "activities");
 }
 
-/// Periods, and how many events and activities an instance may have at each.
-const LIMITS: &[(u16, usize, usize)] = &[
-    (60, 20_000, 100_000),
-    (121, 19_834, 99_173),
-    (1_440, 1_666, 8_333),
-];
-
 #[test]
 fn limits(rt: HostRuntime) {
-    for (period, events, activities) in LIMITS {
-        let mut instance = empty(&rt, *period);
-        fill(&rt, &mut instance, *events, *activities);
-        drop(instance);
-    }
+    let mut instance = empty(&rt, 60);
+    fill(&rt, &mut instance, 20_000, 100_000);
+    drop(instance);
+}
+
+#[test]
+fn limits_past_two_hours(rt: HostRuntime) {
+    let mut instance = empty(&rt, 121);
+    fill(&rt, &mut instance, 19_834, 99_173);
+    drop(instance);
+}
+
+#[test]
+fn limits_at_the_longest_period(rt: HostRuntime) {
+    let mut instance = empty(&rt, 1_440);
+    fill(&rt, &mut instance, 1_666, 8_333);
+    drop(instance);
 }
 
 const THE_SAME_ENDS: Edits<'_> = &[(
