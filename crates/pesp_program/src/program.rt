@@ -51,10 +51,13 @@ fn contents<R: Files + AllocGlobal>(
 /// Does what the words ask for.
 fn work<R: Files + AllocGlobal + Input + Print>(rt: &R, words: &[&str]) -> Result<(), Ending> {
     let settings = settings(rt.alloc(), words)?;
+    let activities = contents(rt, Source::Activities, settings.activities)?;
+    let fixed = contents(rt, Source::Fixed, settings.fixed)?;
+    let times = contents(rt, Source::Times, settings.times)?;
     let files = FileBytes {
-        activities: contents(rt, Source::Activities, settings.activities)?,
-        fixed: contents(rt, Source::Fixed, settings.fixed)?,
-        times: contents(rt, Source::Times, settings.times)?,
+        activities,
+        fixed,
+        times,
     };
     answer_files(
         rt.alloc(),
