@@ -2,7 +2,7 @@
 _pespbench() {
     local word=${COMP_WORDS[COMP_CWORD]} before=${COMP_WORDS[COMP_CWORD - 1]}
     case $before in
-    --period) COMPREPLY=($(compgen -W '10 15 20 30 60 120' -- "$word")) ;;
+    --period) COMPREPLY=($(compgen -W '10 15 20 30 60 120 1440' -- "$word")) ;;
     --fixed | --times) COMPREPLY=($(compgen -f -- "$word")) ;;
     *)
         if [[ $word == -* ]]; then

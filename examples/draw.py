@@ -60,7 +60,7 @@ def read(text):
             print(refusal, file=sys.stderr)
     if told.network is None:
         raise ValueError("the reply to `dump` is missing")
-    bounded(told.network.period, 2, 120)
+    bounded(told.network.period, 2, 1440)
     return told
 
 
@@ -185,7 +185,7 @@ class Activity:
         self.room = bounded(each.upper, -1_000_000, 1_000_000) - bounded(each.lower, -1_000_000, 1_000_000)
         self.slack = told.tensions[each.number].slack if each.number in told.tensions else None
         self.label, self.is_wrong = f"{each.number}: {each.from_event} → {each.to_event}", each.number in told.violated.activities
-        tension = "" if self.slack is None else f"{each.lower + bounded(self.slack, 0, 119)} of "
+        tension = "" if self.slack is None else f"{each.lower + bounded(self.slack, 0, 1439)} of "
         self.note = f"{tension}{each.lower} to {each.upper}" + (", violated" if self.is_wrong else "")
 
     def draw(self, page):

@@ -11,7 +11,7 @@ from pespbench.client import Bench
 def add_network(parser: argparse.ArgumentParser) -> None:
     """Adds NETWORK and its options to a subcommand's parser."""
     parser.add_argument("network", metavar="NETWORK", help="a file of activities, or a folder that was saved")
-    parser.add_argument("--period", type=int, help="the period, 2 to 120 [default: 60; of a folder, its own]")
+    parser.add_argument("--period", type=int, help="the period, 2 to 1440 [default: 60; of a folder, its own]")
     parser.add_argument("--fixed", metavar="FILE", help="fixed times of events")
     parser.add_argument("--times", metavar="FILE", help="times of events")
     parser.add_argument("--labels", metavar="FILE", help="names of events and kinds of activities")

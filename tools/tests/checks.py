@@ -6,7 +6,7 @@ from tests import rules
 from tests.drawn_files import Form, damaged, drawn
 from tests.file_cases import TWO, TWO_TIMES
 from tests.harness import NAMES, missing, rows_of, words_for
-from tests.limits import GREATEST_PERIOD, LEAST_PERIOD, MOST_ACTIVITIES, MOST_EVENTS
+from tests.limits import GREATEST_PERIOD, LEAST_PERIOD, MOST_ACTIVITIES, MOST_EVENTS, most_activities
 
 
 def check_case(suite, name, period, activities, fixed, times, form=None):
@@ -60,9 +60,10 @@ def limit_checks(suite):
         fixed = {greatest: -1_000_000_000, 0: 1_000_000_000}
         check_case(suite, f"values at their limits, period {period}", period, corner, fixed, times)
     weight = 1_000_000_000
-    # Each activity has the greatest slack that there is, so this is the greatest cost.
-    most = [(number, 1, 1, 1, 1, weight) for number in range(MOST_ACTIVITIES)]
-    check_case(suite, "the greatest cost", GREATEST_PERIOD, most, {1: 1}, {1: 0})
+    # Each activity has the greatest slack that there is, and no period with as many as it may have comes to more.
+    period = 1_433
+    most = [(number, 1, 1, 1, 1, weight) for number in range(most_activities(period))]
+    check_case(suite, "the greatest cost", period, most, {1: 1}, {1: 0})
     full = [(number, number % MOST_EVENTS, number * 7 % MOST_EVENTS, 0, 1, 1) for number in range(MOST_ACTIVITIES)]
     times = {event: event for event in range(MOST_EVENTS)}
     fixed = {event: event + (event % 3 == 0) for event in range(MOST_EVENTS)}

@@ -20,7 +20,7 @@ from tests.harness import (
     run,
     words_for,
 )
-from tests.limits import GREATEST_PERIOD, MOST_EVENTS
+from tests.limits import FULL_PERIOD, MOST_EVENTS
 from tests.replies import EMPTY_REPLIES
 
 
@@ -143,8 +143,8 @@ def want_of_memory(suite):
 
 def memory_of_commands(suite):
     """The least memory that serves three commands is looked for; with a little less, the greatest reply is refused."""
-    loops = rows_of((event, event, event, 0, GREATEST_PERIOD - 1, 0) for event in range(MOST_EVENTS))
-    words = [suite.program, "--period", str(GREATEST_PERIOD), suite.file("loops", loops)]
+    loops = rows_of((event, event, event, 0, FULL_PERIOD - 1, 0) for event in range(MOST_EVENTS))
+    words = [suite.program, "--period", str(FULL_PERIOD), suite.file("loops", loops)]
     given = b"cost\n# a comment\ndomains\ncost\n"
     enough, least = 2_048, 32
 

@@ -1,7 +1,10 @@
 """The limits of periods, events and activities, as docs/FORMATS.md has them."""
 
 LEAST_PERIOD = 2
-GREATEST_PERIOD = 120
+GREATEST_PERIOD = 1_440
+
+# Up to here a network may have the most events and activities that there are at any period.
+FULL_PERIOD = 120
 
 
 def most_events(period):
@@ -14,6 +17,5 @@ def most_activities(period):
     return min(100_000, 12_000_000 // period)
 
 
-# The same at every period there is.
-MOST_EVENTS = most_events(GREATEST_PERIOD)
-MOST_ACTIVITIES = most_activities(GREATEST_PERIOD)
+MOST_EVENTS = most_events(FULL_PERIOD)
+MOST_ACTIVITIES = most_activities(FULL_PERIOD)

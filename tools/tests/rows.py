@@ -17,7 +17,7 @@ from tests.file_cases import (
     TWO_TIMES,
 )
 from tests.harness import record
-from tests.limits import MOST_ACTIVITIES, MOST_EVENTS
+from tests.limits import GREATEST_PERIOD, MOST_ACTIVITIES, MOST_EVENTS, most_activities, most_events
 from tests.replies import TWO_REPLIES
 
 
@@ -91,4 +91,22 @@ def too_many_times(suite):
     suite.check("fixed: a repeat behind as many as there may be", words, status=1, error=record("fixed", MOST_EVENTS + 1, EVENT_TWICE))
 
 
-GROUPS = [written_forms, faulty_rows, too_many_activities, too_many_times]
+def long_periods(suite):
+    """Above 120 a network may have the fewer events and activities the longer the period is."""
+    for period in [121, 720, GREATEST_PERIOD]:
+        words, events, activities = ["--period", str(period)], most_events(period), most_activities(period)
+        loops = b"".join(loop(number, number) for number in range(events + 1))
+        error = record("activities", events + 1, EVENTS)
+        suite.check(f"activities: one event too many at period {period}", [*words, suite.file("many", loops)], status=1, error=error)
+        between = b"".join(b"%d; 1; 2; 0; 9; 0\n" % number for number in range(activities + 1))
+        error = record("activities", activities + 1, ACTIVITIES)
+        suite.check(f"activities: one too many at period {period}", [*words, suite.file("many", between)], status=1, error=error)
+        times = b"".join(b"%d; 0\n" % event for event in range(events + 1))
+        error = record("times", events + 1, EVENTS)
+        suite.check(f"times: one too many at period {period}", [*words, "--times", suite.file("many", times)], status=1, error=error)
+        full = b"".join(loop(number, number % events) for number in range(activities))
+        no_time = b"refused 11 event 0 has no time\n" * 3
+        suite.check(f"as many as there may be at period {period}", [*words, suite.file("many", full)], output=no_time)
+
+
+GROUPS = [written_forms, faulty_rows, too_many_activities, too_many_times, long_periods]

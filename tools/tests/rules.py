@@ -5,7 +5,7 @@ tools/test_program compares the program with `check`, for the bytes of three fil
 
 import re
 
-from tests.limits import MOST_ACTIVITIES, MOST_EVENTS
+from tests.limits import most_activities, most_events
 
 NUMBERS = range(0, 1_000_000_000)
 BOUNDS = range(-1_000_000, 1_000_001)
@@ -95,7 +95,7 @@ def read(name, text, take):
             raise Faulty(f"pespbench: {name} file, record {place}: {fault}\n") from None
 
 
-def read_activities(text):
+def read_activities(period, text):
     """The rows of activities, and the events that they name."""
     activities, events = {}, set()
 
@@ -105,9 +105,9 @@ def read_activities(text):
             raise Faulty("lower bound above upper bound")
         if row[0] in activities:
             raise Faulty("activity number is repeated")
-        if len(events) + len(set(row[1:3]) - events) > MOST_EVENTS:
+        if len(events) + len(set(row[1:3]) - events) > most_events(period):
             raise Faulty("too many events")
-        if len(activities) == MOST_ACTIVITIES:
+        if len(activities) == most_activities(period):
             raise Faulty("too many activities")
         activities[row[0]] = row
         events.update(row[1:3])
@@ -160,11 +160,11 @@ def check(period, activities=b"", fixed=b"", times=b""):
             raise Faulty("event is not in the instance")
 
     def too_many(_, taken):
-        if len(taken) == MOST_EVENTS:
+        if len(taken) == most_events(period):
             raise Faulty("too many events")
 
     try:
-        listed, events = read_activities(activities)
+        listed, events = read_activities(period, activities)
         text = replies(period, listed, read_events("fixed", fixed, absent), read_events("times", times, too_many))
         return {"status": 0, "output": text, "error": b""}
     except Faulty as fault:

@@ -3,7 +3,7 @@
 import random
 
 from tests.harness import rows_of, within
-from tests.limits import GREATEST_PERIOD, LEAST_PERIOD, MOST_ACTIVITIES, MOST_EVENTS
+from tests.limits import FULL_PERIOD, GREATEST_PERIOD, LEAST_PERIOD, MOST_ACTIVITIES, MOST_EVENTS, most_activities, most_events
 
 
 def script_of(period, events, windows, activities):
@@ -62,15 +62,26 @@ def scripts(suite):
         suite.case(f"a script with {name}", [], given=text, output=output)
 
 
+def most_at_long_periods(suite):
+    """At 121 and at the greatest period the commands that come behind as many events and activities as there may be."""
+    for period in [121, GREATEST_PERIOD]:
+        events, activities = most_events(period), most_activities(period)
+        rows = [(number, number % events, number * 7 % events, 0, period - 1, 1) for number in range(activities)]
+        words = ["--period", str(period), suite.file("activities", rows_of(rows))]
+        given = f"add event {events}\nadd activity {activities} 1 1 0 0 0\ndrop activity 7\nadd activity {activities} 1 1 0 0 0\n".encode()
+        output = b"refused 7 too many events\nrefused 8 too many activities\nok\nok\n"
+        suite.case(f"as many as there may be at period {period}", words, given=given, output=output)
+
+
 @within(180)
 def greatest_script(suite):
     """An instance of 20,000 events and 100,000 activities opens from a file, is dumped, and refuses one more of each."""
-    activities = [(number, number % MOST_EVENTS, number * 7 % MOST_EVENTS, 0, GREATEST_PERIOD - 1, 1) for number in range(MOST_ACTIVITIES)]
-    words = ["--period", str(GREATEST_PERIOD), suite.file("activities", rows_of(activities))]
+    activities = [(number, number % MOST_EVENTS, number * 7 % MOST_EVENTS, 0, FULL_PERIOD - 1, 1) for number in range(MOST_ACTIVITIES)]
+    words = ["--period", str(FULL_PERIOD), suite.file("activities", rows_of(activities))]
     given = f"add event {MOST_EVENTS}\nadd activity {MOST_ACTIVITIES} 1 1 0 0 0\nadd activity 7 1 1 0 0 0\ndump".encode()
     refusals = "refused 7 too many events\nrefused 8 too many activities\nrefused 5 activity 7 exists\n"
-    script = script_of(GREATEST_PERIOD, range(MOST_EVENTS), {}, activities)
+    script = script_of(FULL_PERIOD, range(MOST_EVENTS), {}, activities)
     suite.case("the greatest instance", words, given=given, output=(refusals + script).encode())
 
 
-GROUPS = [scripts, greatest_script]
+GROUPS = [scripts, most_at_long_periods, greatest_script]

@@ -8,6 +8,7 @@ from tests.changes import keeps
 from tests.commands import model_of
 from tests.file_cases import TWO
 from tests.harness import run, within
+from tests.limits import GREATEST_PERIOD
 from tests.parsing import COMMANDS, EDITS, LONGEST_LINE, MOST_LINES, Fault, parse
 
 COUNTED = {"domains": 1, "tensions": 1, "violations": 1, "optimum": 2, "stopped": 2, "#": 4}
@@ -181,4 +182,19 @@ def drawn_streams(suite):
         play(suite, f"drawn stream {number} of two trains", model_of(10, TWO), words, drawn_lines(draw, 10, 60))
 
 
-GROUPS = [longest_line, number_of_lines, many_cheap_lines, drawn_streams]
+def without_search(lines):
+    """The lines that ask for no timetable: at a long period the model would go over too many."""
+    return [line for line in lines if line.lower().split()[:1] not in ([b"optimum"], [b"adopt"], [b"try"])]
+
+
+@within(300)
+def long_streams(suite):
+    """Streams at periods above 120, about where a count takes one byte more too."""
+    draw = random.Random(1440)
+    for number in range(3):
+        for period in [121, 255, 256, 257, 720, GREATEST_PERIOD - 1, GREATEST_PERIOD]:
+            lines = without_search(drawn_lines(draw, period, 40))
+            play(suite, f"drawn stream {number} at period {period}", model.Model(period), ["--period", str(period)], lines)
+
+
+GROUPS = [longest_line, number_of_lines, many_cheap_lines, drawn_streams, long_streams]
