@@ -4,6 +4,7 @@ from __future__ import annotations
 
 import math
 from dataclasses import dataclass
+from itertools import combinations
 from typing import Mapping
 
 from pespbench.report.places import Place, Track
@@ -13,6 +14,8 @@ MOST_ROUNDS, MOST_LOOKS = 300, 2_000_000
 # Of what two stations are too near, so much is mended in a round.
 SHARE = 0.3
 CLEARANCE = 26.0
+# How far outside the ring of a station the numbers of two tracks may begin to be beside each other.
+FAN_REACH = 45.0
 
 
 @dataclass(frozen=True)
@@ -67,18 +70,25 @@ class Spreading:
         self.names = list(places)
         self.rooms = {frozenset(track): wanted.along for track, wanted in tracks.items()}
         self.is_moved = False
+        # Of each station the other ends of its tracks, with the room beside each.
+        self.ends: dict[str, list[tuple[str, float]]] = {name: [] for name in self.names}
+        for (first, last), wanted in tracks.items():
+            self.ends[first].append((last, wanted.beside))
+            self.ends[last].append((first, wanted.beside))
 
     def step(self) -> bool:
         """Mends each lack of room in part; False where there was none."""
         self.is_moved = False
-        for place, first in enumerate(self.names):
-            for last in self.names[place + 1 :]:
-                room = self.rooms.get(frozenset((first, last)), 2 * CLEARANCE)
-                self.push(first, last, self.radius[first] + self.radius[last] + room)
+        for first, last in combinations(self.names, 2):
+            room = self.rooms.get(frozenset((first, last)), 2 * CLEARANCE)
+            self.push(first, last, self.radius[first] + self.radius[last] + room)
         for track in self.tracks:
             for station in self.names:
                 if station not in track:
                     self.clear(station, track)
+        for station in self.names:
+            for pair in combinations(self.ends[station], 2):
+                self.fan(station, *pair)
         return self.is_moved
 
     def push(self, first: str, last: str, wanted: float) -> None:
@@ -101,13 +111,26 @@ class Spreading:
         along = (end[0] - start[0]) / length, (end[1] - start[1]) / length
         at = (here[0] - start[0]) * along[0] + (here[1] - start[1]) * along[1]
         beside = (here[1] - start[1]) * along[0] - (here[0] - start[0]) * along[1]
-        lack = self.radius[station] + self.tracks[track].beside + CLEARANCE / 2 - abs(beside)
+        lack = self.radius[station] + self.tracks[track].beside + CLEARANCE - abs(beside)
         if not 0 < at < length or lack <= 0.5:
             return
         side = 1.0 if beside >= 0 else -1.0
         self.move(station, -along[1] * side, along[0] * side, SHARE * lack)
         for name in track:
             self.move(name, along[1] * side, -along[0] * side, SHARE * lack / 2)
+
+    def fan(self, station: str, first: tuple[str, float], last: tuple[str, float]) -> None:
+        """Turns two tracks at a station apart whose numbers would lie on each other, each with its room beside."""
+        here = self.places[station]
+        (x, y), (other_x, other_y) = ((self.places[name][0] - here[0], self.places[name][1] - here[1]) for name, _ in (first, last))
+        turn = math.remainder(math.atan2(other_y, other_x) - math.atan2(y, x), 2 * math.pi)
+        wanted = math.asin(min(1.0, (first[1] + last[1]) / (self.radius[station] + FAN_REACH)))
+        lack = min(wanted, 0.8 * 2 * math.pi / len(self.ends[station])) - abs(turn)
+        if lack <= 0.02:
+            return
+        side = SHARE * lack / 2 if turn >= 0 else -SHARE * lack / 2
+        self.move(first[0], y, -x, side)
+        self.move(last[0], -other_y, other_x, side)
 
     def move(self, station: str, x: float, y: float, length: float) -> None:
         """Moves a station along a direction."""
