@@ -122,7 +122,7 @@ def whole(path: Path, number: int, text: str) -> int:
 
 
 def weights_of(path: Path, passengers: Sequence[Decimal]) -> tuple[int, list[int]]:
-    """The least power of ten that makes all whole, and all of them times it. Raises ValueError where there is none."""
+    """The least power of ten that makes all whole, and all of them times it. Raises FileFault where there is none."""
     digits = max((-int(each.normalize().as_tuple().exponent) for each in passengers), default=0)
     scale = 10 ** max(0, min(digits, MOST_DIGITS))
     weights = [each * scale for each in passengers]

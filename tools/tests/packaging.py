@@ -57,7 +57,7 @@ def installed(suite, prefix):
         suite.holds(f"{file} has each option", all(f"{option}" in text for option in options))
 
 
-@within(200)
+@within(240)
 def pip(suite):
     """`pip install ./python`, by Debian's Python where that has what pip builds with; nothing is fetched."""
     if run([SYSTEM, "-c", "import setuptools, wheel, pip"])["status"]:
@@ -65,7 +65,7 @@ def pip(suite):
         return
     shutil.copytree(TOP / "python", suite.folder / "python", ignore=shutil.ignore_patterns("__pycache__"))
     words = ["-m", "pip", "install", "--quiet", "--no-index", "--no-build-isolation", "--target", "target", "./python"]
-    suite.note("pip install ./python", {"status": 0}, called(suite, [SYSTEM, *words], cwd=suite.folder, seconds=150))
+    suite.note("pip install ./python", {"status": 0}, called(suite, [SYSTEM, *words], cwd=suite.folder, seconds=220))
     words = ["-m", "pespbench", "search", "--period", "10", TOP / "examples/two-trains/activities"]
     came = called(suite, [SYSTEM, *words], env={"PYTHONPATH": str(suite.folder / "target")})
     suite.note("the package that pip installed", {"status": 0, "standard output": b"optimum 4 2\n1 0\n2 4\n"}, came)
