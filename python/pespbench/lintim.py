@@ -103,7 +103,7 @@ def pairs_of(path: Path) -> Iterator[tuple[Path, int, int, int]]:
 
 
 def decimal(path: Path, number: int, text: str) -> Decimal:
-    """A number that may have a point. Raises ValueError where there is none."""
+    """A number that may have a point. Raises FileFault where it is none."""
     try:
         value = Decimal(text)
     except InvalidOperation:
@@ -114,7 +114,7 @@ def decimal(path: Path, number: int, text: str) -> Decimal:
 
 
 def whole(path: Path, number: int, text: str) -> int:
-    """A number without a fraction, with or without a point. Raises ValueError where there is none."""
+    """A number without a fraction, with or without a point. Raises FileFault where it is none."""
     value = decimal(path, number, text)
     if abs(value) > GREATEST_WEIGHT or value != value.to_integral_value():
         raise FileFault(str(path), number, f"{text!r} is not a whole number from -{GREATEST_WEIGHT} to {GREATEST_WEIGHT}")

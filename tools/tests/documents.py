@@ -45,7 +45,7 @@ def ends_of_replies(lines):
         words = lines[place].split()
         counts = {"domains": 1, "tensions": 1, "violations": 1, "optimum": 2, "stopped": 2, "#": 4}
         last = words[min(counts.get(words[0], 0), len(words) - 1)] if words else ""
-        place += 1 + (int(last) if words[0] in counts and last.isdigit() else 0)
+        place += 1 + (int(last) if words and words[0] in counts and last.isdigit() else 0)
         ends.append(place)
     return ends
 
