@@ -4,7 +4,7 @@ import os
 import re
 
 from tests.file_cases import ABSENT, ACTIVITIES, CROSSED, EVENT_TWICE, EVENTS, FIELDS, FRACTION, TWICE, bad, out
-from tests.harness import TOP, run
+from tests.harness import TOP, run, within
 from tests.parsing import COMMANDS
 
 
@@ -80,6 +80,7 @@ def play(suite, session):
     return came["standard output"].decode().split(f"{mark}\n")[1:]
 
 
+@within(240)
 def documents(suite):
     commands = suite.folder / "bin"
     commands.mkdir()
