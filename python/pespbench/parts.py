@@ -3,6 +3,7 @@
 from __future__ import annotations
 
 import itertools
+import os
 from concurrent.futures import Executor
 from dataclasses import dataclass
 from typing import Iterator, List, Optional, Tuple, Union
@@ -66,14 +67,15 @@ def optimum_in_parts(
 
     The slack of a range counts from its own lower bound, so a part's cost lacks its constant. A part whose constant alone is
     above the best cost found is not begun: it has no timetable as cheap. One whose constant is that cost may have one that
-    comes first, so it is answered too. `executor`, `workers` and `progress` are as in `variants`. Raises Lost where what
-    had a part in hand died twice, BadReply, and ValueError for spans or ranges below 1.
+    comes first, so it is answered too. `executor`, `workers` and `progress` are as in `variants`, but that an executor is
+    given as many parts at once as this machine has processors where `workers` is None. Raises Lost where what had a part in
+    hand died twice, BadReply, and ValueError for spans or ranges below 1.
     """
     if spans < 1 or ranges < 1:
         raise ValueError("there is at least one span, and one range of it")
     parts = parts_of(bench.network, spans, ranges)
     search = Search(parts, Base.of(bench), Progress(len(parts), progress))
-    hands = hands_of(executor, workers)
+    hands = hands_of(executor, workers, os.cpu_count() or 1)
     try:
         for place, answer in Driver(answer_task, hands).run(search.tasks()):
             search.take(place, answer)

@@ -15,7 +15,7 @@ from pespbench.session import Outcome, Session
 from pespbench.work import work_of
 from pespbench.workers import Driver, Hands, LentHands, Lost, OwnHands, Progress
 
-# How many tasks an executor of the caller is given at once.
+# How many variants an executor of the caller is given at once, where it is not said.
 AT_ONCE = 1_000
 
 
@@ -83,10 +83,10 @@ def variants(
     """Answers each list of edits on the network of `base` by itself, and gives the answers in the order of the lists.
 
     `ask` is the command that is asked after the edits: `optimum`, `domains`, `try 5000`, .. The tasks go to `executor`, any of
-    `concurrent.futures` whose workers have this package and the program at the same path; where none is given, to `workers`
-    processes of this machine, as many as it has processors where that is None. Then the caller's main module has to be one
-    that can be imported (`if __name__ == "__main__":`). Each worker keeps one opened program. A bar on standard error shows
-    how far it is where that is a terminal, or as `progress` says.
+    `concurrent.futures` whose workers have this package and the program at the same path, `workers` of them at once (1,000
+    where that is None). Where none is given, they go to `workers` processes of this machine (as many as it has processors),
+    and the caller's main module has to be one that can be imported (`if __name__ == "__main__":`). Each worker keeps one
+    opened program. A bar on standard error shows how far it is where that is a terminal, or as `progress` says.
 
     A refused edit makes Refused or Fault the answer of its list. What a worker or a program had in hand that died is given
     out once more, and is Lost, with its place in the lists, where that dies too; a process pool of the caller that broke
@@ -98,7 +98,7 @@ def variants(
     tasks = (Task(shared, edits, checked(ask)) for edits in lists)
     answers: List[Union[Outcome, Lost]] = [None] * len(lists)
     bar = Progress(len(lists), progress)
-    hands = hands_of(executor, workers)
+    hands = hands_of(executor, workers, AT_ONCE)
     try:
         for place, answer in Driver(answer_task, hands).run(tasks):
             answers[place] = answer
@@ -108,9 +108,9 @@ def variants(
     return answers
 
 
-def hands_of(executor: Optional[Executor], workers: Optional[int]) -> Hands:
-    """The caller's executor, or processes of this machine."""
-    return OwnHands(workers) if executor is None else LentHands(executor, AT_ONCE)
+def hands_of(executor: Optional[Executor], workers: Optional[int], at_once: int) -> Hands:
+    """The caller's executor, which is given `workers` tasks at once, or so many processes of this machine."""
+    return OwnHands(workers) if executor is None else LentHands(executor, workers or at_once)
 
 
 def change(command: str) -> str:

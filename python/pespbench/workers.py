@@ -5,8 +5,9 @@ from __future__ import annotations
 import multiprocessing
 import os
 import sys
-from concurrent.futures import FIRST_COMPLETED, Executor, Future, ProcessPoolExecutor, wait
+from concurrent.futures import Executor, Future, ProcessPoolExecutor
 from concurrent.futures.process import BrokenProcessPool
+from queue import SimpleQueue
 from typing import Any, Callable, Dict, Generic, Iterable, Iterator, List, Optional, Tuple, TypeVar, Union
 
 from pespbench.faults import Ended, PespbenchError
@@ -102,6 +103,7 @@ class Driver(Generic[Task, Result]):
         self._call = call
         self._hands = hands
         self._running: Dict["Future[Result]", Tuple[int, Task, int, Executor]] = {}
+        self._done: "SimpleQueue[Future[Result]]" = SimpleQueue()
         self._again: List[Tuple[int, Task, int]] = []
 
     def run(self, tasks: Iterable[Task]) -> Iterator[Tuple[int, Union[Result, Lost]]]:
@@ -112,10 +114,9 @@ class Driver(Generic[Task, Result]):
         coming = ((place, task, 1) for place, task in enumerate(tasks))
         try:
             while self._give(coming) or self._running:
-                for future in wait(self._running, return_when=FIRST_COMPLETED).done:
-                    yield from self._take(future)
+                yield from self._take(self._done.get())
         finally:
-            for future in self._running:
+            for future in list(self._running):
                 future.cancel()
 
     def _give(self, coming: Iterator[Tuple[int, Task, int]]) -> bool:
@@ -137,6 +138,7 @@ class Driver(Generic[Task, Result]):
                 future = Future()
                 future.set_exception(broken)
             self._running[future] = (place, task, turn, executor)
+            future.add_done_callback(self._done.put)
 
     @staticmethod
     def _next(coming: Iterator[Tuple[int, Task, int]]) -> Optional[Tuple[int, Task, int]]:

@@ -4,7 +4,7 @@ import os
 import re
 
 from tests.file_cases import ABSENT, ACTIVITIES, CROSSED, EVENT_TWICE, EVENTS, FIELDS, FRACTION, TWICE, bad, out
-from tests.harness import TOP, run
+from tests.harness import TOP, run, within
 from tests.parsing import COMMANDS
 
 
@@ -45,7 +45,7 @@ def ends_of_replies(lines):
         words = lines[place].split()
         counts = {"domains": 1, "tensions": 1, "violations": 1, "optimum": 2, "stopped": 2, "#": 4}
         last = words[min(counts.get(words[0], 0), len(words) - 1)] if words else ""
-        place += 1 + (int(last) if words[0] in counts and last.isdigit() else 0)
+        place += 1 + (int(last) if words and words[0] in counts and last.isdigit() else 0)
         ends.append(place)
     return ends
 
@@ -80,6 +80,7 @@ def play(suite, session):
     return came["standard output"].decode().split(f"{mark}\n")[1:]
 
 
+@within(240)
 def documents(suite):
     commands = suite.folder / "bin"
     commands.mkdir()
