@@ -37,7 +37,7 @@ def read_places(path: Path) -> dict[str, Place]:
 
 
 def finite(text: str) -> float:
-    """A number that is neither endless nor no number."""
+    """A number that is neither endless nor no number. Raises ValueError for any other text."""
     value = float(text)
     if not math.isfinite(value):
         raise ValueError(text)
