@@ -7,11 +7,13 @@ import importlib.util
 import logging
 import os
 import signal
+import subprocess
+import sys
 import unittest
 from typing import Any
 
 from pespbench import optimum_in_parts, variants
-from tests.common import Case
+from tests.common import EXAMPLES, PROGRAM, TOP, Case
 from tests.test_variants import at_step, drawn_lists, one_by_one, small
 
 distributed: Any = importlib.import_module("distributed") if importlib.util.find_spec("distributed") else None
@@ -45,6 +47,16 @@ class Dask(Case):
             for seed in range(20):
                 with small(seed) as bench:
                     self.assertEqual(optimum_in_parts(bench, executor=executor, ranges=4).text(), bench.optimum().text())
+
+    def test_the_example(self) -> None:
+        """examples/on_a_cluster.py tells the same over Dask as by this machine's processors."""
+        environment = {**os.environ, "PYTHONPATH": str(TOP / "python"), "PESPBENCH": PROGRAM}
+        command = [sys.executable, str(EXAMPLES / "on_a_cluster.py"), str(EXAMPLES / "two-changes")]
+        told = []
+        for more in [[], [self.cluster.scheduler_address]]:
+            told.append(subprocess.run([*command, *more], env=environment, stdout=subprocess.PIPE, timeout=100).stdout)
+        self.assertEqual(told[0].count(b"\n"), 9)
+        self.assertEqual(told[0], told[1])
 
 
 if __name__ == "__main__":

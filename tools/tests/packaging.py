@@ -1,9 +1,13 @@
 """The package of the program, and its installing."""
 
 import os
+import shutil
 import tarfile
 
 from tests.harness import TOP, run, within
+
+# Debian's own Python, for which its packages are.
+SYSTEM = "/usr/bin/python3"
 
 
 def called(suite, words, **how):
@@ -53,6 +57,21 @@ def installed(suite, prefix):
         suite.holds(f"{file} has each option", all(f"{option}" in text for option in options))
 
 
+@within(200)
+def pip(suite):
+    """`pip install ./python`, by Debian's Python where that has what pip builds with; nothing is fetched."""
+    if run([SYSTEM, "-c", "import setuptools, wheel, pip"])["status"]:
+        print("  pip was not tried: python3-pip, python3-setuptools and python3-wheel are not installed")
+        return
+    shutil.copytree(TOP / "python", suite.folder / "python", ignore=shutil.ignore_patterns("__pycache__"))
+    words = ["-m", "pip", "install", "--quiet", "--no-index", "--no-build-isolation", "--target", "target", "./python"]
+    suite.note("pip install ./python", {"status": 0}, called(suite, [SYSTEM, *words], cwd=suite.folder, seconds=150))
+    words = ["-m", "pespbench", "search", "--period", "10", TOP / "examples/two-trains/activities"]
+    came = called(suite, [SYSTEM, *words], env={"PYTHONPATH": str(suite.folder / "target")})
+    suite.note("the package that pip installed", {"status": 0, "standard output": b"optimum 4 2\n1 0\n2 4\n"}, came)
+    suite.holds("it tells its types", (suite.folder / "target/pespbench/py.typed").exists())
+
+
 def without_a_program(suite):
     """Without a built program both say so, and make nothing."""
     for tool in ["package", "install"]:
@@ -65,4 +84,4 @@ def without_a_program(suite):
         suite.note(f"tools/{tool} without a program", {"status": 1, "told": True}, told)
 
 
-GROUPS = [package, without_a_program]
+GROUPS = [package, pip, without_a_program]
