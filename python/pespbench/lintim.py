@@ -103,7 +103,7 @@ def pairs_of(path: Path) -> Iterator[tuple[Path, int, int, int]]:
 
 
 def decimal(path: Path, number: int, text: str) -> Decimal:
-    """A number that may have a point. Raises FileFault where it is none."""
+    """A number that may have a point. Raises FileFault, with the row, for a text that is none."""
     try:
         value = Decimal(text)
     except InvalidOperation:
@@ -114,7 +114,7 @@ def decimal(path: Path, number: int, text: str) -> Decimal:
 
 
 def whole(path: Path, number: int, text: str) -> int:
-    """A number without a fraction, with or without a point. Raises FileFault where it is none."""
+    """A number without a fraction, with or without a point. Raises FileFault, with the row, for any other text."""
     value = decimal(path, number, text)
     if abs(value) > GREATEST_WEIGHT or value != value.to_integral_value():
         raise FileFault(str(path), number, f"{text!r} is not a whole number from -{GREATEST_WEIGHT} to {GREATEST_WEIGHT}")
@@ -122,7 +122,7 @@ def whole(path: Path, number: int, text: str) -> int:
 
 
 def weights_of(path: Path, passengers: Sequence[Decimal]) -> tuple[int, list[int]]:
-    """The least power of ten that makes all whole, and all of them times it. Raises FileFault where there is none."""
+    """The least power of ten that makes all whole, and all of them times it. Raises FileFault for one that is no weight then."""
     digits = max((-int(each.normalize().as_tuple().exponent) for each in passengers), default=0)
     scale = 10 ** max(0, min(digits, MOST_DIGITS))
     weights = [each * scale for each in passengers]

@@ -15,6 +15,8 @@ from pespbench.report.trains import Line, Train
 WIDTH, LEFT, RIGHT, TOP, BOTTOM = 640.0, 92.0, 14.0, 30.0, 24.0
 LEAST_HEIGHT, HEIGHT_OF_A_TRACK = 150.0, 38.0
 TURN = 11.0
+# How activities are called in which a train waits for its way back, and no name.
+TURNS = ("", "turn", "turnaround")
 
 
 @dataclass(frozen=True)
@@ -126,7 +128,7 @@ def turnarounds(content: Content, frame: Frame, line: Line, color: str) -> list[
     for activity in content.activities.values():
         first, last = content.ends(activity)
         is_turn = first.line == last.line == line.name and first.station == last.station and first.to != last.to
-        if not is_turn or first.time is None or activity.tension is None or activity.kind not in ("", "turnaround"):
+        if not is_turn or first.time is None or activity.tension is None or activity.kind not in TURNS:
             continue
         y = frame.heights[first.station]
         beyond = y + (TURN if y > (TOP + frame.bottom) / 2 else -TURN)

@@ -15,6 +15,7 @@ from pespbench.report.trains import Line
 
 # Units of the drawing, which are pixels where the page is wide enough.
 WIDTH, HEIGHT, MARGIN, EDGE = 1020, 640, 64, 8
+STATIONS_OF_A_PAGE = 14
 LANE, RING = 29, 11
 # What the name of a line takes of a track with some space, and what each number takes at each of its ends.
 ROOM, NUMBER = 70.0, 21.0
@@ -86,7 +87,10 @@ class Netgraph:
         wanted = {
             ends: Wanted(ROOM + 2 * NUMBER * most_of(lanes), self._half_width(ends)) for ends, lanes in self.tracks.items()
         }
-        self.places = spread(chosen, wanted, self.radius, (WIDTH - 2 * MARGIN, HEIGHT - 2 * MARGIN))
+        # A few stations do not fill the page.
+        share = min(1.0, math.sqrt(len(stations) / STATIONS_OF_A_PAGE))
+        size = (WIDTH - 2 * MARGIN) * share, (HEIGHT - 2 * MARGIN) * share
+        self.places = spread(chosen, wanted, self.radius, size)
 
     def _radius(self, station: str) -> float:
         most = max((len(lanes) for ends, lanes in self.tracks.items() if station in ends), default=1)
