@@ -36,10 +36,14 @@ class Browser(Case):
 
     def setUp(self) -> None:
         super().setUp()
-        with region_bench(self.folder, seed=2) as bench:
-            self.text = page_of(gather(bench, "A region", read_places(self.folder / "places")))
+        self.text = self.page(2)
         self.path = self.folder / "report.html"
         self.path.write_text(self.text, encoding="utf-8")
+
+    def page(self, seed: int) -> str:
+        """The report on a region."""
+        with region_bench(self.folder, seed) as bench:
+            return page_of(gather(bench, "A region", read_places(self.folder / "places")))
 
     def browse(self, page: Path, *words: str) -> str:
         """Runs the browser on a page, and gives what it writes."""
@@ -48,19 +52,20 @@ class Browser(Case):
         done = subprocess.run(command, capture_output=True, text=True, timeout=SECONDS, check=True)
         return done.stdout
 
-    def told(self, width: int) -> str:
-        """What the browser says of the page at a width."""
+    def told(self, text: str, width: int) -> str:
+        """What the browser says of a page at a width."""
         asked = self.folder / "asked.html"
-        asked.write_text(self.text.replace("</body>", f"{ASKED}</body>"), encoding="utf-8")
+        asked.write_text(text.replace("</body>", f"{ASKED}</body>"), encoding="utf-8")
         dom = self.browse(asked, f"--window-size={width},1400", "--dump-dom")
         found = re.search("<title>(.*?)</title>", dom)
         assert found
         return found[1]
 
     def test_laid_out(self) -> None:
-        for width in (1240, 700):
-            with self.subTest(width=width):
-                self.assertEqual(self.told(width), "texts cut 0 wider 0 empty 0")
+        # In the region of seed 4 the name of a station is the leftmost of all.
+        for seed, width in ((2, 1240), (2, 700), (4, 1240)):
+            with self.subTest(seed=seed, width=width):
+                self.assertEqual(self.told(self.page(seed), width), "texts cut 0 wider 0 empty 0")
 
     def test_same_elements(self) -> None:
         read, wanted = Page(self.browse(self.path, "--dump-dom")).root, Page(self.text).root
