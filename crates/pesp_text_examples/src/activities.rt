@@ -6,6 +6,7 @@ use crate::reading::read;
 use pesp_base::Period;
 use pesplib_reader::{FaultKind, ReadFault};
 use std::alloc::{AllocError, Global};
+use std::process::Abort;
 use std::test::Fail;
 
 /// Why a file of activities is refused.
