@@ -191,9 +191,9 @@ def without_search(lines):
 def long_streams(suite):
     """Streams at periods above 120, about where a count takes one byte more too."""
     draw = random.Random(1440)
-    for number in range(3):
+    for number in range(2):
         for period in [121, 255, 256, 257, 720, GREATEST_PERIOD - 1, GREATEST_PERIOD]:
-            lines = without_search(drawn_lines(draw, period, 40))
+            lines = without_search(drawn_lines(draw, period, 25))
             play(suite, f"drawn stream {number} at period {period}", model.Model(period), ["--period", str(period)], lines)
 
 
