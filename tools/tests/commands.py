@@ -18,7 +18,7 @@ def text_of(lines):
 
 
 def model_of(period, activities):
-    rows, _ = read_activities(activities)
+    rows, _ = read_activities(period, activities)
     return model.Model(period, rows)
 
 

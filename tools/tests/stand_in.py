@@ -82,7 +82,7 @@ def opening(words, texts):
     checked = rules.check(words.period, **texts)
     if checked["error"]:
         raise End(checked["error"].decode().removeprefix("pespbench: ").rstrip("\n"))
-    activities, _ = rules.read_activities(texts["activities"])
+    activities, _ = rules.read_activities(words.period, texts["activities"])
     pairs = [rules.read_events(name, texts[name], lambda *_: None) for name in ("fixed", "times")]
     return model.Model(words.period, activities, *pairs)
 
