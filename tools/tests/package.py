@@ -58,6 +58,26 @@ def python_dask(suite):
         print("  nothing was tried over Dask: python3-distributed is not installed")
 
 
+# A job of MPI as the superuser of a container, on fewer processors than it has processes.
+ANYWHERE = {"OMPI_ALLOW_RUN_AS_ROOT": "1", "OMPI_ALLOW_RUN_AS_ROOT_CONFIRM": "1", "OMPI_MCA_rmaps_base_oversubscribe": "1"}
+OVER_MPI = "mpiexec -n 8 python3 -m mpi4py.futures examples/on_a_cluster.py examples/two-changes mpi".split()
+
+
+@within(120)
+def python_mpi(suite):
+    """The example of many variants tells over MPI what it tells over this machine's processors, by Debian's Python."""
+    command = [SYSTEM, "-c", "import mpi4py"]
+    if not shutil.which("mpiexec") or subprocess.run(command, capture_output=True).returncode:
+        print("  nothing was tried over MPI: python3-mpi4py is not installed")
+        return
+    told = []
+    surroundings = {**environment(suite), **ANYWHERE, "PATH": f"/usr/bin:{os.environ['PATH']}"}
+    for words in [[SYSTEM, *OVER_MPI[6:-1]], OVER_MPI]:
+        told.append(subprocess.run(words, cwd=TOP, env=surroundings, stdout=subprocess.PIPE, timeout=100).stdout)
+    suite.holds("python: examples/on_a_cluster.py tells something", told[0].count(b"\n") == 9)
+    suite.holds("python: examples/on_a_cluster.py tells the same over MPI", told[0] == told[1])
+
+
 @within(240)
 def python_types(suite):
     """The package and its tests pass a type checker, at the oldest Python that they are for."""
@@ -84,4 +104,4 @@ def python_package(suite):
 
 STANDARD = set(getattr(sys, "stdlib_module_names", ())) or {"argparse"}
 
-GROUPS = [*map(a_group, modules("tests.test_dask")), python_dask, python_types, python_package]
+GROUPS = [*map(a_group, modules("tests.test_dask")), python_dask, python_mpi, python_types, python_package]
