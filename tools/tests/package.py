@@ -66,12 +66,12 @@ OVER_MPI = "mpiexec -n 8 python3 -m mpi4py.futures examples/on_a_cluster.py exam
 @within(120)
 def python_mpi(suite):
     """The example of many variants tells over MPI what it tells over this machine's processors, by Debian's Python."""
-    command = [SYSTEM, "-c", "import mpi4py"]
-    if not shutil.which("mpiexec") or subprocess.run(command, capture_output=True).returncode:
-        print("  nothing was tried over MPI: python3-mpi4py is not installed")
+    surroundings = {**environment(suite), **ANYWHERE, "PATH": f"/usr/bin:{os.environ['PATH']}"}
+    starts = ["mpiexec", "-n", "2", SYSTEM, "-c", "import mpi4py.MPI"]
+    if not shutil.which("mpiexec") or subprocess.run(starts, env=surroundings, capture_output=True).returncode:
+        print("  nothing was tried over MPI: it is not installed, or does not start here")
         return
     told = []
-    surroundings = {**environment(suite), **ANYWHERE, "PATH": f"/usr/bin:{os.environ['PATH']}"}
     for words in [[SYSTEM, *OVER_MPI[6:-1]], OVER_MPI]:
         told.append(subprocess.run(words, cwd=TOP, env=surroundings, stdout=subprocess.PIPE, timeout=100).stdout)
     suite.holds("python: examples/on_a_cluster.py tells something", told[0].count(b"\n") == 9)
