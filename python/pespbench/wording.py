@@ -93,17 +93,6 @@ def window_text(first: int, length: int, period: int) -> str:
     return f"at {clock(first)}" if length == 1 else f"from {clock(first)} to {clock((first + length - 1) % period)}"
 
 
-def runs_of(residues: tuple[int, ...] | list[int]) -> list[tuple[int, int]]:
-    """The runs of neighbours among ascending residues, each from its first to its last."""
-    found: list[tuple[int, int]] = []
-    for residue in residues:
-        if found and found[-1][1] == residue - 1:
-            found[-1] = found[-1][0], residue
-        else:
-            found.append((residue, residue))
-    return found
-
-
 def short_name(activity: NamedActivity, first: NamedEvent, last: NamedEvent) -> str:
     """An activity without its kind, as `Benton: R1 to Cranley → R3 to Dale`."""
     if not (first.station and last.station):

@@ -5,9 +5,9 @@ from __future__ import annotations
 import unittest
 
 from pespbench import Bench, EventLabel, Labels
+from pespbench.answers import runs
 from pespbench.report import gather, page_of, read_places
 from pespbench.report.strips import narrowed
-from pespbench.wording import runs_of
 from tests.common import EXAMPLES, PROGRAM, Case
 from tests.pages import Page, region_bench
 
@@ -43,9 +43,9 @@ class Region(Case):
         for event, node in shown.items():
             self.assertEqual(node.children[1].text, domains[event].runs())
             bars = [each for each in node.all("fill") if each.attributes["fill"] == "#8fbce6"]
-            runs = runs_of(domains[event].residues)
+            found = runs(domains[event].residues)
             self.assertEqual([(float(each.attributes["x"]), float(each.attributes["width"])) for each in bars],
-                             [(8.0 * first, 8.0 * (last + 1 - first)) for first, last in runs])  # fmt: skip
+                             [(8.0 * first, 8.0 * (last + 1 - first)) for first, last in found])  # fmt: skip
 
     def test_activities(self) -> None:
         tensions, network = self.bench.tensions(), self.bench.network

@@ -2,10 +2,11 @@
 
 from __future__ import annotations
 
+from pespbench.answers import runs
 from pespbench.report.content import Content, Event
 from pespbench.report.markup import Element, append, drawing, element
 from pespbench.report.style import ALARM, DOMAIN, FAINT, INK
-from pespbench.wording import DONE, runs_of, train_name, window_text
+from pespbench.wording import DONE, train_name, window_text
 
 WIDTH, HEIGHT = 480, 16
 
@@ -31,7 +32,7 @@ def strips(content: Content) -> Element:
 def strip(content: Content, event: Event) -> Element:
     """One strip below its words."""
     domain = event.domain or ()
-    told = ", ".join(f"{first}" if first == last else f"{first}-{last}" for first, last in runs_of(domain))
+    told = ", ".join(f"{first}" if first == last else f"{first}-{last}" for first, last in runs(domain))
     held = f" · held {window_text(*event.window, content.period)}" if event.window else ""
     label = f"{DONE.get(event.kind, event.kind + ' at')} {event.station}" if event.station else f"event {event.number}"
     at = "" if event.time is None else f" at {event.time}"
@@ -50,7 +51,7 @@ def picture(content: Content, event: Event) -> Element:
     unit = WIDTH / content.period
     made = drawing(WIDTH, HEIGHT, f"Possible minutes of event {event.number}")
     append(made, element("rect", x=0, y=3, width=WIDTH, height=HEIGHT - 6, fill=FAINT))
-    for first, last in runs_of(event.domain or ()):
+    for first, last in runs(event.domain or ()):
         append(made, element("rect", x=first * unit, y=3, width=(last + 1 - first) * unit, height=HEIGHT - 6, fill=DOMAIN))
     for minute in range(10, content.period, 10):
         append(made, element("path", d=f"M{minute * unit:.1f} 3V{HEIGHT - 3}", stroke="#fff", stroke_width=1))
