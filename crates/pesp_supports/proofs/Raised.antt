@@ -261,7 +261,7 @@ with_counts counts s = record { period = s.period; counts = counts; counted = s.
 -- and they are as sound
 pub supports_with : (counts : List ℕ) (s : Supports) (before now : ℕ) → s.period ≤ now → AreSupports s before → AreSupports (with_counts counts s) now
 supports_with counts s before now fits a =
-    record { period = a.period; rows = a.rows; counted = a.counted; even = a.even; room = a.room; all_room = a.all_room; fits = fits }
+    record { period = a.period; rows = a.rows; counted = a.counted; even = a.even; few = a.few; room = a.room; all_room = a.all_room; fits = fits }
 
 -- ---- a residue that is put into a row
 

@@ -19,16 +19,21 @@ pub record Supports : Type 0 where
   pub room : ℕ
   pub probes : ℕ
 
+-- how many places there are at most
+abbrev pub most_places : ℕ
+most_places = 4294967295
+
 -- how many pairs the rows hold
 abbrev pub held : List (List Bool) → ℕ
 held rows = sum_by held_in rows
 
--- there are as many rows of either kind, each row has a test for each residue, the trail has room for each pair that the rows hold, and for all that they may hold, and a count can be as great as the period
+-- there are as many rows of either kind, and no more than numbers of 32 bits, each row has a test for each residue, the trail has room for each pair that the rows hold, and for all that they may hold, and a count can be as great as the period
 pub record AreSupports (s : Supports) (most : ℕ) : Type 0 where
   pub period : 2 * s.period < 65536
   pub rows : All (λ row. length row ≡ s.period) s.rows
   pub counted : All (λ row. length row ≡ s.period) s.counted
   pub even : length s.counted ≡ length s.rows
+  pub few : length s.rows ≤ most_places
   pub room : length s.trail + held s.rows ≤ s.room
   pub all_room : length s.rows * s.period ≤ s.room
   pub fits : s.period ≤ most

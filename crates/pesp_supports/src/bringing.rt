@@ -76,7 +76,10 @@ impl Supports {
     {
         if !self.holds(place, residue) {
             self.rows[place].put_in(residue);
-            back.push(Placed { place, residue });
+            back.push(Placed {
+                place: place as u32,
+                residue,
+            });
         }
     }
 

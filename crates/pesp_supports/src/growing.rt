@@ -12,6 +12,9 @@ use pesp_base::Period;
 use pesp_domains::{Pair, Row};
 use std::alloc::{AllocError, Global};
 
+/// The greatest number of places, so that a listed pair keeps its own in 32 bits.
+const MOST_PLACES: usize = 4_294_967_295;
+
 /// A row without a residue.
 fn empty_row(alloc: Global, period: Period) -> Result<Row, AllocError>
     ensures long { IfOk result (λ row. length row ≡ period) }
@@ -73,7 +76,8 @@ fn add_rows(
 
 impl Supports {
     /// Makes sure of rows for so many places, and of room for each pair of them, in the trail and in the lists of what is put back.
-    /// Rows that come are empty, so nothing is seen of them; nor is of those that came before memory was wanting.
+    /// Rows that come are empty, so nothing is seen of them; nor is of those that came before memory was wanting. For more places
+    /// than there are numbers of 32 bits, memory is wanting.
     pub fn make_rows(
         &mut self,
         alloc: Global,
@@ -88,9 +92,11 @@ impl Supports {
         ensures back { back.new.pairs ≡ back.old.pairs }
         ensures restored { restored.new.items ≡ restored.old.items }
     {
-        let Some(room) = places.checked_mul(self.period.get() as usize) else {
+        let period = self.period.get() as usize;
+        if places > MOST_PLACES {
             return Err(AllocError);
-        };
+        }
+        let room = places * period;
         self.trail.reserve(room)?;
         back.reserve(room)?;
         restored.reserve(room)?;

@@ -69,7 +69,7 @@ impl Supports {
         ensures shape { HaveSameShape self.old self.new }
     {
         self.count_in(links, pair);
-        let place = pair.place;
+        let place = pair.place as usize;
         self.counted[place].put_in(pair.residue);
         self.rows[place].put_in(pair.residue);
     }
@@ -88,7 +88,7 @@ impl Supports {
         ensures shape { HaveSameShape self.old self.new }
     {
         let period = self.period.get();
-        for number in links.at(pair.place) {
+        for number in links.at(pair.place as usize) {
             let end = links.end(number);
             let base = self.counts.base(end.mate, period);
             raise_ranges(&mut self.counts, period, base, end, pair.residue);

@@ -132,7 +132,7 @@ impl Supports {
         ensures brought { IsBrought (of_ends (self.old).period instance.now links.now spared pair.residue (ends_of (links.now).lists pair.place)) self.old self.new back.old back.new }
         ensures probes { (self.new).probes + (self.old).period * length back.old.pairs ≤ (self.old).probes + (2 * (self.old).period - 1) * length (ends_of (links.now).lists pair.place) + (self.old).period * length back.new.pairs }
     {
-        for number in links.at(pair.place) {
+        for number in links.at(pair.place as usize) {
             if !is_spared_end(spared, number) {
                 let end = links.end(number);
                 self.reach(instance, links, end, pair.residue, back);
@@ -151,7 +151,7 @@ impl Supports {
         ensures shape { HaveSameShape self.old self.new }
         ensures probes { (self.new).probes ≡ (self.old).probes }
     {
-        self.counted[pair.place].put_in(pair.residue);
+        self.counted[pair.place as usize].put_in(pair.residue);
     }
 
     /// Brings all that is admitted at these places.

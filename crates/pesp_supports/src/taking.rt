@@ -50,9 +50,10 @@ impl Supports {
         ensures probes { (self.new).probes ≤ (self.old).probes + (self.old).period * length (ends_of (links.now).lists (slice_index_or (self.old).trail next (record { place = 0; residue = 0 })).place) }
     {
         let pair = self.trail[next];
-        if self.has_counted(pair.place, pair.residue) && !self.holds(pair.place, pair.residue) {
-            self.spread(links, pair.place, pair.residue);
-            self.counted[pair.place].take_out(pair.residue);
+        let place = pair.place as usize;
+        if self.has_counted(place, pair.residue) && !self.holds(place, pair.residue) {
+            self.spread(links, place, pair.residue);
+            self.counted[place].take_out(pair.residue);
         }
     }
 
@@ -204,8 +205,9 @@ impl Supports {
         ensures probes { (self.new).probes ≤ (self.old).probes + ends_at links.now back.now }
     {
         for pair in back {
-            if self.holds(pair.place, pair.residue) && self.lacks_partner(links, *pair) {
-                self.take_out(pair.place, pair.residue);
+            let place = pair.place as usize;
+            if self.holds(place, pair.residue) && self.lacks_partner(links, *pair) {
+                self.take_out(place, pair.residue);
             }
         }
     }
@@ -218,7 +220,7 @@ impl Supports {
         ensures same { self.new ≡ record self.old { probes = (self.new).probes } }
         ensures probes { (self.new).probes ≤ (self.old).probes + length (ends_of (links.now).lists pair.place) }
     {
-        for end in links.at(pair.place) {
+        for end in links.at(pair.place as usize) {
             let residue = self.probes.at(pair.residue);
             if self.count(end, residue) == 0 {
                 return true;
@@ -236,7 +238,10 @@ impl Supports {
         ensures probes { (self.new).probes ≡ (self.old).probes }
     {
         self.rows[place].take_out(residue);
-        self.trail.push_reserved(Placed { place, residue });
+        self.trail.push_reserved(Placed {
+            place: place as u32,
+            residue,
+        });
     }
 
     /// Forgets the trail, and begins to count probes anew.

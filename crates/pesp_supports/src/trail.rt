@@ -1,8 +1,8 @@
 //! Pairs by place.
 
-/// A pair, by the place of its event.
+/// A pair, by the place of its event. There are never so many rows that the number of one wants more than 32 bits.
 #[derive(Clone, Copy, Debug, PartialEq, Eq)]
 pub struct Placed {
-    pub place: usize,
+    pub place: u32,
     pub residue: u16,
 }

@@ -13,7 +13,7 @@ fn numbered(links: &Links, placed: Placed) -> Option<Pair>
     requires { IsEventPlace links.now placed.place }
     ensures { result ≡ Some (numbered_pair links.now placed) }
 {
-    let event = EventId::new(links.event_at(placed.place)?)?;
+    let event = EventId::new(links.event_at(placed.place as usize)?)?;
     Some(Pair {
         event,
         residue: placed.residue,

@@ -43,6 +43,7 @@ invariant_of-self c =
       rows = all_long;
       counted = v.counted;
       even = v.even ∙ sym (length-set rows place c.put_in.new.self);
+      few = rw (length-set rows place c.put_in.new.self) v.few;
       room = omega (arith, few, area, none, v.all_room);
       all_room = omega (arith, area, v.all_room);
       fits = v.fits;

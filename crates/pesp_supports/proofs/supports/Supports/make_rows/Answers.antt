@@ -9,15 +9,15 @@ invariant_of-self-2 c =
     let v = c.self.invariant in
     let a = c.add_rows.ensures in
     let room = c.in_ok-reserve.ensures.ok in
-    let product = ap (λ n. c.args.places * n) c.get.ensures.value in
-    let asked = c.in-Some.ensures in
+    let product = ap (λ n. c.args.places * n) c.get-period.ensures.value in
     record {
       period = v.period;
       rows = a.rows.long;
       counted = a.counted.long;
       even = a.even;
+      few = omega (arith, a.few, v.few, c.if-places-gt-MOST_PLACES.false);
       room = omega (arith, v.room, a.rows.held, c.reserve.ensures.len, c.reserve.ensures.capacity);
-      all_room = room_for (length c.add_rows.new.rows.items) (length c.self.inside.rows.items) c.args.places c.self.inside.period (vec_capacity c.reserve.new.self) a.few (omega (arith, v.all_room, c.reserve.ensures.capacity)) (omega (arith, room, asked, product));
+      all_room = room_for (length c.add_rows.new.rows.items) (length c.self.inside.rows.items) c.args.places c.self.inside.period (vec_capacity c.reserve.new.self) a.few (omega (arith, v.all_room, c.reserve.ensures.capacity)) (omega (arith, room, product));
       fits = v.fits;
     }
 

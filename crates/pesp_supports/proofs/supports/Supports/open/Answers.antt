@@ -24,6 +24,7 @@ invariant_of-self c =
       rows = long;
       counted = long_set period c.args.place counted c.fill-2.new.self c.index_mut-2.result.now there v.counted c.index_mut-2.ensures.value c.fill-2.ensures.long;
       even = length-set counted c.args.place c.fill-2.new.self ∙ v.even ∙ sym many;
+      few = rw many v.few;
       room = omega (arith, few, area, v.all_room, none);
       all_room = omega (arith, area, v.all_room);
       fits = v.fits;

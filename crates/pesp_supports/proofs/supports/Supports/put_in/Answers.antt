@@ -35,6 +35,7 @@ invariant_of-self c =
       rows = long_set n place rows c.put_in-2.new.self c.index_mut-2.result.now here v.rows c.index_mut-2.ensures.value c.put_in-2.ensures.long;
       counted = long_set n place counted c.put_in.new.self c.index_mut.result.now there v.counted c.index_mut.ensures.value c.put_in.ensures.long;
       even = length-set counted place c.put_in.new.self ∙ v.even ∙ sym (length-set rows place c.put_in-2.new.self);
+      few = rw (length-set rows place c.put_in-2.new.self) v.few;
       room = omega (arith, more, trail_is, held_is, room_is, c.requires.room);
       all_room = omega (arith, area, v.all_room);
       fits = v.fits;

@@ -30,6 +30,7 @@ invariant_of-self c =
       rows = long;
       counted = long_as n c.self.inside.counted.items c.fill-2.new.rows.items v.counted c.fill-2.ensures.many c.fill-2.ensures.long;
       even = c.fill-2.ensures.many ∙ v.even ∙ sym c.fill.ensures.many;
+      few = rw c.fill.ensures.many v.few;
       room = omega (arith, few, area, none, v.all_room, c.clear.ensures.capacity);
       all_room = omega (arith, area, v.all_room, c.clear.ensures.capacity);
       fits = omega (arith, v.fits, c.widen_all.ensures.most);

@@ -115,6 +115,7 @@ invariant_of-self c =
       rows = v.rows;
       counted = long_set n pair.place counted c.take_out.new.self c.index_mut.result.now within v.counted c.index_mut.ensures.value c.take_out.ensures.long;
       even = length-set counted pair.place c.take_out.new.self ∙ v.even;
+      few = v.few;
       room = v.room;
       all_room = v.all_room;
       fits = v.fits;

@@ -33,6 +33,7 @@ invariant_of-self c =
       rows = All-set P rows c.args.place c.take_out.new.self long c.self.invariant.rows;
       counted = c.self.invariant.counted;
       even = rw (length-set rows c.args.place c.take_out.new.self) c.self.invariant.even;
+      few = rw (length-set rows c.args.place c.take_out.new.self) c.self.invariant.few;
       room = omega (arith, fewer, more, c.push_reserved.ensures.capacity, c.self.invariant.room);
       all_room = rw (length-set rows c.args.place c.take_out.new.self, c.push_reserved.ensures.capacity) c.self.invariant.all_room;
       fits = c.self.invariant.fits;
