@@ -1,0 +1,134 @@
+-- How far a search has come: what its stack still has, what it found, and what it took from the budget.
+use Rattle.std.proofs.Common.{◌≡◌, ◌≢◌, ℕ, ◌<◌, ◌≤◌, ◌⊎◌, max, sym, ◌∙◌, List, [], ◌∷◌, ◌++◌, Option, Some, None, IfSome, inl, inr, arith}
+use Rattle.std.proofs.lemmas.Bool.{cases_lt}
+use Rattle.pesp_search_least.specs.declared.outcome.Candidate.{Candidate}
+use Rattle.pesp_search_least.specs.declared.outcome.Outcome.TheVariants.{Spent}
+use Rattle.pesp_search_least.specs.Spending.{OnlySpends, TakesUnit}
+use Rattle.pesp_search_least.specs.Sums.{AreHalvesBelow, InSome, IsBelow, IsLowerBound, IsOutcome, IsWithin, Sums}
+use Rattle.pesp_search_least.specs.Visits.{IsBetter, limit_of, outcome_of}
+use Rattle.pesp_search_least.proofs.Budgets.{spends_none, takes_behind, takes_none, takes_spends}
+use Rattle.pesp_search_least.proofs.Stack.{in_some_pop, in_some_push}
+use Rattle.pesp_search_least.proofs.Visited.{better_limit}
+
+-- every sum of the root below the limit is in some open node, and these have no others; the best is below the cap
+pub record IsUnderway {R : Type 0} (sums : R → Sums) (root : Sums) (nodes : List R) (cap : ℕ) (best : Option Candidate) : Type 0 where
+  pub within : IsWithin (InSome sums nodes) root
+  pub left : (map : List ℕ) (sum : ℕ) → root map sum → sum < limit_of cap best → InSome sums nodes map sum
+  pub found : IfSome best (IsBelow root cap)
+
+-- at first
+pub underway_start : {R : Type 0} (sums : R → Sums) (root : R) (cap : ℕ) → IsUnderway sums (sums root) (root ∷ []) cap None
+underway_start {R} sums root cap =
+    record {
+      within = λ map sum has. elim has [ inl here ↦ here | inr none ↦ absurd none ];
+      left = λ map sum has below. inl has;
+      found = tt;
+    }
+
+-- the limit is at most the cap
+limit_under : (root : Sums) (cap : ℕ) (best : Option Candidate) → IfSome best (IsBelow root cap) → limit_of cap best ≤ cap
+limit_under root cap None is = omega arith
+limit_under root cap (Some c) is = omega (arith, is.1)
+
+-- a better one of a part is below the cap too
+found_on : (part root : Sums) (cap : ℕ) (old new : Option Candidate) → IsWithin part root → IfSome old (IsBelow root cap) → IsBetter part cap old new → IfSome new (IsBelow root cap)
+found_on part root cap old new within is (inl same) = rw same is
+found_on part root cap old new within is (inr (c, new_is, has, less)) =
+    rw new_is (within c.map.items c.cost has, omega (arith, less, limit_under root cap old is))
+
+-- the sums of the node on top are the root's
+top_within : {R : Type 0} (sums : R → Sums) (root : Sums) (ns : List R) (n : R) → IsWithin (InSome sums (ns ++ n ∷ [])) root → IsWithin (sums n) root
+top_within {R} sums root ns n within map sum has = within map sum (in_some_push sums ns n map sum (inr has))
+
+-- behind a node that has nothing below the limit
+pub underway_closed : {R : Type 0} (sums : R → Sums) (root : Sums) (ns : List R) (n : R) (cap : ℕ) (old new : Option Candidate) → IsUnderway sums root (ns ++ n ∷ []) cap old → IsBetter (sums n) cap old new → IsLowerBound (sums n) (limit_of cap new) → IsUnderway sums root ns cap new
+underway_closed {R} sums root ns n cap old new is better bound =
+    record {
+      within = λ map sum has. is.within map sum (in_some_push sums ns n map sum (inl has));
+      left = λ map sum has below.
+          elim (in_some_pop sums ns n map sum (is.left map sum has (omega (arith, below, better_limit (sums n) cap old new better)))) [
+            | inl there ↦ there
+            | inr here ↦ absurd (omega (arith, bound map sum here, below))
+          ];
+      found = found_on (sums n) root cap old new (top_within sums root ns n is.within) is.found better;
+    }
+
+-- with both halves in a node's place
+pub underway_halves : {R : Type 0} (sums : R → Sums) (root : Sums) (ns : List R) (n a b : R) (cap : ℕ) (old new : Option Candidate) → IsUnderway sums root (ns ++ n ∷ []) cap old → IsBetter (sums n) cap old new → AreHalvesBelow (limit_of cap new) (sums n) (sums a) (sums b) → IsUnderway sums root ((ns ++ b ∷ []) ++ a ∷ []) cap new
+underway_halves {R} sums root ns n a b cap old new is better halves =
+    record {
+      within = λ map sum has.
+          elim (in_some_pop sums (ns ++ b ∷ []) a map sum has) [
+            | inl under ↦ elim (in_some_pop sums ns b map sum under) [
+              | inl there ↦ is.within map sum (in_some_push sums ns n map sum (inl there))
+              | inr second ↦ is.within map sum (in_some_push sums ns n map sum (inr (halves.second_within map sum second)))
+            ]
+            | inr first ↦ is.within map sum (in_some_push sums ns n map sum (inr (halves.first_within map sum first)))
+          ];
+      left = λ map sum has below.
+          in_some_push sums (ns ++ b ∷ []) a map sum
+          (elim (in_some_pop sums ns n map sum (is.left map sum has (omega (arith, below, better_limit (sums n) cap old new better)))) [
+            | inl there ↦ inl (in_some_push sums ns b map sum (inl there))
+            | inr here ↦ elim (halves.keeps map sum below here) [ inl first ↦ inr first | inr second ↦ inl (in_some_push sums ns b map sum (inr second)) ]
+          ]);
+      found = found_on (sums n) root cap old new (top_within sums root ns n is.within) is.found better;
+    }
+
+-- at a stop, with a bound on the node that was taken, on all the others and on the root
+pub underway_stop : {R : Type 0} (sums : R → Sums) (root : Sums) (ns : List R) (n : R) (cap bound lower floor : ℕ) (best : Option Candidate) → IsUnderway sums root (ns ++ n ∷ []) cap best → IsLowerBound (sums n) bound → bound ≤ limit_of cap best → IsLowerBound (InSome sums ns) lower → lower ≤ bound → IsLowerBound root floor → IsOutcome root cap (Spent best (max lower floor))
+underway_stop {R} sums root ns n cap bound lower floor best is here small there less under = (is.found, bounded)
+  where
+    lower_holds : (map : List ℕ) (sum : ℕ) → root map sum → lower ≤ sum
+    lower_holds map sum has =
+        elim (cases_lt sum (limit_of cap best)) [
+          | inl below ↦ elim (in_some_pop sums ns n map sum (is.left map sum has below)) [ inl other ↦ there map sum other | inr one ↦ omega (arith, here map sum one, less) ]
+          | inr over ↦ omega (arith, over, small, less)
+        ]
+
+    bounded : (map : List ℕ) (sum : ℕ) → root map sum → sum < cap → max lower floor ≤ sum
+    bounded map sum has below = omega (arith, lower_holds map sum has, under map sum has)
+
+-- where no sum is below the limit, what was found is the answer
+found_is_outcome : (root : Sums) (cap : ℕ) (best : Option Candidate) → IfSome best (IsBelow root cap) → IsLowerBound root (limit_of cap best) → IsOutcome root cap (outcome_of best)
+found_is_outcome root cap None is bound = bound
+found_is_outcome root cap (Some c) is bound = (record { has = is.0; least = bound }, is.1)
+
+-- where no node is open
+pub underway_end : {R : Type 0} (sums : R → Sums) (root : Sums) (cap : ℕ) (best : Option Candidate) → IsUnderway sums root [] cap best → IsOutcome root cap (outcome_of best)
+underway_end {R} sums root cap best is =
+    found_is_outcome root cap best is.found (λ map sum has. elim (cases_lt sum (limit_of cap best)) [ inl under ↦ absurd (is.left map sum has under) | inr over ↦ over ])
+
+-- where the limit is at most the floor
+pub underway_floor : {R : Type 0} (sums : R → Sums) (root : Sums) (nodes : List R) (cap floor : ℕ) (best : Option Candidate) → IsUnderway sums root nodes cap best → IsLowerBound root floor → limit_of cap best ≤ floor → IsOutcome root cap (outcome_of best)
+underway_floor {R} sums root nodes cap floor best is bound low =
+    found_is_outcome root cap best is.found (λ map sum has. omega (arith, bound map sum has, low))
+
+-- a bound on one node more
+pub lowest_step : {R : Type 0} (sums : R → Sums) (ns : List R) (n : R) (lower new : ℕ) → IsLowerBound (InSome sums ns) lower → IsLowerBound (sums n) new → new ≤ lower → IsLowerBound (InSome sums (ns ++ n ∷ [])) new
+lowest_step {R} sums ns n lower new there here less map sum has =
+    elim (in_some_pop sums ns n map sum has) [ inl other ↦ omega (arith, there map sum other, less) | inr one ↦ here map sum one ]
+
+-- ---- the budget
+
+-- nothing was visited yet, or a unit was taken
+abbrev pub HasBegun : {R : Type 0} → R → List R → Option Candidate → Option ℕ → Option ℕ → Type 0
+HasBegun {R} root nodes best old new = ((nodes ≡ root ∷ []) × (best ≡ None) × (new ≡ old)) ⊎ TakesUnit old new
+
+-- either way nothing was put back
+pub begun_spends : {R : Type 0} (root : R) (nodes : List R) (best : Option Candidate) (old new : Option ℕ) → HasBegun root nodes best old new → OnlySpends old new
+begun_spends {R} root nodes best old new (inl first) = rw first.2 (spends_none old)
+begun_spends {R} root nodes best old new (inr takes) = takes_spends old new takes
+
+-- a visit takes a unit
+pub begun_visit : {R : Type 0} (root : R) (nodes : List R) (best : Option Candidate) (old mid new : Option ℕ) → HasBegun root nodes best old mid → TakesUnit mid new → TakesUnit old new
+begun_visit {R} root nodes best old mid new is takes = takes_behind old mid new (begun_spends root nodes best old mid is) takes
+
+-- where the budget is spent at first, nothing is visited
+pub begun_at_none : {R : Type 0} (root : R) (nodes : List R) (best : Option Candidate) (old new : Option ℕ) → HasBegun root nodes best old new → old ≡ Some 0 → (nodes ≡ root ∷ []) × (best ≡ None)
+begun_at_none {R} root nodes best old new (inl first) spent = (first.0, first.1)
+begun_at_none {R} root nodes best old new (inr takes) spent = absurd (takes_none new (rw spent at takes))
+
+-- where it is not spent at first, but then, a unit was taken
+pub begun_at_stop : {R : Type 0} (root : R) (nodes : List R) (best : Option Candidate) (old new : Option ℕ) → HasBegun root nodes best old new → old ≢ Some 0 → new ≡ Some 0 → TakesUnit old new
+begun_at_stop {R} root nodes best old new (inl first) some spent = absurd (some (sym first.2 ∙ spent))
+begun_at_stop {R} root nodes best old new (inr takes) some spent = takes

@@ -1,0 +1,5 @@
+pub mod Lines
+pub mod Order
+pub mod Spending
+pub mod Sums
+pub mod Visits

@@ -1,0 +1,17 @@
+-- What is left of a budget.
+use Rattle.std.specs.Prelude.{◌≡◌, ℕ, ◌<◌, ◌≤◌, ◌-◌, Option, Some, None, IsSomeAnd}
+
+-- what is left after so many units, where there is a limit
+abbrev pub after : Option ℕ → ℕ → Option ℕ
+after None units = None
+after (Some left) units = Some (left - units)
+
+-- nothing is put back, and no limit comes or goes
+abbrev pub OnlySpends : Option ℕ → Option ℕ → Type 0
+OnlySpends None new = new ≡ None
+OnlySpends (Some left) new = IsSomeAnd new (λ n. n ≤ left)
+
+-- a unit is taken, where there is a limit, and no limit comes or goes
+abbrev pub TakesUnit : Option ℕ → Option ℕ → Type 0
+TakesUnit None new = new ≡ None
+TakesUnit (Some left) new = IsSomeAnd new (λ n. n < left)

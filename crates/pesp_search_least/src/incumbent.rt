@@ -1,0 +1,53 @@
+//! The best that a search has found.
+
+ghost use Rattle.std.specs.Prelude.{◌≡◌, ◌≤◌, ◌<◌, Some, None};
+ghost use Rattle.pesp_search_least.specs.Visits.{IsKept, limit_of, outcome_of};
+
+use crate::{Candidate, Outcome};
+
+/// The best that was found below a cap.
+#[derive(Drop)]
+pub(crate) struct Incumbent {
+    pub(crate) cap: u64,
+    pub(crate) best: Option<Candidate>,
+}
+
+impl Incumbent {
+    /// Nothing is found yet.
+    pub(crate) fn new(cap: u64) -> Incumbent
+        ensures cap { result.cap ≡ cap }
+        ensures best { result.best ≡ None }
+    {
+        Incumbent { cap, best: None }
+    }
+
+    /// Only sums below this are of use: the cost of the best, or the cap where there is none.
+    pub(crate) fn limit(&self) -> u64
+        ensures { result ≡ limit_of self.now.cap self.now.best }
+    {
+        match &self.best {
+            Some(best) => best.cost,
+            None => self.cap,
+        }
+    }
+
+    /// Keeps a candidate whose cost is below the limit.
+    pub(crate) fn keep(&mut self, candidate: Candidate)
+        ensures cap { self.new.cap ≡ self.old.cap }
+        ensures kept { IsKept self.old.cap candidate self.old.best self.new.best }
+    {
+        if candidate.cost < self.limit() {
+            self.best = Some(candidate);
+        }
+    }
+
+    /// The answer where every sum below the limit was gone through.
+    pub(crate) fn outcome(self) -> Outcome
+        ensures { result ≡ outcome_of self.best }
+    {
+        match self.best {
+            Some(best) => Outcome::Found(best),
+            None => Outcome::NoneBelow,
+        }
+    }
+}

@@ -1,0 +1,24 @@
+//! Branch and bound over any relaxation: a map of least sum, and the first one of that sum.
+#![tactic(auto)]
+
+mod budget;
+#[cfg(test)]
+mod examples;
+mod incumbent;
+mod limits;
+#[cfg(test)]
+mod line;
+mod order;
+mod outcome;
+mod region;
+mod relaxation;
+mod search;
+mod visit;
+
+pub use budget::Budget;
+pub use limits::Limits;
+pub use order::first;
+pub use outcome::{Candidate, First, Outcome};
+pub use region::Region;
+pub use relaxation::{Relaxation, Split};
+pub use search::least;

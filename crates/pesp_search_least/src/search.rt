@@ -1,0 +1,93 @@
+//! The search for a least sum: depth first, over a stack of nodes that are yet to be visited.
+
+ghost use Rattle.std.specs.Prelude.{◌≡◌, ◌≢◌, ◌≤◌, ◌<◌, ◌++◌, ◌∷◌, [], ℕ, IfOk, OnOk, Some};
+ghost use Rattle.pesp_search_least.specs.Spending.{OnlySpends, TakesUnit};
+ghost use Rattle.pesp_search_least.specs.Sums.{InSome, IsLowerBound, IsOutcome, IsStop, StopsWhereSpent};
+
+use crate::incumbent::Incumbent;
+use crate::visit::visit;
+use crate::{Budget, Limits, Outcome, Relaxation};
+use pesp_base::Memory;
+use std::alloc::Global;
+
+/// A lower bound on the sums of a node, or the limit where that is less.
+fn bound_of<R: Relaxation>(node: &R, limit: u64) -> u64
+    ensures bound { IsLowerBound (R.sums node.now) result }
+    ensures within { result ≤ limit }
+{
+    match node.bound() {
+        Some(bound) => bound.min(limit),
+        None => limit,
+    }
+}
+
+/// The least of the limit and of the bounds of these nodes.
+fn lowest<R: Relaxation>(nodes: &[R], limit: u64) -> u64
+    ensures bound { IsLowerBound (InSome R.sums nodes.now) result }
+    ensures within { result ≤ limit }
+{
+    let mut lower = limit;
+    for node in nodes {
+        lower = bound_of(node, lower);
+    }
+    lower
+}
+
+/// Puts both halves on the stack, with the first one on top.
+fn push_halves<R: Drop>(nodes: &mut Vec<R>, first: R, second: R) -> Result<(), Memory>
+    ensures { OnOk result (nodes.new.items ≡ (nodes.old.items ++ second ∷ []) ++ first ∷ []) }
+{
+    if nodes.push(second).is_err() || nodes.push(first).is_err() {
+        return Err(Memory);
+    }
+    Ok(())
+}
+
+/// A stack of one node.
+fn stack_of<R: Drop>(alloc: Global, root: R) -> Result<Vec<R>, Memory>
+    ensures { IfOk result (λ nodes. nodes.items ≡ root ∷ []) }
+{
+    let mut nodes = Vec::new(alloc);
+    if nodes.push(root).is_err() {
+        return Err(Memory);
+    }
+    Ok(nodes)
+}
+
+/// A map of least sum, where some sum is below the cap.
+///
+/// Without a limit of the budget it ends with that answer. With one it stops where nothing is left, and tells what it
+/// found and a lower bound on every sum below the cap. Every visit takes a unit.
+pub fn least<R: Relaxation>(
+    alloc: Global,
+    root: R,
+    limits: Limits,
+    budget: &mut Budget,
+) -> Result<Outcome, Memory>
+    requires floor { IsLowerBound (R.sums root) limits.floor }
+    ensures outcome { IfOk result (IsOutcome (R.sums root) limits.cap) }
+    ensures spent { IfOk result (StopsWhereSpent budget.new.left) }
+    ensures budget { OnlySpends budget.old.left budget.new.left }
+    // Without a unit there is no visit, and without a visit no answer.
+    ensures stops { limits.floor < limits.cap → budget.old.left ≡ Some 0 → IfOk result IsStop }
+    ensures takes { limits.floor < limits.cap → budget.old.left ≢ Some 0 → OnOk result (TakesUnit budget.old.left budget.new.left) }
+{
+    let mut nodes = stack_of(alloc, root)?;
+    let mut incumbent = Incumbent::new(limits.cap);
+    'visits: while limits.floor < incumbent.limit() {
+        let Some(mut node) = nodes.pop() else {
+            break;
+        };
+        if budget.is_spent() {
+            let lower = lowest(&nodes, bound_of(&node, incumbent.limit()));
+            return Ok(Outcome::Spent {
+                best: incumbent.best,
+                lower: lower.max(limits.floor),
+            });
+        }
+        if let Some(other) = visit(alloc, &mut node, &mut incumbent, budget)? {
+            push_halves(&mut nodes, node, other)?;
+        }
+    }
+    Ok(incumbent.outcome())
+}
