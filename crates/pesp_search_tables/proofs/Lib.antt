@@ -1,0 +1,15 @@
+pub mod Bools
+pub mod Counts
+pub mod Differences
+pub mod Fitting
+pub mod FloorLaws
+pub mod Grown
+pub mod Laid
+pub mod Places
+pub mod Results
+pub mod Shared
+pub mod Totals
+pub mod Trims
+pub mod Triples
+pub mod Turns
+pub mod Whole

@@ -1,0 +1,5 @@
+pub mod Differences
+pub mod Floors
+pub mod Moves
+pub mod Relaxed
+pub mod Sums
