@@ -1,0 +1,9 @@
+pub mod ArcCosts
+pub mod Scaled
+pub mod Ways
+pub mod Climbed
+pub mod Made
+pub mod Searched
+pub mod Settled
+pub mod Narrowed
+pub mod Outcomes

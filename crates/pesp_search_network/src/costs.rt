@@ -1,0 +1,93 @@
+//! What maps cost.
+
+ghost use Rattle.std.specs.Prelude.{◌≡◌, ℕ, ◌<◌, ◌≤◌, IfSome, IsTrue, MatchBool, MatchOption, slice_index};
+ghost use Rattle.pesp_search_network.specs.Arcs.{IsBetween, IsCosted, IsPlaced, cost_met, has};
+
+use crate::{Arc, Network};
+use pesp_base::{Period, allows, slack};
+
+/// Weight times slack of an arc between these residues of its ends, where they meet it.
+pub(crate) fn cost_between(period: Period, arc: &Arc, from: u16, to: u16) -> Option<u64>
+    requires from { from < period }
+    requires to { to < period }
+    ensures value { result ≡ cost_met period arc.now from to }
+    ensures small { IfSome result (λ cost. cost ≤ 1439000000000) }
+{
+    if allows(period, arc.span, from, to) {
+        let slack = slack(period, arc.span, from, to);
+        Some(u64::from(arc.weight.get()) * u64::from(slack))
+    } else {
+        None
+    }
+}
+
+/// The most that an arc can cost.
+pub(crate) fn most_between(period: Period, arc: Arc) -> u64
+    ensures { result ≤ 1439000000000 }
+{
+    let width = (arc.span.upper() - arc.span.lower()).unsigned_abs();
+    let slack = width.min(u32::from(period.get()) - 1);
+    u64::from(arc.weight.get()) * u64::from(slack)
+}
+
+impl Network {
+    /// Whether the event may stand at the residue.
+    pub(crate) fn may_have(&self, event: usize, residue: u16) -> bool
+        requires { event < self.now.events }
+        ensures { MatchBool result
+            ((residue < self.now.period) × IsTrue (has self.now event residue))
+            ((residue < self.now.period) × IsTrue (has self.now event residue) → ⊥) }
+    {
+        match self.row(event).get(usize::from(residue)) {
+            Some(held) => *held,
+            None => false,
+        }
+    }
+
+    /// Whether the map gives each event a residue at which it may stand.
+    fn places(&self, map: &[u16]) -> bool
+        ensures { MatchBool result (IsPlaced self.now map.now) (IsPlaced self.now map.now → ⊥) }
+    {
+        if map.len() != self.events() {
+            return false;
+        }
+        for event in 0..map.len() {
+            if !self.may_have(event, map[event]) {
+                return false;
+            }
+        }
+        true
+    }
+
+    /// Weight times slack of an arc at a map, where the map meets it.
+    fn arc_cost(&self, arc: Arc, map: &[u16]) -> Option<u64>
+        requires between { IsBetween self.now.events arc }
+        requires placed { IsPlaced self.now map.now }
+        ensures value { result ≡ cost_met self.now.period arc (slice_index map.now arc.from) (slice_index map.now arc.to) }
+        ensures small { IfSome result (λ cost. cost ≤ 1439000000000) }
+    {
+        cost_between(self.period(), &arc, map[arc.from], map[arc.to])
+    }
+
+    /// The cost of a map that gives each event a residue at which it may stand, where each arc is met.
+    fn cost_placed(&self, map: &[u16]) -> Option<u64>
+        requires { IsPlaced self.now map.now }
+        ensures { MatchOption result ((cost : ℕ) → IsCosted self.now map.now cost → ⊥) (IsCosted self.now map.now) }
+    {
+        let mut cost = 0;
+        for index in 0..self.arc_count() {
+            cost += self.arc_cost(self.arc(index), map)?;
+        }
+        Some(cost)
+    }
+
+    /// The cost of a map: none where an event may not stand at its residue, or an arc is not met.
+    pub fn cost(&self, map: &[u16]) -> Option<u64>
+        ensures { MatchOption result ((cost : ℕ) → IsCosted self.now map.now cost → ⊥) (IsCosted self.now map.now) }
+    {
+        if !self.places(map) {
+            return None;
+        }
+        self.cost_placed(map)
+    }
+}

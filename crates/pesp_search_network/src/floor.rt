@@ -1,0 +1,39 @@
+//! What arcs cost at least at the differences that their pairs admit.
+//!
+//! Entries that are rounded down tell less than costs where one map and its turns are left, and a search would go
+//! through all turns. This bound tells the cost of these.
+
+ghost use Rattle.std.specs.Prelude.{◌≡◌, ℕ, ◌<◌, ◌≤◌, Some, length};
+ghost use Rattle.pesp_search_network.specs.Splits.{IsOne};
+ghost use Rattle.pesp_search_network.specs.Ways.{IsSeatBelow, cost_at};
+
+use crate::Arc;
+use crate::costs::cost_between;
+use crate::way::Way;
+use pesp_base::Period;
+use pesp_search_tables::Tables;
+
+/// No arc costs more.
+const MOST_COST: u64 = 1_439_000_000_000;
+
+/// What an arc costs at least, whose pair is at the place.
+pub(crate) fn least_cost(tables: &Tables, period: Period, arc: &Arc, place: usize, way: Way) -> u64
+    requires place { place < length tables.now.ends }
+    requires period { tables.now.period ≡ period }
+    requires from { IsSeatBelow period way.from }
+    requires to { IsSeatBelow period way.to }
+    ensures small { result ≤ 1439000000000 }
+    ensures least { (d cost : ℕ) → IsOne tables.now place d → cost_at period arc.now way d ≡ Some cost → result ≤ cost }
+{
+    let mut least = MOST_COST;
+    for difference in 0..period.get() {
+        if tables.admits(place, usize::from(difference)) {
+            let from = way.from.residue(difference);
+            let to = way.to.residue(difference);
+            if let Some(cost) = cost_between(period, arc, from, to) {
+                least = least.min(cost);
+            }
+        }
+    }
+    least
+}

@@ -1,0 +1,128 @@
+//! Networks.
+
+ghost use Rattle.std.specs.Prelude.{◌≡◌, ℕ, ◌+◌, ◌*◌, ◌<◌, ◌≤◌, [], ◌∷◌, ◌++◌, true, false, IfOk, OnOk, OnErr, length, replicate, slice_index_or, slice_set};
+ghost use Rattle.pesp_search_network.specs.Arcs.{IsBetween, has};
+
+use crate::Arc;
+use pesp_base::{Memory, Period};
+use std::alloc::Global;
+use std::marker::Model;
+
+/// Events by index, arcs between them, and at which residues each event may stand.
+#[derive(Drop)]
+pub struct Network {
+    period: Period,
+    events: usize,
+    arcs: Vec<Arc>,
+    // For each event, for each residue, whether the event may stand there.
+    rows: Vec<bool>,
+}
+
+impl Model for Network {
+    ghost use Rattle.pesp_search_network.specs.Arcs.{Arcs, AreArcs};
+
+    ghost Value = { Arcs };
+
+    ghost view = { λ a. record { period = a.period; events = a.events; arcs = a.arcs.items; rows = a.rows.items } };
+
+    ghost invariant = { λ a. AreArcs (record { period = a.period; events = a.events; arcs = a.arcs.items; rows = a.rows.items }) };
+}
+
+impl Network {
+    /// A network without arcs, whose events may stand at every residue.
+    pub fn new(alloc: Global, period: Period, events: usize) -> Result<Network, Memory>
+        requires { events ≤ 20000 }
+        ensures { IfOk result (λ network. network ≡ record { period = period; events = events; arcs = []; rows = replicate (events * period) true }) }
+    {
+        let Ok(rows) = vec![in alloc; true; events * usize::from(period.get())] else {
+            return Err(Memory);
+        };
+        Ok(Network {
+            period,
+            events,
+            arcs: Vec::new(alloc),
+            rows,
+        })
+    }
+
+    /// Puts an arc behind those that there are.
+    pub fn add(&mut self, arc: Arc) -> Result<(), Memory>
+        requires from { arc.from < self.old.events }
+        requires to { arc.to < self.old.events }
+        requires few { length self.old.arcs < 100000 }
+        ensures ok { OnOk result (self.new ≡ record self.old { arcs = self.old.arcs ++ arc ∷ [] }) }
+        ensures err { OnErr result (self.new ≡ self.old) }
+    {
+        if self.arcs.push(arc).is_err() {
+            return Err(Memory);
+        }
+        Ok(())
+    }
+
+    /// From now on the event may not stand at the residue.
+    pub fn forbid(&mut self, event: usize, residue: u16)
+        requires event { event < self.old.events }
+        requires residue { residue < self.old.period }
+        ensures { self.new ≡ record self.old { rows = slice_set self.old.rows (event * self.old.period + residue) false } }
+    {
+        let place = event * usize::from(self.period.get()) + usize::from(residue);
+        self.rows[place] = false;
+    }
+
+    /// The same network once more.
+    pub(crate) fn copy(&self) -> Result<Network, Memory>
+        ensures { IfOk result (λ network. network ≡ self.now) }
+    {
+        let Ok(arcs) = self.arcs.clone() else {
+            return Err(Memory);
+        };
+        let Ok(rows) = self.rows.clone() else {
+            return Err(Memory);
+        };
+        Ok(Network {
+            period: self.period,
+            events: self.events,
+            arcs,
+            rows,
+        })
+    }
+
+    pub(crate) fn period(&self) -> Period
+        ensures { result ≡ self.now.period }
+    {
+        self.period
+    }
+
+    pub(crate) fn events(&self) -> usize
+        ensures value { result ≡ self.now.events }
+        ensures few { result ≤ 20000 }
+    {
+        self.events
+    }
+
+    /// How many arcs there are.
+    pub(crate) fn arc_count(&self) -> usize
+        ensures value { result ≡ length self.now.arcs }
+        ensures few { result ≤ 100000 }
+    {
+        self.arcs.len()
+    }
+
+    pub(crate) fn arc(&self, index: usize) -> Arc
+        requires { index < length self.now.arcs }
+        ensures value { result ≡ slice_index_or self.now.arcs index result }
+        ensures between { IsBetween self.now.events result }
+    {
+        self.arcs[index]
+    }
+
+    /// For each residue whether the event may stand there.
+    pub(crate) fn row(&self, event: usize) -> &[bool]
+        requires { event < self.now.events }
+        ensures long { length result.now ≡ self.now.period }
+        ensures values { (r : ℕ) → r < self.now.period → slice_index_or result.now r false ≡ has self.now event r }
+    {
+        let period = usize::from(self.period.get());
+        &self.rows[event * period..event * period + period]
+    }
+}
