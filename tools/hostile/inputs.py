@@ -9,6 +9,7 @@ from measuring.scripts import write_script
 from tests.examples import content, folders, words_of
 from tests.file_cases import TWO, TWO_FIXED, TWO_TIMES
 from tests.harness import NAMES, TOP
+from tests.limits import GREATEST_PERIOD
 from tests.streams import followed
 
 BLANKS = b" \t\r"
@@ -78,6 +79,36 @@ optimum
 adopt
 dump"""
 
+# Two trains on a round trip of a day, and times, windows and replies that there are at that period alone.
+LONG = [b"1; 1; 2; 3; 5; 2\n2; 2; 1; 1434; 1436; 1\n", b"1; 1439\n", b"1; 1438\n2; 3\n"]
+LONG_COMMANDS = b"""# a period of a day
+tensions
+violations
+domain 2
+window 1 1430 20
+domains
+window 1 0 1441
+window 2 1439 1440
+fix 1 1440
+fix 1 1439
+optimum
+adopt
+cost
+unfix 1
+domain 1
+try 1
+fix 2 0
+try 2
+optimum
+add event 1666
+add activity 3 1666 2 -1439 0 1
+time 1666 1440
+time 1666 1439
+domains
+drop activity 2
+tensions
+dump"""
+
 
 @dataclasses.dataclass
 class Input:
@@ -102,9 +133,15 @@ def example(folder):
 
 def words_of_two(folder):
     """The words for the two trains, whose files are written into the folder."""
-    for name, text in zip(NAMES, [TWO, TWO_FIXED, TWO_TIMES]):
+    return words_of_files(folder, 10, NAMES, [TWO, TWO_FIXED, TWO_TIMES])
+
+
+def words_of_files(folder, period, names, texts):
+    """The words for activities, fixed times and times, whose files are written into the folder by these names."""
+    for name, text in zip(names, texts):
         (folder / name).write_bytes(text)
-    return ["--period", "10", "--fixed", "fixed", "--times", "times", "activities"]
+    activities, fixed, times = names
+    return ["--period", str(period), "--fixed", fixed, "--times", times, activities]
 
 
 def drawn_search(folder, events):
@@ -131,15 +168,18 @@ def large_check(folder, rows):
 def inputs(folder):
     """All that the program is run on, those first that take longest."""
     words = words_of_two(folder)
+    long_words = words_of_files(folder, GREATEST_PERIOD, [f"long.{name}" for name in NAMES], LONG)
     yield Input("too many lines", [], folder, b"\n" * 999_999 + b"cost\ncost")
     yield large_check(folder, 10_000)
     yield script(folder, 200)
     yield Input("each command", words, folder, ALL_COMMANDS)
+    yield Input("each command of a long period", long_words, folder, LONG_COMMANDS)
     yield drawn_search(folder, 8)
     yield Input("a line that is too long", words, folder, b"cost\n" + b"x" * 5_000)
     yield Input("help", ["--help"], folder)
     yield Input("refused words", ["--bogus", "a", "b"], folder)
     yield Input("a check", ["--check", *words], folder)
+    yield Input("a check of a long period", ["--check", *long_words], folder)
     yield Input("a faulty file", ["--check", "--times", "activities"], folder)
     yield stored_run(folder)
     yield from map(example, folders())

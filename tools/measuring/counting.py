@@ -19,6 +19,16 @@ def count(words, profile, status=0, given=None):
     return int(re.search(r"Collected : (\d+)", counted.stderr).group(1))
 
 
+def count_replies(words, profile, given):
+    """The instructions of one run before each of its replies, from the reply before on, where each is one write."""
+    run(["valgrind", "--tool=callgrind", f"--callgrind-out-file={profile}", "--dump-before=write", *words], 0, given)
+    counts = []
+    while (part := profile.with_name(f"{profile.name}.{len(counts) + 1}")).exists():
+        counts.append(int(re.search(r"^totals: (\d+)$", part.read_text(), re.MULTILINE).group(1)))
+        part.unlink()
+    return counts
+
+
 def peak(words, path, status=0, given=None):
     """The kB of memory of one run, at their most."""
     run(["/usr/bin/time", "-q", "-f", "%M", "-o", path, *words], status, given)

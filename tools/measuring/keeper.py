@@ -3,7 +3,7 @@
 import math
 import sys
 
-from measuring.counting import count, peak, run
+from measuring.counting import count, count_replies, peak, run
 from measuring.network import PERIOD, Numbers, activity_rows, events_of, text_of
 
 EDITS = 20
@@ -18,10 +18,10 @@ WIDE = 40
 class Network:
     """A network of which all activities are met at its times, in files, and the words that open it."""
 
-    def __init__(self, program, folder, rows, events, fixed, seed=None, widths=(8, 20)):
+    def __init__(self, program, folder, rows, events, fixed, seed=None, widths=(8, 20), period=PERIOD):
         numbers = Numbers(seed or rows)
-        self.times = [numbers.below(PERIOD) for _ in range(events)]
-        self.rows = list(activity_rows(numbers, rows, self.times, True, widths))
+        self.times = [numbers.below(period) for _ in range(events)]
+        self.rows = list(activity_rows(numbers, rows, self.times, True, widths, period=period))
         self.fixed = [event for event in range(events) if fixed(event)]
         self.lines = folder / "lines"
         self.profile = folder / "callgrind.network"
@@ -31,7 +31,7 @@ class Network:
         activities.write_text(text_of(self.rows))
         times.write_text(text)
         faulty.write_text(text + "0\n")
-        start = [program, "--period", str(PERIOD), activities, "--fixed"]
+        start = [program, "--period", str(period), activities, "--fixed"]
         self.words, self.reading_words = [*start, times], [*start, faulty]
 
     def answers(self, lines):
@@ -41,6 +41,11 @@ class Network:
     def takes(self, lines):
         self.lines.write_text("".join(f"{line}\n" for line in lines))
         return count(self.words, self.profile, 0, self.lines)
+
+    def takes_each(self, lines):
+        """What each line takes that has one reply of a line; the first one has the opening too."""
+        self.lines.write_text("".join(f"{line}\n" for line in lines))
+        return count_replies(self.words, self.profile, self.lines)
 
     def reading(self):
         """Ends at a faulty row of the fixed times, when the activities are read."""

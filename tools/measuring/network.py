@@ -30,7 +30,7 @@ def events_of(rows):
     return max(2, min(MOST_EVENTS, rows // ACTIVITIES_OF_AN_EVENT))
 
 
-def activity_rows(numbers, rows, times, are_met=False, widths=(8, 20), end=None):
+def activity_rows(numbers, rows, times, are_met=False, widths=(8, 20), end=None, period=PERIOD):
     """Activities in no order of their numbers, which name each event; about a tenth of them are violated, or none.
 
     A span has the first of the widths at least, and less than both of them together. All lead to the end, where one is given.
@@ -43,7 +43,7 @@ def activity_rows(numbers, rows, times, are_met=False, widths=(8, 20), end=None)
         first, last = order[place % events], numbers.below(events)
         last = last if end is None else end
         off = 0 if numbers.below(10) or are_met else 1
-        lower = (times[last] - times[first]) % PERIOD - numbers.below(widths[0]) + off * 20
+        lower = (times[last] - times[first]) % period - numbers.below(widths[0]) + off * 20
         yield name, first, last, lower, lower + widths[0] + numbers.below(widths[1]), numbers.below(1_000)
 
 

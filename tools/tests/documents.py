@@ -85,7 +85,7 @@ def documents(suite):
     commands = suite.folder / "bin"
     commands.mkdir()
     (commands / "pespbench").symlink_to(suite.program)
-    paths = [TOP / "README.md", *(TOP / "docs").glob("*.md"), *(TOP / "examples").glob("**/*.md")]
+    paths = [TOP / "README.md", *(TOP / "docs").glob("*.md"), *(TOP / "embedded").glob("*.md"), *(TOP / "examples").glob("**/*.md")]
     for path in sorted([*paths, *(TOP / "man").glob("*.1")]):
         for number, session in enumerate(sessions(path) if path.exists() else [], 1):
             titles = [f"what command {place} prints, {shown.command}," for place, shown in enumerate(session, 1)]

@@ -1,10 +1,12 @@
 """A network for tests/model.py: its edits with their refusals, and what the rules of docs/RULES.md say of it.
 
-It is slow and plain: domains are found by taking pairs away until nothing changes, and the optimum by trying every
-time of every event in order.
+It is plain: domains are found by taking pairs away until nothing changes, and the optimum by trying all timetables that
+stand at bounds. Sets of residues are numbers, so that both are quick at a long period too.
 """
 
+from tests import optimum
 from tests.limits import most_activities, most_events
+from tests.residues import listed, run_of, spread
 
 
 class Refused(Exception):
@@ -110,8 +112,11 @@ class Network:
         first, length = self.windows.get(event, (0, self.period))
         return (residue - first) % self.period < length
 
+    def admitted_bits(self, event):
+        return run_of(*self.windows.get(event, (0, self.period)), self.period)
+
     def admitted(self, event):
-        return [residue for residue in range(self.period) if self.admits(event, residue)]
+        return listed(self.admitted_bits(event))
 
     def slack(self, row, times):
         first, last, lower, _, _ = row
@@ -127,48 +132,29 @@ class Network:
         return (last_time - first_time - row[2]) % self.period <= row[3] - row[2]
 
     def rows(self, pushed=None):
+        """The domains, each as a set of residues."""
+        return {event: set(listed(bits)) for event, bits in self.domain_bits(pushed).items()}
+
+    def domain_bits(self, pushed=None):
         """The domains: pairs are taken away as long as one of them lacks a partner."""
-        rows = {event: set(self.admitted(event)) for event in self.events}
+        rows = {event: self.admitted_bits(event) for event in self.events}
         for event, time in (pushed or {}).items():
-            rows[event] &= {time}
-        changed = True
-        while changed:
-            changed = False
-            for row in self.activities.values():
-                first, last = rows[row[0]], rows[row[1]]
-                lone = {r for r in first if not any(self.allows(row, r, s) for s in last)}
-                first -= lone
-                lonely = {s for s in last if not any(self.allows(row, r, s) for r in first)}
-                last -= lonely
-                changed = changed or lone or lonely
+            rows[event] &= 1 << time
+        before = None
+        while rows != before:
+            before = dict(rows)
+            for first, last, lower, upper, _ in self.activities.values():
+                rows[first] &= spread(rows[last], -upper, upper - lower, self.period)
+                rows[last] &= spread(rows[first], lower, upper - lower, self.period)
         return rows
 
     def best(self):
         """The first timetable of least cost, with its cost, or None.
 
-        Events are taken ascending and the smaller time first, and times that cost as much as the best are left.
+        Of two timetables of one cost the first is that with the smaller time at the first event, ascending, at which
+        they differ.
         """
-        events = sorted(self.events)
-        # The activities that have both times once an event has its own.
-        closed = {event: [row for row in self.activities.values() if max(row[:2]) == event] for event in events}
-        best, times = None, {}
-
-        def walk(cost):
-            nonlocal best
-            if best is not None and cost >= best[0]:
-                return
-            if len(times) == len(events):
-                best = cost, dict(times)
-                return
-            event = events[len(times)]
-            for time in self.admitted(event):
-                times[event] = time
-                if all(self.met(row, times) for row in closed[event]):
-                    walk(cost + sum(row[4] * self.slack(row, times) for row in closed[event]))
-                del times[event]
-
-        walk(0)
-        return best
+        return optimum.best(self)
 
     def is_member(self, times):
         kept = all(self.admits(event, time) for event, time in times.items())

@@ -182,18 +182,13 @@ def drawn_streams(suite):
         play(suite, f"drawn stream {number} of two trains", model_of(10, TWO), words, drawn_lines(draw, 10, 60))
 
 
-def without_search(lines):
-    """The lines that ask for no timetable: at a long period the model would go over too many."""
-    return [line for line in lines if line.lower().split()[:1] not in ([b"optimum"], [b"adopt"], [b"try"])]
-
-
 @within(300)
 def long_streams(suite):
     """Streams at periods above 120, about where a count takes one byte more too."""
     draw = random.Random(1440)
     for number in range(2):
         for period in [121, 255, 256, 257, 720, GREATEST_PERIOD - 1, GREATEST_PERIOD]:
-            lines = without_search(drawn_lines(draw, period, 25))
+            lines = drawn_lines(draw, period, 25)
             play(suite, f"drawn stream {number} at period {period}", model.Model(period), ["--period", str(period)], lines)
 
 

@@ -1,0 +1,116 @@
+"""What a check, an opening, edits and a node of a search take at the greatest period, beside the same at 60."""
+
+import sys
+from math import nan
+from statistics import mean
+from typing import NamedTuple, Tuple
+
+from measuring.counting import count, peak
+from measuring.keeper import EVENTS_OF_A_FREE_ONE, Network, some_of
+from measuring.network import PERIOD, text_of
+from tests.limits import GREATEST_PERIOD, most_activities, most_events
+
+TIMES = GREATEST_PERIOD // PERIOD
+ROWS = most_activities(GREATEST_PERIOD)
+EVENTS = most_events(GREATEST_PERIOD)
+WIDTHS = (8, 20)
+SEARCHED_EVENTS = 30
+SEARCHED_ROWS = 60
+# Of a search that goes on longer.
+NODES = 20
+
+
+class Shape(NamedTuple):
+    """A network of some form at a period; a span has the first of the widths at least, and less than both together."""
+
+    rows: int
+    events: int
+    period: int
+    widths: Tuple[int, int]
+
+    def at_length(self, times: int) -> "Shape":
+        """The same at the greatest period, with spans so many times as wide."""
+        first, more = self.widths
+        return self._replace(period=GREATEST_PERIOD, widths=(times * first, times * more))
+
+
+GREATEST = Shape(ROWS, EVENTS, PERIOD, WIDTHS)
+# Of wide spans each residue that goes takes so much more that fewer are enough.
+SMALLER = Shape(ROWS // 20, EVENTS // 20, PERIOD, WIDTHS)
+
+
+def network_of(program, folder, shape, fixed):
+    return Network(program, folder, shape.rows, shape.events, fixed, None, shape.widths, shape.period)
+
+
+def measure_check(network, folder, shape):
+    """Of a check whose times are those at which all is met: instructions for each activity."""
+    path = folder / "times.period"
+    path.write_text(text_of(enumerate(network.times)))
+    return count([*network.words, "--check", "--times", path], network.profile) / shape.rows
+
+
+def measure_edits(network, shape):
+    """What an opening and edits take, where but for each tenth event all have fixed times; all in one run."""
+    spans = [f"span {name} {lower + shape.period} {upper + shape.period}" for name, _, _, lower, upper, _ in some_of(network.rows)]
+    free = some_of([event for event in range(shape.events) if event % EVENTS_OF_A_FREE_ONE == 0])
+    fix, unfix = [f"fix {event} {network.times[event]}" for event in free], [f"unfix {event}" for event in free]
+    edits = [*spans, *fix, *unfix]
+    if network.answers(["weight 0 0", *edits])[-3 * len(edits) :] != "ok\n" * len(edits):
+        sys.exit(f"tools/measure: an edit at period {shape.period} is refused")
+    # A refusal, with which the opening is told.
+    opening, *each = network.takes_each(["weight 0 0", *edits])
+    return {
+        "opening, for each activity": (opening - network.reading()) / shape.rows,
+        "a span, and nothing moves": mean(each[: len(spans)]),
+        "fix": mean(each[len(spans) : -len(free)]),
+        "residues that it takes out": (network.pairs([]) - network.pairs(fix)) / len(free),
+        "unfix": mean(each[-len(free) :]),
+    }
+
+
+def measure_node(program, folder, shape):
+    """A node of a search among the first ones, with its push and its pop, and with what comes before the first."""
+    network = Network(program, folder, SEARCHED_ROWS, SEARCHED_EVENTS, lambda event: False, None, shape.widths, shape.period)
+    lines = ["weight 0 0", f"try {NODES}"]
+    if network.answers(lines).splitlines()[-1] != "stopped none":
+        return nan
+    return network.takes_each(lines)[-1] / NODES
+
+
+def measure_shape(program, folder, shape):
+    fixed = network_of(program, folder, shape, lambda event: event % EVENTS_OF_A_FREE_ONE)
+    figures = {"a check, for each activity": measure_check(fixed, folder, shape), **measure_edits(fixed, shape)}
+    figures["a node of a search"] = measure_node(program, folder, shape)
+    figures["peak kB, nine of ten events fixed"] = peak(fixed.words, fixed.memory)
+    free = network_of(program, folder, shape, lambda event: False)
+    return {**figures, "peak kB, no event fixed": peak(free.words, free.memory)}
+
+
+def most_ratios(times, first, last):
+    """By how much each figure may grow: by the period, by the width of spans for each pair that moves, or by neither."""
+    moved = last["residues that it takes out"] / first["residues that it takes out"]
+    return {
+        "a check, for each activity": 1,
+        "opening, for each activity": TIMES * times,
+        "a span, and nothing moves": TIMES,
+        "fix": max(TIMES, moved * times),
+        "unfix": TIMES * times,
+        "a node of a search": TIMES * times,
+    }
+
+
+def print_beside(program, folder, shape, times):
+    """The figures at both periods, the greater divided by the smaller, and by how much they may grow."""
+    first, last = (measure_shape(program, folder, each) for each in (shape, shape.at_length(times)))
+    most = most_ratios(times, first, last)
+    print(f"\n{shape.events} events and {shape.rows} activities, with spans {times} times as wide at period {GREATEST_PERIOD}")
+    print(f"{'':>34} {f'at {PERIOD}':>13} {f'at {GREATEST_PERIOD}':>13} {'ratio':>9} {'may be':>9}")
+    for name in first:
+        may = f"{most[name]:>9.1f}" if name in most else ""
+        print(f"{name:>34} {first[name]:>13.1f} {last[name]:>13.1f} {last[name] / first[name]:>9.2f} {may}".rstrip())
+
+
+def print_periods(program, folder):
+    print_beside(program, folder, GREATEST, 1)
+    print_beside(program, folder, SMALLER, TIMES)

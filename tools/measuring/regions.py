@@ -1,0 +1,142 @@
+"""What the optimum of drawn regions takes, of their pieces, and of networks in parts; and what solvers of others take where they are here."""
+
+import resource
+import shutil
+import subprocess
+import sys
+
+from measuring.counting import peak
+from measuring.network import PERIOD, Numbers, text_of
+from tests.harness import TOP
+
+SECONDS = 60
+SEEDS = range(1, 9)
+INFEASIBLE_SEEDS = [1, 2]
+# The least and the most minutes above its lower bound that a change allows: at most 40 residues, and nearly all.
+WIDTHS = [(10, 35), (55, 63)]
+LINES = [2, 3, 6]
+FIXED = 8
+PARTS = [14, 50, 100]
+WEIGHTS = 10
+SOLVERS = {
+    "cbc": lambda model: ["cbc", model, "sec", str(SECONDS), "solve", "quit"],
+    "glpsol": lambda model: ["glpsol", "--lp", model, "--tmlim", str(SECONDS)],
+}
+
+
+def draw(seed, feasible, widths):
+    sys.path.insert(0, str(TOP / "python"))
+    from pespbench.drawn import draw_region
+
+    return draw_region(seed, feasible, widths)
+
+
+def piece_of(region, lines):
+    """The rows of the activities of a region's first lines, and the times of their events."""
+    names = list(dict.fromkeys(event.line for event in region.events))[:lines]
+    times = {event.number: event.time for event in region.events if event.line in names}
+    rows = [
+        (each.number, each.first, each.last, each.lower, each.upper, each.weight)
+        for each in region.activities
+        if each.first in times and each.last in times
+    ]
+    return rows, times
+
+
+def some_fixed(times):
+    """Events from all over, with their times."""
+    events = sorted(times)
+    return [(event, times[event]) for event in events[:: max(1, len(events) // FIXED)][:FIXED]]
+
+
+def parts_of(count):
+    """Pairs of events that nothing joins to one another, each with an activity there and one back."""
+    numbers = Numbers(count)
+    for part in range(count):
+        first, last = 2 * part + 1, 2 * part + 2
+        time, width = numbers.below(PERIOD), PERIOD // 2
+        for name, (start, end, tension) in enumerate([(first, last, time), (last, first, PERIOD - time)]):
+            lower = tension - numbers.below(width)
+            yield 2 * part + name + 1, start, end, lower, lower + width, 1 + numbers.below(WEIGHTS)
+
+
+def seconds_of(words, given):
+    """The seconds of a processor that a run takes, and what it prints, or None where it does not end in time."""
+    before = resource.getrusage(resource.RUSAGE_CHILDREN)
+    try:
+        with open(given, "rb") as file:
+            done = subprocess.run(words, capture_output=True, text=True, check=False, stdin=file, timeout=2 * SECONDS)
+    except subprocess.TimeoutExpired:
+        return None, ""
+    after = resource.getrusage(resource.RUSAGE_CHILDREN)
+    return after.ru_utime + after.ru_stime - before.ru_utime - before.ru_stime, done.stdout
+
+
+def shown(seconds):
+    return f"> {SECONDS}" if seconds is None else f"{seconds:.2f}"
+
+
+def write_model(rows, fixed, path):
+    """The network as a whole-number program: a residue for each event, periods and slack for each activity."""
+    times, held = {event: f"t{event}" for row in rows for event in row[1:3]}, dict(fixed)
+    lines = ["Minimize", " cost: " + " + ".join(f"{row[5]} y{row[0]}" for row in rows), "Subject To"]
+    for name, first, last, lower, *_ in rows:
+        ends = "" if first == last else f"{times[last]} - {times[first]} + "
+        lines.append(f" a{name}: {ends}{PERIOD} p{name} - y{name} = {lower}")
+    lines.append("Bounds")
+    for event, time in times.items():
+        lines.append(f" {time} = {held[event]}" if event in held else f" 0 <= {time} <= {PERIOD - 1}")
+    for name, _, _, lower, upper, _ in rows:
+        lines += [f" -1000 <= p{name} <= 1000", f" 0 <= y{name} <= {min(upper - lower, PERIOD - 1)}"]
+    lines += ["Generals", " " + "\n ".join([*times.values(), *(f"p{row[0]}" for row in rows)]), "End"]
+    path.write_text("\n".join(lines) + "\n")
+
+
+def measure_network(programs, folder, rows, fixed):
+    """The answer, its seconds with each program, its memory with the last one, and the seconds of solvers that are here."""
+    activities, times, lines, memory = (folder / name for name in ["activities", "fixed", "lines", "memory"])
+    activities.write_text(text_of(rows))
+    times.write_text(text_of(fixed))
+    lines.write_text("optimum\n")
+    figures, answer = [], "none"
+    for program in programs:
+        words = [program, "--period", str(PERIOD), activities, "--fixed", times]
+        seconds, printed = seconds_of(["timeout", str(SECONDS), *map(str, words)], lines)
+        ended = printed.splitlines()[:1]
+        answer = " ".join(ended[0].split()[:2]) if ended else "none"
+        figures.append(shown(seconds if ended else None))
+    used = peak([*map(str, words)], memory, 0, lines) if answer != "none" else 0
+    model = folder / "model.lp"
+    write_model(rows, fixed, model)
+    for solver, command in SOLVERS.items():
+        if shutil.which(solver):
+            seconds, printed = seconds_of(command(str(model)), "/dev/null")
+            figures.append(shown(seconds if seconds and seconds < SECONDS else None))
+    return answer, figures, used
+
+
+def networks():
+    """Each network with its name: rows of activities, and fixed times."""
+    for widths in WIDTHS:
+        for feasible, seeds in [(True, SEEDS), (False, INFEASIBLE_SEEDS)]:
+            for seed in seeds:
+                region = draw(seed, feasible, widths)
+                for lines in LINES if feasible else LINES[-1:]:
+                    rows, times = piece_of(region, lines)
+                    name = f"{'' if feasible else 'in'}feasible {seed}, changes {widths[0]} to {widths[1]}, {lines} lines"
+                    yield name, rows, []
+                    yield f"{name}, {FIXED} fixed", rows, some_fixed(times)
+    for count in PARTS:
+        yield f"{count} parts of two events", list(parts_of(count)), []
+
+
+def print_regions(programs, folder):
+    solvers = [solver for solver in SOLVERS if shutil.which(solver)]
+    names = [*["before", "now"][-len(programs) :], *solvers]
+    print(f"\nseconds of a processor for the optimum, at most {SECONDS}" + ("" if solvers else "; neither cbc nor glpsol is here"))
+    print(f"{'network':<52} {'events':>6} {'activities':>10} {'answer':>16}" + "".join(f" {name:>9}" for name in names) + f" {'peak kB':>9}")
+    for name, rows, fixed in networks():
+        answer, figures, used = measure_network(programs, folder, rows, fixed)
+        events = len({event for row in rows for event in row[1:3]})
+        shown_figures = "".join(f" {figure:>9}" for figure in figures)
+        print(f"{name:<52} {events:>6} {len(rows):>10} {answer:>16}{shown_figures} {used:>9}", flush=True)
