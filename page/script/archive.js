@@ -1,0 +1,64 @@
+'use strict';
+
+// A folder in one file: archives of the kind zip, written without compression, and read with or without it.
+(() => {
+  const TABLE = Uint32Array.from({ length: 256 }, (_, byte) => {
+    let value = byte;
+    for (let bit = 0; bit < 8; bit += 1) value = value & 1 ? 0xedb88320 ^ (value >>> 1) : value >>> 1;
+    return value;
+  });
+
+  const checksum = bytes => {
+    let value = ~0;
+    for (const byte of bytes) value = TABLE[(value ^ byte) & 255] ^ (value >>> 8);
+    return ~value >>> 0;
+  };
+
+  // Numbers with their widths in bytes, the least byte first.
+  const bytesOf = (value, width) => Array.from({ length: width }, (_, place) => (value >>> (8 * place)) & 255);
+  const packed = (...numbers) => Uint8Array.from(numbers.flatMap(([value, width]) => bytesOf(value, width)));
+
+  // The archive of some files, each a name with its text.
+  Page.zipOf = files => {
+    const parts = [], listed = [];
+    let offset = 0;
+    const push = (list, ...added) => list.push(...added);
+    for (const [name, text] of Object.entries(files)) {
+      const named = new TextEncoder().encode(name), bytes = new TextEncoder().encode(text);
+      // Version, names in UTF-8, stored, midnight of 1 January 1980, then the checksum, both sizes and the name's length.
+      const sizes = [[checksum(bytes), 4], [bytes.length, 4], [bytes.length, 4], [named.length, 2], [0, 2]];
+      const common = packed([20, 2], [0x800, 2], [0, 2], [0, 2], [33, 2], ...sizes);
+      push(parts, packed([0x04034b50, 4]), common, named, bytes);
+      push(listed, packed([0x02014b50, 4], [20, 2]), common, packed([0, 2], [0, 2], [0, 2], [0, 4], [offset, 4]), named);
+      offset += 4 + common.length + named.length + bytes.length;
+    }
+    const count = Object.keys(files).length, size = listed.reduce((sum, part) => sum + part.length, 0);
+    const end = packed([0x06054b50, 4], [0, 2], [0, 2], [count, 2], [count, 2], [size, 4], [offset, 4], [0, 2]);
+    return new Blob([...parts, ...listed, end], { type: 'application/zip' });
+  };
+
+  const inflated = async bytes => {
+    const stream = new Blob([bytes]).stream().pipeThrough(new DecompressionStream('deflate-raw'));
+    return new Uint8Array(await new Response(stream).arrayBuffer());
+  };
+
+  // The files of an archive: each a name with its bytes. Raises Error where it is none, or one of another kind.
+  Page.unzip = async buffer => {
+    const view = new DataView(buffer), files = [];
+    let end = buffer.byteLength - 22;
+    while (end >= 0 && view.getUint32(end, true) !== 0x06054b50) end -= 1;
+    if (end < 0) throw new Error('it is no archive of the kind zip');
+    let place = view.getUint32(end + 16, true);
+    for (let count = view.getUint16(end + 10, true); count > 0; count -= 1) {
+      const [method, named, extra, comment] = [10, 28, 30, 32].map(at => view.getUint16(place + at, true));
+      const size = view.getUint32(place + 20, true);
+      const start = view.getUint32(place + 42, true), name = new TextDecoder().decode(new Uint8Array(buffer, place + 46, named));
+      const begin = start + 30 + view.getUint16(start + 26, true) + view.getUint16(start + 28, true);
+      const bytes = new Uint8Array(buffer, begin, size);
+      if (method !== 0 && method !== 8) throw new Error(`${name} is packed in a way that is not known here`);
+      if (!name.endsWith('/')) files.push([name, method ? await inflated(bytes) : bytes]);
+      place += 46 + named + extra + comment;
+    }
+    return files;
+  };
+})();

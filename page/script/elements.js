@@ -1,0 +1,40 @@
+'use strict';
+
+// Elements of the page. Texts are set as texts alone, so nothing in a label is ever read as markup.
+(() => {
+  const SVG = 'http://www.w3.org/2000/svg';
+
+  const fill = (made, attributes, children) => {
+    for (const [name, value] of Object.entries(attributes)) {
+      if (name.startsWith('on')) made.addEventListener(name.slice(2), value);
+      else if (value !== null && value !== undefined && value !== false) made.setAttribute(name, value === true ? '' : value);
+    }
+    made.append(...children.filter(child => child !== null && child !== undefined));
+    return made;
+  };
+
+  // An element with attributes, listeners (`onclick`, ..) and children, of which texts stay texts.
+  Page.element = (tag, attributes = {}, ...children) => fill(document.createElement(tag), attributes, children);
+
+  Page.drawing = (tag, attributes = {}, ...children) => fill(document.createElementNS(SVG, tag), attributes, children);
+
+  Page.find = id => document.getElementById(id);
+
+  // Sets a text where it is another one, since setting costs a layout.
+  Page.setText = (node, text) => {
+    if (node.textContent !== text) node.textContent = text;
+  };
+
+  Page.setAttribute = (node, name, value) => {
+    if (value === null) {
+      if (node.hasAttribute(name)) node.removeAttribute(name);
+    } else if (node.getAttribute(name) !== String(value)) node.setAttribute(name, value);
+  };
+
+  // What a screen reader says, and the line below the buttons shows; `alarm` where something was refused.
+  Page.say = (text, isAlarm = false) => {
+    const line = Page.find('said');
+    line.textContent = text;
+    line.classList.toggle('alarm', isAlarm);
+  };
+})();

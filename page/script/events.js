@@ -1,0 +1,150 @@
+'use strict';
+
+// The events by train, with hands: what is dragged, clicked and typed on their strips.
+(() => {
+  const rows = new Map();
+  let order = [];
+
+  const groupsOf = view => {
+    const inTrains = new Set(view.trains.flatMap(train => train.events));
+    const groups = view.lines.flatMap(line => line.trains.map(train => ({ line, train, events: train.events })));
+    const others = view.network.events.filter(event => !inTrains.has(event));
+    return others.length ? [...groups, { events: others }] : groups;
+  };
+
+  const headOf = ({ line, train }) => {
+    if (!train) return Page.element('h3', {}, 'Events');
+    const pill = Page.element('span', { class: 'pill' }, line.name);
+    pill.style.background = line.color;
+    return Page.element('h3', {}, pill, ` to ${train.to}`);
+  };
+
+  const build = view => {
+    rows.clear();
+    const groups = groupsOf(view);
+    order = groups.flatMap(group => group.events);
+    for (const event of order) rows.set(event, Page.makeRow(event));
+    const nodes = groups.map(group => {
+      const made = Page.element('section', { class: 'train' }, headOf(group), ...group.events.map(event => rows.get(event).node));
+      made.style.containIntrinsicSize = `auto ${2 + 1.375 * group.events.length}rem`;
+      return made;
+    });
+    Page.find('rows').replaceChildren(...nodes);
+    Page.find('axis').replaceChildren(...axis(view.network.period));
+    if (!rows.has(Page.chosen)) Page.chosen = order.length ? order[0] : null;
+  };
+
+  Page.stepOf = period => [1, 2, 5, 10, 15, 30, 60, 120, 240].find(step => period / step <= (period > 60 ? 7 : 12)) || 360;
+
+  const axis = period => {
+    const step = Page.stepOf(period), marks = [];
+    for (let minute = 0; minute < period; minute += step) {
+      const mark = Page.element('span', {}, Page.clock(minute));
+      mark.style.left = `${100 * (minute + 0.5) / period}%`;
+      marks.push(mark);
+    }
+    Page.find('events').style.setProperty('--step', `${100 * step / period}%`);
+    return marks;
+  };
+
+  const update = view => rows.forEach(row => Page.drawRow(row, view));
+
+  Page.panel({ build, update });
+
+  // Brings the row of the chosen event to where it is seen, and the keys to it.
+  Page.showRow = (event, isFocused = true) => {
+    Page.choose(event);
+    const row = rows.get(event);
+    if (!row) return;
+    row.node.scrollIntoView({ block: 'nearest' });
+    if (isFocused) row.strip.focus({ preventScroll: true });
+  };
+
+  const rowOf = node => {
+    const found = node.closest('[data-row]');
+    return found ? rows.get(Number(found.dataset.row)) : null;
+  };
+
+  const modulo = (value, period) => ((value % period) + period) % period;
+
+  // The line that moves an end of a window to a minute; the other end stays.
+  const endLine = (event, { first, length }, grip, minute, period) => {
+    const last = first + length - 1;
+    const count = grip === 'first' ? modulo(last - minute, period) + 1 : modulo(minute - first, period) + 1;
+    return Page.windowLine(event, grip === 'first' ? minute : first, count);
+  };
+
+  // The line of a drag that began on a strip, for each minute under the pointer.
+  const lineOf = (row, target, start) => {
+    const { event } = row, { period, windows } = Page.view.network, window = windows.get(event), grip = target.dataset.grip;
+    if (grip === 'now') return minute => `time ${event} ${modulo(minute, period)}`;
+    if (grip) return minute => endLine(event, window, grip, modulo(grip === 'last' ? minute - 1 : minute, period), period);
+    const isWithin = window && window.length > 1 && modulo(start - window.first, period) < window.length;
+    if (isWithin) return minute => Page.windowLine(event, modulo(window.first + minute - start, period), window.length);
+    return minute => `fix ${event} ${Math.min(period - 1, Math.max(0, minute))}`;
+  };
+
+  const begin = event => {
+    const row = rowOf(event.target);
+    if (!row || event.button !== 0) return;
+    Page.choose(row.event);
+    if (!row.strip.contains(event.target)) return row.strip.focus({ preventScroll: true });
+    const { period } = Page.view.network, handle = event.target.closest('[data-grip]') || row.strip;
+    const minuteAt = (x, isEdge) => Page.unitAt(row.strip, x + (isEdge ? row.strip.clientWidth / period / 2 : 0), 0, period);
+    const isEdge = handle.dataset.grip === 'first' || handle.dataset.grip === 'last';
+    const line = lineOf(row, handle, minuteAt(event.clientX, isEdge));
+    handle.focus({ preventScroll: true });
+    event.preventDefault();
+    Page.beginDrag(event, x => line(minuteAt(x, isEdge)));
+  };
+
+  // What holds an event, moved by a key on its strip.
+  const movedLine = (event, move, isLength) => {
+    const { period, windows } = Page.view.network, window = windows.get(event);
+    if (!window) {
+      const [first = 0] = Page.view.domains.get(event), time = Page.view.times.get(event);
+      return `fix ${event} ${time === undefined ? first : time}`;
+    }
+    if (isLength) return Page.windowLine(event, window.first, Math.min(period, Math.max(1, window.length + move)));
+    return Page.windowLine(event, modulo(window.first + move, period), window.length);
+  };
+
+  const gripLine = (event, grip, move) => {
+    const { period, windows } = Page.view.network;
+    if (grip === 'now') return `time ${event} ${modulo(Page.view.times.get(event) + move, period)}`;
+    const window = windows.get(event), end = grip === 'first' ? window.first : window.first + window.length - 1;
+    return endLine(event, window, grip, modulo(end + move, period), period);
+  };
+
+  const go = (event, step) => {
+    const place = order.indexOf(event) + step;
+    if (place >= 0 && place < order.length) Page.showRow(order[place]);
+  };
+
+  const typed = event => {
+    const row = rowOf(event.target), move = Page.moveOf(event);
+    if (!row) return;
+    const { grip } = event.target.dataset;
+    if (move) Page.step([grip ? gripLine(row.event, grip, move) : movedLine(row.event, move, event.shiftKey)]);
+    else if (event.key === 'ArrowUp') go(row.event, -1);
+    else if (event.key === 'ArrowDown') go(row.event, 1);
+    else if (event.key === 'Delete' || event.key === 'Backspace') letGo(row.event, grip === 'now');
+    else return;
+    event.preventDefault();
+  };
+
+  const letGo = (event, isTime) => {
+    if (isTime ? Page.view.times.has(event) : Page.view.network.windows.has(event)) Page.step([`${isTime ? 'untime' : 'unfix'} ${event}`]);
+  };
+  Page.letGo = letGo;
+
+  Page.startEvents = () => {
+    const panel = Page.find('rows');
+    panel.addEventListener('pointerdown', begin);
+    panel.addEventListener('keydown', typed);
+    panel.addEventListener('dblclick', event => {
+      const row = rowOf(event.target);
+      if (row && row.strip.contains(event.target)) letGo(row.event, event.target.dataset.grip === 'now');
+    });
+  };
+})();

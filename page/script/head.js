@@ -1,0 +1,84 @@
+'use strict';
+
+// What is always on the screen: cost and violations, what the domains say, and what can be done next.
+(() => {
+  const update = view => {
+    const { network } = view, { session } = Page;
+    Page.setText(Page.find('title'), session.opened.title);
+    document.title = [session.opened.title, 'pespbench'].filter(Boolean).join(' – ');
+    Page.setText(Page.find('size'), `${network.events.length} events, ${network.activities.size} activities, period ${network.period}`);
+    if (view.cost === null) tell('cost', '–', view.missing, false);
+    else tell('cost', view.cost.toLocaleString('en'), 'weight times slack', false);
+    tellViolated(Page.countViolated(view));
+    tellDomains(view);
+    Page.find('undo').disabled = !session.place;
+    Page.find('redo').disabled = session.place === session.steps.length;
+  };
+
+  // How many activities and events are violated; null where the working timetable lacks a time.
+  Page.countViolated = ({ violations }) => violations && violations.activities.size + violations.events.size;
+
+  const tellViolated = count => {
+    if (count === null) tell('violations', '–', 'no whole timetable', false);
+    else tell('violations', String(count), count ? '✕ see which' : '✓ all are met', count > 0);
+  };
+
+  const tellDomains = view => {
+    const { events, period } = view.network, narrowed = events.filter(event => view.domains.get(event).length < period).length;
+    if (Page.isInfeasible(view)) tell('domains', 'none', '✕ no timetable meets this', true);
+    else tell('domains', String(narrowed), `of ${events.length} events narrowed`, false);
+  };
+
+  const tell = (name, value, note, isAlarm) => {
+    const figure = Page.find(`figure-${name}`);
+    Page.setText(figure.querySelector('b'), value);
+    Page.setText(figure.querySelector('small'), note);
+    figure.classList.toggle('alarm', isAlarm);
+  };
+
+  Page.panel({ update });
+
+  const KEYS = { z: () => Page.undo(), y: () => Page.redo(), Z: () => Page.redo(), o: () => Page.showOpening(), s: () => Page.showSaving() };
+
+  Page.startHead = () => {
+    for (const [name, act] of [['undo', Page.undo], ['redo', Page.redo]]) Page.find(name).addEventListener('click', act);
+    Page.find('print').addEventListener('click', () => window.print());
+    window.addEventListener('keydown', event => {
+      const isTyping = event.target.matches('input, select, textarea') || document.querySelector('dialog[open]');
+      if (!(event.ctrlKey || event.metaKey) || event.altKey || isTyping || !(event.key in KEYS)) return;
+      event.preventDefault();
+      KEYS[event.key]();
+    });
+  };
+
+  // One of the views on the right is shown at a time; each is drawn when it is.
+  const TABS = ['diagram', 'netgraph', 'tables', 'violated', 'lines', 'why'];
+  Page.tab = 'diagram';
+
+  Page.showTab = name => {
+    Page.tab = name;
+    for (const each of TABS) {
+      const tab = Page.find(`tab-${each}`), isShown = each === name;
+      tab.setAttribute('aria-selected', isShown);
+      tab.tabIndex = isShown ? 0 : -1;
+      Page.find(`view-${each}`).hidden = !isShown;
+    }
+    Page.draw();
+  };
+
+  Page.startTabs = () => {
+    TABS.forEach((name, place) => {
+      const tab = Page.find(`tab-${name}`);
+      tab.addEventListener('click', () => Page.showTab(name));
+      tab.addEventListener('keydown', event => {
+        const step = { ArrowLeft: -1, ArrowRight: 1 }[event.key];
+        if (!step) return;
+        const next = TABS[(place + step + TABS.length) % TABS.length];
+        Page.showTab(next);
+        Page.find(`tab-${next}`).focus();
+      });
+    });
+    Page.find('figure-violations').addEventListener('click', () => Page.showTab('violated'));
+    Page.find('large').addEventListener('change', event => Page.find('main').classList.toggle('large', event.target.checked));
+  };
+})();

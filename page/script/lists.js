@@ -1,0 +1,62 @@
+'use strict';
+
+// Two lists: what the working timetable violates, and the lines that made the state shown.
+(() => {
+  const { element } = Page;
+
+  const updateViolated = view => {
+    if (Page.tab !== 'violated') return;
+    const { violations, network } = view, items = [];
+    if (!violations) items.push(element('p', { class: 'quiet' }, `Not known: ${view.missing}.`));
+    else {
+      for (const number of violations.activities) items.push(violatedActivity(network.activities.get(number), view));
+      for (const event of violations.events) items.push(violatedEvent(event, view));
+      if (!items.length) items.push(element('p', { class: 'quiet' }, 'The working timetable meets everything.'));
+    }
+    Page.find('view-violated').replaceChildren(...items);
+  };
+
+  const item = (event, name, told) => element('p', { class: 'violated' }, '✕ ',
+    element('button', { class: 'link', onclick: () => Page.showRow(event) }, name), ` — ${told}`);
+
+  const violatedActivity = (activity, view) => {
+    const { tension } = view.tensions.get(activity.number);
+    const span = Page.spanText(activity.lower, activity.upper);
+    return item(activity.first, Page.activityName(activity), `takes ${Page.minutes(tension)}, may take ${span}`);
+  };
+
+  const violatedEvent = (event, view) => item(event, Page.eventName(event),
+    `is at ${Page.clock(view.times.get(event))}, held ${Page.windowText(view.network.windows.get(event), view.network.period)}`);
+
+  Page.panel({ update: updateViolated });
+
+  const updateLines = () => {
+    if (Page.tab !== 'lines') return;
+    const { steps, place } = Page.session;
+    const items = steps.map(({ lines }, each) => element('li', { class: each < place ? '' : 'undone' },
+      element('button', { class: 'link', onclick: () => Page.goTo(each + 1), title: 'go to the state behind this step' }, Page.titleOf(lines)),
+      each < place ? '' : ' (undone)'));
+    Page.find('steps').replaceChildren(...items);
+    Page.find('no-steps').hidden = steps.length > 0;
+  };
+
+  Page.panel({ update: updateLines });
+
+  const EDITS = /^\s*(add|drop|fix|window|unfix|span|weight|ends|time|untime)\s/;
+
+  // A line as the program takes it: an edit is a step, and anything else is asked.
+  const typed = event => {
+    event.preventDefault();
+    const input = Page.find('line'), line = input.value.trim();
+    if (!line || line.startsWith('#')) return;
+    if (/^(adopt|optimum|try)\b/.test(line)) return Page.say('The buttons above search, and can be stopped.', true);
+    if (EDITS.test(line)) {
+      if (Page.step([line])) input.value = '';
+      return;
+    }
+    const [reply] = Page.ask([line]);
+    Page.find('replied').textContent = `> ${line}\n${reply.join('\n')}`;
+  };
+
+  Page.startLines = () => Page.find('typed').addEventListener('submit', typed);
+})();

@@ -1,0 +1,18 @@
+'use strict';
+
+// Starts the page: the program first, and then the first story, or says why it cannot start.
+(async () => {
+  try {
+    await Page.startProgram(await PespModule.compile(PESPBENCH_MODULE));
+  } catch (fault) {
+    Page.find('cannot').hidden = false;
+    Page.find('cannot-why').textContent = String(fault);
+    return;
+  }
+  const views = [Page.startHead, Page.startTabs, Page.startEvents, Page.startDiagram, Page.startLines];
+  for (const start of [...views, Page.startSearching, Page.startPrinting, Page.startOpening, Page.startSaving]) start();
+  Page.openStory(Page.stories[0]);
+  document.body.classList.add('ready');
+  // The milliseconds since the page was asked for, when the first story is drawn.
+  requestAnimationFrame(() => { Page.readyAfter = performance.now(); });
+})();

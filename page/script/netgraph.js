@@ -1,0 +1,178 @@
+'use strict';
+
+// The netgraph: stations with the minutes at which trains of each line leave and arrive. It is laid out once for a network;
+// at each step its numbers alone are set.
+(() => {
+  const { drawing } = Page;
+  const WIDTH = 1020, HEIGHT = 640, MARGIN = 64, EDGE = 8, STATIONS_OF_A_PAGE = 14, LANE = 29, RING = 11;
+  // What the name of a line takes of a track with some space, and what each number takes at each of its ends.
+  const ROOM = 70, NUMBER = 21, NAME = 14.5, ENOUGH = 16, ROW = 13;
+  let graph = null, numbers = new Map();
+
+  const layOut = view => {
+    const { lines, network } = view, tracks = Page.tracksOf(lines), stations = [...new Set(lines.flatMap(line => line.stations))];
+    const radius = new Map(stations.map(station => [station, radiusOf(station, tracks)]));
+    const known = stations.every(station => Page.places.has(station)) ? Page.places : Page.layOut(stations, Page.lengthsOf(lines, network));
+    const chosen = new Map(stations.map(station => [station, [known.get(station)[0], -known.get(station)[1]]]));
+    const wanted = tracks.map(track => ({ ...track, along: ROOM + 2 * NUMBER * Page.mostNumbers(track.lanes), beside: halfWidth(track) }));
+    const share = Math.min(1, Math.sqrt(stations.length / STATIONS_OF_A_PAGE));
+    return { tracks, radius, places: Page.spread(chosen, wanted, radius, [(WIDTH - 2 * MARGIN) * share, (HEIGHT - 2 * MARGIN) * share]) };
+  };
+
+  const radiusOf = (station, tracks) => {
+    const most = Math.max(1, ...tracks.filter(({ one, other }) => station === one || station === other).map(({ lanes }) => lanes.length));
+    return RING + LANE * (most - 1) / 2;
+  };
+
+  // How far the numbers of a track reach to each side.
+  const halfWidth = track => (track.lanes.length - 1) * LANE / 2 + ROW;
+
+  const draw = view => {
+    numbers = new Map();
+    graph = layOut(view);
+    const labels = new Map([...graph.places.keys()].map(station => [station, labelPlace(station)]));
+    const lanes = graph.tracks.flatMap(track => track.lanes.map((lane, place) => {
+      const offset = (place - (track.lanes.length - 1) / 2) * LANE;
+      return drawLane(track, lane, offset);
+    }));
+    const page = drawing('svg', { viewBox: viewBox(labels), role: 'img', 'aria-label': 'Netgraph' }, ...lanes);
+    for (const [station, label] of labels) page.append(...drawStation(station, label));
+    return page;
+  };
+
+  const viewBox = labels => {
+    const spans = [...labels].map(([station, { x, anchor }]) => spanOf(station, x, anchor));
+    const ys = [...graph.places].map(([station, [, y]]) => [y, graph.radius.get(station)]);
+    const left = Math.min(...spans.map(span => span[0])) - EDGE, right = Math.max(...spans.map(span => span[1])) + EDGE;
+    const top = Math.min(...ys.map(([y, r]) => y - r)) - EDGE - 2 * NAME, bottom = Math.max(...ys.map(([y, r]) => y + r)) + EDGE + 2 * NAME;
+    return [left, top, right - left, bottom - top].map(Math.round).join(' ');
+  };
+
+  const drawLane = (track, lane, offset) => {
+    const first = graph.places.get(track.one), last = graph.places.get(track.other), length = Math.hypot(last[0] - first[0], last[1] - first[1]) || 1;
+    const along = [(last[0] - first[0]) / length, (last[1] - first[1]) / length];
+    // Within this frame the track runs from 0 to its length along the x axis, so that texts lie along it.
+    const isTurned = along[0] < -1e-9, sign = isTurned ? -1 : 1, turn = Math.atan2(along[1], along[0]) * 180 / Math.PI + (isTurned ? 180 : 0);
+    const origin = `translate(${(first[0] - along[1] * offset).toFixed(1)} ${(first[1] + along[0] * offset).toFixed(1)}) rotate(${turn.toFixed(1)})`;
+    // No farther from its ring than leaves room for the name of the line in the middle.
+    const rings = [track.one, track.other].map(station => graph.radius.get(station));
+    const most = (length - rings[0] - rings[1]) / 2 - 17 - NUMBER * Page.mostNumbers([lane]);
+    const begins = [track.one, track.other].map((station, end) => Math.min(clearOf(station, track, offset), rings[end] + Math.max(5, most)));
+    const way = drawing('path', { d: `M0 0H${(sign * length).toFixed(1)}`, stroke: lane.line.color, 'stroke-width': 3 });
+    return drawing('g', { transform: origin }, way,
+      ...pill(sign * (length + begins[0] - begins[1]) / 2, lane.line), ...numbersAt(lane, track.one, sign, sign * begins[0]),
+      ...numbersAt(lane, track.other, -sign, sign * (length - begins[1])));
+  };
+
+  // How far from a station the numbers of a lane begin: outside its ring, and beside no other track.
+  const clearOf = (station, track, offset) => {
+    let clear = Math.sqrt(Math.max(0, graph.radius.get(station) ** 2 - Math.max(0, Math.abs(offset) - ROW) ** 2));
+    for (const other of graph.tracks) {
+      if (other === track || (other.one !== station && other.other !== station)) continue;
+      const turn = Math.abs(Page.angleBetween(angleOf(station, track), angleOf(station, other)));
+      if (turn > 0.1 && turn < Math.PI / 2) clear = Math.max(clear, (halfWidth(other) + halfWidth(track) * Math.cos(turn)) / Math.sin(turn));
+    }
+    return clear + 5;
+  };
+
+  const angleOf = (station, { one, other }) => {
+    const here = graph.places.get(station), there = graph.places.get(station === one ? other : one);
+    return Math.atan2(there[1] - here[1], there[0] - here[0]);
+  };
+
+  const pill = (x, line) => {
+    const width = 9 + 7.2 * line.name.length;
+    return [drawing('rect', { x: x - width / 2, y: -8.5, width, height: 17, rx: 4, fill: line.color }),
+      drawing('text', { class: 'lane', x, y: 4.2, 'text-anchor': 'middle' }, line.name)];
+  };
+
+  // The minutes of a lane at one of its ends, to the right of the track as their trains go.
+  const numbersAt = (lane, station, outward, x) => {
+    const [leaving, arriving] = outward > 0 ? [11.5, -4] : [-4, 11.5], anchor = outward > 0 ? 'start' : 'end';
+    const rows = [[lane.leaving.get(station), leaving, 'leaves'], [lane.arriving.get(station), arriving, 'arrives']];
+    return rows.filter(([events]) => events)
+      .map(([events, y, name]) => drawing('text', { class: `minutes ${name}`, x, y, 'text-anchor': anchor }, ...spaced(events.map(minuteOf))));
+  };
+
+  const spaced = nodes => nodes.flatMap((node, place) => place ? [' ', node] : [node]);
+
+  const minuteOf = event => {
+    const node = drawing('tspan', { 'data-event': event });
+    numbers.set(event, { node, drawn: '' });
+    return node;
+  };
+
+  const drawStation = (station, { x, base, anchor }) => {
+    const [cx, cy] = graph.places.get(station);
+    const ring = drawing('circle', { class: 'ring', cx, cy, r: graph.radius.get(station) });
+    return [ring, drawing('text', { class: 'place', x, y: base, 'text-anchor': anchor }, station)];
+  };
+
+  // The place of a name round its ring at which most room is left, of those that read as well the first.
+  const labelPlace = station => {
+    const [x, y] = graph.places.get(station), reach = graph.radius.get(station) + 6;
+    let best = null;
+    for (const turn of [6, 2, 0, 4, 5, 7, 1, 3]) {
+      const across = Math.cos(turn * Math.PI / 4), down = Math.sin(turn * Math.PI / 4);
+      const anchor = Math.abs(across) < 0.5 ? 'middle' : across > 0 ? 'start' : 'end';
+      const place = { x: x + across * reach, base: y + down * (reach + NAME / 2) + NAME * 0.36, anchor };
+      place.room = roomOf(station, place);
+      if (!best || place.room > best.room) best = place;
+    }
+    return best;
+  };
+
+  // The least distance of a name from what lies about it, up to what is enough.
+  const roomOf = (station, { x, base, anchor }) => {
+    const [left, right] = spanOf(station, x, anchor);
+    const spots = [0, 1, 2, 3, 4].flatMap(part => [0, 0.7].map(height => [left + (right - left) * part / 4, base - NAME * height]));
+    let room = ENOUGH;
+    for (const track of graph.tracks) {
+      const half = (track.lanes.length - 1) * LANE / 2 + NAME;
+      for (const spot of spots) room = Math.min(room, beside(spot, graph.places.get(track.one), graph.places.get(track.other)) - half);
+    }
+    for (const [other, [otherX, otherY]] of graph.places) {
+      const margin = graph.radius.get(other) - (other === station ? NAME : 0);
+      for (const spot of spots) room = Math.min(room, Math.hypot(spot[0] - otherX, spot[1] - otherY) - margin);
+    }
+    return room;
+  };
+
+  // About where the name of a station begins and ends, from the place of its anchor.
+  const spanOf = (name, x, anchor) => {
+    const width = 0.7 * NAME * name.length, left = x - width * { start: 0, middle: 0.5, end: 1 }[anchor];
+    return [left, left + width];
+  };
+
+  // The distance of a spot from the straight way between two places.
+  const beside = ([x, y], start, end) => {
+    const length = Math.hypot(end[0] - start[0], end[1] - start[1]) || 1e-9, along = [(end[0] - start[0]) / length, (end[1] - start[1]) / length];
+    const at = Math.min(length, Math.max(0, (x - start[0]) * along[0] + (y - start[1]) * along[1]));
+    return Math.hypot(x - start[0] - along[0] * at, y - start[1] - along[1] * at);
+  };
+
+  const update = view => {
+    if (Page.tab !== 'netgraph') return;
+    Page.find('no-netgraph').hidden = view.lines.length > 0;
+    if (!view.lines.length) return;
+    if (!graph) Page.find('netgraph').replaceChildren(draw(view));
+    for (const [event, number] of numbers) drawNumber(view, event, number);
+  };
+
+  // A number is set where it is another one than was drawn, since there are many and a step changes few.
+  const drawNumber = (view, event, number) => {
+    const text = Page.minuteText(view, event), isChosen = event === Page.chosen;
+    const look = [text.endsWith('✕') ? 'alarm' : '', isChosen ? 'chosen' : ''].join(' ').trim(), drawn = `${text} ${look}`;
+    if (number.drawn === drawn) return;
+    number.drawn = drawn;
+    number.node.textContent = text;
+    number.node.setAttribute('class', look);
+  };
+
+  const build = () => {
+    graph = null;
+    Page.find('netgraph').replaceChildren();
+  };
+
+  Page.panel({ build, update });
+})();

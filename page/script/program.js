@@ -1,0 +1,21 @@
+'use strict';
+
+// The program in the page: whole runs over bytes, of which nothing is kept. `PespModule` is page/module.js.
+Page.share(Page => {
+  // Starts what was compiled, here or in a Worker.
+  Page.startProgram = async program => {
+    const decoder = new TextDecoder();
+    let module = await PespModule.start(program);
+    Page.program = program;
+    Page.answer = run => {
+      try {
+        const { output, fault } = PespModule.answer(module, run);
+        return { output: decoder.decode(output), fault };
+      } catch (trap) {
+        // What was trapped is not used again.
+        PespModule.start(program).then(made => { module = made; });
+        return { output: '', fault: `the module was trapped: ${trap.message}` };
+      }
+    };
+  };
+});

@@ -1,0 +1,53 @@
+'use strict';
+
+// Files of the page's own (labels, places, windows, events, the period), cut into records as docs/FORMATS.md says.
+(() => {
+  const FIELD = /^[ \t]+|[ \t]+$/g;
+
+  // The fields of the record that begins at a place, and where the next one begins.
+  const recordAt = (text, start, separator) => {
+    const fields = [];
+    for (let place = start; ;) {
+      let field = '';
+      if (text[place] === '"') {
+        for (place += 1; place < text.length; place += 1) {
+          if (text[place] !== '"') field += text[place];
+          else if (text[place + 1] === '"') field += text[place += 1];
+          else break;
+        }
+        place += 1;
+      }
+      const begin = place;
+      while (place < text.length && text[place] !== separator && text[place] !== '\n' && text[place] !== '\r') place += 1;
+      fields.push((field + text.slice(begin, place)).replace(FIELD, ''));
+      if (text[place] !== separator) return { fields, next: place + (text.startsWith('\r\n', place) ? 2 : 1) };
+      place += 1;
+    }
+  };
+
+  // The records that are neither blank nor comments, each with its number.
+  Page.recordsOf = text => {
+    const whole = text.replace(/^\uFEFF/, ''), separator = whole.includes(';') ? ';' : ',', records = [];
+    let number = 0;
+    for (let place = 0; place < whole.length;) {
+      const { fields, next } = recordAt(whole, place, separator);
+      if (next > place + 1 && !(next === place + 2 && whole.startsWith('\r\n', place))) {
+        number += 1;
+        if (fields[fields.length - 1] === '') fields.pop();
+        if (fields.length && !fields[0].startsWith('#')) records.push({ number, fields });
+      }
+      place = next;
+    }
+    return records;
+  };
+
+  // The rows: a first record that begins with a letter is the header.
+  Page.rowsIn = text => Page.recordsOf(text).filter(({ fields }, place) => place || !/^[A-Za-z]/.test(fields[0]));
+
+  // What a file of the page's own is not.
+  Page.FileFault = class extends Error {
+    constructor(name, record, what) {
+      super(`${name} file, record ${record}: ${what}`);
+    }
+  };
+})();

@@ -1,0 +1,83 @@
+'use strict';
+
+// Replies of the program, cut and read as docs/FORMATS.md says. Nothing is worked out from them here.
+Page.share(Page => {
+  // The word of a reply's first line that says how many lines follow.
+  const COUNTS = { domains: 1, tensions: 1, violations: 1, optimum: 2, stopped: 2, '#': 4 };
+
+  // The replies of a text, each as the list of its lines.
+  Page.splitReplies = text => {
+    const lines = text.split('\n');
+    lines.pop();
+    const replies = [];
+    for (let place = 0; place < lines.length;) {
+      const words = lines[place].split(' ', 5);
+      const more = Number(words[COUNTS[words[0]]]) || 0;
+      replies.push(more ? lines.slice(place, place + 1 + more) : [lines[place]]);
+      place += 1 + more;
+    }
+    return replies;
+  };
+
+  Page.isRefused = reply => /^(refused|fault) /.test(reply[0]);
+
+  // What the lines behind a first line say, read by a function. Lines that are told again in their order are what they were,
+  // the same values, since a step changes few of them.
+  Page.remembered = read => {
+    let before = [], values = [];
+    return reply => {
+      const found = [];
+      for (let place = 1, old = 1; place < reply.length; place += 1) {
+        const line = reply[place];
+        // A line of before is gone.
+        if (line !== before[old] && line === before[old + 1]) old += 1;
+        if (line === before[old]) found.push(values[old - 1]);
+        else found.push(read(line));
+        // Where a line came between two that were there, the one of before is still to come.
+        if (line === before[old] || reply[place + 1] !== before[old]) old += 1;
+      }
+      before = reply;
+      values = found;
+      return found;
+    };
+  };
+
+  const numbersOf = text => text.split(' ').map(Number);
+
+  const domainLines = Page.remembered(line => {
+    const end = line.indexOf(':');
+    return [Number(line.slice(0, end)), line.length > end + 2 ? numbersOf(line.slice(end + 2)) : []];
+  });
+
+  // Of each event the minutes at which it can still be.
+  Page.readDomains = reply => new Map(domainLines(reply));
+
+  const tensionLines = Page.remembered(line => {
+    const [activity, tension, slack] = numbersOf(line);
+    return [activity, { tension, slack }];
+  });
+
+  // Of each activity its tension and slack; null where the working timetable lacks a time.
+  Page.readTensions = reply => Page.isRefused(reply) ? null : new Map(tensionLines(reply));
+
+  // The violated activities and events; null where a time is missing.
+  Page.readViolations = reply => {
+    if (Page.isRefused(reply)) return null;
+    const found = { activities: new Set(), events: new Set() };
+    for (const line of reply.slice(1)) {
+      const [kind, number] = line.split(' ');
+      (kind === 'activity' ? found.activities : found.events).add(Number(number));
+    }
+    return found;
+  };
+
+  Page.readCost = reply => Page.isRefused(reply) ? null : Number(reply[0].split(' ')[1]);
+
+  // What a search answers: `optimum`, `infeasible`, `stopped`, or `none` where it stopped without a timetable.
+  Page.readFound = reply => {
+    const words = reply[0].split(' ');
+    if (words[0] === 'infeasible') return { kind: 'infeasible' };
+    if (words[1] === 'none') return { kind: 'none' };
+    return { kind: words[0], cost: Number(words[1]), times: new Map(reply.slice(1).map(numbersOf)) };
+  };
+});

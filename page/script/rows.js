@@ -1,0 +1,106 @@
+'use strict';
+
+// The row of an event: its name, its time, the strip of its domain with what holds it, and a word on that.
+(() => {
+  // An event's row, with what was drawn last, so that only what changed is drawn again.
+  Page.makeRow = event => {
+    const { place, kind } = Page.eventShort(event), drawing = Page.drawing;
+    const row = { event, drawn: {} };
+    row.was = drawing('path', { class: 'was' });
+    row.possible = drawing('path', { class: 'possible' });
+    row.held = drawing('path', { class: 'held' });
+    row.svg = drawing('svg', { preserveAspectRatio: 'none', 'aria-hidden': true }, row.was, row.possible, row.held);
+    row.strip = Page.handle('strip', Page.eventName(event), { 'data-event': event });
+    row.strip.append(row.svg);
+    row.time = Page.element('span', { class: 'time' });
+    row.note = Page.element('span', { class: 'note' });
+    const name = Page.element('span', { class: 'name' }, place, ' ', Page.element('small', {}, kind));
+    row.node = Page.element('div', { class: 'row', 'data-row': event }, name, row.time, row.strip, row.note);
+    return row;
+  };
+
+  // A path over runs of minutes in a strip that is one unit high.
+  const pathOf = minutes => Page.runsOf(minutes).map(([first, last]) => `M${first} 0H${last + 1}V1H${first}Z`).join('');
+
+  // The frame of a window; one that goes over the end of the period has two parts.
+  const frameOf = ({ first, length }, period) => {
+    const end = first + length;
+    if (end <= period) return `M${first} 0H${end}V1H${first}Z`;
+    return `M${period} 0H${first}V1H${period}M0 0H${end - period}V1H0`;
+  };
+
+  const once = (row, name, value, draw) => {
+    if (row.drawn[name] === value) return;
+    row.drawn[name] = value;
+    draw(value);
+  };
+
+  const grip = (row, name, label) => {
+    if (!row[name]) {
+      const more = { 'data-grip': name, tabindex: Page.chosen === row.event ? 0 : -1 };
+      row[name] = Page.handle(`grip ${name}`, `${Page.eventName(row.event)}: ${label}`, more);
+      row.strip.append(row[name]);
+    }
+    return row[name];
+  };
+
+  // What holds the event, and the handles at the ends of a window.
+  const drawHeld = (row, window, period) => {
+    row.held.setAttribute('d', window ? frameOf(window, period) : '');
+    for (const name of ['first', 'last']) if (row[name]) row[name].hidden = !window;
+    if (!window) return;
+    const { first, length } = window, last = (first + length - 1) % period;
+    for (const [name, minute, label, left] of [['first', first, 'first minute', first], ['last', last, 'last minute', last + 1]]) {
+      const handle = grip(row, name, label);
+      handle.style.left = `${100 * left / period}%`;
+      Page.tellHandle(handle, minute, 0, period - 1, Page.clock(minute));
+    }
+  };
+
+  const drawTime = (row, time, period) => {
+    Page.setText(row.time, time === undefined ? '–' : Page.clock(time));
+    if (row.now) row.now.hidden = time === undefined;
+    if (time === undefined) return;
+    const handle = grip(row, 'now', 'time in the timetable');
+    handle.style.left = `${100 * (time + 0.5) / period}%`;
+    Page.tellHandle(handle, time, 0, period - 1, Page.clock(time));
+  };
+
+  const noteOf = (window, isViolated, period) => {
+    if (!window) return '';
+    return (isViolated ? '✕ not ' : '') + Page.windowText(window, period);
+  };
+
+  // Draws what is new about an event.
+  Page.drawRow = (row, view) => {
+    const { event } = row, period = view.network.period, minutes = view.domains.get(event), window = view.network.windows.get(event);
+    const isViolated = Boolean(view.violations && view.violations.events.has(event)), isChosen = Page.chosen === event;
+    const seen = [minutes, period, window && window.first, window && window.length, view.times.get(event), isViolated, isChosen];
+    if (row.seen && seen.every((value, place) => value === row.seen[place])) return;
+    row.seen = seen;
+    once(row, 'period', period, () => row.svg.setAttribute('viewBox', `0 0 ${period} 1`));
+    once(row, 'possible', pathOf(minutes), path => row.possible.setAttribute('d', path));
+    once(row, 'was', minutes.length ? '' : pathOf(view.lastDomains.get(event) || []), path => row.was.setAttribute('d', path));
+    once(row, 'count', minutes.length, count => {
+      row.node.classList.toggle('none', !count);
+      row.node.classList.toggle('any', count === period);
+    });
+    once(row, 'window', window ? `${window.first} ${window.length}` : '', () => drawHeld(row, window, period));
+    once(row, 'time', view.times.get(event), time => drawTime(row, time, period));
+    once(row, 'note', noteOf(window, isViolated, period), text => Page.setText(row.note, text));
+    once(row, 'violated', isViolated, () => row.node.classList.toggle('alarm', isViolated));
+    once(row, 'chosen', isChosen, () => chooseRow(row, isChosen));
+    once(row, 'told', `${row.drawn.possible} ${row.drawn.window}`, () => tellStrip(row, view, window));
+  };
+
+  const tellStrip = (row, view, window) => {
+    const period = view.network.period, minutes = view.domains.get(row.event);
+    const can = `can be at ${Page.domainText(minutes, period)}`, held = window ? `held ${Page.windowText(window, period)}` : 'not held';
+    Page.tellHandle(row.strip, window ? window.first : minutes[0] || 0, 0, period - 1, `${can}; ${held}`);
+  };
+
+  const chooseRow = (row, isChosen) => {
+    row.node.classList.toggle('chosen', isChosen);
+    for (const handle of [row.strip, row.first, row.last, row.now]) if (handle) handle.tabIndex = isChosen ? 0 : -1;
+  };
+})();

@@ -1,0 +1,152 @@
+'use strict';
+
+// The session: what was opened, the steps since, and which of them are done. What is shown is always what the program
+// tells of the base and the lines of the steps that are done.
+(() => {
+  // Lines that keep the working timetable as it is.
+  const KEEPS_TIMES = /^(fix|window|unfix|span|weight|ends|add|drop activity) /;
+  // After so many lines a step keeps a base of its own, so that a run does not begin at the first one.
+  const LINES_OF_A_BASE = 300;
+
+  const session = { opened: null, steps: [], place: 0 };
+  Page.session = session;
+  Page.view = null;
+
+  // The last base at or before the present step, and the lines behind it.
+  const present = () => {
+    let start = session.place;
+    while (start > 0 && !session.steps[start - 1].base) start -= 1;
+    const base = start ? session.steps[start - 1].base : session.opened.base;
+    return { base, lines: session.steps.slice(start, session.place).flatMap(step => step.lines) };
+  };
+  Page.present = present;
+
+  Page.timesNow = () => session.place ? session.steps[session.place - 1].times : session.opened.times;
+
+  // Opens a base with its labels and places, and shows it. Raises RunFault, and then nothing has changed.
+  Page.open = (base, { title = '', labels = Page.noLabels(), places = new Map() } = {}) => {
+    const looked = Page.look(base, []), times = Page.askTimes(base, [], looked.network);
+    Object.assign(session, { opened: { base, times, title }, steps: [], place: 0 });
+    Object.assign(Page, { labels, places, chosen: null, chosenLine: null, view: null });
+    Page.stopSearch();
+    show({ ...looked, times });
+  };
+
+  // What a run tells, or null where it ends by a fault, which is told.
+  const looks = (base, lines) => {
+    try {
+      return Page.look(base, lines);
+    } catch (fault) {
+      Page.say(fault.message, true);
+      return null;
+    }
+  };
+
+  // What the present lines and some more make, where none of these is refused; null, and the refusal is told, where one is.
+  const tried = more => {
+    const { base, lines } = present(), looked = looks(base, [...lines, ...more]);
+    if (!looked) return null;
+    const refused = more.findIndex((_, place) => looked.replies[lines.length + place][0] !== 'ok');
+    if (refused < 0) return looked;
+    Page.say(`${more[refused]} — ${looked.replies[lines.length + refused][0]}`, true);
+    return null;
+  };
+
+  // Shows what a line would make, as a step of a drag.
+  Page.preview = line => {
+    const looked = tried([line]);
+    if (!looked) return;
+    const [word, event, time] = line.split(' '), times = Page.timesNow();
+    show({ ...looked, times: word === 'time' ? new Map(times).set(Number(event), Number(time)) : times });
+  };
+
+  // Does some lines as one step, which can be undone; false where one of them is refused, and then nothing has changed.
+  Page.step = more => {
+    const looked = tried(more);
+    if (!looked) {
+      Page.refresh();
+      return false;
+    }
+    const { base, lines } = present(), all = [...lines, ...more];
+    const times = more.every(line => KEEPS_TIMES.test(line)) ? Page.timesNow() : Page.askTimes(base, all, looked.network);
+    const made = { lines: more, times };
+    if (all.length > LINES_OF_A_BASE) made.base = Page.baseOf(looked.network, times);
+    session.steps.splice(session.place, Infinity, made);
+    session.place += 1;
+    Page.say(more.length === 1 ? more[0] : `${more.length} lines`);
+    show({ ...looked, times });
+    return true;
+  };
+
+  // Shows the present state again.
+  Page.refresh = () => {
+    const { base, lines } = present(), looked = looks(base, lines);
+    if (looked) show({ ...looked, times: Page.timesNow() });
+  };
+
+  const goTo = (place, told) => {
+    if (place < 0 || place > session.steps.length) return;
+    session.place = place;
+    Page.say(told);
+    Page.refresh();
+  };
+  const titleOf = lines => lines.length === 1 ? lines[0] : `${lines[0]} and ${lines.length - 1} more lines`;
+  Page.titleOf = titleOf;
+
+  Page.undo = () => session.place && goTo(session.place - 1, `undone: ${titleOf(session.steps[session.place - 1].lines)}`);
+  Page.redo = () => session.place < session.steps.length
+    && goTo(session.place + 1, `done again: ${titleOf(session.steps[session.place].lines)}`);
+  Page.goTo = place => goTo(place, `${place} of ${session.steps.length} steps are done`);
+
+  // All lines since the network was opened, of the steps that are done.
+  Page.journal = () => session.steps.slice(0, session.place).flatMap(step => step.lines);
+
+  // The replies to questions, of which the state knows nothing.
+  Page.ask = questions => {
+    const { base, lines } = present();
+    return Page.run(base, [...lines, ...questions]).slice(lines.length);
+  };
+
+  // Panels are drawn in the order in which they are listed; `build` where the network has other events or activities.
+  const panels = [];
+  Page.panel = panel => panels.push(panel);
+
+  const show = view => {
+    const before = Page.view;
+    Page.view = Object.assign(view, { lastDomains: before ? lastDomains(before) : view.domains });
+    const isBuilt = !before || !isSameShape(before.network, view.network);
+    if (isBuilt) {
+      view.trains = Page.trainsOf(view.network);
+      view.lines = Page.linesOf(view.trains);
+    } else Object.assign(view, { trains: before.trains, lines: before.lines });
+    Page.draw(isBuilt);
+  };
+
+  Page.draw = (isBuilt = false) => panels.forEach(panel => {
+    if (isBuilt && panel.build) panel.build(Page.view);
+    panel.update(Page.view);
+  });
+
+  Page.isInfeasible = view => view.network.events.some(event => !view.domains.get(event).length);
+
+  // The domains when some time was last possible, for the events that have none now.
+  const lastDomains = view => {
+    if (!Page.isInfeasible(view)) return view.domains;
+    return new Map([...view.domains].map(([event, minutes]) => [event, minutes.length ? minutes : view.lastDomains.get(event) || []]));
+  };
+
+  const isSameShape = (one, other) => one.period === other.period && one.events.length === other.events.length
+    && one.activities.size === other.activities.size && one.events.every((event, place) => event === other.events[place])
+    && [...one.activities.values()].every(each => {
+      const same = other.activities.get(each.number);
+      return same && same.first === each.first && same.last === each.last;
+    });
+
+  Page.choose = event => {
+    if (Page.chosen === event) return;
+    Page.chosen = event;
+    const line = Page.view.lines.find(each => each.name === Page.labelOf(event).line);
+    if (line) Page.chosenLine = line.name;
+    Page.draw();
+  };
+})();

@@ -1,0 +1,134 @@
+'use strict';
+
+// The activities at the chosen event: their spans with ends to drag, and the tension and slack on them.
+(() => {
+  const { element } = Page;
+  let shown = [], cards = new Map();
+
+  const build = () => {
+    shown = [];
+  };
+
+  const update = view => {
+    const numbers = [...view.network.activities.values()].filter(each => each.first === Page.chosen || each.last === Page.chosen);
+    const wanted = numbers.map(each => each.number);
+    if (wanted.join() !== shown.join() || !wanted.length) {
+      shown = wanted;
+      cards = new Map(numbers.map(each => [each.number, makeCard(each)]));
+      Page.find('activities').replaceChildren(...[...cards.values()].map(card => card.node));
+      if (!numbers.length) Page.find('activities').append(element('p', { class: 'quiet' }, 'No activity is at this event.'));
+    }
+    for (const each of numbers) drawCard(cards.get(each.number), each, view);
+  };
+
+  Page.panel({ build, update });
+
+  const field = (card, name, label) => {
+    card[name] = element('input', { type: 'number', step: 1, 'aria-label': label, onchange: () => change(card) });
+    return card[name];
+  };
+
+  // The card of an activity; its `range` is what its track shows, and stays while an end is dragged.
+  const makeCard = ({ number, first, last }) => {
+    const card = { number, drawn: '' }, activity = Page.view.network.activities.get(number), name = Page.activityName(activity);
+    const other = first === Page.chosen ? last : first;
+    card.bar = element('span', { class: 'bar' });
+    card.slack = element('span', { class: 'slack' });
+    card.tension = element('span', { class: 'tension' });
+    card.lower = Page.handle('grip lower', `${name}: least minutes`, { tabindex: 0, 'data-end': 'lower' });
+    card.upper = Page.handle('grip upper', `${name}: most minutes`, { tabindex: 0, 'data-end': 'upper' });
+    card.track = element('div', { class: 'track' }, card.bar, card.slack, card.tension, card.lower, card.upper);
+    card.told = element('span', { class: 'told' });
+    const fields = element('div', { class: 'fields' }, element('label', {}, 'from ', field(card, 'least', `${name}: least minutes`)),
+      element('label', {}, 'to ', field(card, 'most', `${name}: most minutes`)),
+      element('label', {}, 'weight ', field(card, 'weight', `${name}: cost of a minute of slack`)));
+    const title = element('button', { class: 'link', title: 'show the event at its other end', onclick: () => Page.showRow(other) }, name);
+    card.node = element('div', { class: 'card', 'data-activity': number }, element('div', { class: 'title' }, title, card.told), card.track, fields);
+    card.track.addEventListener('pointerdown', event => begin(card, event));
+    card.track.addEventListener('keydown', event => typed(card, event));
+    return card;
+  };
+
+  // What a track shows: the span and the tension, with some minutes before and behind them.
+  const rangeOf = ({ lower, upper }, taken, period) => {
+    const least = lower - Math.ceil(period / 12), most = Math.max(upper, taken ? taken.tension : upper);
+    return { least, count: most + Math.ceil(period / 4) - least };
+  };
+
+  // The least minutes that the track of an activity shows, and how many.
+  Page.rangeShown = number => [cards.get(number).range.least, cards.get(number).range.count];
+
+  const drawCard = (card, activity, view) => {
+    const taken = view.tensions && view.tensions.get(activity.number);
+    const isViolated = Boolean(view.violations && view.violations.activities.has(activity.number));
+    const drawn = JSON.stringify([activity, taken, isViolated]);
+    if (card.drawn === drawn) return;
+    card.drawn = drawn;
+    const { lower, upper, weight } = activity, name = Page.activityName(activity);
+    if (!card.range || !document.body.classList.contains('dragging')) card.range = rangeOf(activity, taken, view.network.period);
+    place(card.bar, card, lower, upper + 1);
+    for (const [handle, value, left] of [[card.lower, lower, lower], [card.upper, upper, upper + 1]]) {
+      handle.style.left = `${percent(card, left)}%`;
+      Page.tellHandle(handle, value, -1000000, 1000000, `${name}: ${Page.spanText(lower, upper)} minutes`);
+    }
+    card.slack.hidden = card.tension.hidden = !taken;
+    if (taken) {
+      place(card.slack, card, lower, taken.tension);
+      place(card.tension, card, taken.tension, taken.tension + 1);
+    }
+    card.node.classList.toggle('alarm', isViolated);
+    Page.setText(card.told, toldOf(taken, isViolated, weight));
+    for (const [input, value] of [[card.least, lower], [card.most, upper], [card.weight, weight]]) {
+      if (document.activeElement !== input || document.body.classList.contains('dragging')) input.value = value;
+    }
+  };
+
+  const toldOf = (taken, isViolated, weight) => {
+    if (!taken) return 'no timetable to look at';
+    const cost = weight && taken.slack ? `, costs ${(weight * taken.slack).toLocaleString('en')}` : '';
+    return `${isViolated ? '✕ not met: ' : '✓ '}takes ${Page.minutes(taken.tension)}, slack ${taken.slack}${cost}`;
+  };
+
+  const percent = (card, minute) => Math.min(100, Math.max(0, 100 * (minute - card.range.least) / card.range.count));
+
+  const place = (node, card, first, end) => {
+    node.style.left = `${percent(card, first)}%`;
+    node.style.width = `${percent(card, end) - percent(card, first)}%`;
+  };
+
+  // The span that a handle makes when it is moved by some minutes; an end stops at the other one.
+  const spanLine = (number, { lower, upper }, end, move) => {
+    if (end === 'lower') return `span ${number} ${Math.min(upper, lower + move)} ${upper}`;
+    if (end === 'upper') return `span ${number} ${lower} ${Math.max(lower, upper + move)}`;
+    return `span ${number} ${lower + move} ${upper + move}`;
+  };
+
+  const begin = (card, event) => {
+    if (event.button !== 0) return;
+    const { least, count } = card.range, minuteAt = x => Page.unitAt(card.track, x, least, count);
+    const handle = event.target.closest('[data-end]'), end = handle ? handle.dataset.end : 'both';
+    if (end === 'both' && event.target !== card.bar && event.target !== card.slack) return;
+    const before = Page.view.network.activities.get(card.number), start = minuteAt(event.clientX);
+    if (handle) handle.focus({ preventScroll: true });
+    event.preventDefault();
+    Page.beginDrag(event, x => spanLine(card.number, before, end, minuteAt(x) - start));
+  };
+
+  const typed = (card, event) => {
+    const move = Page.moveOf(event), { end } = event.target.dataset;
+    if (!move || !end) return;
+    event.preventDefault();
+    Page.step([spanLine(card.number, Page.view.network.activities.get(card.number), event.shiftKey ? 'both' : end, move)]);
+  };
+
+  const change = card => {
+    const before = Page.view.network.activities.get(card.number);
+    const [lower, upper, weight] = [card.least, card.most, card.weight].map(input => input.value.trim());
+    const lines = [];
+    if (lower !== String(before.lower) || upper !== String(before.upper)) lines.push(`span ${card.number} ${lower} ${upper}`);
+    if (weight !== String(before.weight)) lines.push(`weight ${card.number} ${weight}`);
+    if (lines.length) Page.step(lines);
+    card.drawn = '';
+    drawCard(card, Page.view.network.activities.get(card.number), Page.view);
+  };
+})();

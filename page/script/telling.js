@@ -1,0 +1,114 @@
+'use strict';
+
+// The answer to why, in a planner's words; each mend is done by one click.
+(() => {
+  const { element } = Page;
+  let answer = null;
+
+  const WHOLE = {
+    possible: 'With each of these the whole network has a timetable:',
+    untried: 'These mend the conflict, and the whole network was not tried with them:',
+    undecided: 'These mend the conflict, and whether the whole network has a timetable then is undecided:',
+    infeasible: 'With each of these another conflict is left:',
+  };
+
+  const NOTHING = 'Where no timetable meets everything, “Why?” finds a least set of spans and windows that cannot be met together, and '
+    + 'the least changes that mend it.';
+
+  Page.showWhy = told => {
+    answer = { ...told, ...Page.present() };
+    Page.draw();
+  };
+
+  // The members of the kinds that are not to be changed; `fixed` are fixed times and windows.
+  Page.keptMembers = () => {
+    const kinds = new Set(Page.find('kept-kinds').value.split(',').map(kind => kind.trim()).filter(Boolean));
+    const { activities, windows } = Page.view.network;
+    const spans = [...activities.keys()].filter(number => kinds.has(Page.labels.kinds.get(number))).map(number => ({ of: 'activity', number }));
+    const held = kinds.has('fixed') ? [...windows.keys()].map(number => ({ of: 'event', number })) : [];
+    return [...spans, ...held].map(Page.memberKey);
+  };
+
+  const nameOf = ({ of, number }, network) => of === 'event' ? Page.eventName(number) : Page.activityName(network.activities.get(number));
+
+  const boundsOf = (of, bounds, period) => of === 'event' ? Page.windowText(bounds, period) : `${Page.spanText(bounds.lower, bounds.upper)} minutes`;
+
+  // The members in the order of the circle or way, a window beside the end that it holds.
+  const ordered = ({ members, shape }) => {
+    if (!shape) return members;
+    const find = (of, number) => members.find(member => member.of === of && member.number === number);
+    return [find('event', shape.start), ...shape.steps.map(({ activity }) => find('activity', activity.number)), find('event', shape.end)]
+      .filter((member, place, all) => member && all.indexOf(member) === place);
+  };
+
+  const memberRow = (member, { shape }, network) => {
+    const step = shape && shape.steps.find(({ activity }) => member.of === 'activity' && activity.number === member.number);
+    const event = member.of === 'event' ? member.number : network.activities.get(member.number).first;
+    return element('tr', {}, element('td', {}, element('button', { class: 'link', onclick: () => Page.showRow(event) }, nameOf(member, network))),
+      element('td', {}, boundsOf(member.of, member.bounds, network.period) + notesOf(step && !step.isForward, member.isKept)));
+  };
+
+  const notesOf = (isBackward, isKept) => {
+    const notes = [isBackward ? 'against its direction' : '', isKept ? 'not to be changed' : ''].filter(Boolean);
+    return notes.length ? ` (${notes.join(', ')})` : '';
+  };
+
+  const shapeText = ({ shape }) => {
+    if (!shape) return '';
+    const [below, above] = shape.wanted, told = [below, above].filter(each => each[0] >= 0 || each === above);
+    const wanted = told.map(each => Page.spanText(...each)).join(' or ');
+    const taken = Page.spanText(shape.least, shape.most);
+    return shape.isCircle ? `Once round this circle they take ${taken} minutes, and have to take ${wanted}: a whole number of periods.`
+      : `On this way from one held event to the other they take ${taken} minutes, and have to take ${wanted}.`;
+  };
+
+  const claimText = ({ members, undecided, nodes }, network) => {
+    if (!undecided.length) return members.length > 1 ? 'Without any one of them, the others have a timetable.' : '';
+    const names = undecided.map(member => nameOf(member, network)).join(', ');
+    return `Searches of ${nodes.toLocaleString('en')} nodes see no conflict in the others without one of them; undecided is that without ${names}.`;
+  };
+
+  const lineOf = ({ member, after }) => member.of === 'event' ? Page.windowLine(member.number, after.first, after.length)
+    : `span ${member.number} ${after.lower} ${after.upper}`;
+
+  const changeOf = ({ member, after }, period) => {
+    const [wanted, before] = [after, member.bounds].map(bounds => boundsOf(member.of, bounds, period));
+    return `${wanted} in place of ${before.replace(/ minutes$/, '')}`;
+  };
+
+  const mendRow = (mend, network) => element('tr', {},
+    element('td', {}, element('button', { class: 'mend', onclick: () => Page.step([lineOf(mend)]) }, `${Page.minutes(mend.minutes)} more`)),
+    element('td', {}, nameOf(mend.member, network)),
+    element('td', {}, changeOf(mend, network.period)));
+
+  const mendsOf = ({ mends }, network) => {
+    if (!mends.length) return [element('p', {}, 'No member that may be changed is seen to mend it alone.')];
+    return [element('h3', {}, 'The least that mends it, by one member alone'), ...Object.keys(WHOLE).flatMap(whole => {
+      const listed = mends.filter(mend => mend.whole === whole);
+      const rows = listed.map(mend => mendRow(mend, network));
+      return rows.length ? [element('p', {}, WHOLE[whole]), element('table', { class: 'rows' }, ...rows)] : [];
+    })];
+  };
+
+  const conflict = (told, network) => [
+    element('h3', {}, told.members.length > 1 ? `These ${told.members.length} cannot be met together` : 'This cannot be met'),
+    element('table', { class: 'rows' }, ...ordered(told).map(member => memberRow(member, told, network))),
+    ...[shapeText(told), claimText(told, network)].filter(Boolean).map(text => element('p', {}, text)), ...mendsOf(told, network),
+  ];
+
+  const told = network => {
+    if (answer.kind === 'possible') return [element('p', {}, 'A timetable meets everything, so there is no conflict.')];
+    if (answer.kind === 'conflict') return conflict(answer, network);
+    const nodes = answer.nodes.toLocaleString('en');
+    return [element('p', {}, `Undecided: a search of ${nodes} nodes came to no timetable, and single activities show no conflict.`)];
+  };
+
+  const update = view => {
+    const { base, lines } = Page.present();
+    if (answer && (answer.base !== base || answer.lines.join() !== lines.join())) answer = null;
+    if (Page.tab !== 'why') return;
+    Page.find('reasons').replaceChildren(...(answer ? told(view.network) : [element('p', { class: 'quiet' }, NOTHING)]));
+  };
+
+  Page.panel({ update });
+})();

@@ -1,0 +1,30 @@
+'use strict';
+
+// What the Worker does, so that the page stays usable: searches, and why there is no timetable.
+Page.share(Page => {
+  // A search is asked for in rising numbers of nodes, so that it can be stopped with the best that it has found.
+  const FIRST_NODES = 2000, MORE = 4;
+
+  const search = ({ base, lines, most }, tell) => {
+    for (let nodes = Math.min(most, FIRST_NODES); ; nodes = Math.min(most, MORE * nodes)) {
+      const found = Page.readFound(Page.run(base, [...lines, `try ${nodes}`]).pop());
+      const isDone = found.kind === 'optimum' || found.kind === 'infeasible' || nodes === most;
+      tell({ found, nodes, isDone });
+      if (isDone) return;
+    }
+  };
+
+  const why = ({ base, lines, kept }, tell) => {
+    const network = Page.readNetwork(Page.run(base, [...lines, 'dump']).pop());
+    tell({ why: Page.findWhy(network, { kept: new Set(kept) }), isDone: true });
+  };
+
+  // Does what was asked; `tell` is called with each answer.
+  Page.work = (asked, tell) => {
+    try {
+      (asked.kind === 'why' ? why : search)(asked, tell);
+    } catch (fault) {
+      tell({ fault: String(fault.message || fault), isDone: true });
+    }
+  };
+});

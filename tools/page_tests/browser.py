@@ -1,0 +1,220 @@
+"""A headless browser, driven over its two pipes by the DevTools protocol; Python's standard library is enough."""
+
+import json
+import os
+import queue
+import shutil
+import subprocess
+import tempfile
+import threading
+
+NAMES = ("chromium", "chromium-browser", "google-chrome")
+QUIET = (
+    "--headless=new",
+    "--no-sandbox",
+    "--disable-gpu",
+    "--hide-scrollbars",
+    "--no-first-run",
+    "--disable-background-networking",
+    "--disable-component-update",
+    "--disable-extensions",
+    "--disable-sync",
+    "--mute-audio",
+    "--disable-dev-shm-usage",
+    "--js-flags=--stack-size=2000",
+)
+SECONDS = 90
+
+
+def found():
+    """The path of a browser, or None."""
+    return next(filter(None, map(shutil.which, NAMES)), None)
+
+
+class Failed(Exception):
+    """What the page threw, or what the browser refused."""
+
+
+class Browser:
+    """A browser with one page. `log` has what the page and the browser wrote, `requests` the addresses that were asked for."""
+
+    def __init__(self, binary, size=(1440, 900)):
+        self.size, self.log, self.requests, self.downloads = size, [], [], []
+        self.folder = tempfile.mkdtemp(prefix="pespbench-browser-")
+        to_browser, self._writer = os.pipe()
+        self._reader, from_browser = os.pipe()
+        command = [
+            binary,
+            *QUIET,
+            f"--window-size={size[0]},{size[1]}",
+            "--remote-debugging-pipe",
+            f"--user-data-dir={self.folder}/profile",
+        ]
+
+        def at_three_and_four():
+            low, high = os.dup(to_browser), os.dup(from_browser)
+            os.dup2(low, 3)
+            os.dup2(high, 4)
+
+        quiet = {"stdin": subprocess.DEVNULL, "stdout": subprocess.DEVNULL, "stderr": subprocess.DEVNULL}
+        self.process = subprocess.Popen(command, pass_fds=(3, 4), preexec_fn=at_three_and_four, **quiet)
+        os.close(to_browser)
+        os.close(from_browser)
+        self._answers, self._last, self._session, self._turn = queue.Queue(), 0, None, threading.Lock()
+        self.asked_to_stay = 0
+        threading.Thread(target=self._read, daemon=True).start()
+        target = self.call("Target.createTarget", url="about:blank")["targetId"]
+        self._session = self.call("Target.attachToTarget", targetId=target, flatten=True)["sessionId"]
+        for domain in ("Page", "Runtime", "Network", "Log"):
+            self.call(f"{domain}.enable")
+        self.resize(*size)
+
+    def resize(self, width, height, scale=1):
+        """Gives the page a size in its own pixels; at 200 per cent that is half of the screen's."""
+        self.call(
+            "Emulation.setDeviceMetricsOverride", width=width, height=height, deviceScaleFactor=scale, mobile=False
+        )
+
+    def _read(self):
+        rest = b""
+        while data := os.read(self._reader, 1 << 16):
+            *messages, rest = (rest + data).split(b"\0")
+            for message in map(json.loads, messages):
+                if "id" in message:
+                    self._answers.put(message)
+                else:
+                    self._note(message["method"], message.get("params", {}))
+        self._answers.put({"id": None})
+
+    def _note(self, method, params):
+        if method == "Network.requestWillBeSent":
+            self.requests.append(params["request"]["url"])
+        elif method == "Page.javascriptDialogOpening":
+            # The page asks whether it may be left.
+            self.asked_to_stay += 1
+            self._send("Page.handleJavaScriptDialog", {"accept": True})
+        elif method == "Log.entryAdded":
+            self.log.append(params["entry"]["text"])
+        elif method == "Runtime.exceptionThrown":
+            details = params["exceptionDetails"]
+            self.log.append(details.get("exception", {}).get("description") or details["text"])
+        elif method == "Runtime.consoleAPICalled":
+            self.log.append(" ".join(str(each.get("value", each.get("description"))) for each in params["args"]))
+
+    def _send(self, method, params):
+        """Sends a call, and gives its number."""
+        with self._turn:
+            self._last += 1
+            message = {"id": self._last, "method": method, "params": params}
+            if self._session:
+                message["sessionId"] = self._session
+            data = json.dumps(message).encode() + b"\0"
+            while data:
+                data = data[os.write(self._writer, data) :]
+            return message["id"]
+
+    def call(self, method, **params):
+        """The result of a method of the protocol."""
+        sent = self._send(method, params)
+        while True:
+            answer = self._answers.get(timeout=SECONDS)
+            if answer["id"] is None:
+                raise Failed("the browser ended")
+            if answer["id"] == sent:
+                break
+        if "error" in answer:
+            raise Failed(f"{method}: {answer['error']['message']}")
+        return answer["result"]
+
+    def open(self, address):
+        """Opens a page, and waits until it says that it is ready."""
+        self.call("Page.navigate", url=address)
+        self.until(
+            "document.readyState === 'complete' && document.body.classList.contains('ready') && Page.readyAfter > 0"
+        )
+
+    def ask(self, expression):
+        """The value of an expression in the page, once it is settled. Raises Failed with what it threw."""
+        answer = self.call(
+            "Runtime.evaluate", expression=expression, awaitPromise=True, returnByValue=True, userGesture=True
+        )
+        if "exceptionDetails" in answer:
+            details = answer["exceptionDetails"]
+            raise Failed(details.get("exception", {}).get("description") or details["text"])
+        return answer["result"].get("value")
+
+    def until(self, condition, seconds=60):
+        """Waits until an expression is true."""
+        waits = f"""new Promise((done, fail) => {{
+            const end = performance.now() + {1000 * seconds};
+            const look = () => {{
+                let held = false;
+                try {{ held = {condition}; }} catch (fault) {{ }}
+                held ? done(true) : performance.now() > end ? fail(new Error('waited in vain')) : setTimeout(look, 20);
+            }};
+            look();
+        }})"""
+        for _ in range(50):
+            try:
+                return self.ask(waits)
+            except Failed as fault:
+                # A page that is just being opened takes the question away with the one before it.
+                if "context" not in str(fault) and "navigated" not in str(fault):
+                    raise Failed(f"waited in vain for {condition}") from None
+        raise Failed(f"waited in vain for {condition}")
+
+    def mouse(self, kind, x, y, count=1):
+        """An event of the mouse with its left button: `mousePressed`, `mouseMoved` or `mouseReleased`."""
+        self.call(
+            "Input.dispatchMouseEvent",
+            type=kind,
+            x=x,
+            y=y,
+            button="left",
+            buttons=int(kind != "mouseReleased"),
+            clickCount=count,
+        )
+
+    def drag(self, places, is_released=True):
+        """Presses at the first of some places, and moves over the others."""
+        self.mouse("mousePressed", *places[0])
+        for place in places[1:]:
+            self.mouse("mouseMoved", *place)
+            self.frame()
+        if is_released:
+            self.mouse("mouseReleased", *places[-1])
+            self.frame()
+
+    def click(self, x, y, count=1):
+        """Clicks, or clicks twice."""
+        for each in range(1, count + 1):
+            self.mouse("mousePressed", x, y, each)
+            self.mouse("mouseReleased", x, y, each)
+
+    def frame(self):
+        """Waits until what was done is on the screen."""
+        self.ask("new Promise(done => requestAnimationFrame(() => requestAnimationFrame(() => done(true))))")
+
+    def key(self, name, code=0, modifiers=0):
+        """Presses a key by its name, as `ArrowLeft`; modifiers are 1 Alt, 2 Ctrl, 4 Meta, 8 Shift."""
+        more = {"key": name, "windowsVirtualKeyCode": code, "modifiers": modifiers}
+        self.call("Input.dispatchKeyEvent", type="rawKeyDown", **more)
+        self.call("Input.dispatchKeyEvent", type="keyUp", **more)
+
+    def picture(self, path):
+        """Writes what is seen as a PNG."""
+        import base64
+
+        with open(path, "wb") as file:
+            file.write(base64.b64decode(self.call("Page.captureScreenshot", format="png")["data"]))
+
+    def close(self):
+        """Ends the browser, and takes its folder away."""
+        try:
+            self._session = None
+            self.call("Browser.close")
+            self.process.wait(20)
+        except (Failed, OSError, queue.Empty, subprocess.TimeoutExpired):
+            self.process.kill()
+            self.process.wait()
+        shutil.rmtree(self.folder, ignore_errors=True)

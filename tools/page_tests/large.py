@@ -1,0 +1,29 @@
+"""A network of some 2,000 events: regions side by side, each with stations and lines of its own."""
+
+from pespbench.drawn import draw_region
+
+REGIONS = 19
+
+
+def texts(count=REGIONS):
+    """The texts of its files by their kinds."""
+    activities, times, events, kinds, shift = [], [], [], [], 0
+    for seed in range(1, count + 1):
+        region = draw_region(seed)
+        for each in region.events:
+            events.append(
+                f"{each.number + shift}; {each.line}.{seed}; {each.to} {seed}; {each.station} {seed}; {each.kind}"
+            )
+            times.append(f"{each.number + shift}; {each.time}")
+        for each in region.activities:
+            number = len(activities) + 1
+            activities.append(
+                f"{number}; {each.first + shift}; {each.last + shift}; {each.lower}; {each.upper}; {each.weight}"
+            )
+            kinds.append(f"{number}; {each.kind}")
+        shift += len(region.events)
+    labels = ["event; line; to; station; kind", *events, "activity; kind", *kinds]
+    return {
+        name: "".join(f"{row}\n" for row in rows)
+        for name, rows in [("activities", activities), ("times", times), ("labels", labels), ("period", ["60"])]
+    }

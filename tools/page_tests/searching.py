@@ -1,0 +1,147 @@
+"""Searches in the Worker, and why there is no timetable."""
+
+import re
+
+from page_tests.hands import TWO_TRAINS
+from tests.harness import TOP
+
+DONE = "!Page.find('optimum').disabled"
+
+
+def optima(suite, page):
+    """What is found is the program's, and is adopted by one click and taken back by one."""
+    page.show({**TWO_TRAINS, "times": ""})
+    page.press("optimum")
+    page.until(DONE)
+    came = {"found": page.text("#found"), "adopt": page.ask("!Page.find('adopt').hidden"), "lines": page.lines()}
+    suite.note("an optimum", {"found": "Optimum: cost 4. No timetable costs less.", "adopt": True, "lines": []}, came)
+    page.press("adopt")
+    came = {
+        "lines": page.lines(),
+        "cost": page.text("#figure-cost b"),
+        "violated": page.text("#figure-violations b"),
+        "adopt": page.ask("Page.find('adopt').hidden"),
+    }
+    suite.note("adopted", {"lines": ["time 1 0", "time 2 4"], "cost": "4", "violated": "0", "adopt": True}, came)
+    page.press("undo")
+    suite.note("taken back", {"lines": [], "cost": "–"}, {"lines": page.lines(), "cost": page.text("#figure-cost b")})
+    page.ask("Page.step(['span 1 3 3'])")
+    page.press("optimum")
+    page.until(DONE)
+    came = {"found": page.text("#found"), "adopt": page.ask("Page.find('adopt').hidden")}
+    suite.note("infeasible", {"found": "✕ Infeasible: no timetable meets everything.", "adopt": True}, came)
+    page.ask("Page.find('nodes').value = '0'")
+    page.show({**TWO_TRAINS, "times": ""})
+    page.press("try")
+    page.until(DONE)
+    suite.holds(
+        "a try without nodes",
+        re.match(r"No timetable found yet \(0 nodes, .* s\); there may be one$", page.text("#found")),
+    )
+
+
+def stopped(suite, page):
+    """A long search leaves the page usable, and is stopped by a click; what it found is adopted. A step ends it too."""
+    page.ask("Page.openStory(Page.stories[0])")
+    page.press("optimum")
+    page.until("!Page.find('stop').hidden && /^Found: cost/.test(Page.find('found').textContent)")
+    page.ask("Page.showRow(40)")
+    suite.note(
+        "an event is chosen meanwhile",
+        {"chosen": 40, "stop": True},
+        {"chosen": page.ask("Page.chosen"), "stop": page.ask("!Page.find('stop').hidden")},
+    )
+    page.press("stop")
+    came = {
+        "said": page.said(),
+        "stop": page.ask("Page.find('stop').hidden"),
+        "try": page.ask("!Page.find('try').disabled"),
+    }
+    suite.note("stopped", {"said": "the search was stopped", "stop": True, "try": True}, came)
+    found = page.text("#found")
+    suite.holds("what was found stays", re.match(r"Found: cost [0-9,]+, perhaps not the best \(.*\) — stopped$", found))
+    cost = re.search("[0-9,]*[0-9]", found)[0]
+    page.press("adopt")
+    suite.note(
+        "and is adopted",
+        {"cost": cost, "violated": "0"},
+        {"cost": page.text("#figure-cost b"), "violated": page.text("#figure-violations b")},
+    )
+    page.press("optimum")
+    page.until("!Page.find('stop').hidden")
+    page.ask("Page.step(['weight 1 5'])")
+    page.frame()
+    came = {"stop": page.ask("Page.find('stop').hidden"), "found": page.text("#found"), "lines": page.lines()[-1]}
+    suite.note("a step ends a search of the state before it", {"stop": True, "found": "", "lines": "weight 1 5"}, came)
+    page.show({**TWO_TRAINS, "times": ""})
+    page.press("optimum")
+    page.until(DONE)
+    suite.note(
+        "and another search follows",
+        {"found": "Optimum: cost 4. No timetable costs less."},
+        {"found": page.text("#found")},
+    )
+
+
+def reasons(suite, page):
+    """Why there is no timetable is what the Python package tells, and a mend is done by one click."""
+    page.ask("Page.openStory(Page.stories[1])")
+    page.press("ask-why")
+    page.until(DONE)
+    told = page.ask("Page.find('view-why').innerText")
+    for line in (
+        (TOP / "examples/two-changes/README.md")
+        .read_text()
+        .split("These 6 cannot be met together:")[1]
+        .split("```")[0]
+        .splitlines()
+    ):
+        words = re.split(" {2,}", line.replace("hard)", "not to be changed)").strip())
+        if line.startswith("  ") and not line.strip()[0].isdigit():
+            suite.holds(f"told: {words}", all(word.strip() in told for word in words))
+    for wanted in (
+        "These 6 cannot be met together",
+        "Once round this circle they take 43 to 58 minutes, and have to take 0 or 60: a whole number of periods.",
+        "Without any one of them, the others have a timetable.",
+        "2 minutes more",
+    ):
+        suite.holds(wanted, wanted in told)
+    mends = page.ask(
+        "[...document.querySelectorAll('#view-why .mend')].map(each => each.closest('tr').children[2].textContent)"
+    )
+    suite.note(
+        "mends",
+        {"they": [*["4 to 10 minutes in place of 4 to 8"] * 2, "6 to 10 minutes in place of 6 to 8"]},
+        {"they": mends},
+    )
+    page.ask(
+        "[...document.querySelectorAll('#view-why tr')].find(each => /^2 minutes moreturn/.test(each.textContent)).querySelector('.mend').click()"
+    )
+    page.frame()
+    suite.note(
+        "a mend",
+        {"lines": ["span 42 6 10"], "infeasible": False},
+        {"lines": page.lines(), "infeasible": page.ask("Page.isInfeasible(Page.view)")},
+    )
+    page.press("optimum")
+    page.until(DONE)
+    suite.note(
+        "with it there is an optimum",
+        {"found": "Optimum: cost 300. No timetable costs less."},
+        {"found": page.text("#found")},
+    )
+    page.press("ask-why")
+    page.until(DONE)
+    suite.holds("and no reason", "A timetable meets everything, so there is no conflict." in page.text("#view-why"))
+    page.show({"activities": "1; 1; 2; 3; 5; 0\n", "windows": "1; 0; 2\n2; 8; 1\n", "period": "10"})
+    page.ask("Page.step(['fix 2 8'])")
+    page.press("ask-why")
+    page.until(DONE)
+    told = page.ask("Page.find('view-why').innerText")
+    wanted = "On this way from one held event to the other they take 3 to 5 minutes, and have to take 7 to 8."
+    suite.holds(wanted, wanted in told)
+    suite.holds("a window is widened by the least", "2 minutes more" in told and "from :06 to :08" in told)
+    page.ask("Page.showTab('diagram')")
+
+
+GROUPS = [optima, stopped, reasons]

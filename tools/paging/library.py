@@ -1,0 +1,99 @@
+"""The library in process, and its LLVM module, from which the page's is made.
+
+The toolchain's rattle proves the library, or takes it as proved, and gives its clang one LLVM module; a clang of ours hands
+that on, and keeps it. The libraries below are those that the gate has left, where it ran since their sources changed, and else
+`rt lib` builds them first.
+"""
+
+import pathlib
+import shlex
+import shutil
+import tempfile
+
+from paging.tree import LIBRARY, TOP, NotMade, below, crates, run, toolchain
+
+CRATE = TOP / "crates" / LIBRARY
+MADE = CRATE / f"out/lib{LIBRARY}.a"
+MODULE = CRATE / f"out/{LIBRARY}.bc"
+
+
+def rlib(name):
+    """A library below, as rattle has built it."""
+    return TOP / "crates" / name / "out/rlib" / f"{name}.rlib"
+
+
+def changed_at(name, parts=("src", "specs")):
+    """When a source of the crate was last changed, or came or went."""
+    folders = [TOP / "crates" / name / part for part in parts if (TOP / "crates" / name / part).exists()]
+    return max(path.stat().st_mtime for folder in folders for path in [folder, *folder.rglob("*")])
+
+
+def is_of_the_gate(name):
+    """Whether the gate has left the library, as the present sources make it; what other commands built has a stamp."""
+    built = rlib(name)
+    is_there = built.is_dir() and not built.with_name("stamp").exists()
+    return is_there and built.stat().st_mtime >= changed_at(name, ("src", "specs", "proofs"))
+
+
+def is_built():
+    """Whether the library and its module were built since a source changed."""
+    last = max([(TOP / "crates.txt").stat().st_mtime, *map(changed_at, [LIBRARY, *below(LIBRARY)])])
+    return all(path.is_file() and path.stat().st_mtime >= last for path in (MADE, MODULE))
+
+
+def keeping_toolchain(folder, kit):
+    """A toolchain whose clang keeps what it is given in `folder`/kept. Rattle calls it without an environment."""
+    (folder / "kept").mkdir()
+    (folder / "bin").mkdir()
+    (folder / "lib").symlink_to(kit / "toolchain/lib")
+    for path in (kit / "toolchain/bin").iterdir():
+        if path.name != "clang":
+            (folder / "bin" / path.name).symlink_to(path)
+    kept, clang = shlex.quote(str(folder / "kept")), shlex.quote(str(kit / "toolchain/bin/clang"))
+    script = f'#!/bin/sh\nfor word in "$@"; do\n    [ ! -f "$word" ] || cp "$word" {kept}/\ndone\nexec {clang} "$@"\n'
+    (folder / "bin/clang").write_text(script)
+    (folder / "bin/clang").chmod(0o755)
+
+
+def words_of_build(kit, folder):
+    """As `rt lib` calls rattle."""
+    known = crates()
+    words = ["--crate-name", LIBRARY, "src/lib.rt", "--extern", f"std={kit}/rlibs/std.rlib", "-L", f"dependency={kit}/rlibs"]
+    for name in known[LIBRARY]:
+        path = rlib(name) if name in known else kit / "rlibs" / f"{name}.rlib"
+        words += ["--extern", f"{name}={path}"]
+    for name in below(LIBRARY):
+        words += ["-L", f"dependency={rlib(name).parent}"]
+    words += ["--antt-project", kit / "rattle/logic/antt-project.json", "--logic-built", kit / "logic_built"]
+    words += ["--jobs", "2", "--links", f"{LIBRARY}=", "--crate-type", "staticlib", "--incremental", "out/incremental"]
+    return [*words, "--toolchain", folder, "--backend", "llvm", "-o", folder / MADE.name]
+
+
+def build():
+    """Builds the library, and keeps its module."""
+    if not all(map(is_of_the_gate, below(LIBRARY))):
+        run(["rt", "lib"], cwd=CRATE)
+    (CRATE / "out").mkdir(exist_ok=True)
+    with tempfile.TemporaryDirectory() as name:
+        folder, kit = pathlib.Path(name), toolchain()
+        keeping_toolchain(folder, kit)
+        run([kit / "bin/rattle", "build", *words_of_build(kit, folder)], cwd=CRATE)
+        kept = list((folder / "kept").glob("*.bc"))
+        if len(kept) != 1:
+            raise NotMade(f"rattle gave clang {len(kept)} modules, and not one")
+        for made, path in [(kept[0], MODULE), (folder / MADE.name, MADE)]:
+            shutil.copyfile(made, path)
+
+
+def built_library():
+    """The library, which is built where it was not since a source changed."""
+    if not is_built():
+        build()
+    return MADE
+
+
+def built_module():
+    """Its LLVM module."""
+    if not is_built():
+        build()
+    return MODULE

@@ -1,0 +1,85 @@
+"""The page is made, or compared with the one that is there."""
+
+import argparse
+import pathlib
+import subprocess
+
+from paging.module import made_module, tools
+from paging.page import assembled, module_of
+from paging.tree import LIBRARY, MADE, PAGE, TOP, NotMade, below
+
+
+def sources():
+    """What the page is made of, by paths from the top."""
+    crates = [f"crates/{name}/{part}" for name in [LIBRARY, *below(LIBRARY)] for part in ("src", "specs")]
+    return ["crates.txt", "page", "tools/page", "tools/paging", *crates]
+
+
+def changed_at(paths):
+    """When something there was last changed: by its commit, or now where it is changed behind that; 0 where it is unknown."""
+    words = ["git", "-C", TOP, "log", "-1", "--format=%ct", "--", *paths]
+    told = subprocess.run(words, capture_output=True, text=True, check=False).stdout.strip()
+    words = ["git", "-C", TOP, "status", "--porcelain", "--", *paths]
+    is_changed = subprocess.run(words, capture_output=True, text=True, check=False).stdout.strip()
+    if is_changed:
+        files = [path for name in paths for path in ([TOP / name] if (TOP / name).is_file() else (TOP / name).rglob("*"))]
+        return max((path.stat().st_mtime for path in files if path.is_file() and path != MADE), default=0)
+    return float(told or 0)
+
+
+def which_is_older():
+    page = "page/pespbench.html"
+    page_at = MADE.stat().st_mtime if changed_at([page]) == 0 else changed_at([page])
+    sources_at = changed_at([*sources(), f":(exclude){page}"])
+    if page_at < sources_at:
+        return "the page is older than its sources: tools/page makes it anew"
+    return "the page was changed behind its sources, or was made by other tools than those here"
+
+
+def difference(anew):
+    """What a page has other than the one that is there; '' where they are the same."""
+    if not MADE.is_file():
+        return "there is no page/pespbench.html: tools/page makes it"
+    there = MADE.read_bytes()
+    if there == anew:
+        return ""
+    part = "the screen" if module_of(there) == module_of(anew) else "the module"
+    return f"page/pespbench.html differs from the page made anew, in {part}; {which_is_older()}"
+
+
+def checked(anew):
+    """Tells whether the page that is there is the one made anew."""
+    fault = difference(anew)
+    print(f"FAILED {fault}" if fault else "page/pespbench.html is the page made anew, byte for byte")
+    print(f"made by {tools()}")
+    print(f"{int(not fault)} passed, {int(bool(fault))} failed")
+    return bool(fault)
+
+
+def work(words):
+    module = words.given.read_bytes() if words.given else made_module()
+    if words.module:
+        words.module.write_bytes(module)
+        print(f"{words.module}: {len(module):,} bytes, made by {tools()}")
+        return False
+    page = assembled(PAGE, module)
+    if words.check:
+        return checked(page)
+    MADE.write_bytes(page)
+    print(f"page/pespbench.html: {len(page):,} bytes, of which {len(module):,} are the module's, made by {tools()}")
+    return False
+
+
+def main(words):
+    parser = argparse.ArgumentParser(prog="tools/page", description="Makes page/pespbench.html.")
+    parser.add_argument("--check", action="store_true", help="compare a page made anew with the one that is there")
+    parser.add_argument("--module", type=pathlib.Path, metavar="FILE", help="make the module alone, into FILE")
+    parser.add_argument("--with", type=pathlib.Path, metavar="FILE", dest="given", help="take this module, and make none")
+    words = parser.parse_args(words)
+    try:
+        return work(words)
+    except NotMade as fault:
+        print(f"tools/page: {fault}")
+        if words.check:
+            print("0 passed, 1 failed")
+        return True

@@ -1,0 +1,68 @@
+"""The page: its sources and the module in one file."""
+
+import base64
+import hashlib
+import re
+
+from paging.tree import NotMade
+
+LINE = re.compile(r"^[ \t]*<!-- (?:(style|script): (\S+)|(module)) -->[ \t]*$", re.M)
+POLICY = re.compile(r'<meta http-equiv="Content-Security-Policy" content="([^"]*)">')
+# What would end an inline script or style early, or hide a part of it.
+BREAKS = ["</script", "</style", "<!--"]
+# The one rule that lets nothing in or out where no other rule does.
+NOTHING = "default-src 'none'"
+
+
+def source(folder, name):
+    """A style or script of the page, which can stand inside of it."""
+    path = (folder / name).resolve()
+    if folder.resolve() not in path.parents or not path.is_file():
+        raise NotMade(f"page/index.html names {name}, which is no file of page/")
+    text = path.read_text()
+    for word in BREAKS:
+        if word in text.lower():
+            raise NotMade(f"page/{name} has {word}, which would end it inside of a page")
+    return text
+
+
+def part(folder, found, module):
+    """What stands for a line of the kind `<!-- style: FILE -->`, `<!-- script: FILE -->` or `<!-- module -->`."""
+    kind, name, is_module = found.groups()
+    if is_module:
+        return f'<script>const PESPBENCH_MODULE = "{base64.b64encode(module).decode()}";</script>'
+    return f"<{kind}>\n{source(folder, name)}</{kind}>"
+
+
+def named(script):
+    """The name of an inline script in a policy."""
+    return f"'sha256-{base64.b64encode(hashlib.sha256(script.encode()).digest()).decode()}'"
+
+
+def with_policy(text):
+    """The page, whose policy lets just its own scripts run, in place of any that stand in it, and asks for nothing."""
+    policies = POLICY.findall(text)
+    if len(policies) != 1 or NOTHING not in policies[0]:
+        raise NotMade(f"page/index.html has no one policy with {NOTHING}")
+    scripts = " ".join(map(named, re.findall(r"<script>(.*?)</script>", text, re.S)))
+    rules = [rule.strip() for rule in policies[0].split(";")]
+    rules = [rule.replace("'unsafe-inline'", scripts) if rule.startswith("script-src ") else rule for rule in rules]
+    return text.replace(policies[0], "; ".join(rules), 1)
+
+
+def assembled(folder, module):
+    """The page of the sources in a folder and of a module, as its bytes."""
+    if not (folder / "index.html").is_file():
+        raise NotMade("there is no page/index.html")
+    text = LINE.sub(lambda found: part(folder, found, module), (folder / "index.html").read_text())
+    if 'const PESPBENCH_MODULE = "' not in text:
+        raise NotMade("page/index.html has no line <!-- module -->")
+    return with_policy(text).encode()
+
+
+def module_of(page):
+    """The module in a page."""
+    found = re.search(rb'const PESPBENCH_MODULE = "([A-Za-z0-9+/=]*)"', page)
+    if not found:
+        raise NotMade("there is no module in the page")
+    return base64.b64decode(found.group(1))

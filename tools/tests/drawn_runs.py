@@ -1,0 +1,61 @@
+"""Whole runs that are drawn: a period, three files and commands; and what the program gives for them."""
+
+from typing import NamedTuple
+
+from tests.drawn_files import Form, damaged, drawn
+from tests.harness import run
+from tests.streams import drawn_lines, without_search
+
+LINES = 25
+# So many periods have files whose rows the commands name, and whose optima are soon found.
+GREATEST_SHORT = 12
+LONG = [60, 120, 255, 256, 1440]
+
+
+class Asked(NamedTuple):
+    """What a run is given."""
+
+    period: int
+    activities: bytes
+    fixed: bytes
+    times: bytes
+    commands: bytes
+
+
+def short_rows(draw, period):
+    """Rows of a few events and activities, as lines name them."""
+    activities = []
+    for number in draw.sample(range(1, 7), draw.randint(0, 5)):
+        lower = draw.randint(-period, period)
+        ends = [draw.randint(1, 4), draw.randint(1, 4)]
+        activities.append((number, *ends, lower, lower + draw.randrange(period), draw.randrange(5)))
+    named = sorted({event for row in activities for event in row[1:3]})
+    fixed = {event: draw.randrange(period) for event in named if draw.randrange(4) == 0}
+    times = {event: draw.randrange(period) for event in range(1, 6) if draw.randrange(2)}
+    return activities, fixed, times
+
+
+def drawn_run(draw):
+    """A run; most often its files can be read."""
+    is_short = draw.randrange(4) > 0
+    period = draw.randint(2, GREATEST_SHORT) if is_short else draw.choice(LONG)
+    rows = short_rows(draw, period) if is_short else drawn(draw, draw.randint(1, 6), draw.randint(1, 6))
+    files = [Form(draw).write(part if isinstance(part, list) else list(part.items())) for part in rows]
+    if draw.randrange(5) == 0:
+        place = draw.randrange(len(files))
+        files[place] = damaged(draw, files[place])
+    lines = drawn_lines(draw, period, LINES)
+    lines = lines if is_short else without_search(lines)
+    return Asked(period, *files, b"\n".join(lines) + draw.choice([b"", b"\n"]))
+
+
+def told_by(suite, asked):
+    """What the program gives: its replies, and the text of its fault."""
+    names = ["activities", "fixed", "times"]
+    activities, fixed, times = (suite.file(f"given {name}", getattr(asked, name)) for name in names)
+    words = [suite.program, "--period", str(asked.period), "--fixed", fixed, "--times", times, activities]
+    came = run(words, given=asked.commands)
+    fault = came["standard error"].decode()
+    right = bool(fault) == bool(came["status"])
+    fault = fault.removeprefix("pespbench: ").removesuffix("\n")
+    return {"replies": came["standard output"], "fault": fault if right else f"status {came['status']}: {fault}"}

@@ -1,0 +1,133 @@
+"""The library in process: its callers in C, Rust and Python give what the program gives, and the memory that it is lent
+is used as embedded/pespbench.h says."""
+
+import ctypes
+import importlib.util
+import random
+import shutil
+import sys
+
+from tests.drawn_runs import drawn_run, told_by
+from tests.examples import content, folders, words_of
+from tests.file_cases import TWO
+from tests.harness import TOP, run, within
+
+SOURCES = TOP / "embedded"
+# tools/library makes it.
+LIBRARY = TOP / "crates/pesp_embedded/out/libpesp_embedded.a"
+DRAWN = 200
+WARNINGS = ["-std=c11", "-Wall", "-Wextra", "-Wpedantic", "-Werror", "-O2"]
+
+
+def made(suite, name, words):
+    came = run(words, seconds=100)
+    suite.note(f"{name} is made", {"status": 0, "standard error": b""}, came)
+    return came["status"] == 0
+
+
+def callers(suite):
+    """The commands that answer as the program does, by what they are written in."""
+    folder, compiler, rustc = suite.folder, shutil.which("gcc") or shutil.which("cc"), shutil.which("rustc")
+    suite.holds(f"there is {LIBRARY.relative_to(TOP)}, which tools/library makes", LIBRARY.exists())
+    if not (compiler and LIBRARY.exists()):
+        return {}
+    found, heap = {}, folder / "heap.o"
+    if not made(suite, "heap.c", [compiler, *WARNINGS, "-fPIC", "-c", SOURCES / "heap.c", "-o", heap]):
+        return {}
+    if made(suite, "answer.c", [compiler, *WARNINGS, "-o", folder / "in-c", SOURCES / "answer.c", heap, LIBRARY]):
+        found["C"] = [folder / "in-c"]
+    words = ["-shared", "-o", shared(suite), heap, "-Wl,--whole-archive", LIBRARY, "-Wl,--no-whole-archive"]
+    if made(suite, "the shared library", [compiler, *words]):
+        found["Python"] = [sys.executable, "-B", SOURCES / "answer.py", shared(suite)]
+    if rustc:
+        words = ["--edition=2021", "-O", "-o", folder / "in-rust", SOURCES / "answer.rs"]
+        words += [f"-Clink-arg={heap}", f"-Clink-arg={LIBRARY}"]
+        if made(suite, "answer.rs", [rustc, *words]):
+            found["Rust"] = [folder / "in-rust"]
+    return found
+
+
+def shared(suite):
+    return suite.folder / "libpespbench.so"
+
+
+def asked_by(words):
+    """The period and the files of a command line: PERIOD ACTIVITIES FIXED TIMES."""
+    given = {"--period": "60", "--fixed": "-", "--times": "-", "": "-"}
+    name = ""
+    for word in words:
+        if word in given:
+            name = word
+        else:
+            given[name], name = word, ""
+    return [given["--period"], given[""], given["--fixed"], given["--times"]]
+
+
+@within(240)
+def embedded(suite):
+    """The stories of examples/ that have commands, and drawn runs."""
+    for language, words in callers(suite).items():
+        for folder in folders():
+            commands = content(folder / "commands", None)
+            if commands is None:
+                continue
+            wanted = {"status": int(content(folder / "status", b"0")), "standard output": content(folder / "expected")}
+            wanted["standard error"] = content(folder / "error")
+            came = run([*words, *asked_by(words_of(folder))], given=commands, cwd=folder)
+            suite.note(f"examples/{folder.name} in {language}", wanted, came)
+    if shared(suite).exists():
+        module = answering()
+        call = module.loaded(shared(suite))
+        drawn_runs(suite, module, call)
+        rooms(suite, module, call)
+        periods(suite, module, call)
+
+
+def answering():
+    """embedded/answer.py as a module."""
+    spec = importlib.util.spec_from_file_location("answer", SOURCES / "answer.py")
+    module = importlib.util.module_from_spec(spec)
+    spec.loader.exec_module(module)
+    return module
+
+
+def drawn_runs(suite, module, call):
+    draw = random.Random(41)
+    for number in range(DRAWN):
+        asked = drawn_run(draw)
+        replies, told = module.answer(call, *asked)
+        suite.note(f"drawn run {number}, {asked}", told_by(suite, asked), {"replies": replies, "fault": module.fault_of(told) or ""})
+
+
+def into_room(module, call, room, period, commands):
+    """What a room of such bytes holds behind a call, and what is told."""
+    out, told = ctypes.create_string_buffer(room, len(room) + 1), module.Told(9, 9, 9, 9, 9)
+    call(period, TWO, len(TWO), b"", 0, b"", 0, commands, len(commands), out, len(room), ctypes.byref(told))
+    return out.raw[: len(room)], {name: getattr(told, name) for name, _ in module.Told._fields_}
+
+
+def rooms(suite, module, call):
+    """The replies stand in front of the room, and behind them is what was there."""
+    replies = b"ok\nok\n"
+    told = {"length": len(replies), "place": 0, "status": 0, "reason": 0, "field": 0}
+    for length in [0, 1, len(replies) - 1, len(replies), len(replies) + 1, 1000]:
+        came = into_room(module, call, b"." * length, 10, b"fix 1 0\nfix 1 1\n")
+        wanted = (replies[:length] + b"." * (length - len(replies)), told)
+        suite.note(f"replies of {len(replies)} bytes in a room of {length}", {"room, told": wanted}, {"room, told": came})
+    for line in ["x" * 4_097, "cost\n" * 1_000_001]:
+        came = into_room(module, call, b".", 10, line.encode())[1]
+        wanted = {"status": 7, "place": 1} if "x" in line else {"status": 8, "place": 0}
+        suite.note(f"a run of {line[:4]}..", wanted, came)
+
+
+def periods(suite, module, call):
+    """A period that there is not leaves the room as it was."""
+    for period in [0, 1, 1_441, 65_535]:
+        came = into_room(module, call, b"." * 9, period, b"cost\n")
+        wanted = (b"." * 9, {"length": 0, "place": 0, "status": 9, "reason": 0, "field": 0})
+        suite.note(f"period {period}", {"room, told": wanted}, {"room, told": came})
+    for period in [2, 1_440]:
+        suite.holds(f"period {period} is one", into_room(module, call, b"", period, b"")[1]["status"] == 0)
+
+
+GROUPS = [embedded]

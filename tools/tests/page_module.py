@@ -1,0 +1,180 @@
+"""The page: how it is put together, and its module in Node beside the program."""
+
+import base64
+import itertools
+import json
+import random
+import re
+import shutil
+import subprocess
+import sys
+
+from tests.drawn_runs import Asked, drawn_run, told_by
+from tests.file_cases import TWO
+from tests.harness import TOP, within
+
+sys.path.insert(0, str(TOP / "tools"))
+
+from paging.page import assembled, module_of  # noqa: E402
+from paging.tree import MADE, NotMade  # noqa: E402
+
+POLICY = "default-src 'none'; script-src 'unsafe-inline' 'wasm-unsafe-eval'; style-src 'unsafe-inline'"
+INDEX = f"""<!doctype html>
+<meta http-equiv="Content-Security-Policy" content="{POLICY}">
+<!-- style: look.css -->
+<p>A <!-- comment --> stays.</p>
+<!-- module -->
+  <!-- script: parts/first.js -->
+"""
+MADE_OF_IT = """<!doctype html>
+<meta http-equiv="Content-Security-Policy" content="POLICY">
+<style>
+p { margin: 0 }
+</style>
+<p>A <!-- comment --> stays.</p>
+<script>const PESPBENCH_MODULE = "AGFzbQ==";</script>
+<script>
+'use strict';
+</script>
+"""
+MODULE = b"\0asm"
+# By openssl, of each of the two scripts.
+NAMES = ["sha256-PfQn40Px3bBZ42FmgZ5XTzl6GwwerIyD30qSfXi78vM=", "sha256-YZwKaVawabDNvmVDMcSnBHe0D1Gx5K61vcyoQEpD0nk="]
+
+
+def sources(suite, name, **changed):
+    """The folder of a page of a few lines, with some of its files changed."""
+    folder = suite.folder / name
+    (folder / "parts").mkdir(parents=True)
+    files = {"index.html": INDEX, "look.css": "p { margin: 0 }\n", "parts/first.js": "'use strict';\n"}
+    for path, text in {**files, **{key.replace("__", "/").replace("_", "."): text for key, text in changed.items()}}.items():
+        (folder / path).write_text(text)
+    return folder
+
+
+def refused(folder):
+    try:
+        return assembled(folder, MODULE).decode()
+    except NotMade as fault:
+        return f"refused: {fault}"
+
+
+def page(suite):
+    """A page has its styles, scripts and module in it, and its policy lets just these scripts run."""
+    came = refused(sources(suite, "plain"))
+    policy = re.search(r'content="([^"]*)"', came).group(1)
+    suite.note("a page", {"page": MADE_OF_IT}, {"page": came.replace(policy, "POLICY")})
+    names = " ".join(f"'{name}'" for name in NAMES)
+    wanted = POLICY.replace("script-src 'unsafe-inline'", f"script-src {names}")
+    suite.note("its policy", {"policy": wanted}, {"policy": policy})
+    suite.holds("its module", module_of(came.encode()) == MODULE)
+    table = {
+        "a script that would end early": {"parts__first_js": "const text = '</SCRIPT>';\n"},
+        "a style that would end early": {"look_css": "/* </style> */\n"},
+        "a file that is not there": {"index_html": INDEX.replace("look.css", "looks.css")},
+        "a file outside of the page": {"index_html": INDEX.replace("look.css", "../plain/look.css")},
+        "no policy": {"index_html": INDEX.replace("Content-Security-Policy", "Refresh")},
+        "a policy that lets requests out": {"index_html": INDEX.replace("default-src 'none'; ", "")},
+        "no module": {"index_html": INDEX.replace("<!-- module -->", "")},
+    }
+    for number, (name, changed) in enumerate(table.items()):
+        came = refused(sources(suite, f"page {number}", **changed))
+        suite.note(f"a page with {name}", {"is refused": True}, {"is refused": came.startswith("refused: ")})
+
+
+class Node:
+    """The module in Node, which answers runs."""
+
+    def __init__(self, suite, module):
+        path = suite.folder / "module.wasm"
+        path.write_bytes(module)
+        words = ["node", TOP / "tools/tests/module_runs.js", TOP / "page/module.js", path]
+        self.process = subprocess.Popen(words, stdin=subprocess.PIPE, stdout=subprocess.PIPE, text=True)
+
+    def answer(self, asked, limit=0, room=0):
+        texts = {name: base64.b64encode(value).decode() for name, value in asked._asdict().items() if name != "period"}
+        print(json.dumps({"period": asked.period, "limit": limit, "room": room, **texts}), file=self.process.stdin, flush=True)
+        came = json.loads(self.process.stdout.readline())
+        return {**came, "replies": base64.b64decode(came["output"])}
+
+    def __enter__(self):
+        return self
+
+    def __exit__(self, *_):
+        self.process.stdin.close()
+        self.process.wait()
+
+
+# So many lines are played, and so many runs are given too little memory, each so often.
+LINES = 10_000
+SHORT_RUNS, TIMES = 40, 6
+# So many bits has the least memory for blocks that is left, and the most.
+BITS = 12, 21
+
+
+def same_bytes(suite, node):
+    """Drawn runs have the program's replies, and nothing is left behind a run."""
+    draw, lines = random.Random(4_100), 0
+    for number in itertools.count():
+        if lines >= LINES:
+            break
+        asked = drawn_run(draw)
+        came = node.answer(asked, room=draw.choice([0, 1, 100, 1 << 20]))
+        lines += len(asked.commands.splitlines())
+        came["in use"] = came["used"][0]
+        suite.note(f"drawn run {number}, {asked}", {**told_by(suite, asked), "in use": 0}, came)
+
+
+def is_short(whole, came):
+    """Whether memory is wanted in a run, whose replies are then some first bytes of all."""
+    is_wanted = came["ending"]["status"] in (5, 6) or came["ending"]["reason"] == 11
+    return is_wanted and whole.startswith(came["replies"])
+
+
+def little_memory(suite, node):
+    """With less and less memory a run is answered as the program does, or tells that it found none."""
+    draw, wanted_some = random.Random(4_101), 0
+    for number in range(SHORT_RUNS):
+        asked = drawn_run(draw)
+        whole = told_by(suite, asked)
+        for limit in (int(2 ** draw.uniform(*BITS)) for _ in range(TIMES)):
+            came = node.answer(asked, limit=limit, room=1 << 12)
+            is_same = {name: came[name] for name in whole} == whole
+            wanted_some += not is_same
+            name = f"run {number} within {limit} bytes, {asked}: {came['fault']}"
+            suite.holds(name, came["used"][0] == 0 and (is_same or is_short(whole["replies"], came)))
+    suite.holds(f"memory was wanted in some of them: {wanted_some}", wanted_some > SHORT_RUNS)
+    suite.holds(f"and not in others: {wanted_some}", wanted_some < SHORT_RUNS * (TIMES - 1))
+
+
+def endings(suite, node):
+    """Runs that end otherwise."""
+    empty = Asked(10, b"", b"", b"", b"")
+    for period in [0, 1, 1_441, 65_536, -3, 2.5, 1_450]:
+        came = node.answer(empty._replace(period=period, commands=b"cost\n"))
+        suite.note(f"period {period}", {"replies": b"", "fault": "the period is not 2 to 1440"}, came)
+    long = b"fix 1 0\n" + b"x" * 4_097
+    came = node.answer(Asked(10, TWO, b"", b"", long))
+    suite.note("a long line", {"replies": b"ok\n", "fault": "line 2 is longer than 4096 bytes"}, came)
+    many = b"#\n" * 1_000_001
+    suite.note("many lines", {"fault": "more than 1000000 lines"}, node.answer(empty._replace(commands=many)))
+    all_domains = b"fix 1 0\n" + b"domains\n" * 20_000
+    asked = Asked(10, TWO, b"", b"", all_domains)
+    suite.note("replies beyond the first room", told_by(suite, asked), node.answer(asked, room=1 << 10))
+
+
+@within(300)
+def page_module(suite):
+    """The module of page/pespbench.html, in Node."""
+    if not shutil.which("node"):
+        print("page_module: there is no node, so the module is not tried")
+        return
+    suite.holds("there is page/pespbench.html, which tools/page makes", MADE.exists())
+    if MADE.exists():
+        with Node(suite, module_of(MADE.read_bytes())) as node:
+            same_bytes(suite, node)
+            little_memory(suite, node)
+            endings(suite, node)
+
+
+GROUPS = [page, page_module]
