@@ -4,7 +4,7 @@ from typing import NamedTuple
 
 from tests.drawn_files import Form, damaged, drawn
 from tests.harness import run
-from tests.streams import drawn_lines, without_search
+from tests.streams import drawn_lines, searches
 
 LINES = 25
 # So many periods have files whose rows the commands name, and whose optima are soon found.
@@ -44,8 +44,7 @@ def drawn_run(draw):
     if draw.randrange(5) == 0:
         place = draw.randrange(len(files))
         files[place] = damaged(draw, files[place])
-    lines = drawn_lines(draw, period, LINES)
-    lines = lines if is_short else without_search(lines)
+    lines = [line for line in drawn_lines(draw, period, LINES) if is_short or not searches(line)]
     return Asked(period, *files, b"\n".join(lines) + draw.choice([b"", b"\n"]))
 
 

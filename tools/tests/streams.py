@@ -134,6 +134,11 @@ def drawn_lines(draw, period, count):
     return [*(line.encode() for line in network), *lines]
 
 
+def searches(line):
+    """Whether the line looks for a timetable, which at a long period takes seconds."""
+    return line.lower().split()[:1] in ([b"optimum"], [b"adopt"], [b"try"])
+
+
 def compared(bench, lines, output):
     """The first line whose reply is not a legal one, with what was wanted and what came; None where there is none."""
     rest = output.decode("latin-1").split("\n")[:-1]
