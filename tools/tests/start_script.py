@@ -88,6 +88,8 @@ def is_alive(process):
 def broken_builds(suite):
     """A build that is broken off ends its toolchain, and leaves nothing but what was there before."""
     for name in ["SIGINT", "SIGTERM", "SIGHUP"]:
+        # Who starts the tests in the background of a script has SIGINT ignored, and a shell cannot trap it then.
+        signal.signal(getattr(signal, name), signal.SIG_DFL)
         for has_program in (False, True):
             broken_off(suite, name, has_program)
 
