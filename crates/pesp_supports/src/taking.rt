@@ -230,6 +230,9 @@ impl Supports {
     }
 
     /// Takes a pair out of the rows. It then stands at the end of the trail.
+    // Few of the counts that fall take a pair out. In line in the loop of `lower`, packing the pair costs each of them an instruction.
+    #[cold]
+    #[inline(never)]
     fn take_out(&mut self, place: usize, residue: u16)
         requires { Of (has_at (self.old).rows) place residue }
         ensures rows { (p r : ℕ) → has_at (self.new).rows p r ≡ without (has_at (self.old).rows) place residue p r }
