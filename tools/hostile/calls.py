@@ -5,7 +5,7 @@ import re
 from hostile.served import Order, Served
 from tests.harness import TOP
 
-CALLER = "pesp_growths"
+CALLER = "pesp_tests_memory"
 OUTSIDE = (1, b"no room\n")
 # Want of memory in the form of each call; that of most is refusal 10.
 REFUSAL = rb"Err\(Memory\)\n"

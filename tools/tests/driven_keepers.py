@@ -1,6 +1,6 @@
 """What both keepers have to tell when they are driven, drawn lines that drive them, and what of their lines is wrong.
 
-The lines are those that the program crates/pesp_keepers takes: edits as commands, `push fix E T`, which pushes the
+The lines are those that the program crates/pesp_tests_keepers takes: edits as commands, `push fix E T`, which pushes the
 pair of an event and a time, and `pop`. A model follows them, by the plain rules of tests/network.py.
 """
 

@@ -8,12 +8,12 @@ use Rattle.pesp_instance.specs.Network.{Network}
 use Rattle.pesp_domains.specs.declared.pair.Pair.{Pair}
 use Rattle.pesp_domains.specs.Sweeps.{AreDomains}
 use Rattle.pesp_domains.proofs.Pushes.{pushed_none}
-use Rattle.pesp_supports.specs.Counts.{has_at}
+use Rattle.pesp_counts_supports.specs.Counts.{has_at}
 use Rattle.pesp_counts.specs.Keeping.{AreSettled, IsKeeping, adds}
-use Rattle.pesp_supports.specs.Resting.{HaveRoom}
-use Rattle.pesp_links.specs.Links.{Links}
-use Rattle.pesp_links.specs.Places.{numbered}
-use Rattle.pesp_supports.specs.Supports.{HaveSameShape, Supports}
+use Rattle.pesp_counts_supports.specs.Resting.{HaveRoom}
+use Rattle.pesp_counts_arcs.specs.Links.{Links}
+use Rattle.pesp_counts_arcs.specs.Places.{numbered}
+use Rattle.pesp_counts_supports.specs.Supports.{HaveSameShape, Supports}
 use Rattle.pesp_counts.proofs.Keeping.{for_same}
 use Rattle.pesp_counts.proofs.Remade.{out_none}
 

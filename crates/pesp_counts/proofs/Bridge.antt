@@ -12,14 +12,14 @@ use Rattle.pesp_domains.specs.Domains.{InDomains, Joins, other, own}
 use Rattle.pesp_domains.specs.Sweeps.{AreDomains, Covers, IsSettledAt, Of, Pairs, Settles}
 use Rattle.pesp_domains.proofs.Laws.{InDomains-admitted, InDomains-stands, settled_domains}
 use Rattle.pesp_domains.proofs.Sweeps.{left, swept, swept_at_last}
-use Rattle.pesp_links.specs.Ends.{AreLinked, IsEndAt, end_at, ends_of, passes}
-use Rattle.pesp_supports.specs.Counts.{IsClosed, KeepsClosed, has_at}
+use Rattle.pesp_counts_arcs.specs.Ends.{AreLinked, IsEndAt, end_at, ends_of, passes}
+use Rattle.pesp_counts_supports.specs.Counts.{IsClosed, KeepsClosed, has_at}
 use Rattle.pesp_counts.specs.Keeping.{rows_of}
-use Rattle.pesp_supports.specs.Resting.{AreAtRest, AreLive}
-use Rattle.pesp_links.specs.Links.{IsEndOf, Links, StandFor, end_number, opposite}
-use Rattle.pesp_links.specs.Places.{Places, number_at, numbered, place_of}
-use Rattle.pesp_supports.specs.Supports.{AreExact, AreLevel, Supports}
-use Rattle.pesp_supports.proofs.Supporters.{supporters_from, supporters_some}
+use Rattle.pesp_counts_supports.specs.Resting.{AreAtRest, AreLive}
+use Rattle.pesp_counts_arcs.specs.Links.{IsEndOf, Links, StandFor, end_number, opposite}
+use Rattle.pesp_counts_arcs.specs.Places.{Places, number_at, numbered, place_of}
+use Rattle.pesp_counts_supports.specs.Supports.{AreExact, AreLevel, Supports}
+use Rattle.pesp_counts_supports.proofs.Supporters.{supporters_from, supporters_some}
 
 -- ---- both ends of an activity
 

@@ -12,19 +12,19 @@ use Rattle.pesp_base.specs.declared.activity.Activity.{Activity}
 use Rattle.pesp_domains.specs.declared.side.Side.{Side}
 use Rattle.pesp_domains.specs.declared.side.Side.TheVariants.{Tail, Head}
 use Rattle.pesp_domains.specs.Sweeps.{Of}
-use Rattle.pesp_links.specs.Ends.{end_at, ends_of}
-use Rattle.pesp_supports.specs.Counts.{IsExactAt, IsLiveAt, has_at}
+use Rattle.pesp_counts_arcs.specs.Ends.{end_at, ends_of}
+use Rattle.pesp_counts_supports.specs.Counts.{IsExactAt, IsLiveAt, has_at}
 use Rattle.pesp_counts.specs.Keeping.{AreAtRestBut, AreFor, adds}
-use Rattle.pesp_supports.specs.Resting.{AreAtRest}
-use Rattle.pesp_links.specs.Links.{IsChangedAt, IsEndOf, IsEndOfPlace, Links, StandFor, end_number}
-use Rattle.pesp_links.specs.Places.{place_of}
-use Rattle.pesp_supports.specs.Supports.{AreLevel, IsRoomier, Supports}
+use Rattle.pesp_counts_supports.specs.Resting.{AreAtRest}
+use Rattle.pesp_counts_arcs.specs.Links.{IsChangedAt, IsEndOf, IsEndOfPlace, Links, StandFor, end_number}
+use Rattle.pesp_counts_arcs.specs.Places.{place_of}
+use Rattle.pesp_counts_supports.specs.Supports.{AreLevel, IsRoomier, Supports}
 use Rattle.pesp_domains.proofs.Families.{and_left}
-use Rattle.pesp_supports.specs.declared.trail.Placed.{Placed}
+use Rattle.pesp_counts_supports.specs.declared.trail.Placed.{Placed}
 use Rattle.pesp_counts.proofs.Asks.{asks_again, first_fails, found_in}
 use Rattle.pesp_counts.proofs.Bridge.{some_of, the_same}
-use Rattle.pesp_links.proofs.StandLaws.{stands_fix, stands_unfix, stands_weight, stands_window}
-use Rattle.pesp_supports.proofs.Supporters.{supporters_same}
+use Rattle.pesp_counts_arcs.proofs.StandLaws.{stands_fix, stands_unfix, stands_weight, stands_window}
+use Rattle.pesp_counts_supports.proofs.Supporters.{supporters_same}
 
 pub if_some : {X : Type 0} (P : X → Type 0) (o : Option X) (x : X) → o ≡ Some x → IfSome o P → P x
 if_some P None x is h = absurd (false≢true (ap is_some is))

@@ -15,12 +15,12 @@ use Rattle.pesp_domains.specs.declared.side.Side.{Side}
 use Rattle.pesp_domains.specs.declared.side.Side.TheVariants.{Tail, Head}
 use Rattle.pesp_domains.specs.Domains.{own}
 use Rattle.pesp_domains.proofs.Families.{in_filter, none_passes, passing}
-use Rattle.pesp_links.specs.Ends.{ends_of}
-use Rattle.pesp_links.specs.Links.{Links, StandFor, end_number}
-use Rattle.pesp_links.specs.Places.{number_at, place_of}
+use Rattle.pesp_counts_arcs.specs.Ends.{ends_of}
+use Rattle.pesp_counts_arcs.specs.Links.{Links, StandFor, end_number}
+use Rattle.pesp_counts_arcs.specs.Places.{number_at, place_of}
 use Rattle.pesp_counts.specs.Works.{degree}
 use Rattle.pesp_counts.proofs.Bridge.{the_same}
-use Rattle.pesp_links.proofs.StandMembers.{in_map}
+use Rattle.pesp_counts_arcs.proofs.StandMembers.{in_map}
 
 -- different numbers that all stand in another list are no more than it is long
 pub no_more_within : (xs ys : List ℕ) → AllPairs (λ j k. j ≢ k) xs → ((k : ℕ) → Contains xs k → Contains ys k) → length xs ≤ length ys

@@ -17,15 +17,15 @@ use Rattle.pesp_domains.specs.declared.side.Side.{Side}
 use Rattle.pesp_domains.specs.declared.side.Side.TheVariants.{Tail, Head}
 use Rattle.pesp_domains.proofs.Edits.{effect_is, keeps_fix, keeps_unfix, keeps_window}
 use Rattle.pesp_domains.proofs.Families.{here, here_or_there, not_in_none, there}
-use Rattle.pesp_links.specs.Links.{Links, end_number}
+use Rattle.pesp_counts_arcs.specs.Links.{Links, end_number}
 use Rattle.pesp_counts.specs.Loosening.{AreSpared, AreStarts}
-use Rattle.pesp_links.specs.Places.{ArePlaces, place_of}
+use Rattle.pesp_counts_arcs.specs.Places.{ArePlaces, place_of}
 use Rattle.pesp_domains.specs.Loosening.{admits_anew, is_looser}
 use Rattle.pesp_counts.specs.Reached.{IsOfWindow, ends_of, is_edited, starts}
-use Rattle.pesp_supports.specs.Restoring.{is_spared}
+use Rattle.pesp_counts_supports.specs.Restoring.{is_spared}
 use Rattle.pesp_counts.proofs.Bridge.{the_same}
-use Rattle.pesp_links.proofs.StandAround.{apart_places}
-use Rattle.pesp_links.proofs.StandMembers.{in_change_other, in_take_out, of_change, of_take_out}
+use Rattle.pesp_counts_arcs.proofs.StandAround.{apart_places}
+use Rattle.pesp_counts_arcs.proofs.StandMembers.{in_change_other, in_take_out, of_change, of_take_out}
 
 -- ---- starts
 

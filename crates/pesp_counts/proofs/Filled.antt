@@ -15,9 +15,9 @@ use Rattle.pesp_instance.proofs.Rising.{IsAbove, Rises, Rises-from_increasing}
 use Rattle.pesp_domains.proofs.Edits.{has_put}
 use Rattle.pesp_domains.proofs.Families.{here}
 use Rattle.pesp_counts.specs.Keeping.{AreFor}
-use Rattle.pesp_links.specs.Links.{IsEndOf, Links, StandFor}
-use Rattle.pesp_links.specs.Places.{place_of}
-use Rattle.pesp_supports.specs.Supports.{Supports}
+use Rattle.pesp_counts_arcs.specs.Links.{IsEndOf, Links, StandFor}
+use Rattle.pesp_counts_arcs.specs.Places.{place_of}
+use Rattle.pesp_counts_supports.specs.Supports.{Supports}
 
 module _ {X : Type 0} (number : X → ℕ) where
   above_member : (n : ℕ) (xs : List X) (x : X) (rest : List X) → IsAbove number n (xs ++ x ∷ rest) → n < number x

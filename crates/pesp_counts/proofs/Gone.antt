@@ -7,15 +7,15 @@ use Rattle.pesp_instance.specs.Network.{Network}
 use Rattle.pesp_domains.specs.Domains.{own}
 use Rattle.pesp_domains.specs.Sweeps.{Of, Pairs, narrowed_to}
 use Rattle.pesp_domains.proofs.Families.{here}
-use Rattle.pesp_supports.specs.declared.trail.Placed.{Placed}
-use Rattle.pesp_links.specs.Ends.{ends_of}
-use Rattle.pesp_supports.specs.Counts.{IsClosed, KeepsClosed, has_at}
-use Rattle.pesp_links.specs.Links.{Links, StandFor}
-use Rattle.pesp_links.specs.Places.{place_of}
-use Rattle.pesp_supports.specs.Supports.{IsTaken, Supports, is_in}
+use Rattle.pesp_counts_supports.specs.declared.trail.Placed.{Placed}
+use Rattle.pesp_counts_arcs.specs.Ends.{ends_of}
+use Rattle.pesp_counts_supports.specs.Counts.{IsClosed, KeepsClosed, has_at}
+use Rattle.pesp_counts_arcs.specs.Links.{Links, StandFor}
+use Rattle.pesp_counts_arcs.specs.Places.{place_of}
+use Rattle.pesp_counts_supports.specs.Supports.{IsTaken, Supports, is_in}
 use Rattle.pesp_counts.specs.Works.{IsWorked, KeepPlaces}
-use Rattle.pesp_supports.specs.Spent.{ends_at}
-use Rattle.pesp_supports.proofs.Taken.{eqb_is}
+use Rattle.pesp_counts_supports.specs.Spent.{ends_at}
+use Rattle.pesp_counts_supports.proofs.Taken.{eqb_is}
 
 -- ---- only pairs at places of events go
 

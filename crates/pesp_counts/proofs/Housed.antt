@@ -17,22 +17,22 @@ use Rattle.pesp_domains.specs.declared.pair.Pair.{Pair}
 use Rattle.pesp_domains.proofs.Edits.{effect_is, undone}
 use Rattle.pesp_domains.proofs.Families.{not_in_none}
 use Rattle.pesp_domains.proofs.Laws.{InDomains-admitted}
-use Rattle.pesp_links.specs.Ends.{end_at, ends_of}
-use Rattle.pesp_supports.specs.Counts.{has_at}
+use Rattle.pesp_counts_arcs.specs.Ends.{end_at, ends_of}
+use Rattle.pesp_counts_supports.specs.Counts.{has_at}
 use Rattle.pesp_counts.specs.Keeping.{AreFor, AreSettled, IsHousedAt, SeeSame, rows_of}
-use Rattle.pesp_supports.specs.Resting.{AreAtRest}
-use Rattle.pesp_links.specs.Links.{IsChangedAt, IsEndOfPlace, Links, LookSame, StandFor}
-use Rattle.pesp_links.specs.Places.{place_of}
-use Rattle.pesp_supports.specs.Supports.{HaveSameShape, IsRoomier, Supports}
+use Rattle.pesp_counts_supports.specs.Resting.{AreAtRest}
+use Rattle.pesp_counts_arcs.specs.Links.{IsChangedAt, IsEndOfPlace, Links, LookSame, StandFor}
+use Rattle.pesp_counts_arcs.specs.Places.{place_of}
+use Rattle.pesp_counts_supports.specs.Supports.{HaveSameShape, IsRoomier, Supports}
 use Rattle.pesp_counts.proofs.Asks.{first_fails}
 use Rattle.pesp_counts.proofs.Bridge.{counts_settle, numbered_at, test_of}
 use Rattle.pesp_counts.proofs.Carried.{rest_same, same_period}
 use Rattle.pesp_counts.proofs.Followed.{still_admitted, tight_settles}
 use Rattle.pesp_counts.proofs.Keeping.{domains_same, for_same}
 use Rattle.pesp_counts.proofs.Remade.{out_none}
-use Rattle.pesp_supports.proofs.Spread.{block_below}
-use Rattle.pesp_supports.proofs.Supporters.{supporters_same}
-use Rattle.pesp_supports.proofs.Taken.{keeps_none}
+use Rattle.pesp_counts_supports.proofs.Spread.{block_below}
+use Rattle.pesp_counts_supports.proofs.Supporters.{supporters_same}
+use Rattle.pesp_counts_supports.proofs.Taken.{keeps_none}
 
 pub to_err : {X E P : Type 0} (r : Result X E) → P → OnErr r P
 to_err (Ok x) p = tt

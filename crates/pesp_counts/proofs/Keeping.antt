@@ -13,17 +13,17 @@ use Rattle.pesp_domains.specs.Domains.{In, InDomains, IsDomain}
 use Rattle.pesp_domains.specs.Kept.{ArePushed}
 use Rattle.pesp_domains.specs.Sweeps.{AreDomains, Pairs, limited, narrowed_to}
 use Rattle.pesp_domains.proofs.Pushes.{push_settles, pushed_more}
-use Rattle.pesp_supports.specs.declared.trail.Placed.{Placed}
-use Rattle.pesp_links.specs.Ends.{AreLinked}
-use Rattle.pesp_supports.specs.Counts.{has_at}
+use Rattle.pesp_counts_supports.specs.declared.trail.Placed.{Placed}
+use Rattle.pesp_counts_arcs.specs.Ends.{AreLinked}
+use Rattle.pesp_counts_supports.specs.Counts.{has_at}
 use Rattle.pesp_counts.specs.Keeping.{AreFor, AreMarks, AreSettled, IsKeeping, rows_of, with_pairs}
-use Rattle.pesp_supports.specs.Resting.{HaveRoom, IsNarrowed}
-use Rattle.pesp_links.specs.Links.{Links}
-use Rattle.pesp_links.specs.Places.{ArePlaces, Places, number_at, numbered, place_of}
-use Rattle.pesp_supports.specs.Supports.{AreExact, AreLevel, AreOut, HaveSameShape, IsTaken, Supports, is_in}
+use Rattle.pesp_counts_supports.specs.Resting.{HaveRoom, IsNarrowed}
+use Rattle.pesp_counts_arcs.specs.Links.{Links}
+use Rattle.pesp_counts_arcs.specs.Places.{ArePlaces, Places, number_at, numbered, place_of}
+use Rattle.pesp_counts_supports.specs.Supports.{AreExact, AreLevel, AreOut, HaveSameShape, IsTaken, Supports, is_in}
 use Rattle.pesp_counts.proofs.Bridge.{counts_settle, domains_live, numbered_at, numbered_same, stand_linked, the_same}
-use Rattle.pesp_supports.proofs.Marks.{fit_same, keeps_like}
-use Rattle.pesp_supports.proofs.Taken.{stands_in}
+use Rattle.pesp_counts_supports.proofs.Marks.{fit_same, keeps_like}
+use Rattle.pesp_counts_supports.proofs.Taken.{stands_in}
 
 pub domains_same : (I : Network) (pushes : List Pair) (S S' : Pairs) → ((e r : ℕ) → S' e r ≡ S e r) → AreDomains I pushes S → AreDomains I pushes S'
 domains_same I pushes S S' same domains =

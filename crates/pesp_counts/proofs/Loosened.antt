@@ -13,16 +13,16 @@ use Rattle.pesp_domains.proofs.Edits.{effect_is}
 use Rattle.pesp_domains.proofs.Families.{and_left}
 use Rattle.pesp_domains.proofs.Laws.{InDomains-admitted}
 use Rattle.pesp_domains.proofs.Pushes.{narrowed_keeps, narrowed_passes}
-use Rattle.pesp_supports.specs.declared.trail.Placed.{Placed}
-use Rattle.pesp_supports.specs.Counts.{KeepsClosed, has_at}
+use Rattle.pesp_counts_supports.specs.declared.trail.Placed.{Placed}
+use Rattle.pesp_counts_supports.specs.Counts.{KeepsClosed, has_at}
 use Rattle.pesp_counts.specs.Keeping.{AreFor, AreSettled, rows_of}
-use Rattle.pesp_supports.specs.Resting.{AreAtRest}
-use Rattle.pesp_links.specs.Links.{Links}
+use Rattle.pesp_counts_supports.specs.Resting.{AreAtRest}
+use Rattle.pesp_counts_arcs.specs.Links.{Links}
 use Rattle.pesp_counts.specs.Loosened.{IsReach}
 use Rattle.pesp_counts.specs.Reached.{IsOfWindow}
 use Rattle.pesp_counts.specs.Loosening.{AreReached, AreSpared, AreStarts, IsLoosened, IsPutBack, WereLoose}
-use Rattle.pesp_links.specs.Places.{numbered, place_of}
-use Rattle.pesp_supports.specs.Supports.{Supports}
+use Rattle.pesp_counts_arcs.specs.Places.{numbered, place_of}
+use Rattle.pesp_counts_supports.specs.Supports.{Supports}
 use Rattle.pesp_counts.proofs.Asks.{asks_again, rewindowed_elsewhere}
 use Rattle.pesp_counts.proofs.Bridge.{counts_settle}
 use Rattle.pesp_counts.proofs.Carried.{same_period}

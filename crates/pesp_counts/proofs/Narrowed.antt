@@ -3,18 +3,18 @@ use Rattle.std.proofs.Common.{◌≡◌, ◌≢◌, ℕ, ◌<◌, ◌==◌, ◌&
 use Rattle.std.specs.List.{Contains}
 use Rattle.std.proofs.lemmas.Bool.{and_from, and_parts, cases_eq, eq-eqb, ne_eqb, false≢true}
 use Rattle.pesp_domains.specs.Sweeps.{Of, Pairs}
-use Rattle.pesp_links.specs.declared.end.End.{End}
-use Rattle.pesp_supports.specs.declared.trail.Placed.{Placed}
-use Rattle.pesp_links.specs.Ends.{AreLinked, end_at, ends_of, passes}
-use Rattle.pesp_supports.specs.Counts.{IsClosed, IsLiveAt, KeepsClosed, count_at, has_at, supporters}
+use Rattle.pesp_counts_arcs.specs.declared.end.End.{End}
+use Rattle.pesp_counts_supports.specs.declared.trail.Placed.{Placed}
+use Rattle.pesp_counts_arcs.specs.Ends.{AreLinked, end_at, ends_of, passes}
+use Rattle.pesp_counts_supports.specs.Counts.{IsClosed, IsLiveAt, KeepsClosed, count_at, has_at, supporters}
 use Rattle.pesp_counts.specs.Keeping.{AreAtRestBut}
-use Rattle.pesp_supports.specs.Resting.{ArePendingBut}
-use Rattle.pesp_links.specs.Links.{Links}
-use Rattle.pesp_supports.specs.Supports.{AreExact, AreLevel, HaveSameShape, IsTaken, Keeps, Supports, is_in, without_those}
-use Rattle.pesp_supports.proofs.PutBack.{pending_but}
+use Rattle.pesp_counts_supports.specs.Resting.{ArePendingBut}
+use Rattle.pesp_counts_arcs.specs.Links.{Links}
+use Rattle.pesp_counts_supports.specs.Supports.{AreExact, AreLevel, HaveSameShape, IsTaken, Keeps, Supports, is_in, without_those}
+use Rattle.pesp_counts_supports.proofs.PutBack.{pending_but}
 use Rattle.pesp_counts.proofs.Remade.{out_none}
-use Rattle.pesp_supports.proofs.Supporters.{supporters_from}
-use Rattle.pesp_supports.proofs.Taken.{taken_fewer}
+use Rattle.pesp_counts_supports.proofs.Supporters.{supporters_from}
+use Rattle.pesp_counts_supports.proofs.Taken.{taken_fewer}
 
 -- the residue is at the place and has no partner at the end
 abbrev pub is_lone : ℕ → List ℕ → ℕ → ℕ → Pairs

@@ -10,19 +10,19 @@ use Rattle.pesp_domains.specs.Domains.{IsAdmitted, Joins, other, own}
 use Rattle.pesp_domains.specs.Sweeps.{Of}
 use Rattle.pesp_domains.proofs.Edits.{effect_is}
 use Rattle.pesp_domains.proofs.Families.{not_in_none}
-use Rattle.pesp_supports.specs.declared.trail.Placed.{Placed}
-use Rattle.pesp_links.specs.Ends.{end_at, ends_of, passes}
-use Rattle.pesp_supports.specs.Counts.{has_at}
+use Rattle.pesp_counts_supports.specs.declared.trail.Placed.{Placed}
+use Rattle.pesp_counts_arcs.specs.Ends.{end_at, ends_of, passes}
+use Rattle.pesp_counts_supports.specs.Counts.{has_at}
 use Rattle.pesp_counts.specs.Keeping.{AreSettled, rows_of}
-use Rattle.pesp_links.specs.Links.{Links, StandFor, end_number}
+use Rattle.pesp_counts_arcs.specs.Links.{Links, StandFor, end_number}
 use Rattle.pesp_counts.specs.Loosened.{IsReach}
 use Rattle.pesp_counts.specs.Loosening.{AreReached, AreSpared, AreStarts}
-use Rattle.pesp_links.specs.Places.{number_at, place_of}
+use Rattle.pesp_counts_arcs.specs.Places.{number_at, place_of}
 use Rattle.pesp_counts.specs.Reached.{IsOutside, Reached}
 use Rattle.pesp_counts.specs.Reached.Reached.{begins, follows}
-use Rattle.pesp_supports.specs.Restoring.{IsRestored, ReachedAt, admits_at, is_spared}
-use Rattle.pesp_supports.specs.Restoring.ReachedAt.{begins as begins_at, follows as follows_at}
-use Rattle.pesp_supports.specs.Supports.{Supports, is_in}
+use Rattle.pesp_counts_supports.specs.Restoring.{IsRestored, ReachedAt, admits_at, is_spared}
+use Rattle.pesp_counts_supports.specs.Restoring.ReachedAt.{begins as begins_at, follows as follows_at}
+use Rattle.pesp_counts_supports.specs.Supports.{Supports, is_in}
 use Rattle.pesp_counts.proofs.Bridge.{numbered_at, place_is, test_of, the_same}
 use Rattle.pesp_counts.proofs.Carried.{same_period}
 

@@ -9,18 +9,18 @@ use Rattle.pesp_instance.specs.declared.edit.Edit.{Edit}
 use Rattle.pesp_instance.specs.declared.edit.Edit.TheVariants.{DropActivity}
 use Rattle.pesp_instance.specs.Network.{Network, activity_of}
 use Rattle.pesp_domains.specs.declared.side.Side.TheVariants.{Tail, Head}
-use Rattle.pesp_links.specs.Ends.{end_at, ends_of}
+use Rattle.pesp_counts_arcs.specs.Ends.{end_at, ends_of}
 use Rattle.pesp_counts.specs.Keeping.{AreAtRestBut, AreFor}
-use Rattle.pesp_supports.specs.Resting.{AreAtRest}
-use Rattle.pesp_links.specs.Links.{IsChangedAt, IsEndOfPlace, Links, StandFor}
+use Rattle.pesp_counts_supports.specs.Resting.{AreAtRest}
+use Rattle.pesp_counts_arcs.specs.Links.{IsChangedAt, IsEndOfPlace, Links, StandFor}
 use Rattle.pesp_counts.specs.Loosening.{AreSpared, AreStarts, WereLoose}
-use Rattle.pesp_links.specs.Places.{place_of}
+use Rattle.pesp_counts_arcs.specs.Places.{place_of}
 use Rattle.pesp_counts.specs.Reached.{ends_of as both_ends, is_edited, starts}
-use Rattle.pesp_supports.specs.Supports.{Supports}
+use Rattle.pesp_counts_supports.specs.Supports.{Supports}
 use Rattle.pesp_counts.proofs.Bridge.{some_of}
 use Rattle.pesp_counts.proofs.Carried.{for_relinked, rest_but, rest_same, roomier_none, same_period, tail_listed, tail_mate}
 use Rattle.pesp_counts.proofs.EditStarts.{spared_changed, two_starts}
-use Rattle.pesp_links.proofs.StandAround.{head_listed}
+use Rattle.pesp_counts_arcs.proofs.StandAround.{head_listed}
 use Rattle.pesp_counts.proofs.Supported.{activity_id, end_of}
 
 -- the head of an activity with a place is an end

@@ -11,19 +11,19 @@ use Rattle.pesp_instance.proofs.Rising.{All-found, Rises, Rises-from_increasing,
 use Rattle.pesp_domains.specs.Sweeps.{AreOpen, Pairs, narrowed_to}
 use Rattle.pesp_domains.proofs.Opened.{opened}
 use Rattle.pesp_domains.proofs.Pushes.{open_settles}
-use Rattle.pesp_links.specs.Ends.{end_at, passes}
-use Rattle.pesp_supports.specs.Counts.{ArePending, KeepsClosed, has_at}
+use Rattle.pesp_counts_arcs.specs.Ends.{end_at, passes}
+use Rattle.pesp_counts_supports.specs.Counts.{ArePending, KeepsClosed, has_at}
 use Rattle.pesp_counts.specs.Keeping.{AreFor, AreSettled, rows_of}
-use Rattle.pesp_supports.specs.Resting.{AreAtRest, AreLive}
-use Rattle.pesp_links.specs.Links.{Links, StandFor}
-use Rattle.pesp_links.specs.Places.{numbered, place_of}
-use Rattle.pesp_supports.specs.Supports.{AreExact, AreOut, HaveSameShape, IsTaken, Keeps, Supports}
+use Rattle.pesp_counts_supports.specs.Resting.{AreAtRest, AreLive}
+use Rattle.pesp_counts_arcs.specs.Links.{Links, StandFor}
+use Rattle.pesp_counts_arcs.specs.Places.{numbered, place_of}
+use Rattle.pesp_counts_supports.specs.Supports.{AreExact, AreOut, HaveSameShape, IsTaken, Keeps, Supports}
 use Rattle.pesp_counts.proofs.Bridge.{counts_settle, numbered_at, numbered_same, place_is}
 use Rattle.pesp_counts.proofs.Keeping.{for_linked, for_same, narrowed_numbered}
-use Rattle.pesp_supports.proofs.Marks.{keeps_like, out_more, pending_rest}
-use Rattle.pesp_supports.proofs.Supporters.{supporters_from}
-use Rattle.pesp_supports.proofs.Taken.{kept_shape, shape_then, taken_fewer, taken_then}
-use Rattle.pesp_links.proofs.EndRanges.{mod_above}
+use Rattle.pesp_counts_supports.proofs.Marks.{keeps_like, out_more, pending_rest}
+use Rattle.pesp_counts_supports.proofs.Supporters.{supporters_from}
+use Rattle.pesp_counts_supports.proofs.Taken.{kept_shape, shape_then, taken_fewer, taken_then}
+use Rattle.pesp_counts_arcs.proofs.EndRanges.{mod_above}
 
 -- ---- full rows
 

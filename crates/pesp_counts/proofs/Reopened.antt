@@ -5,24 +5,24 @@ use Rattle.std.proofs.lemmas.Bool.{and_from, and_parts, cases_Bool, cases_eq, ca
 use Rattle.pesp_instance.specs.Network.{Network, admits}
 use Rattle.pesp_domains.specs.declared.side.Side.{Side}
 use Rattle.pesp_domains.specs.Sweeps.{Of, Pairs}
-use Rattle.pesp_supports.specs.declared.trail.Placed.{Placed}
-use Rattle.pesp_links.specs.Ends.{end_at, ends_of, passes}
-use Rattle.pesp_supports.specs.Counts.{IsLiveAt, has_at}
+use Rattle.pesp_counts_supports.specs.declared.trail.Placed.{Placed}
+use Rattle.pesp_counts_arcs.specs.Ends.{end_at, ends_of, passes}
+use Rattle.pesp_counts_supports.specs.Counts.{IsLiveAt, has_at}
 use Rattle.pesp_counts.specs.Keeping.{AreAtRestBut}
-use Rattle.pesp_supports.specs.Resting.{AreAtRest, ArePendingBut}
-use Rattle.pesp_links.specs.Links.{Links, StandFor, end_number, opposite}
-use Rattle.pesp_links.specs.Places.{number_at}
-use Rattle.pesp_supports.specs.Restored.{AreExactBut, AreSparedTogether}
-use Rattle.pesp_supports.specs.Restoring.{IsRestored, ReachedAt, admits_at, is_spared}
-use Rattle.pesp_supports.specs.Restoring.ReachedAt.{begins, follows}
-use Rattle.pesp_supports.specs.Supports.{AreLevel, IsTaken, Keeps, Supports, is_in, without_those}
+use Rattle.pesp_counts_supports.specs.Resting.{AreAtRest, ArePendingBut}
+use Rattle.pesp_counts_arcs.specs.Links.{Links, StandFor, end_number, opposite}
+use Rattle.pesp_counts_arcs.specs.Places.{number_at}
+use Rattle.pesp_counts_supports.specs.Restored.{AreExactBut, AreSparedTogether}
+use Rattle.pesp_counts_supports.specs.Restoring.{IsRestored, ReachedAt, admits_at, is_spared}
+use Rattle.pesp_counts_supports.specs.Restoring.ReachedAt.{begins, follows}
+use Rattle.pesp_counts_supports.specs.Supports.{AreLevel, IsTaken, Keeps, Supports, is_in, without_those}
 use Rattle.pesp_counts.proofs.Bridge.{test_of}
 use Rattle.pesp_counts.proofs.Carried.{tail_mate}
-use Rattle.pesp_supports.proofs.PutBack.{pending_but}
+use Rattle.pesp_counts_supports.proofs.PutBack.{pending_but}
 use Rattle.pesp_counts.proofs.Remade.{out_none}
 use Rattle.pesp_counts.proofs.EditStarts.{its_ends, other_ends}
-use Rattle.pesp_supports.proofs.Supporters.{supporters_from, supporters_some}
-use Rattle.pesp_supports.proofs.Taken.{taken_fewer}
+use Rattle.pesp_counts_supports.proofs.Supporters.{supporters_from, supporters_some}
+use Rattle.pesp_counts_supports.proofs.Taken.{taken_fewer}
 
 below_of : (a n : ℕ) → IsTrue (nat_lt a n) → a < n
 below_of a n h =

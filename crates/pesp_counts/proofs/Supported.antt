@@ -13,13 +13,13 @@ use Rattle.pesp_domains.specs.declared.side.Side.{Side}
 use Rattle.pesp_domains.specs.Domains.{InDomains, other, own}
 use Rattle.pesp_domains.proofs.Laws.{InDomains-admitted}
 use Rattle.pesp_domains.proofs.Families.{not_in_none}
-use Rattle.pesp_links.specs.Ends.{end_at, passes}
-use Rattle.pesp_supports.specs.Counts.{count_at, has_at, supporters}
+use Rattle.pesp_counts_arcs.specs.Ends.{end_at, passes}
+use Rattle.pesp_counts_supports.specs.Counts.{count_at, has_at, supporters}
 use Rattle.pesp_counts.specs.Keeping.{AreSettled, rows_of}
-use Rattle.pesp_links.specs.Links.{IsEndOf, Links, StandFor, end_number}
-use Rattle.pesp_links.specs.Places.{place_of}
+use Rattle.pesp_counts_arcs.specs.Links.{IsEndOf, Links, StandFor, end_number}
+use Rattle.pesp_counts_arcs.specs.Places.{place_of}
 use Rattle.pesp_counts.specs.Support.{IsSupport}
-use Rattle.pesp_supports.specs.Supports.{Supports}
+use Rattle.pesp_counts_supports.specs.Supports.{Supports}
 use Rattle.pesp_counts.proofs.Asks.{found_in}
 use Rattle.pesp_counts.proofs.Bridge.{numbered_at}
 

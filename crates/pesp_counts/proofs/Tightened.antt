@@ -5,7 +5,7 @@ use Rattle.std.proofs.lemmas.Bool.{cases_eq, ne_eqb, false≢true}
 use Rattle.pesp_base.specs.declared.activity.Activity.{Activity}
 use Rattle.pesp_base.specs.Numbered.{with_number}
 use Rattle.pesp_base.specs.Windows.{Interval}
-use Rattle.pesp_links.proofs.StandLaws.{stands_kept}
+use Rattle.pesp_counts_arcs.proofs.StandLaws.{stands_kept}
 use Rattle.pesp_instance.specs.declared.edit.Edit.{Edit}
 use Rattle.pesp_instance.specs.declared.edit.Edit.TheVariants.{AddEvent, DropEvent, Fix, SetWindow, Unfix, AddActivity, DropActivity, SetSpan, SetWeight, SetEnds}
 use Rattle.pesp_instance.specs.declared.event.Event.{Event}
@@ -17,20 +17,20 @@ use Rattle.pesp_domains.proofs.Edits.{effect_is}
 use Rattle.pesp_domains.proofs.Laws.{InDomains-admitted}
 use Rattle.pesp_domains.proofs.Pushes.{narrowed_keeps, narrowed_passes}
 use Rattle.pesp_domains.proofs.Families.{and_left}
-use Rattle.pesp_supports.specs.Counts.{KeepsClosed, has_at}
+use Rattle.pesp_counts_supports.specs.Counts.{KeepsClosed, has_at}
 use Rattle.pesp_counts.specs.Keeping.{AreFor, AreSettled, adds, rows_of}
-use Rattle.pesp_supports.specs.Resting.{AreAtRest, IsNarrowed}
-use Rattle.pesp_links.specs.Links.{Links, StandFor}
-use Rattle.pesp_links.specs.Places.{Places, numbered, place_of}
+use Rattle.pesp_counts_supports.specs.Resting.{AreAtRest, IsNarrowed}
+use Rattle.pesp_counts_arcs.specs.Links.{Links, StandFor}
+use Rattle.pesp_counts_arcs.specs.Places.{Places, numbered, place_of}
 use Rattle.pesp_counts.specs.Reached.{IsOfWindow, ends_of, starts}
-use Rattle.pesp_supports.specs.Supports.{Supports}
+use Rattle.pesp_counts_supports.specs.Supports.{Supports}
 use Rattle.pesp_counts.proofs.Asks.{first_fails, rewindowed_elsewhere}
 use Rattle.pesp_counts.proofs.Bridge.{counts_settle, numbered_at, place_is, test_of}
 use Rattle.pesp_counts.proofs.Carried.{places_dropped, same_period}
 use Rattle.pesp_counts.proofs.Followed.{still_admitted, tight_settles}
 use Rattle.pesp_counts.proofs.Keeping.{for_same, narrowed_numbered}
-use Rattle.pesp_supports.proofs.Marks.{keeps_like}
-use Rattle.pesp_supports.proofs.Taken.{keeps_none}
+use Rattle.pesp_counts_supports.proofs.Marks.{keeps_like}
+use Rattle.pesp_counts_supports.proofs.Taken.{keeps_none}
 
 pub admits_same : (I J : Network) (e r : ℕ) → J.events ≡ I.events → J.period ≡ I.period → admits J e r ≡ admits I e r
 admits_same I J e r events period =

@@ -17,21 +17,21 @@ use Rattle.pesp_domains.specs.Sweeps.{AreDomains, Of, Pairs}
 use Rattle.pesp_domains.proofs.Edits.{effect_is}
 use Rattle.pesp_domains.proofs.Families.{and_left, and_right, none_passes, passing}
 use Rattle.pesp_domains.proofs.Sweeps.{left, swept, swept_at_last}
-use Rattle.pesp_supports.specs.declared.trail.Placed.{Placed}
+use Rattle.pesp_counts_supports.specs.declared.trail.Placed.{Placed}
 use Rattle.pesp_counts.specs.Keeping.{AreFor}
-use Rattle.pesp_supports.specs.Resting.{HaveRoom}
-use Rattle.pesp_links.specs.Links.{Links, StandFor}
+use Rattle.pesp_counts_supports.specs.Resting.{HaveRoom}
+use Rattle.pesp_counts_arcs.specs.Links.{Links, StandFor}
 use Rattle.pesp_counts.specs.Loosening.{AreReached, IsLoosened}
-use Rattle.pesp_links.specs.Places.{number_at, place_of}
+use Rattle.pesp_counts_arcs.specs.Places.{number_at, place_of}
 use Rattle.pesp_counts.specs.Reached.{Reached, starts}
 use Rattle.pesp_counts.specs.Restores.{IsEventPlace, Restores, StaysWithin, numbered_pair}
-use Rattle.pesp_supports.specs.Supports.{Supports}
+use Rattle.pesp_counts_supports.specs.Supports.{Supports}
 use Rattle.pesp_counts.proofs.Asks.{asks_again}
 use Rattle.pesp_counts.proofs.Bridge.{place_is, some_of, the_same}
 use Rattle.pesp_counts.proofs.ReachLaws.{outside_of}
-use Rattle.pesp_supports.proofs.Spread.{block_below, blocks_apart}
-use Rattle.pesp_links.proofs.StandMembers.{in_map, of_map}
-use Rattle.pesp_supports.proofs.Taken.{found_in, stands_in}
+use Rattle.pesp_counts_supports.proofs.Spread.{block_below, blocks_apart}
+use Rattle.pesp_counts_arcs.proofs.StandMembers.{in_map, of_map}
+use Rattle.pesp_counts_supports.proofs.Taken.{found_in, stands_in}
 use Rattle.pesp_counts.proofs.Union.{reach_covers, reached_nowhere}
 
 -- where no chain begins the empty list has all that is reached

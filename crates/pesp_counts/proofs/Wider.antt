@@ -5,8 +5,8 @@ use Rattle.std.proofs.lemmas.Bool.{cases_Bool}
 use Rattle.pesp_base.specs.Bounds.{Bounds}
 use Rattle.pesp_base.specs.Tensions.{IsMet, is_met}
 use Rattle.pesp_base.proofs.Laws.{met_is}
-use Rattle.pesp_links.specs.declared.end.End.{End}
-use Rattle.pesp_links.specs.Ends.{passes, passes_more}
+use Rattle.pesp_counts_arcs.specs.declared.end.End.{End}
+use Rattle.pesp_counts_arcs.specs.Ends.{passes, passes_more}
 use Rattle.pesp_domains.specs.Loosening.{admits_more}
 
 any_same : (f g : ℕ → Bool) → ((s : ℕ) → f s ≡ g s) → (ss : List ℕ) → list_any f ss ≡ list_any g ss

@@ -15,22 +15,22 @@ use Rattle.pesp_domains.specs.Domains.{In, InDomains}
 use Rattle.pesp_domains.specs.Sweeps.{Of}
 use Rattle.pesp_domains.proofs.Edits.{effect_is}
 use Rattle.pesp_domains.proofs.Families.{here, there}
-use Rattle.pesp_supports.specs.declared.trail.Placed.{Placed}
+use Rattle.pesp_counts_supports.specs.declared.trail.Placed.{Placed}
 use Rattle.pesp_counts.specs.declared.work.Work.{Work}
-use Rattle.pesp_links.specs.Ends.{ends_of}
-use Rattle.pesp_supports.specs.Counts.{has_at}
+use Rattle.pesp_counts_arcs.specs.Ends.{ends_of}
+use Rattle.pesp_counts_supports.specs.Counts.{has_at}
 use Rattle.pesp_counts.specs.Keeping.{AreSettled}
-use Rattle.pesp_links.specs.Links.{Links, StandFor}
+use Rattle.pesp_counts_arcs.specs.Links.{Links, StandFor}
 use Rattle.pesp_counts.specs.Loosening.{AreReached}
-use Rattle.pesp_links.specs.Places.{ArePlaces, place_of}
+use Rattle.pesp_counts_arcs.specs.Places.{ArePlaces, place_of}
 use Rattle.pesp_counts.specs.Restores.{AreThePairs, numbered_pair}
-use Rattle.pesp_supports.specs.Supports.{Supports, is_in}
+use Rattle.pesp_counts_supports.specs.Supports.{Supports, is_in}
 use Rattle.pesp_counts.specs.Works.{IsRemoved, IsWork, IsWorked, KeepPlaces, degree, probe_bound, weight_of}
-use Rattle.pesp_supports.specs.Spent.{ends_at}
+use Rattle.pesp_counts_supports.specs.Spent.{ends_at}
 use Rattle.pesp_counts.proofs.Bridge.{numbered_at, test_of, the_same}
 use Rattle.pesp_counts.proofs.Degrees.{ends_le_degree}
-use Rattle.pesp_links.proofs.StandMembers.{in_map, of_map}
-use Rattle.pesp_supports.proofs.Taken.{found_in, stands_in}
+use Rattle.pesp_counts_arcs.proofs.StandMembers.{in_map, of_map}
+use Rattle.pesp_counts_supports.proofs.Taken.{found_in, stands_in}
 
 -- ---- pairs at the places of events, by number
 

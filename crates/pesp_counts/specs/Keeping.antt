@@ -8,14 +8,14 @@ use Rattle.pesp_instance.specs.Network.{IsNetwork, Network}
 use Rattle.pesp_domains.specs.declared.pair.Pair.{Pair}
 use Rattle.pesp_domains.specs.Kept.{ArePushed}
 use Rattle.pesp_domains.specs.Sweeps.{AreDomains, Of, Pairs}
-use Rattle.pesp_supports.specs.declared.trail.Placed.{Placed}
-use Rattle.pesp_links.specs.Ends.{end_at, ends_of}
-use Rattle.pesp_supports.specs.Counts.{IsExactAt, IsLiveAt, has_at}
-use Rattle.pesp_links.specs.Links.{Links, StandFor}
-use Rattle.pesp_links.specs.Places.{numbered, place_of}
+use Rattle.pesp_counts_supports.specs.declared.trail.Placed.{Placed}
+use Rattle.pesp_counts_arcs.specs.Ends.{end_at, ends_of}
+use Rattle.pesp_counts_supports.specs.Counts.{IsExactAt, IsLiveAt, has_at}
+use Rattle.pesp_counts_arcs.specs.Links.{Links, StandFor}
+use Rattle.pesp_counts_arcs.specs.Places.{numbered, place_of}
 use Rattle.pesp_counts.specs.Reached.{starts}
-use Rattle.pesp_supports.specs.Resting.{AreAtRest, HaveRoom}
-use Rattle.pesp_supports.specs.Supports.{AreLevel, Fit, Supports, is_in, without_those}
+use Rattle.pesp_counts_supports.specs.Resting.{AreAtRest, HaveRoom}
+use Rattle.pesp_counts_supports.specs.Supports.{AreLevel, Fit, Supports, is_in, without_those}
 
 -- the ends stand for the instance, and there are rows and counts for them
 pub record AreFor (I : Network) (links : Links) (s : Supports) : Type 0 where

@@ -7,15 +7,15 @@ use Rattle.pesp_instance.specs.Edited.{edited}
 use Rattle.pesp_instance.specs.Network.{Network}
 use Rattle.pesp_domains.specs.declared.side.Side.{Side}
 use Rattle.pesp_domains.specs.Sweeps.{Pairs}
-use Rattle.pesp_supports.specs.declared.trail.Placed.{Placed}
-use Rattle.pesp_supports.specs.Counts.{KeepsClosed, has_at}
+use Rattle.pesp_counts_supports.specs.declared.trail.Placed.{Placed}
+use Rattle.pesp_counts_supports.specs.Counts.{KeepsClosed, has_at}
 use Rattle.pesp_counts.specs.Keeping.{AreSettled}
-use Rattle.pesp_supports.specs.Resting.{AreAtRest}
-use Rattle.pesp_links.specs.Links.{Links, end_number}
-use Rattle.pesp_links.specs.Places.{place_of}
+use Rattle.pesp_counts_supports.specs.Resting.{AreAtRest}
+use Rattle.pesp_counts_arcs.specs.Links.{Links, end_number}
+use Rattle.pesp_counts_arcs.specs.Places.{place_of}
 use Rattle.pesp_counts.specs.Reached.{Reached, is_edited, starts}
-use Rattle.pesp_supports.specs.Restoring.{IsRestored, is_spared}
-use Rattle.pesp_supports.specs.Supports.{HaveSameShape, Supports, is_in}
+use Rattle.pesp_counts_supports.specs.Restoring.{IsRestored, is_spared}
+use Rattle.pesp_counts_supports.specs.Supports.{HaveSameShape, Supports, is_in}
 
 -- the rows were the domains of the instance before the edit, and chains begin there
 pub record WereLoose (I J : Network) (edit : Edit) (links : Links) (s : Supports) : Type 0 where

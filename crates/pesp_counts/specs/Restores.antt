@@ -6,10 +6,10 @@ use Rattle.pesp_instance.specs.Edited.{effect}
 use Rattle.pesp_instance.specs.Network.{Network, has_event}
 use Rattle.pesp_domains.specs.declared.pair.Pair.{Pair}
 use Rattle.pesp_domains.specs.Domains.{In, InDomains}
-use Rattle.pesp_supports.specs.declared.trail.Placed.{Placed}
+use Rattle.pesp_counts_supports.specs.declared.trail.Placed.{Placed}
 use Rattle.pesp_counts.specs.declared.work.Work.{Work}
-use Rattle.pesp_links.specs.Links.{Links}
-use Rattle.pesp_links.specs.Places.{number_at}
+use Rattle.pesp_counts_arcs.specs.Links.{Links}
+use Rattle.pesp_counts_arcs.specs.Places.{number_at}
 use Rattle.pesp_counts.specs.Reached.{Reached}
 
 -- an instance, the pushed pairs, the last one at the end, the pairs that the last accepted edit put back, and its work

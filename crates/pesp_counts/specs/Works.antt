@@ -6,14 +6,14 @@ use Rattle.pesp_instance.specs.Network.{Network, has_event}
 use Rattle.pesp_domains.specs.declared.pair.Pair.{Pair}
 use Rattle.pesp_domains.specs.Domains.{In, InDomains}
 use Rattle.pesp_domains.specs.Sweeps.{Of}
-use Rattle.pesp_supports.specs.declared.trail.Placed.{Placed}
+use Rattle.pesp_counts_supports.specs.declared.trail.Placed.{Placed}
 use Rattle.pesp_counts.specs.declared.work.Work.{Work}
-use Rattle.pesp_supports.specs.Counts.{has_at}
-use Rattle.pesp_links.specs.Links.{Links}
-use Rattle.pesp_links.specs.Places.{place_of}
+use Rattle.pesp_counts_supports.specs.Counts.{has_at}
+use Rattle.pesp_counts_arcs.specs.Links.{Links}
+use Rattle.pesp_counts_arcs.specs.Places.{place_of}
 use Rattle.pesp_counts.specs.Restores.{AreThePairs}
-use Rattle.pesp_supports.specs.Spent.{ends_at}
-use Rattle.pesp_supports.specs.Supports.{Supports, is_in}
+use Rattle.pesp_counts_supports.specs.Spent.{ends_at}
+use Rattle.pesp_counts_supports.specs.Supports.{Supports, is_in}
 
 -- the pair was in the domains or is restored, its event stays, and it is not in the domains of the edited instance
 pub record IsRemoved (I : Network) (edit : Edit) (restored : List Pair) (e r : ℕ) : Type 0 where

@@ -5,7 +5,7 @@ use Rattle.std.proofs.lemmas.List.{length_push, length-take-le, take-append-le, 
 use Rattle.pesp_instance.specs.Network.{IsNetwork, Network, event_ids}
 use Rattle.pesp_domains.specs.declared.pair.Pair.{Pair}
 use Rattle.pesp_domains.specs.Domains.{InDomains}
-use Rattle.pesp_ahead.specs.Sights.{IsSightOf, IsSound, Sight, bound_at}
+use Rattle.pesp_search_bounds.specs.Sights.{IsSightOf, IsSound, Sight, bound_at}
 use Rattle.pesp_search.specs.Places.{at, pairs_of}
 use Rattle.pesp_search.specs.Seen.{IsSeen, SeesAlong, told_at}
 use Rattle.pesp_search.specs.Walk.{full_cost}

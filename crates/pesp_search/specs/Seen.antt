@@ -1,7 +1,7 @@
 -- What is seen ahead along a path.
 use Rattle.std.specs.Prelude.{ℕ, ◌<◌, ◌≤◌, List, length, take, slice_index, Option, Some, None, IfSome}
 use Rattle.pesp_instance.specs.Network.{Network}
-use Rattle.pesp_ahead.specs.Sights.{IsSightOf, Sight, bound_at}
+use Rattle.pesp_search_bounds.specs.Sights.{IsSightOf, Sight, bound_at}
 use Rattle.pesp_search.specs.Walk.{Extends, IsFull, full_cost}
 
 -- what is told of a residue of the event at the place, and 0 where nothing sees ahead

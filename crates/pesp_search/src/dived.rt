@@ -2,7 +2,7 @@
 
 ghost use Rattle.std.specs.Prelude.{◌≡◌, ◌≤◌, ◌*◌, ◌↔◌, IfOk, IfSome, IfNone, IsTrue, Some, None};
 ghost use Rattle.pesp_instance.specs.Network.{IsNetwork, event_ids};
-ghost use Rattle.pesp_ahead.specs.Sights.{IsSightOf};
+ghost use Rattle.pesp_search_bounds.specs.Sights.{IsSightOf};
 ghost use Rattle.pesp_search.specs.Dived.{least_bound};
 ghost use Rattle.pesp_search.specs.Optima.{IsMember};
 ghost use Rattle.pesp_search.specs.Tried.{IsFound, IsWithin};
@@ -13,9 +13,9 @@ use crate::guide::Guide;
 use crate::outcome::put_times;
 use crate::{Best, member_cost};
 use pesp_base::{EventId, Memory};
-use pesp_dive::dive;
 use pesp_domains::Keeper;
 use pesp_instance::Instance;
+use pesp_search_dive::dive;
 use pesp_tension::Timetable;
 use std::alloc::Global;
 

@@ -2,14 +2,14 @@
 
 ghost use Rattle.std.specs.Prelude.{◌≡◌, ◌<◌, IfOk, IfSome, length};
 ghost use Rattle.pesp_instance.specs.Network.{IsNetwork, event_ids};
-ghost use Rattle.pesp_ahead.specs.Sights.{IsSightOf};
+ghost use Rattle.pesp_search_bounds.specs.Sights.{IsSightOf};
 ghost use Rattle.pesp_search.specs.Places.{pairs_of};
 ghost use Rattle.pesp_search.specs.Seen.{IsSeen, SeesAlong, told_at};
 
-use pesp_ahead::Ahead;
 use pesp_base::{EventId, Memory};
 use pesp_domains::Keeper;
 use pesp_instance::Instance;
+use pesp_search_bounds::Ahead;
 use std::alloc::Global;
 
 /// What tells how much timetables cost at least that take a residue.

@@ -4,7 +4,7 @@ ghost use Rattle.std.specs.Prelude.{◌≡◌, ◌≢◌, ℕ, ◌<◌, ◌≤�
 ghost use Rattle.pesp_instance.specs.Network.{IsNetwork, event_ids, has_event};
 ghost use Rattle.pesp_domains.specs.declared.pair.Pair.{Pair};
 ghost use Rattle.pesp_domains.specs.Domains.{In};
-ghost use Rattle.pesp_ahead.specs.Sights.{IsSightOf};
+ghost use Rattle.pesp_search_bounds.specs.Sights.{IsSightOf};
 ghost use Rattle.pesp_search.specs.Branch.{IsBranch};
 ghost use Rattle.pesp_search.specs.Found.{AtLeast, IsOver, StaysBest, under_bound};
 ghost use Rattle.pesp_search.specs.Optima.{IsBound};

@@ -6,7 +6,7 @@ use Rattle.pesp_base.specs.Refusals.{unless_refused}
 use Rattle.pesp_instance.specs.Network.{Network}
 use Rattle.pesp_tension.specs.Answers.{IsRefusalOf, cost_of, first_missing, tensions_of, violations_of, where_timed}
 use Rattle.pesp_tension.specs.Timetables.{Times}
-use Rattle.pesp_replies.specs.Replies.{behind, cost_text, refusal_text, tensions_text, told, violations_text}
+use Rattle.pesp_shell_replies.specs.Replies.{behind, cost_text, refusal_text, tensions_text, told, violations_text}
 use Rattle.pesp_shell.specs.Checked.{check_text, joined}
 
 -- a reply that is put three times

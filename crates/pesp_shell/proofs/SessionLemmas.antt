@@ -8,13 +8,13 @@ use Rattle.std.proofs.lemmas.Option.{slice_get-get_or}
 use Rattle.std.specs.Io.KnownBytes.{Appends, Consumes, IsAtEnd, Keeps}
 use Rattle.std.proofs.KnownBytes.{Appends-kept, Appends-nil, Appends-trans, Consumes-nil, Consumes-trans}
 use Rattle.pesp_base.specs.Texts.{as_lines}
-use Rattle.pesp_lines.specs.Lines.{IsUncut, is_line_feed, lines_of, longest_line, most_lines}
-use Rattle.pesp_lines.specs.Fronts.{IsFront, IsUnended}
-use Rattle.pesp_lines.specs.declared.line_reader.Front.TheVariants as fronts
-use Rattle.pesp_lines.proofs.CutLemmas.{AreLines}
-use Rattle.pesp_lines.proofs.LineLemmas.{ended_lines-before, lines_of-after, lines_of-front, lines_of-last, some_line}
-use Rattle.pesp_replies.specs.Legal.{Work}
-use Rattle.pesp_replies.specs.Transcripts.{Leads}
+use Rattle.pesp_shell_io.specs.Lines.{IsUncut, is_line_feed, lines_of, longest_line, most_lines}
+use Rattle.pesp_shell_io.specs.Fronts.{IsFront, IsUnended}
+use Rattle.pesp_shell_io.specs.declared.line_reader.Front.TheVariants as fronts
+use Rattle.pesp_shell_io.proofs.CutLemmas.{AreLines}
+use Rattle.pesp_shell_io.proofs.LineLemmas.{ended_lines-before, lines_of-after, lines_of-front, lines_of-last, some_line}
+use Rattle.pesp_shell_replies.specs.Legal.{Work}
+use Rattle.pesp_shell_replies.specs.Transcripts.{Leads}
 use Rattle.pesp_shell.specs.declared.run_fault.RunFault.{RunFault}
 use Rattle.pesp_shell.specs.declared.run_fault.RunFault.TheVariants as fault
 use Rattle.pesp_shell.specs.declared.run_fault.Source.{Source}

@@ -7,7 +7,7 @@ use Rattle.pesplib_reader.specs.Reading.{with_fixed}
 use Rattle.pesp_shell.specs.declared.run_fault.RunFault.{RunFault}
 use Rattle.pesp_shell.specs.declared.run_fault.RunFault.TheVariants as ended
 use Rattle.pesp_shell.specs.Opening.{Files, IsFirstFault, StandFor}
-use Rattle.pesp_replies.specs.Replies.{behind, cost_text, tensions_text, told, violations_text}
+use Rattle.pesp_shell_replies.specs.Replies.{behind, cost_text, tensions_text, told, violations_text}
 
 -- one reply behind another, where both are there
 abbrev pub joined : Option (List ℕ) → Option (List ℕ) → Option (List ℕ)

@@ -1,9 +1,9 @@
 -- How the parts of a run may end.
 use Rattle.std.specs.Prelude.{◌≡◌, ◌≢◌, ℕ, ◌<◌, Bool, false, IsTrue, length, take, List, [], ◌∷◌, Option, None, Result, Ok, Err}
 use Rattle.std.specs.Io.KnownBytes.{Appends, IsAtEnd, Keeps}
-use Rattle.pesp_commands.specs.Parsed.{parsed}
-use Rattle.pesp_replies.specs.Legal.{Work}
-use Rattle.pesp_replies.specs.Transcripts.{Leads}
+use Rattle.pesp_shell_commands.specs.Parsed.{parsed}
+use Rattle.pesp_shell_replies.specs.Legal.{Work}
+use Rattle.pesp_shell_replies.specs.Transcripts.{Leads}
 use Rattle.pesp_shell.specs.declared.run_fault.RunFault.{RunFault}
 use Rattle.pesp_shell.specs.declared.run_fault.RunFault.TheVariants as fault
 use Rattle.pesp_shell.specs.Runs.{Marks, NoneFailed}

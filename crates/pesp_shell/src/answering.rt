@@ -2,16 +2,16 @@
 
 ghost use Rattle.std.specs.Prelude.{◌≡◌, ℕ, [], ◌∷◌, ◌++◌, false, IsTrue, List, OnOk};
 ghost use Rattle.std.specs.Io.KnownBytes.{Consumes, Keeps};
-ghost use Rattle.pesp_lines.specs.Lines.{IsUncut, is_line_feed, lines_of};
-ghost use Rattle.pesp_replies.specs.Legal.{work_of};
+ghost use Rattle.pesp_shell_io.specs.Lines.{IsUncut, is_line_feed, lines_of};
+ghost use Rattle.pesp_shell_replies.specs.Legal.{work_of};
 ghost use Rattle.pesp_shell.specs.Runs.{marks};
 ghost use Rattle.pesp_shell.specs.Sessions.{MayAnswer, MayEndBehind, MayFinish};
 
 use crate::RunFault;
 use pesp_bench::Bench;
 use pesp_domains::Keeper;
-use pesp_lines::{ByteSink, ByteSource, Failed, LineReader, put_all};
-use pesp_replies::reply_to_line;
+use pesp_shell_io::{ByteSink, ByteSource, Failed, LineReader, put_all};
+use pesp_shell_replies::reply_to_line;
 use std::alloc::Global;
 
 /// Answers the line of this number. The reply is whole before its first byte is written.

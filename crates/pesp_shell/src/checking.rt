@@ -4,7 +4,7 @@ ghost use Rattle.std.specs.Prelude.{◌≡◌, ◌++◌, IfOk, IfErr, OnOk, Some
 ghost use Rattle.std.specs.Option.{option_copied};
 ghost use Rattle.pesp_instance.specs.Network.{Network};
 ghost use Rattle.pesp_tension.specs.Timetables.{Times};
-ghost use Rattle.pesp_replies.specs.Replies.{behind, cost_text, refusal_text, tensions_text, violations_text};
+ghost use Rattle.pesp_shell_replies.specs.Replies.{behind, cost_text, refusal_text, tensions_text, violations_text};
 ghost use Rattle.pesp_shell.specs.Checked.{IsCheck, IsCheckFault, check_text, joined};
 ghost use Rattle.pesp_shell.specs.Opening.{files};
 
@@ -12,7 +12,7 @@ use crate::RunFault;
 use crate::opening::read;
 use pesp_base::{Period, Refusal};
 use pesp_instance::Instance;
-use pesp_replies::{put_cost, put_refusal, put_tensions, put_violations};
+use pesp_shell_replies::{put_cost, put_refusal, put_tensions, put_violations};
 use pesp_tension::{Assessment, Timetable, assess};
 use std::alloc::{AllocError, Global};
 

@@ -1,7 +1,7 @@
 //! Runs of the workbench over a stream of commands.
 
 ghost use Rattle.std.specs.Prelude.{◌≡◌, ℕ, [], false, option_copied};
-ghost use Rattle.pesp_replies.specs.Legal.{work_of};
+ghost use Rattle.pesp_shell_replies.specs.Legal.{work_of};
 ghost use Rattle.pesp_shell.specs.Opening.{Files, IsOpening, files};
 ghost use Rattle.pesp_shell.specs.Runs.{IsRun, marks};
 
@@ -11,7 +11,7 @@ use crate::opening::{open, read};
 use pesp_base::Period;
 use pesp_bench::Bench;
 use pesp_domains::Keeper;
-use pesp_lines::{ByteSink, ByteSource, Failed, Front, LineReader, MOST_LINES};
+use pesp_shell_io::{ByteSink, ByteSource, Failed, Front, LineReader, MOST_LINES};
 use std::alloc::Global;
 
 /// Answers each line before it takes more bytes.

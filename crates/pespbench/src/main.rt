@@ -1,7 +1,7 @@
 //! The program.
 #![tactic(auto)]
 
-use pesp_program::status;
+use pesp_shell_main::status;
 use std::process::ExitCode;
 
 fn main(rt: HostRuntime) -> ExitCode {

@@ -5,16 +5,16 @@ ghost use Rattle.pesp_instance.specs.declared.edit.Edit.TheVariants as edits;
 ghost use Rattle.pesp_instance.specs.Network.{Network};
 ghost use Rattle.pesp_counts.specs.Keeping.{AreSettled, WereTight, adds};
 ghost use Rattle.pesp_counts.specs.Loosening.{IsLoosened, WereFollowed};
-ghost use Rattle.pesp_supports.specs.Supports.{HaveSameShape};
+ghost use Rattle.pesp_counts_supports.specs.Supports.{HaveSameShape};
 ghost use Rattle.pesp_counts.specs.Works.{IsWorked, KeepPlaces};
 
 use super::limits::narrow_event;
 use super::loosening::loosen;
 use super::spans::narrow_ends;
 use pesp_base::{ActivityId, Span};
+use pesp_counts_arcs::Links;
+use pesp_counts_supports::{Back, Supports};
 use pesp_instance::{Edit, Instance};
-use pesp_links::Links;
-use pesp_supports::{Back, Supports};
 
 /// Follows an edit, of which is known whether it may bring pairs back, and lists those that it reaches.
 pub fn follow(

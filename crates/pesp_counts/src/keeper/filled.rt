@@ -3,15 +3,15 @@
 ghost use Rattle.std.specs.Prelude.{◌≡◌, ◌≤◌, [], OnOk, length, vec_capacity};
 ghost use Rattle.pesp_instance.specs.Network.{Network};
 ghost use Rattle.pesp_counts.specs.Keeping.{AreFor};
-ghost use Rattle.pesp_supports.specs.Resting.{HaveRoom};
-ghost use Rattle.pesp_links.specs.Links.{no_links};
-ghost use Rattle.pesp_supports.specs.Supports.{Supports};
+ghost use Rattle.pesp_counts_supports.specs.Resting.{HaveRoom};
+ghost use Rattle.pesp_counts_arcs.specs.Links.{no_links};
+ghost use Rattle.pesp_counts_supports.specs.Supports.{Supports};
 
 use super::grown::{house_activity, house_event, make_room};
+use pesp_counts_arcs::Links;
+use pesp_counts_supports::{Back, Supports};
 use pesp_domains::Pair;
 use pesp_instance::Instance;
-use pesp_links::Links;
-use pesp_supports::{Back, Supports};
 use std::alloc::{AllocError, Global};
 
 /// Gives each event a place and empty rows.

@@ -5,18 +5,18 @@ ghost use Rattle.pesp_instance.specs.declared.edit.Edit.TheVariants as edits;
 ghost use Rattle.pesp_instance.specs.Edited.{edited, effect};
 ghost use Rattle.pesp_instance.specs.Network.{IsNetwork, Network};
 ghost use Rattle.pesp_counts.specs.Keeping.{AreFor, AreSettled, IsHousedAt, SeeSame, WereSettled, adds};
-ghost use Rattle.pesp_supports.specs.Resting.{HaveRoom};
-ghost use Rattle.pesp_links.specs.Links.{IsChangedAt, StandFor};
-ghost use Rattle.pesp_links.specs.Places.{place_of};
-ghost use Rattle.pesp_supports.specs.Supports.{IsRoomier};
+ghost use Rattle.pesp_counts_supports.specs.Resting.{HaveRoom};
+ghost use Rattle.pesp_counts_arcs.specs.Links.{IsChangedAt, StandFor};
+ghost use Rattle.pesp_counts_arcs.specs.Places.{place_of};
+ghost use Rattle.pesp_counts_supports.specs.Supports.{IsRoomier};
 ghost use Rattle.pesp_counts.specs.Works.{IsWorked, KeepPlaces};
 
 use super::spans::narrow_ends;
 use pesp_base::{Activity, EventId, Period};
+use pesp_counts_arcs::Links;
+use pesp_counts_supports::{Back, Supports};
 use pesp_domains::Pair;
 use pesp_instance::{Edit, Instance};
-use pesp_links::Links;
-use pesp_supports::{Back, Supports};
 use std::alloc::{AllocError, Global};
 
 /// Gives a new event a place and empty rows. Without the memory for it, all that stood for something does.

@@ -3,18 +3,18 @@
 ghost use Rattle.std.specs.Prelude.{◌≡◌, ◌<◌, ◌≤◌, ◌+◌, ◌*◌, ◌==◌, ◌&&◌, ℕ, [], Some, IsSome, drop, length, nat_lt};
 ghost use Rattle.pesp_instance.specs.Network.{IsNetwork, admits};
 ghost use Rattle.pesp_domains.specs.Sweeps.{AreOpen, narrowed_to};
-ghost use Rattle.pesp_links.specs.Ends.{AreLinked};
-ghost use Rattle.pesp_supports.specs.Counts.{has_at};
+ghost use Rattle.pesp_counts_arcs.specs.Ends.{AreLinked};
+ghost use Rattle.pesp_counts_supports.specs.Counts.{has_at};
 ghost use Rattle.pesp_counts.specs.Keeping.{AreFor, rows_of};
-ghost use Rattle.pesp_supports.specs.Resting.{AreAtRest, IsNarrowed};
-ghost use Rattle.pesp_links.specs.Places.{place_of};
-ghost use Rattle.pesp_supports.specs.Supports.{Fit, IsTaken, Keeps};
-ghost use Rattle.pesp_supports.specs.Spent.{ends_at};
+ghost use Rattle.pesp_counts_supports.specs.Resting.{AreAtRest, IsNarrowed};
+ghost use Rattle.pesp_counts_arcs.specs.Places.{place_of};
+ghost use Rattle.pesp_counts_supports.specs.Supports.{Fit, IsTaken, Keeps};
+ghost use Rattle.pesp_counts_supports.specs.Spent.{ends_at};
 
 use pesp_base::EventId;
+use pesp_counts_arcs::Links;
+use pesp_counts_supports::Supports;
 use pesp_instance::Instance;
-use pesp_links::Links;
-use pesp_supports::Supports;
 
 /// Takes all residues of an event but one out, and of the other pairs those that are left without a partner.
 pub fn limit_event(links: &Links, supports: &mut Supports, event: EventId, residue: u16)

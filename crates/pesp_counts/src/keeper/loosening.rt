@@ -7,21 +7,21 @@ ghost use Rattle.pesp_instance.specs.Network.{Network, admits};
 ghost use Rattle.pesp_base.specs.Windows.{Interval};
 ghost use Rattle.pesp_instance.specs.declared.edit.Edit.{Edit as SomeEdit};
 ghost use Rattle.pesp_domains.specs.Sweeps.{narrowed_to};
-ghost use Rattle.pesp_links.specs.Ends.{ends_of};
+ghost use Rattle.pesp_counts_arcs.specs.Ends.{ends_of};
 ghost use Rattle.pesp_counts.specs.Keeping.{AreAtRestBut, AreFor};
-ghost use Rattle.pesp_supports.specs.Resting.{AreAtRest};
+ghost use Rattle.pesp_counts_supports.specs.Resting.{AreAtRest};
 ghost use Rattle.pesp_counts.specs.Loosening.{IsLoosened, IsPutBack, WereLoose};
-ghost use Rattle.pesp_links.specs.Places.{place_of};
+ghost use Rattle.pesp_counts_arcs.specs.Places.{place_of};
 ghost use Rattle.pesp_counts.specs.Reached.{IsOfWindow};
-ghost use Rattle.pesp_supports.specs.Supports.{HaveSameShape};
+ghost use Rattle.pesp_counts_supports.specs.Supports.{HaveSameShape};
 ghost use Rattle.pesp_counts.specs.Works.{IsWorked};
 
 use super::limits::limit_at;
 use super::spans::narrow_ends;
 use pesp_base::{ActivityId, EventId, Span};
+use pesp_counts_arcs::Links;
+use pesp_counts_supports::{Back, Supports};
 use pesp_instance::{Edit, Instance};
-use pesp_links::Links;
-use pesp_supports::{Back, Supports};
 
 /// Puts back what is reached from these places, and takes out what has no partner.
 fn reopen(

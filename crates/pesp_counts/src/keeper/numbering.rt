@@ -4,9 +4,9 @@ ghost use Rattle.std.specs.Prelude.{◌≡◌, ◌≤◌, Some, length, map, All
 ghost use Rattle.pesp_counts.specs.Restores.{IsEventPlace, numbered_pair};
 
 use pesp_base::EventId;
+use pesp_counts_arcs::Links;
+use pesp_counts_supports::Placed;
 use pesp_domains::Pair;
-use pesp_links::Links;
-use pesp_supports::Placed;
 
 /// A pair by the number of its event.
 fn numbered(links: &Links, placed: Placed) -> Option<Pair>

@@ -2,12 +2,12 @@
 
 ghost use Rattle.std.specs.Prelude.{[]};
 ghost use Rattle.pesp_counts.specs.Keeping.{AreFor, AreSettled};
-ghost use Rattle.pesp_supports.specs.Supports.{HaveSameShape};
+ghost use Rattle.pesp_counts_supports.specs.Supports.{HaveSameShape};
 
 use super::limits::limit_windows;
+use pesp_counts_arcs::Links;
+use pesp_counts_supports::Supports;
 use pesp_instance::Instance;
-use pesp_links::Links;
-use pesp_supports::Supports;
 
 /// Makes the rows the domains, whatever they were.
 pub fn remake(instance: &Instance, links: &Links, supports: &mut Supports)

@@ -5,9 +5,9 @@ ghost use Rattle.pesp_domains.specs.Loosening.{admits_more};
 ghost use Rattle.pesp_counts.specs.Reached.{starts};
 
 use pesp_base::{Period, Span};
+use pesp_counts_arcs::End;
 use pesp_domains::{is_limited, window_admits_anew};
 use pesp_instance::{Edit, Instance};
-use pesp_links::End;
 
 /// Whether the second span admits a pair of residues that the first one does not.
 fn admits_more(period: Period, old: Span, new: Span) -> bool

@@ -2,15 +2,15 @@
 
 ghost use Rattle.std.specs.Prelude.{ℕ, ◌≤◌, ◌+◌, ◌*◌};
 ghost use Rattle.std.specs.List.{Contains};
-ghost use Rattle.pesp_links.specs.Ends.{AreLinked, ends_of};
-ghost use Rattle.pesp_supports.specs.Counts.{KeepsClosed, has_at};
+ghost use Rattle.pesp_counts_arcs.specs.Ends.{AreLinked, ends_of};
+ghost use Rattle.pesp_counts_supports.specs.Counts.{KeepsClosed, has_at};
 ghost use Rattle.pesp_counts.specs.Keeping.{AreAtRestBut};
-ghost use Rattle.pesp_supports.specs.Resting.{AreAtRest};
-ghost use Rattle.pesp_supports.specs.Supports.{Fit, HaveSameShape, IsTaken};
-ghost use Rattle.pesp_supports.specs.Spent.{ends_at};
+ghost use Rattle.pesp_counts_supports.specs.Resting.{AreAtRest};
+ghost use Rattle.pesp_counts_supports.specs.Supports.{Fit, HaveSameShape, IsTaken};
+ghost use Rattle.pesp_counts_supports.specs.Spent.{ends_at};
 
-use pesp_links::Links;
-use pesp_supports::{Placed, Supports};
+use pesp_counts_arcs::Links;
+use pesp_counts_supports::{Placed, Supports};
 
 /// Counts at both ends of an activity anew, and takes out the pairs that are left without a partner, there or among those of a list
 /// that were put back.

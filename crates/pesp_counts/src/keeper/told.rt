@@ -4,8 +4,8 @@ ghost use Rattle.std.specs.Prelude.{◌≡◌, length};
 
 use super::CountKeeper;
 use crate::work::Work;
+use pesp_counts_supports::{Back, Supports};
 use pesp_domains::Pair;
-use pesp_supports::{Back, Supports};
 
 /// What an edit took: what came is in the list, and what went in the trail.
 pub fn work_of(back: &Back, supports: &Supports) -> Work

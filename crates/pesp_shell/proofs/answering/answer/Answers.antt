@@ -3,7 +3,7 @@ use Rattle.std.proofs.Common.{◌≡◌, take, refl, subst, rules}
 use Rattle.std.proofs.lemmas.Bool.{false≢true}
 use Rattle.std.specs.Io.KnownBytes.{Appends}
 use Rattle.std.proofs.KnownBytes.{Keeps-refl}
-use Rattle.pesp_replies.specs.Legal.{work_of}
+use Rattle.pesp_shell_replies.specs.Legal.{work_of}
 use Rattle.pesp_shell.proofs.AnsweringLemmas.{told}
 use Rattle.pesp_shell.proofs.answering.answer.Goals as goal
 

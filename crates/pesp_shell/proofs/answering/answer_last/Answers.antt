@@ -1,9 +1,9 @@
 -- The bytes are one line, or none; a failure behind its reply is one of writing.
 use Rattle.std.proofs.Common.{◌≡◌, ◌<◌, [], ◌∷◌, length, Err, sym, subst, rules}
 use Rattle.std.proofs.lemmas.List.{nil_from_length}
-use Rattle.pesp_lines.specs.Lines.{lines_of}
-use Rattle.pesp_lines.proofs.LineLemmas.{lines_of-last}
-use Rattle.pesp_replies.specs.Legal.{work_of}
+use Rattle.pesp_shell_io.specs.Lines.{lines_of}
+use Rattle.pesp_shell_io.proofs.LineLemmas.{lines_of-last}
+use Rattle.pesp_shell_replies.specs.Legal.{work_of}
 use Rattle.pesp_shell.specs.Sessions.{MayAnswer}
 use Rattle.pesp_shell.proofs.AnsweringLemmas.{finished_passed, nothing, passed_on}
 use Rattle.pesp_shell.proofs.answering.answer_last.Goals as goal

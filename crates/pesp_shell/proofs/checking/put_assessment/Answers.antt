@@ -1,6 +1,6 @@
 -- One reply stands behind another.
 use Rattle.std.proofs.Common.{◌≡◌, OnOk, subst}
-use Rattle.pesp_replies.specs.Replies.{cost_text, tensions_text, violations_text}
+use Rattle.pesp_shell_replies.specs.Replies.{cost_text, tensions_text, violations_text}
 use Rattle.pesp_shell.proofs.CheckLemmas.{three_behind}
 use Rattle.pesp_shell.proofs.checking.put_assessment.Goals as goal
 

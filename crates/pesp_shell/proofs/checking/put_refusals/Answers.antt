@@ -1,7 +1,7 @@
 -- One reply stands behind another, three times.
-use Rattle.pesp_replies.specs.Replies.{refusal_text}
 use Rattle.pesp_shell.proofs.CheckLemmas.{put_thrice}
 use Rattle.pesp_shell.proofs.checking.put_refusals.Goals as goal
+use Rattle.pesp_shell_replies.specs.Replies.{refusal_text}
 
 pub returns : goal.returns
 returns c =

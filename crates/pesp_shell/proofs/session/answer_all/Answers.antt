@@ -1,9 +1,9 @@
 -- Each look takes bytes behind those that are held; a line more is answered and let go, and each end is one that a run may have.
 use Rattle.std.proofs.Common.{◌≡◌, ◌+◌, ◌≤◌, [], ◌∷◌, length, length-take-le, take, drop, Ok, Err, sym, ap, subst, ◌∙◌, arith, rules}
 use Rattle.std.proofs.lemmas.List.Elements.{All-cons, All-nil}
-use Rattle.pesp_lines.specs.Lines.{lines_of, longest_line, most_lines}
-use Rattle.pesp_lines.proofs.LineLemmas.{line_at_front, lines_of-ended}
-use Rattle.pesp_replies.specs.Legal.{work_of}
+use Rattle.pesp_shell_io.specs.Lines.{lines_of, longest_line, most_lines}
+use Rattle.pesp_shell_io.proofs.LineLemmas.{line_at_front, lines_of-ended}
+use Rattle.pesp_shell_replies.specs.Legal.{work_of}
 use Rattle.pesp_shell.specs.Runs.{IsRun, marks}
 use Rattle.pesp_shell.specs.Sessions.{MayAnswer}
 use Rattle.pesp_shell.proofs.SessionLemmas.{Progress, answered, begun, ended, faulted, finished, looked, too_long, unread}

@@ -1,6 +1,6 @@
 -- The lines so far are read and answered, what is read besides is held, and no device failed.
 use Rattle.std.proofs.Common.{◌≡◌, false}
-use Rattle.pesp_replies.specs.Legal.{work_of}
+use Rattle.pesp_shell_replies.specs.Legal.{work_of}
 use Rattle.pesp_shell.proofs.SessionLemmas.{Progress}
 use Rattle.pesp_shell.proofs.session.answer_all.Given as goal
 

@@ -3,11 +3,11 @@ use Rattle.std.proofs.Common.{◌≡◌, ◌<◌, ◌≤◌, ◌+◌, ◌*◌, �
 use Rattle.pesp_instance.specs.Network.{activity_of}
 use Rattle.pesp_domains.specs.Domains.{InDomains, own}
 use Rattle.pesp_counts.specs.Restores.{Seen}
-use Rattle.pesp_links.specs.declared.end.End.{End}
-use Rattle.pesp_links.specs.Ends.{end_at}
-use Rattle.pesp_supports.specs.Counts.{count_at}
-use Rattle.pesp_links.specs.Links.{end_number}
-use Rattle.pesp_links.specs.Places.{place_of}
+use Rattle.pesp_counts_arcs.specs.declared.end.End.{End}
+use Rattle.pesp_counts_arcs.specs.Ends.{end_at}
+use Rattle.pesp_counts_supports.specs.Counts.{count_at}
+use Rattle.pesp_counts_arcs.specs.Links.{end_number}
+use Rattle.pesp_counts_arcs.specs.Places.{place_of}
 use Rattle.pesp_counts.specs.Support.{IsSupport}
 use Rattle.pesp_counts.proofs.Carried.{tail_listed, tail_low, tail_mate}
 use Rattle.pesp_counts.proofs.Supported.{activity_id, end_of, is_support, no_tail}

@@ -7,9 +7,9 @@ use Rattle.pesp_instance.proofs.Effects.{on_err, on_ok}
 use Rattle.pesp_domains.proofs.Edits.{few_left}
 use Rattle.pesp_counts.specs.declared.keeper.CountKeeper.TheInside.{Inside}
 use Rattle.pesp_counts.specs.Keeping.{AreSettled}
-use Rattle.pesp_supports.specs.Resting.{HaveRoom}
+use Rattle.pesp_counts_supports.specs.Resting.{HaveRoom}
 use Rattle.pesp_counts.specs.Loosening.{IsLoosened, WereFollowed}
-use Rattle.pesp_supports.specs.Put.{Back}
+use Rattle.pesp_counts_supports.specs.Put.{Back}
 use Rattle.pesp_counts.specs.Reached.{starts}
 use Rattle.pesp_counts.specs.Restores.{Restores, Seen, StaysWithin, numbered_pair}
 use Rattle.pesp_counts.proofs.Applied.{forgotten, keeping_none, none_of_length, not_adds}

@@ -1,8 +1,8 @@
 -- Every event and activity has its place, with nothing pushed.
 use Rattle.std.proofs.Common.{◌≡◌, ℕ, ◌*◌, ◌∙◌, arith, ap, length, vec_capacity}
 use Rattle.pesp_instance.proofs.Effects.{on_ok}
-use Rattle.pesp_supports.specs.Resting.{HaveRoom}
-use Rattle.pesp_supports.specs.Supports.{Supports}
+use Rattle.pesp_counts_supports.specs.Resting.{HaveRoom}
+use Rattle.pesp_counts_supports.specs.Supports.{Supports}
 use Rattle.pesp_counts.proofs.Applied.{keeping_none}
 use Rattle.pesp_counts.proofs.Keeping.{room_same}
 use Rattle.pesp_counts.proofs.keeper.CountKeeperKeeper.from_instance.Goals as goal

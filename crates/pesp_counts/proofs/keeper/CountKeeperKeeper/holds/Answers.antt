@@ -3,7 +3,7 @@ use Rattle.std.proofs.Common.{◌≡◌, subst, sym, ◌∙◌}
 use Rattle.std.proofs.lemmas.Bool.{false≢true}
 use Rattle.pesp_domains.specs.Domains.{InDomains}
 use Rattle.pesp_counts.specs.Restores.{Seen}
-use Rattle.pesp_supports.specs.Counts.{has_at}
+use Rattle.pesp_counts_supports.specs.Counts.{has_at}
 use Rattle.pesp_counts.specs.Keeping.{rows_of}
 use Rattle.pesp_counts.proofs.Bridge.{numbered_at}
 use Rattle.pesp_counts.proofs.Keeping.{none_at}

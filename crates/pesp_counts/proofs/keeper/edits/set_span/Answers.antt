@@ -4,16 +4,16 @@ use Rattle.std.specs.List.{Contains}
 use Rattle.pesp_instance.specs.declared.edit.Edit.TheVariants.{SetSpan}
 use Rattle.pesp_instance.specs.Network.{Network}
 use Rattle.pesp_domains.proofs.Edits.{effect_is}
-use Rattle.pesp_links.specs.Ends.{ends_of}
-use Rattle.pesp_supports.specs.Counts.{has_at}
+use Rattle.pesp_counts_arcs.specs.Ends.{ends_of}
+use Rattle.pesp_counts_supports.specs.Counts.{has_at}
 use Rattle.pesp_counts.specs.Keeping.{AreAtRestBut}
-use Rattle.pesp_links.specs.Links.{IsChangedAt}
-use Rattle.pesp_links.specs.Places.{place_of}
+use Rattle.pesp_counts_arcs.specs.Links.{IsChangedAt}
+use Rattle.pesp_counts_arcs.specs.Places.{place_of}
 use Rattle.pesp_counts.proofs.Carried.{for_relinked, if_some, place_changed, rest_but, roomier_none, same_period, tail_listed, tail_low, tail_mate}
 use Rattle.pesp_counts.proofs.Keeping.{for_linked, for_same}
-use Rattle.pesp_supports.proofs.Marks.{keeps_like}
+use Rattle.pesp_counts_supports.proofs.Marks.{keeps_like}
 use Rattle.pesp_counts.proofs.Tightened.{numbers_same, settled_even, twice_of}
-use Rattle.pesp_supports.specs.Spent.{ends_at}
+use Rattle.pesp_counts_supports.specs.Spent.{ends_at}
 use Rattle.pesp_counts.proofs.Gone.{gone_placed, worked_tight}
 use Rattle.pesp_counts.proofs.keeper.edits.set_span.Goals as goal
 

@@ -5,26 +5,26 @@ use Rattle.pesp_instance.specs.declared.edit.Edit.TheVariants.{DropEvent, SetWei
 use Rattle.pesp_instance.specs.Edited.{edited}
 use Rattle.pesp_instance.specs.Network.{IsNetwork, Network, admits}
 use Rattle.pesp_domains.proofs.Edits.{effect_is}
-use Rattle.pesp_links.specs.Ends.{end_at, ends_of}
-use Rattle.pesp_supports.specs.Counts.{has_at}
-use Rattle.pesp_links.specs.Places.{place_of}
+use Rattle.pesp_counts_arcs.specs.Ends.{end_at, ends_of}
+use Rattle.pesp_counts_supports.specs.Counts.{has_at}
+use Rattle.pesp_counts_arcs.specs.Places.{place_of}
 use Rattle.pesp_base.specs.Windows.{Interval, at_time}
 use Rattle.pesp_instance.specs.declared.edit.Edit.{Edit}
 use Rattle.pesp_counts.specs.Keeping.{AreSettled}
 use Rattle.pesp_counts.specs.Reached.{IsOfWindow, starts}
 use Rattle.pesp_counts.specs.Works.{IsWorked}
-use Rattle.pesp_links.specs.Links.{Links}
-use Rattle.pesp_supports.specs.Resting.{IsNarrowed}
+use Rattle.pesp_counts_arcs.specs.Links.{Links}
+use Rattle.pesp_counts_supports.specs.Resting.{IsNarrowed}
 use Rattle.pesp_counts.proofs.EditStarts.{of_fix, of_unfix, of_window}
 use Rattle.pesp_counts.proofs.Bridge.{some_of}
 use Rattle.pesp_counts.proofs.Carried.{dropped_not, for_relinked, places_dropped, rest_same, roomier_none, same_period, stands_still}
 use Rattle.pesp_counts.proofs.Keeping.{for_linked}
-use Rattle.pesp_supports.proofs.Taken.{keeps_none}
+use Rattle.pesp_counts_supports.proofs.Taken.{keeps_none}
 use Rattle.pesp_counts.proofs.Tightened.{only_weight, settled_dropped, settled_even, settled_window, stands_rewindowed}
 use Rattle.std.proofs.lemmas.Bool.{false≢true}
 use Rattle.pesp_domains.specs.Sweeps.{narrowed_to}
-use Rattle.pesp_supports.specs.Supports.{HaveSameShape, Supports, is_in}
-use Rattle.pesp_supports.specs.Spent.{ends_at}
+use Rattle.pesp_counts_supports.specs.Supports.{HaveSameShape, Supports, is_in}
+use Rattle.pesp_counts_supports.specs.Spent.{ends_at}
 use Rattle.pesp_counts.proofs.Gone.{keep_same, narrowed_placed, worked_none, worked_tight}
 use Rattle.pesp_counts.proofs.keeper.edits.tighten.Goals as goal
 

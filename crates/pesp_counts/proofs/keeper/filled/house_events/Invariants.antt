@@ -2,7 +2,7 @@
 use Rattle.std.proofs.Common.{◌≡◌, List, [], ◌++◌, vec_capacity}
 use Rattle.pesp_instance.specs.declared.event.Event.{Event}
 use Rattle.pesp_counts.specs.Keeping.{AreFor}
-use Rattle.pesp_supports.specs.Resting.{HaveRoom}
+use Rattle.pesp_counts_supports.specs.Resting.{HaveRoom}
 use Rattle.pesp_counts.proofs.keeper.filled.house_events.Given as goal
 
 abbrev pub invariant-loop-event : goal.invariant-loop-event

@@ -4,19 +4,19 @@ use Rattle.std.specs.List.{Contains}
 use Rattle.pesp_instance.specs.declared.edit.Edit.TheVariants.{AddActivity}
 use Rattle.pesp_instance.specs.Network.{Network}
 use Rattle.pesp_domains.proofs.Edits.{effect_is}
-use Rattle.pesp_links.specs.Ends.{ends_of}
-use Rattle.pesp_supports.specs.Counts.{has_at}
+use Rattle.pesp_counts_arcs.specs.Ends.{ends_of}
+use Rattle.pesp_counts_supports.specs.Counts.{has_at}
 use Rattle.pesp_counts.specs.Keeping.{AreAtRestBut}
-use Rattle.pesp_links.specs.Places.{place_of}
+use Rattle.pesp_counts_arcs.specs.Places.{place_of}
 use Rattle.pesp_counts.proofs.Bridge.{the_same}
 use Rattle.pesp_counts.proofs.Carried.{rest_but, tail_listed, tail_low, tail_mate}
 use Rattle.pesp_counts.proofs.Housed.{activity_period, rows_seen, settled_seen, to_err}
 use Rattle.pesp_counts.proofs.Keeping.{for_linked, for_same}
-use Rattle.pesp_supports.proofs.Marks.{keeps_like}
+use Rattle.pesp_counts_supports.proofs.Marks.{keeps_like}
 use Rattle.pesp_counts.proofs.Tightened.{settled_even}
-use Rattle.pesp_supports.specs.Spent.{ends_at}
+use Rattle.pesp_counts_supports.specs.Spent.{ends_at}
 use Rattle.pesp_counts.proofs.Gone.{gone_placed, keep_seen, worked_tight}
-use Rattle.pesp_supports.proofs.Taken.{taken_same, taken_then}
+use Rattle.pesp_counts_supports.proofs.Taken.{taken_same, taken_then}
 use Rattle.pesp_counts.proofs.keeper.grown.add_activity.Goals as goal
 
 pub returns-in_err-house_activity-clause-err : goal.returns-in_err-house_activity-clause-err

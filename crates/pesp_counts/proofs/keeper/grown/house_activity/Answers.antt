@@ -1,12 +1,12 @@
 -- An activity is given a place, or taken away again.
 use Rattle.std.proofs.Common.{◌*◌, ◌≤◌, ℕ, subst, length}
 use Rattle.std.specs.List.{Contains}
-use Rattle.pesp_links.specs.Ends.{ends_of}
-use Rattle.pesp_links.specs.Links.{IsChangedAt, IsEndOfPlace}
-use Rattle.pesp_links.specs.Places.{place_of}
+use Rattle.pesp_counts_arcs.specs.Ends.{ends_of}
+use Rattle.pesp_counts_arcs.specs.Links.{IsChangedAt, IsEndOfPlace}
+use Rattle.pesp_counts_arcs.specs.Places.{place_of}
 use Rattle.pesp_counts.proofs.Carried.{if_some, roomier_none}
 use Rattle.pesp_counts.proofs.Housed.{activity_period, dropped_activity_again, for_linked_more, for_seen, look_seen, to_err, unlinked_seen}
-use Rattle.pesp_links.proofs.StandLaws.{stands_same}
+use Rattle.pesp_counts_arcs.proofs.StandLaws.{stands_same}
 use Rattle.pesp_counts.proofs.keeper.grown.house_activity.Goals as goal
 
 pub returns-in_err-add_activity-clause-back : goal.returns-in_err-add_activity-clause-back

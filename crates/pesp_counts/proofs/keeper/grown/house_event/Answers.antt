@@ -5,10 +5,10 @@ use Rattle.pesp_instance.specs.Edited.{effect}
 use Rattle.pesp_instance.specs.Network.{Network}
 use Rattle.pesp_domains.proofs.Edits.{effect_is}
 use Rattle.pesp_counts.specs.Keeping.{IsHousedAt}
-use Rattle.pesp_links.specs.Links.{StandFor}
+use Rattle.pesp_counts_arcs.specs.Links.{StandFor}
 use Rattle.pesp_counts.proofs.Carried.{roomier_none}
 use Rattle.pesp_counts.proofs.Housed.{dropped_event_again, dropped_seen, for_housed, for_seen, look_seen, new_event_of, to_err}
-use Rattle.pesp_links.proofs.StandLaws.{stands_same}
+use Rattle.pesp_counts_arcs.proofs.StandLaws.{stands_same}
 use Rattle.pesp_counts.proofs.keeper.grown.house_event.Goals as goal
 
 pub returns-in_err-place-clause-back : goal.returns-in_err-place-clause-back

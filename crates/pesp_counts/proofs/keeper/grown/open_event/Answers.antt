@@ -6,7 +6,7 @@ use Rattle.pesp_domains.proofs.Edits.{effect_is}
 use Rattle.pesp_counts.specs.Keeping.{AreFor}
 use Rattle.pesp_counts.proofs.Housed.{opened_settled, settled_seen, to_err}
 use Rattle.std.proofs.lemmas.Bool.{false≢true}
-use Rattle.pesp_supports.specs.Supports.{is_in}
+use Rattle.pesp_counts_supports.specs.Supports.{is_in}
 use Rattle.pesp_counts.proofs.Gone.{worked_none}
 use Rattle.pesp_counts.proofs.Housed.{opened_places}
 use Rattle.pesp_counts.proofs.keeper.grown.open_event.Goals as goal

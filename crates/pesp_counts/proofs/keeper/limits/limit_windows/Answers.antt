@@ -5,11 +5,11 @@ use Rattle.std.proofs.lemmas.List.Elements.{All-head, All-tail, All-contains_its
 use Rattle.pesp_instance.specs.declared.event.Event.{Event}
 use Rattle.pesp_instance.proofs.Rising.{Rises-from_increasing}
 use Rattle.pesp_domains.proofs.Opened.{event_found}
-use Rattle.pesp_supports.specs.Counts.{has_at}
+use Rattle.pesp_counts_supports.specs.Counts.{has_at}
 use Rattle.pesp_counts.specs.Keeping.{rows_of}
 use Rattle.pesp_counts.proofs.Bridge.{place_is}
 use Rattle.pesp_counts.proofs.Remade.{agrees_window, done_first, done_more, to_come_first, to_come_more}
-use Rattle.pesp_supports.proofs.Taken.{kept_none, kept_then, taken_none, taken_then}
+use Rattle.pesp_counts_supports.proofs.Taken.{kept_none, kept_then, taken_none, taken_then}
 use Rattle.pesp_counts.proofs.keeper.limits.limit_windows.Goals as goal
 
 pub loop-event-init : goal.loop-event-init

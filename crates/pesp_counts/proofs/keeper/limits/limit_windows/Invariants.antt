@@ -6,7 +6,7 @@ use Rattle.pesp_domains.proofs.Opened.{opened}
 use Rattle.pesp_instance.proofs.Rising.{Rises}
 use Rattle.pesp_instance.specs.declared.event.Event.{Event}
 use Rattle.pesp_counts.specs.Keeping.{rows_of}
-use Rattle.pesp_supports.specs.Supports.{IsTaken, Keeps}
+use Rattle.pesp_counts_supports.specs.Supports.{IsTaken, Keeps}
 use Rattle.pesp_counts.proofs.keeper.limits.limit_windows.Given as goal
 
 abbrev pub invariant-loop-event : goal.invariant-loop-event

@@ -1,12 +1,12 @@
 -- Limiting takes pairs out that wait, and settling counts them out.
 use Rattle.std.proofs.Common.{◌≡◌, sym, subst, ◌∙◌, ◌≤◌, ◌+◌, ◌*◌, drop, length}
-use Rattle.pesp_supports.specs.Resting.{IsNarrowed}
+use Rattle.pesp_counts_supports.specs.Resting.{IsNarrowed}
 use Rattle.pesp_instance.specs.Network.{admits}
-use Rattle.pesp_links.specs.Places.{place_of}
+use Rattle.pesp_counts_arcs.specs.Places.{place_of}
 use Rattle.pesp_counts.proofs.Bridge.{the_same}
-use Rattle.pesp_supports.proofs.Marks.{fit_same, narrowed, rest_pending}
-use Rattle.pesp_supports.proofs.Taken.{kept_shape}
-use Rattle.pesp_supports.specs.Spent.{ends_at}
+use Rattle.pesp_counts_supports.proofs.Marks.{fit_same, narrowed, rest_pending}
+use Rattle.pesp_counts_supports.proofs.Taken.{kept_shape}
+use Rattle.pesp_counts_supports.specs.Spent.{ends_at}
 use Rattle.pesp_counts.proofs.keeper.limits.narrow_event.Goals as goal
 
 pub settle-requires-clause-fit : goal.settle-requires-clause-fit

@@ -4,8 +4,8 @@ use Rattle.pesp_base.specs.declared.activity.Activity.{Activity}
 use Rattle.pesp_instance.specs.declared.edit.Edit.TheVariants.{SetEnds}
 use Rattle.pesp_instance.specs.Network.{Network}
 use Rattle.pesp_domains.proofs.Edits.{effect_is}
-use Rattle.pesp_links.specs.Links.{IsChangedAt}
-use Rattle.pesp_links.specs.Places.{place_of}
+use Rattle.pesp_counts_arcs.specs.Links.{IsChangedAt}
+use Rattle.pesp_counts_arcs.specs.Places.{place_of}
 use Rattle.pesp_counts.proofs.Carried.{if_some}
 use Rattle.pesp_counts.proofs.Loosened.{loosened_by}
 use Rattle.pesp_counts.proofs.Relinked.{changed_spared, fits_changed, head_low, its_starts, listed_after, rest_changed, starts_low}

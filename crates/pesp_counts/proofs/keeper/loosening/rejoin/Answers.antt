@@ -1,10 +1,10 @@
 -- The counts are exact at all ends but those of the activity, which are counted anew.
 use Rattle.std.proofs.Common.{◌+◌, ◌*◌, ◌≤◌, length, subst, rules}
-use Rattle.pesp_supports.specs.Counts.{has_at}
-use Rattle.pesp_supports.specs.Spent.{ends_at}
+use Rattle.pesp_counts_supports.specs.Counts.{has_at}
+use Rattle.pesp_counts_supports.specs.Spent.{ends_at}
 use Rattle.pesp_counts.proofs.Gone.{gone_placed, rejoined_probes, worked_is}
 use Rattle.pesp_counts.proofs.Keeping.{for_linked}
-use Rattle.pesp_supports.proofs.Marks.{fit_same}
+use Rattle.pesp_counts_supports.proofs.Marks.{fit_same}
 use Rattle.pesp_counts.proofs.Reopened.{rejoined_exact, rejoined_rest, spared_mates}
 use Rattle.pesp_counts.proofs.keeper.loosening.rejoin.Goals as goal
 

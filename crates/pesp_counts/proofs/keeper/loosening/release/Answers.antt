@@ -4,9 +4,9 @@ use Rattle.std.specs.List.{Contains}
 use Rattle.pesp_instance.specs.declared.edit.Edit.TheVariants.{DropActivity}
 use Rattle.pesp_instance.specs.Network.{Network}
 use Rattle.pesp_domains.proofs.Edits.{effect_is}
-use Rattle.pesp_links.specs.Ends.{ends_of}
-use Rattle.pesp_links.specs.Links.{IsChangedAt, IsEndOfPlace}
-use Rattle.pesp_links.specs.Places.{place_of}
+use Rattle.pesp_counts_arcs.specs.Ends.{ends_of}
+use Rattle.pesp_counts_arcs.specs.Links.{IsChangedAt, IsEndOfPlace}
+use Rattle.pesp_counts_arcs.specs.Places.{place_of}
 use Rattle.pesp_counts.proofs.Carried.{if_some}
 use Rattle.pesp_counts.proofs.Loosened.{loosened_by}
 use Rattle.pesp_counts.proofs.Relinked.{fits_less, head_low, its_starts, rest_less, starts_low}

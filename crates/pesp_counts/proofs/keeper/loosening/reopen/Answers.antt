@@ -1,12 +1,12 @@
 -- The counts are exact at all ends, and what has no partner is among the pairs that came.
 use Rattle.std.proofs.Common.{◌+◌, ◌*◌, ◌≤◌, length, subst}
 use Rattle.pesp_counts.proofs.Keeping.{for_linked}
-use Rattle.pesp_supports.proofs.Marks.{fit_same}
+use Rattle.pesp_counts_supports.proofs.Marks.{fit_same}
 use Rattle.pesp_counts.proofs.Reopened.{reopened_pending}
-use Rattle.pesp_supports.proofs.Taken.{kept_none, taken_none}
+use Rattle.pesp_counts_supports.proofs.Taken.{kept_none, taken_none}
 use Rattle.pesp_counts.proofs.Gone.{gone_placed, reopened_probes, worked_is}
-use Rattle.pesp_supports.specs.Counts.{has_at}
-use Rattle.pesp_supports.specs.Spent.{ends_at}
+use Rattle.pesp_counts_supports.specs.Counts.{has_at}
+use Rattle.pesp_counts_supports.specs.Spent.{ends_at}
 use Rattle.pesp_counts.proofs.keeper.loosening.reopen.Goals as goal
 
 pub restore-requires-clause-linked : goal.restore-requires-clause-linked

@@ -3,12 +3,12 @@ use Rattle.std.proofs.Common.{◌+◌, ◌*◌, ◌≤◌, ◌∷◌, [], length
 use Rattle.pesp_instance.specs.Network.{admits}
 use Rattle.pesp_counts.proofs.Keeping.{for_linked}
 use Rattle.pesp_domains.specs.Sweeps.{narrowed_to}
-use Rattle.pesp_supports.proofs.Marks.{fit_same, keeps_like}
+use Rattle.pesp_counts_supports.proofs.Marks.{fit_same, keeps_like}
 use Rattle.pesp_counts.proofs.Reopened.{reopened_pending}
-use Rattle.pesp_supports.proofs.Taken.{kept_shape, shape_then, taken_then}
+use Rattle.pesp_counts_supports.proofs.Taken.{kept_shape, shape_then, taken_then}
 use Rattle.pesp_counts.proofs.Gone.{narrowed_placed, reopened_probes, worked_is}
-use Rattle.pesp_supports.specs.Counts.{has_at}
-use Rattle.pesp_supports.specs.Spent.{ends_at}
+use Rattle.pesp_counts_supports.specs.Counts.{has_at}
+use Rattle.pesp_counts_supports.specs.Spent.{ends_at}
 use Rattle.pesp_counts.proofs.keeper.loosening.reopen_window.Goals as goal
 
 pub restore-requires-clause-linked : goal.restore-requires-clause-linked

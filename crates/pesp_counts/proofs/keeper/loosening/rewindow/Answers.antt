@@ -1,6 +1,6 @@
 -- An event with another window, or with none, and the links as they were.
 use Rattle.std.proofs.Common.{Some, sym, ◌∙◌}
-use Rattle.pesp_links.specs.Places.{place_of}
+use Rattle.pesp_counts_arcs.specs.Places.{place_of}
 use Rattle.pesp_counts.proofs.Bridge.{some_of}
 use Rattle.pesp_counts.proofs.Carried.{for_relinked, same_period}
 use Rattle.pesp_counts.proofs.Loosened.{loosened_by_window}

@@ -1,10 +1,10 @@
 -- From full rows the domains are settled.
 use Rattle.std.proofs.Common.{ap, subst, length}
-use Rattle.pesp_supports.specs.Counts.{ArePending, has_at}
+use Rattle.pesp_counts_supports.specs.Counts.{ArePending, has_at}
 use Rattle.pesp_counts.proofs.Keeping.{for_linked, for_same}
-use Rattle.pesp_supports.proofs.Marks.{fit_same, rest_pending}
+use Rattle.pesp_counts_supports.proofs.Marks.{fit_same, rest_pending}
 use Rattle.pesp_counts.proofs.Remade.{full_as, remade}
-use Rattle.pesp_supports.proofs.Taken.{kept_shape, shape_then}
+use Rattle.pesp_counts_supports.proofs.Taken.{kept_shape, shape_then}
 use Rattle.pesp_counts.proofs.keeper.remake.remake.Goals as goal
 
 pub refill-requires-clause-linked : goal.refill-requires-clause-linked

@@ -1,6 +1,6 @@
 -- The ends of both spans pass what they admit.
 use Rattle.std.proofs.Common.{ap, ◌∙◌, arith}
-use Rattle.pesp_links.specs.Ends.{passes_more}
+use Rattle.pesp_counts_arcs.specs.Ends.{passes_more}
 use Rattle.pesp_counts.proofs.Wider.{admits_more_is}
 use Rattle.pesp_counts.proofs.keeper.restores.admits_more.Goals as goal
 

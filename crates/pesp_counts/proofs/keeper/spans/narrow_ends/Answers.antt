@@ -1,12 +1,12 @@
 -- Ends that were counted anew.
 use Rattle.std.proofs.Common.{◌∙◌, ap, subst}
-use Rattle.pesp_links.specs.Ends.{AreLinked}
-use Rattle.pesp_supports.specs.Counts.{KeepsClosed, has_at}
-use Rattle.pesp_supports.proofs.Marks.{fit_same, keeps_like}
+use Rattle.pesp_counts_arcs.specs.Ends.{AreLinked}
+use Rattle.pesp_counts_supports.specs.Counts.{KeepsClosed, has_at}
+use Rattle.pesp_counts_supports.proofs.Marks.{fit_same, keeps_like}
 use Rattle.pesp_counts.proofs.Narrowed.{anew_below, anew_exact, anew_level, anew_live, anew_trail, first_sift, second_sift, sifted_keeps, sifted_pending}
-use Rattle.pesp_supports.specs.Spent.{ends_at}
+use Rattle.pesp_counts_supports.specs.Spent.{ends_at}
 use Rattle.pesp_counts.proofs.Gone.{narrowed_probes}
-use Rattle.pesp_supports.proofs.Taken.{keeps_then, kept_shape, kept_then, shape_then, taken_same, taken_then}
+use Rattle.pesp_counts_supports.proofs.Taken.{keeps_then, kept_shape, kept_then, shape_then, taken_same, taken_then}
 use Rattle.pesp_counts.proofs.keeper.spans.narrow_ends.Goals as goal
 
 pub end-end-requires : goal.end-end-requires

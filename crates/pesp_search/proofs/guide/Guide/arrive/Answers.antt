@@ -1,6 +1,6 @@
 -- What is told at the end of the path is told anew, and nowhere else.
 use Rattle.std.proofs.Common.{length, refl}
-use Rattle.pesp_ahead.specs.Sights.{bound_at}
+use Rattle.pesp_search_bounds.specs.Sights.{bound_at}
 use Rattle.pesp_search.proofs.Seen.{seen_of_sound, sees_again}
 use Rattle.pesp_search.proofs.guide.Guide.arrive.Goals as goal
 

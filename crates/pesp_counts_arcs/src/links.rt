@@ -1,0 +1,301 @@
+//! Places for an instance's events and activities, and the ends of its activities by place.
+
+ghost use Rattle.std.specs.Prelude.{◌≡◌, ◌*◌, ◌+◌, ◌^◌, ◌<◌, ◌≤◌, ℕ, [], Ok, Some, None, IsSome, length, IfOk, IfSome, OnOk, OnErr};
+ghost use Rattle.std.specs.List.{Contains};
+ghost use Rattle.pesp_instance.specs.declared.edit.Edit.TheVariants as edits;
+ghost use Rattle.pesp_instance.specs.Edited.{edited, effect};
+ghost use Rattle.pesp_instance.specs.Network.{Network};
+ghost use Rattle.pesp_domains.specs.declared.side.Side.TheVariants as side;
+ghost use Rattle.pesp_counts_arcs.specs.Ends.{end_at, ends_of};
+ghost use Rattle.pesp_counts_arcs.specs.Links.{AreListedAt, AreUnlisted, IsChangedAt, IsEndFor, IsEndOfPlace, KeepOthers, LookAt, LookSame, StandFor, no_links};
+ghost use Rattle.pesp_counts_arcs.specs.Lists.{AreShared};
+ghost use Rattle.pesp_counts_arcs.specs.Places.{place_of};
+
+mod numbers;
+
+use crate::End;
+use crate::lists::{Lists, Walk};
+use crate::places::Places;
+use pesp_base::{Activity, ActivityId, EventId, Period, Span};
+use std::alloc::{AllocError, Global};
+use std::marker::Model;
+
+/// The ends of activities, listed at the places of their events. The activity at place q has the ends 2q and 2q + 1.
+#[derive(Drop)]
+pub struct Links {
+    events: Places,
+    activities: Places,
+    ends: Vec<End>,
+    at: Lists,
+}
+
+impl Model for Links {
+    ghost use Rattle.pesp_counts_arcs.specs.Links as words;
+
+    ghost Value = { words.Links };
+
+    ghost view = { λ a. record { events = a.events; activities = a.activities; ends = a.ends.items; lists = a.at.lists } };
+
+    ghost invariant = { λ a. words.AreHoused a.events a.activities a.ends.items a.at };
+}
+
+impl Links {
+    /// No event and no activity has a place.
+    pub fn new(alloc: Global) -> Links
+        ensures { result ≡ no_links }
+    {
+        Links {
+            events: Places::new(alloc),
+            activities: Places::new(alloc),
+            ends: Vec::new(alloc),
+            at: Lists::new(alloc),
+        }
+    }
+
+    /// The place of an event.
+    pub fn event(&self, event: EventId) -> Option<usize>
+        ensures { result ≡ place_of (self.now).events event }
+    {
+        self.events.place(event.get())
+    }
+
+    /// The place of an activity.
+    pub fn activity(&self, id: ActivityId) -> Option<usize>
+        ensures { result ≡ place_of (self.now).activities id }
+    {
+        self.activities.place(id.get())
+    }
+
+    /// An end.
+    pub fn end(&self, number: usize) -> End
+        requires { number < length (self.now).ends }
+        ensures { result ≡ end_at (self.now).ends number }
+    {
+        self.ends[number]
+    }
+
+    /// The ends at the place of an event. At one that is not there are none.
+    pub fn at(&self, place: usize) -> Walk<'_>
+        ensures { result ≡ ends_of (self.now).lists place }
+    {
+        self.at.at(place)
+    }
+
+    /// Gives a new event a place, at which no end is listed. Without the memory for it, all that stood for something does.
+    pub fn add_event(&mut self, event: EventId) -> Result<usize, AllocError>
+        requires absent { place_of (self.old).events event ≡ None }
+        ensures ok { OnOk result ((I : Network) → StandFor I self.old → StandFor (effect I (edits.AddEvent event)) self.new) }
+        ensures place { IfOk result (λ p. place_of (self.new).events event ≡ Some p) }
+        ensures room { IfOk result (λ p. p < length (self.new).lists) }
+        ensures fresh { IfOk result (λ p. (e : ℕ) → place_of (self.old).events e ≡ Some p → ⊥) }
+        ensures others { OnOk result ((e : ℕ) → (e ≡ event → ⊥) → place_of (self.new).events e ≡ place_of (self.old).events e) }
+        ensures ends { (self.new).ends ≡ (self.old).ends }
+        ensures lists { (p : ℕ) → ends_of (self.new).lists p ≡ ends_of (self.old).lists p }
+        ensures more { length (self.old).lists ≤ length (self.new).lists }
+        ensures err { OnErr result (LookSame self.old self.new) }
+    {
+        let place = self.events.insert(event.get())?;
+        if self.at.grow_lists(place.saturating_add(1)).is_err() {
+            self.events.remove(event.get());
+            return Err(AllocError);
+        }
+        Ok(place)
+    }
+
+    /// Takes the place of an event away.
+    pub fn drop_event(&mut self, event: EventId)
+        ensures stand { (I J : Network) → edited I (edits.DropEvent event) ≡ Ok J → StandFor I self.old → StandFor J self.new }
+        ensures others { (e : ℕ) → (e ≡ event → ⊥) → place_of (self.new).events e ≡ place_of (self.old).events e }
+        ensures ends { (self.new).ends ≡ (self.old).ends }
+        ensures lists { (self.new).lists ≡ (self.old).lists }
+    {
+        self.events.remove(event.get());
+    }
+
+    /// Gives a new activity a place, and lists its ends. Without the memory for it, all that stood for something does.
+    pub fn add_activity(&mut self, period: Period, activity: &Activity) -> Result<usize, AllocError>
+        requires absent { place_of (self.old).activities (activity.now).id ≡ None }
+        requires from { IsSome (place_of (self.old).events (activity.now).from) }
+        requires to { IsSome (place_of (self.old).events (activity.now).to) }
+        ensures ok { OnOk result ((I J : Network) → I.period ≡ period → edited I (edits.AddActivity activity.now) ≡ Ok J → StandFor I self.old → StandFor J self.new) }
+        ensures place { IfOk result (λ q. place_of (self.new).activities (activity.now).id ≡ Some q) }
+        ensures changed { IfOk result (λ q. IsChangedAt self.old self.new q) }
+        ensures lists { length (self.new).lists ≡ length (self.old).lists }
+        ensures more { length (self.old).ends ≤ length (self.new).ends }
+        ensures err { OnErr result (LookSame self.old self.new) }
+    {
+        let place = self.activities.insert(activity.id.get())?;
+        if make_ends(&mut self.ends, &mut self.at, place).is_err() {
+            self.activities.remove(activity.id.get());
+            return Err(AllocError);
+        }
+        let tail_at = self.events.place(activity.from.get()).unwrap();
+        let head_at = self.events.place(activity.to.get()).unwrap();
+        write_ends(
+            &mut self.ends,
+            period,
+            activity.span,
+            place,
+            tail_at,
+            head_at,
+        );
+        list_ends(&mut self.at, place, tail_at, head_at);
+        Ok(place)
+    }
+
+    /// Takes the place of an activity away, and its ends out of the lists.
+    pub fn drop_activity(&mut self, id: ActivityId)
+        requires { (I : Network) × StandFor I self.old }
+        ensures stand { (I J : Network) → edited I (edits.DropActivity id) ≡ Ok J → StandFor I self.old → StandFor J self.new }
+        ensures changed { IfSome (place_of (self.old).activities id) (λ q. IsChangedAt self.old self.new q) }
+        ensures gone { IfSome (place_of (self.old).activities id) (λ q. (p k : ℕ) → Contains (ends_of (self.new).lists p) k → IsEndOfPlace q k → ⊥) }
+        ensures events { (self.new).events ≡ (self.old).events }
+        ensures lists { length (self.new).lists ≡ length (self.old).lists }
+        ensures ends { length (self.new).ends ≡ length (self.old).ends }
+    {
+        if let Some(place) = self.activities.place(id.get()) {
+            let (tail_at, head_at) = events_at(&self.ends, place);
+            unlist_ends(&mut self.at, place, tail_at, head_at);
+            self.activities.remove(id.get());
+        }
+    }
+
+    /// Gives the ends of the activity at a place another span.
+    pub fn set_span(&mut self, period: Period, id: ActivityId, span: Span)
+        ensures stand { (I J : Network) → I.period ≡ period → edited I (edits.SetSpan id span) ≡ Ok J → StandFor I self.old → StandFor J self.new }
+        ensures changed { IfSome (place_of (self.old).activities id) (λ q. IsChangedAt self.old self.new q) }
+        ensures events { (self.new).events ≡ (self.old).events }
+        ensures activities { (self.new).activities ≡ (self.old).activities }
+        ensures lists { (self.new).lists ≡ (self.old).lists }
+        ensures ends { length (self.new).ends ≡ length (self.old).ends }
+    {
+        if let Some(place) = self.activities.place(id.get()) {
+            let (tail_at, head_at) = events_at(&self.ends, place);
+            write_ends(&mut self.ends, period, span, place, tail_at, head_at);
+        }
+    }
+
+    /// Lists the ends of an activity at other events.
+    pub fn set_ends(&mut self, id: ActivityId, from: EventId, to: EventId)
+        requires stood { (I : Network) × StandFor I self.old }
+        requires from { IsSome (place_of (self.old).events from) }
+        requires to { IsSome (place_of (self.old).events to) }
+        ensures stand { (I J : Network) → edited I (edits.SetEnds id from to) ≡ Ok J → StandFor I self.old → StandFor J self.new }
+        ensures changed { IfSome (place_of (self.old).activities id) (λ q. IsChangedAt self.old self.new q) }
+        ensures listed { (p k : ℕ) → Contains (ends_of (self.new).lists p) k → (q : ℕ) × Contains (ends_of (self.old).lists q) k }
+        ensures events { (self.new).events ≡ (self.old).events }
+        ensures activities { (self.new).activities ≡ (self.old).activities }
+        ensures lists { length (self.new).lists ≡ length (self.old).lists }
+        ensures ends { length (self.new).ends ≡ length (self.old).ends }
+    {
+        if let Some(place) = self.activities.place(id.get()) {
+            let (tail_at, head_at) = events_at(&self.ends, place);
+            let from_at = self.events.place(from.get()).unwrap();
+            let to_at = self.events.place(to.get()).unwrap();
+            unlist_ends(&mut self.at, place, tail_at, head_at);
+            turn_ends(&mut self.ends, place, from_at, to_at);
+            list_ends(&mut self.at, place, from_at, to_at);
+        }
+    }
+}
+
+/// Makes sure of the two ends of the activity at a place, and of room to list them.
+fn make_ends(ends: &mut Vec<End>, at: &mut Lists, place: usize) -> Result<(), AllocError>
+    requires { length (ends.old).items ≤ (at.old).items }
+    ensures ok { OnOk result (2 * place + 1 < length (ends.new).items) }
+    ensures small { length (ends.new).items < 2 ^ 63 }
+    ensures items { length (ends.new).items ≤ (at.new).items }
+    ensures ends { (k : ℕ) → end_at (ends.new).items k ≡ end_at (ends.old).items k }
+    ensures more { length (ends.old).items ≤ length (ends.new).items }
+    ensures lists { (at.new).lists ≡ (at.old).lists }
+    ensures shared { AreShared (at.new).items (at.new).lists }
+    ensures err { OnErr result ((ends.new).items ≡ (ends.old).items) }
+{
+    // What saturates is more than there can be memory for.
+    let count = place.saturating_mul(2).saturating_add(2);
+    at.grow_items(count)?;
+    if ends.len() < count {
+        let none = End {
+            looks_at: 0,
+            mate: 0,
+            first: 0,
+            width: 0,
+        };
+        ends.resize(count, none)?;
+    }
+    Ok(())
+}
+
+/// The places of the events that the activity at a place leads from and to.
+fn events_at(ends: &[End], place: usize) -> (usize, usize)
+    requires { 2 * place + 1 < length ends.now }
+    ensures tail { result.0 ≡ (end_at ends.now (2 * place + 1)).looks_at }
+    ensures head { result.1 ≡ (end_at ends.now (2 * place)).looks_at }
+{
+    let tail = 2 * place;
+    (ends[tail + 1].looks_at, ends[tail].looks_at)
+}
+
+/// Makes the two ends of the activity at a place anew.
+fn write_ends(
+    ends: &mut [End],
+    period: Period,
+    span: Span,
+    place: usize,
+    tail_at: usize,
+    head_at: usize,
+)
+    requires { 2 * place + 1 < length ends.old }
+    ensures tail { IsEndFor period span side.Tail (end_at ends.new (2 * place)) }
+    ensures head { IsEndFor period span side.Head (end_at ends.new (2 * place + 1)) }
+    ensures look { LookAt ends.new place tail_at head_at }
+    ensures others { KeepOthers ends.old ends.new place }
+{
+    let tail = 2 * place;
+    let head = tail + 1;
+    ends[tail] = End::tail(period, span, head_at, head);
+    ends[head] = End::head(period, span, tail_at, tail);
+}
+
+/// Lets the two ends of the activity at a place look at other events.
+fn turn_ends(ends: &mut [End], place: usize, tail_at: usize, head_at: usize)
+    requires { 2 * place + 1 < length ends.old }
+    ensures tail { end_at ends.new (2 * place) ≡ record (end_at ends.old (2 * place)) { looks_at = head_at } }
+    ensures head { end_at ends.new (2 * place + 1) ≡ record (end_at ends.old (2 * place + 1)) { looks_at = tail_at } }
+    ensures others { KeepOthers ends.old ends.new place }
+{
+    let tail = 2 * place;
+    ends[tail].looks_at = head_at;
+    ends[tail + 1].looks_at = tail_at;
+}
+
+/// Lists the two ends of the activity at a place at its events.
+fn list_ends(at: &mut Lists, place: usize, tail_at: usize, head_at: usize)
+    requires tail { tail_at < length (at.old).lists }
+    requires head { head_at < length (at.old).lists }
+    requires items { 2 * place + 1 < (at.old).items }
+    requires small { 2 * place + 1 < 2 ^ 64 }
+    requires free { (p k : ℕ) → Contains (ends_of (at.old).lists p) k → IsEndOfPlace place k → ⊥ }
+    ensures items { (at.new).items ≡ (at.old).items }
+    ensures shared { AreShared (at.new).items (at.new).lists }
+    ensures listed { AreListedAt (at.old).lists (at.new).lists place tail_at head_at }
+{
+    let tail = 2 * place;
+    at.add(tail_at, tail);
+    at.add(head_at, tail + 1);
+}
+
+/// Takes the two ends of the activity at a place out of the lists at its events.
+fn unlist_ends(at: &mut Lists, place: usize, tail_at: usize, head_at: usize)
+    requires shared { AreShared (at.old).items (at.old).lists }
+    requires small { 2 * place + 1 < 2 ^ 64 }
+    requires tail { Contains (ends_of (at.old).lists tail_at) (2 * place) }
+    requires head { Contains (ends_of (at.old).lists head_at) (2 * place + 1) }
+    ensures items { (at.new).items ≡ (at.old).items }
+    ensures shared { AreShared (at.new).items (at.new).lists }
+    ensures unlisted { AreUnlisted (at.old).lists (at.new).lists place }
+{
+    let tail = 2 * place;
+    at.remove(tail_at, tail);
+    at.remove(head_at, tail + 1);
+}

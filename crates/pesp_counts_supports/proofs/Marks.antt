@@ -1,0 +1,133 @@
+-- The trail, and what the marks of pushes say of it.
+use Rattle.std.proofs.Common.{◌≡◌, ℕ, ◌+◌, ◌-◌, ◌<◌, ◌==◌, ◌&&◌, ◌||◌, Bool, true, false, List, [], length, get_or, All, refl, sym, ap, subst, ◌∙◌, inl, inr, arith, IsTrue}
+use Rattle.std.specs.List.{Contains}
+use Rattle.std.proofs.lemmas.Bool.{cases_Bool, cases_lt, false≢true}
+use Rattle.std.proofs.lemmas.List.Elements.{All-append, Contains-get_or}
+use Rattle.std.proofs.lemmas.List.{get_or_past, get_or-append_right, length-append}
+use Rattle.std.proofs.lemmas.List.Folds.{list_any-append}
+use Rattle.pesp_domains.specs.Sweeps.{Of, Pairs, narrowed_to}
+use Rattle.pesp_counts_supports.specs.declared.trail.Placed.{Placed}
+use Rattle.pesp_counts_supports.specs.Counts.{ArePending, KeepsClosed, has_at}
+use Rattle.pesp_counts_supports.specs.Resting.{AreAtRest, AreLive, IsNarrowed}
+use Rattle.pesp_counts_arcs.specs.Links.{Links}
+use Rattle.pesp_counts_supports.specs.Supports.{AreExact, AreLevel, AreOut, Fit, HaveSameShape, IsTaken, Keeps, Supports, is_in}
+use Rattle.pesp_counts_supports.proofs.Taken.{found_in, kept_shape, level_after, once_then, shape_then, stands_in, taken_fewer, taken_then}
+
+or_true : (b : Bool) → (b || true) ≡ true
+or_true true = refl
+or_true false = refl
+
+-- a row past the last one holds nothing
+pub row_within : (rows : List (List Bool)) (p r : ℕ) → Of (has_at rows) p r → p < length rows
+row_within rows p r h =
+    elim (cases_lt p (length rows)) [
+      | inl low ↦ low
+      | inr high ↦ absurd (false≢true (sym (ap (λ row. get_or row r false) (get_or_past rows p [] high)) ∙ h))
+    ]
+
+all_members : (P : Placed → Type 0) (xs : List Placed) → ((x : Placed) → Contains xs x → P x) → All P xs
+all_members P xs each k d l = each (get_or xs k d) (Contains-get_or xs k d l)
+
+-- taking pairs out keeps what is true of the trail
+pub out_more : (before after : Supports) → AreOut before before.trail → ((p r : ℕ) → Of (has_at before.rows) p r → r < before.period) → HaveSameShape before after → IsTaken before after → AreOut after after.trail
+out_more before after h below shape taken =
+    let was : (x : Placed) → Contains taken.more x → IsTrue (has_at before.rows x.place x.residue) = λ x i. taken.parted x.place x.residue ∙ rw (found_in taken.more x i) (or_true (has_at after.rows x.place x.residue)) in
+    rw taken.trail
+    (record {
+      out = λ p r i.
+          elim (cases_Bool (has_at after.rows p r)) [
+            | inr none ↦ none
+            | inl there ↦
+                elim (cases_Bool (is_in before.trail p r)) [
+                  | inl early ↦ absurd (false≢true (sym (h.out p r early) ∙ taken_fewer before after taken p r there))
+                  | inr late ↦
+                      let now : is_in taken.more p r ≡ true = sym (rw late refl) ∙ sym (list_any-append (λ (x : Placed). x.place == p && x.residue == r) before.trail taken.more) ∙ i in
+                      taken.out p r now
+                ]
+          ];
+      within = All-append (λ x. x.place < length after.rows) before.trail taken.more
+          (λ i d l. let w = h.within i d l in omega (arith, w, shape.rows))
+          (all_members (λ x. x.place < length after.rows) taken.more (λ x i. let w = row_within before.rows x.place x.residue (was x i) in omega (arith, w, shape.rows)));
+      below = All-append (λ x. x.residue < after.period) before.trail taken.more
+          (λ i d l. let w = h.below i d l in omega (arith, w, shape.period))
+          (all_members (λ x. x.residue < after.period) taken.more (λ x i. let w = below x.place x.residue (was x i) in omega (arith, w, shape.period)));
+      once = once_then before.trail taken.more h.once taken.once (λ x i j. false≢true (sym (h.out x.place x.residue (found_in before.trail x i)) ∙ was x j));
+    })
+
+-- ---- counting out
+
+pub fit_same : (links : Links) (before after : Supports) → HaveSameShape before after → Fit links before → Fit links after
+fit_same links before after shape fit =
+    record {
+      rows = λ p k is. let l = fit.rows p k is in omega (arith, l, shape.rows);
+      counted = λ p k is. let l = fit.counted p k is in omega (arith, l, shape.counted);
+      counts = λ p k is. rw shape.period (let l = fit.counts p k is in omega (arith, l, shape.counts));
+    }
+
+or_none : (b c : Bool) → IsTrue (b || c) → b ≡ false → IsTrue c
+or_none true c h none = absurd (false≢true (sym none))
+or_none false c h none = h
+
+-- what was taken out of rows waits
+pub pending_from : (links : Links) (s m : Supports) → AreExact links s (has_at s.counted) → AreLevel s → AreLive links m → IsTaken s m → Keeps s m → ArePending m.period links.ends links.lists m.counts (has_at m.counted) (has_at m.rows) m.trail (length s.trail)
+pending_from links s m exact level live taken keeps =
+    record {
+      exact = λ p k is. rw (keeps.period, keeps.counts, keeps.counted) (exact p k is);
+      live = live;
+      within = λ p r here. ap (λ rows. has_at rows p r) keeps.counted ∙ level p r ∙ taken_fewer s m taken p r here;
+      waiting = λ p r here gone.
+          let was : IsTrue (has_at s.rows p r) = sym (level p r) ∙ ap (λ rows. has_at rows p r) (sym keeps.counted) ∙ here in
+          let i = stands_in taken.more p r (or_none (has_at m.rows p r) (is_in taken.more p r) (sym (taken.parted p r) ∙ was) gone) in
+          let long = length-append s.trail taken.more in
+          let trail = ap length taken.trail in (
+            length s.trail + i.0,
+            omega arith,
+            omega (arith, i.1, long, trail),
+            ap (λ xs. get_or xs (length s.trail + i.0) (record { place = p; residue = r })) taken.trail
+                ∙ get_or-append_right s.trail taken.more (length s.trail) (length s.trail + i.0) (record { place = p; residue = r }) refl (omega arith)
+                ∙ ap (λ n. get_or taken.more n (record { place = p; residue = r })) (less (length s.trail) i.0)
+                ∙ i.2,
+          );
+    }
+  where
+    less : (a b : ℕ) → a + b - a ≡ b
+    less a b = omega arith
+
+-- and so does what was taken out of rows at rest
+pub rest_pending : (links : Links) (s m : Supports) → AreAtRest links s → IsTaken s m → Keeps s m → ArePending m.period links.ends links.lists m.counts (has_at m.counted) (has_at m.rows) m.trail (length s.trail)
+rest_pending links s m h taken keeps =
+    pending_from links s m h.exact h.level
+    (λ p k is. rw (keeps.period, keeps.counts) (λ r rl here. h.live p k is r rl (taken_fewer s m taken p r here))) taken keeps
+
+-- with nothing waiting they are at rest
+pub pending_rest : (links : Links) (m n : Supports) → n.period ≡ m.period → ((p r : ℕ) → Of (has_at n.rows) p r → r < n.period) → AreOut n n.trail → ArePending m.period links.ends links.lists n.counts (has_at n.counted) (has_at n.rows) n.trail (length n.trail) → AreAtRest links n
+pending_rest links m n period below out pending =
+    record {
+      exact = λ p k is. rw period (pending.exact p k is);
+      live = λ p k is. rw period (pending.live p k is);
+      level = level_after m.period links.ends links.lists n.counts (has_at n.counted) (has_at n.rows) n.trail (length n.trail) (omega arith) pending;
+      below = below;
+      out = out;
+    }
+
+-- what keeps closed sets of one set keeps them of a like one
+pub keeps_like : (links : Links) (period period' : ℕ) (S S' R : Pairs) → period' ≡ period → ((p r : ℕ) → S' p r ≡ S p r) → KeepsClosed period' links.ends links.lists S' R → KeepsClosed period links.ends links.lists S R
+keeps_like links period period' S S' R same like keeps =
+    let k : KeepsClosed period links.ends links.lists S' R = subst (λ n. KeepsClosed n links.ends links.lists S' R) same keeps in
+    record {
+      fewer = λ p r h. sym (like p r) ∙ k.fewer p r h;
+      keeps = λ R' closed within. k.keeps R' closed (λ p r h. like p r ∙ within p r h);
+    }
+
+-- the pairs of a place that do not pass a test go, and what is left without a partner
+pub narrowed : (links : Links) (s m n : Supports) (p : ℕ) (test : ℕ → Bool) → AreAtRest links s → ((q r : ℕ) → has_at m.rows q r ≡ narrowed_to (has_at s.rows) p test q r) → IsTaken s m → Keeps s m
+    → ArePending m.period links.ends links.lists n.counts (has_at n.counted) (has_at n.rows) n.trail (length n.trail) → KeepsClosed m.period links.ends links.lists (has_at m.rows) (has_at n.rows) → IsTaken m n → HaveSameShape m n → IsNarrowed links p test s n
+narrowed links s m n p test h rows taken keeps pending closed more shape =
+    let both = taken_then s m n taken more in
+    let whole = shape_then s m n (kept_shape s m keeps) shape in
+    record {
+      rest = pending_rest links m n shape.period (λ q r i. let l = h.below q r (taken_fewer s n both q r i) in omega (arith, l, whole.period)) (out_more s n h.out h.below whole both) pending;
+      taken = both;
+      shape = whole;
+      keeps = keeps_like links s.period m.period (narrowed_to (has_at s.rows) p test) (has_at m.rows) (has_at n.rows) keeps.period rows closed;
+    }

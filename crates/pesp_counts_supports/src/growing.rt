@@ -1,0 +1,140 @@
+//! Rows, counts and room come as places do.
+
+ghost use Rattle.std.specs.Prelude.{◌≡◌, ◌<◌, ◌≤◌, ◌*◌, ◌+◌, ◌==◌, ◌&&◌, ◌||◌, nat_lt, ℕ, [], false, length, max, All, OnOk, OnErr, IfOk, vec_capacity};
+ghost use Rattle.pesp_domains.specs.Domains.{holds};
+ghost use Rattle.pesp_counts_supports.specs.Counts.{has_at};
+ghost use Rattle.pesp_counts_supports.specs.Resting.{HaveRoom};
+ghost use Rattle.pesp_counts_supports.specs.Supports.{ArePadded, HaveSameShape, IsRoomier};
+
+use crate::back::Back;
+use crate::supports::Supports;
+use pesp_base::Period;
+use pesp_domains::{Pair, Row};
+use std::alloc::{AllocError, Global};
+
+/// The greatest number of places, so that a listed pair keeps its own in 32 bits.
+const MOST_PLACES: usize = 4_294_967_295;
+
+/// A row without a residue.
+fn empty_row(alloc: Global, period: Period) -> Result<Row, AllocError>
+    ensures long { IfOk result (λ row. length row ≡ period) }
+    ensures empty { IfOk result (λ row. (r : ℕ) → holds row r ≡ false) }
+{
+    let mut row = Row::full(alloc, period)?;
+    for residue in 0..period.get() {
+        row.take_out(residue);
+    }
+    Ok(row)
+}
+
+/// Adds an empty row to both lists. Without the memory for it, nothing changes.
+fn add_row(
+    alloc: Global,
+    period: Period,
+    rows: &mut Vec<Row>,
+    counted: &mut Vec<Row>,
+) -> Result<(), AllocError>
+    requires rows { All (λ row. length row ≡ period) rows.old.items }
+    requires counted { All (λ row. length row ≡ period) counted.old.items }
+    ensures rows { ArePadded period rows.old.items rows.new.items }
+    ensures counted { ArePadded period counted.old.items counted.new.items }
+    ensures ok { OnOk result ((length rows.new.items ≡ length rows.old.items + 1) × (length counted.new.items ≡ length counted.old.items + 1)) }
+    ensures err { OnErr result ((length rows.new.items ≡ length rows.old.items) × (length counted.new.items ≡ length counted.old.items)) }
+{
+    let row = empty_row(alloc, period)?;
+    let other = empty_row(alloc, period)?;
+    rows.reserve(1)?;
+    counted.reserve(1)?;
+    rows.push_reserved(row);
+    counted.push_reserved(other);
+    Ok(())
+}
+
+/// Makes sure of so many rows in both lists, which are equally long. Rows that come are empty, and stay where there is no memory
+/// for the others.
+fn add_rows(
+    alloc: Global,
+    period: Period,
+    places: usize,
+    rows: &mut Vec<Row>,
+    counted: &mut Vec<Row>,
+) -> Result<(), AllocError>
+    requires rows { All (λ row. length row ≡ period) rows.old.items }
+    requires counted { All (λ row. length row ≡ period) counted.old.items }
+    requires even { length counted.old.items ≡ length rows.old.items }
+    ensures rows { ArePadded period rows.old.items rows.new.items }
+    ensures counted { ArePadded period counted.old.items counted.new.items }
+    ensures even { length counted.new.items ≡ length rows.new.items }
+    ensures few { length rows.new.items ≤ max (length rows.old.items) places }
+    ensures ok { OnOk result (places ≤ length rows.new.items) }
+{
+    while rows.len() < places {
+        add_row(alloc, period, rows, counted)?;
+    }
+    Ok(())
+}
+
+impl Supports {
+    /// Makes sure of rows for so many places, and of room for each pair of them, in the trail and in the lists of what is put back.
+    /// Rows that come are empty, so nothing is seen of them; nor is of those that came before memory was wanting. For more places
+    /// than there are numbers of 32 bits, memory is wanting.
+    pub fn make_rows(
+        &mut self,
+        alloc: Global,
+        places: usize,
+        back: &mut Back,
+        restored: &mut Vec<Pair>,
+    ) -> Result<(), AllocError>
+        ensures ok { OnOk result ((places ≤ length (self.new).rows) × (places ≤ length (self.new).counted)) }
+        ensures grown { IsRoomier self.old self.new }
+        ensures even { length (self.new).counted ≡ length (self.new).rows }
+        ensures room { HaveRoom self.old back.old.room (vec_capacity restored.old) → HaveRoom self.new back.new.room (vec_capacity restored.new) }
+        ensures back { back.new.pairs ≡ back.old.pairs }
+        ensures restored { restored.new.items ≡ restored.old.items }
+    {
+        let period = self.period.get() as usize;
+        if places > MOST_PLACES {
+            return Err(AllocError);
+        }
+        let room = places * period;
+        self.trail.reserve(room)?;
+        back.reserve(room)?;
+        restored.reserve(room)?;
+        add_rows(
+            alloc,
+            self.period,
+            places,
+            &mut self.rows,
+            &mut self.counted,
+        )
+    }
+
+    /// Makes sure of counts for so many ends. Counts that come are 0.
+    pub fn make_counts(&mut self, ends: usize) -> Result<(), AllocError>
+        ensures ok { OnOk result (ends * (self.old).period ≤ length (self.new).counts) }
+        ensures grown { IsRoomier self.old self.new }
+        ensures even { length (self.new).counted ≡ length (self.new).rows }
+        ensures rows { length (self.new).rows ≡ length (self.old).rows }
+    {
+        let Some(long) = ends.checked_mul(self.period.get() as usize) else {
+            return Err(AllocError);
+        };
+        self.counts.grow(long)
+    }
+
+    /// Puts every residue into the rows of a place at which no end is listed or looks.
+    pub fn open(&mut self, place: usize)
+        requires rows { place < length (self.old).rows }
+        requires counted { place < length (self.old).counted }
+        requires trail { (self.old).trail ≡ [] }
+        ensures rows { (p r : ℕ) → has_at (self.new).rows p r ≡ (has_at (self.old).rows p r || (p == place && nat_lt r (self.old).period)) }
+        ensures counted { (p r : ℕ) → has_at (self.new).counted p r ≡ (has_at (self.old).counted p r || (p == place && nat_lt r (self.old).period)) }
+        ensures counts { (self.new).counts ≡ (self.old).counts }
+        ensures trail { (self.new).trail ≡ [] }
+        ensures shape { HaveSameShape self.old self.new }
+        ensures probes { (self.new).probes ≡ (self.old).probes }
+    {
+        self.rows[place].fill();
+        self.counted[place].fill();
+    }
+}

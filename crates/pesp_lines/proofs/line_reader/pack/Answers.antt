@@ -1,7 +1,0 @@
--- Found by search, and named so that a wrong body is refused here at once.
-use Rattle.std.proofs.Common.{arith}
-use Rattle.std.proofs.lemmas.Grind.{common_steps}
-use Rattle.pesp_lines.proofs.line_reader.pack.Goals as goal
-
-pub returns-clause-front : goal.returns-clause-front
-returns-clause-front c = grind (arith, common_steps)

@@ -1,6 +1,0 @@
--- All other faults are of a file that cannot be read.
-use Rattle.std.proofs.Common.{rules}
-use Rattle.pesp_program.proofs.files.fault_of.Goals as goal
-
-pub returns-else-eq : goal.returns-else-eq
-returns-else-eq c = search rules

@@ -1,0 +1,10 @@
+-- The events before this one tell at least what is summed up.
+use Rattle.std.proofs.Common.{ℕ, ◌+◌, ◌*◌, ◌<◌, ◌≤◌, slice_index}
+use Rattle.pesp_search_bounds.specs.Tables.{AreWithin, total_of}
+use Rattle.pesp_search_bounds.proofs.bounds.least_of_others.Given as goal
+
+abbrev pub invariant-loop-other : goal.invariant-loop-other
+invariant-loop-other l = record {
+  before : (x : ℕ → ℕ) → AreWithin l.fn.period l.tests l.places x → l.other ≤ l.place → l.rest ≤ total_of l.fn.period l.sums x l.other;
+  behind : (x : ℕ → ℕ) → AreWithin l.fn.period l.tests l.places x → l.place < l.other → l.rest + slice_index l.sums (l.place * l.fn.period + x l.place) ≤ total_of l.fn.period l.sums x l.other;
+}

@@ -1,0 +1,221 @@
+//! Sweeps that move what entries tell from event to event along arcs.
+//!
+//! Bounds hold whatever the entries are, so nothing is proved of these: they make the bounds great. Events before the
+//! one that is looked at are settled: what is told at them is told at one residue, so it is moved off them once and
+//! nothing is moved to them.
+
+ghost use Rattle.std.specs.Prelude.{◌≡◌, ◌*◌, ◌+◌, ◌<◌, ◌≤◌, All, length};
+ghost use Rattle.pesp_search_bounds.specs.Sights.{IsBetween};
+
+use crate::Arc;
+use crate::entry::{Entry, PAIR};
+use crate::lower::renew;
+use crate::sums::add_entries;
+use pesp_base::Period;
+use pesp_domains::Side;
+
+/// How often a sweep goes up and down.
+const ROUNDS: usize = 2;
+
+/// What stands for no share, so that shares below it stand for what is to be added.
+const NO_SHARE: u64 = 4_611_686_018_427_387_904;
+
+/// Which way a sweep goes over the places from the first one that is not settled.
+#[derive(Clone, Copy)]
+enum Way {
+    Up,
+    Down,
+}
+
+impl Way {
+    /// Whether the sweep comes to one place before the other.
+    fn leads(self, from: usize, to: usize) -> bool {
+        match self {
+            Way::Up => from < to,
+            Way::Down => to < from,
+        }
+    }
+}
+
+/// The arcs at a place: to those that the sweep comes to later, to those before, and all, settled ones too.
+#[derive(Clone, Copy)]
+struct Ends {
+    onward: u64,
+    back: u64,
+    all: u64,
+}
+
+/// The end of the arc at the place, and the place of the other one.
+fn end_at(arc: &Arc, place: usize) -> Option<(Side, usize)> {
+    if arc.tail == place {
+        Some((Side::Tail, arc.head))
+    } else if arc.head == place {
+        Some((Side::Head, arc.tail))
+    } else {
+        None
+    }
+}
+
+/// Divides what sums of so many entries tell into equal shares.
+fn divide(sums: &mut [u64], entries: u64, shares: u64)
+    requires { 0 < shares }
+{
+    let nothing = entries.saturating_mul(PAIR / 2);
+    for sum in sums.iter_mut() {
+        *sum = if *sum < nothing {
+            NO_SHARE.saturating_sub((nothing - *sum) / shares)
+        } else {
+            NO_SHARE.saturating_add((*sum - nothing) / shares)
+        };
+    }
+}
+
+/// Takes shares off the entries.
+fn take_off(own: &mut [Entry], shares: &[u64])
+    requires { length own.old ≡ length shares.now }
+{
+    for residue in 0..own.len() {
+        let moved = (own[residue].get() + NO_SHARE).saturating_sub(shares[residue]);
+        own[residue] = Entry::greatest().at_most(moved);
+    }
+}
+
+/// What a sweep goes over: the arcs between the places, and the rows of these, one behind the other.
+#[derive(Clone, Copy)]
+pub(crate) struct Sweep<'a> {
+    pub(crate) period: Period,
+    pub(crate) places: usize,
+    /// The first place that is not settled.
+    pub(crate) first: usize,
+    pub(crate) arcs: &'a [Arc],
+    pub(crate) tests: &'a [bool],
+    ghost begins: { first ≤ places },
+    ghost between: { All (IsBetween places) arcs.now },
+    ghost rows: { length tests.now ≡ places * period },
+}
+
+impl Sweep<'_> {
+    /// The place that a sweep comes to at this turn.
+    fn place_at(&self, way: Way, turn: usize) -> usize
+        requires { self.now.first + turn < self.now.places }
+        ensures { result < self.now.places }
+    {
+        let last = self.places - 1;
+        match way {
+            Way::Up => self.first + turn,
+            Way::Down => last - turn,
+        }
+    }
+
+    /// Sums the entries at the place up.
+    fn gather(&self, way: Way, place: usize, entries: &[Entry], sums: &mut [u64]) -> Ends
+        requires entries { length entries.now ≡ length self.now.arcs.now * (2 * self.now.period) }
+        requires sums { length sums.old ≡ self.now.period }
+    {
+        sums.fill(0);
+        let width = usize::from(self.period.get());
+        let mut ends = Ends {
+            onward: 0,
+            back: 0,
+            all: 0,
+        };
+        for (k, arc) in self.arcs.iter().enumerate() {
+            let from = k * (2 * width);
+            if let Some((side, other)) = end_at(arc, place) {
+                match side {
+                    Side::Tail => add_entries(sums, 0, &entries[from..from + width]),
+                    Side::Head => add_entries(sums, 0, &entries[from + width..from + 2 * width]),
+                }
+                ends.all = ends.all.saturating_add(1);
+                if other < self.first {
+                    continue;
+                }
+                if way.leads(place, other) {
+                    ends.onward = ends.onward.saturating_add(1);
+                } else {
+                    ends.back = ends.back.saturating_add(1);
+                }
+            }
+        }
+        ends
+    }
+
+    /// Moves the shares of the place from it to the other ends of the arcs that lead onward.
+    fn pass_on(&self, way: Way, place: usize, entries: &mut [Entry], shares: &[u64])
+        requires entries { length entries.old ≡ length self.now.arcs.now * (2 * self.now.period) }
+        requires shares { length shares.now ≡ self.now.period }
+    {
+        let width = usize::from(self.period.get());
+        for (k, arc) in self.arcs.iter().enumerate() {
+            if let Some((side, other)) = end_at(arc, place) {
+                if self.first <= other && way.leads(place, other) {
+                    let from = k * (2 * width);
+                    let pair = &mut entries[from..from + 2 * width];
+                    match side {
+                        Side::Tail => {
+                            take_off(&mut pair[..width], shares);
+                            renew(self.period, arc, Side::Head, self.tests, pair);
+                        }
+                        Side::Head => {
+                            take_off(&mut pair[width..], shares);
+                            renew(self.period, arc, Side::Tail, self.tests, pair);
+                        }
+                    }
+                }
+            }
+        }
+    }
+
+    /// Moves what the entries at one place tell onward.
+    fn sweep_place(&self, way: Way, place: usize, entries: &mut [Entry], sums: &mut [u64])
+        requires entries { length entries.old ≡ length self.now.arcs.now * (2 * self.now.period) }
+        requires sums { length sums.old ≡ self.now.period }
+    {
+        let ends = self.gather(way, place, entries, sums);
+        if ends.onward > 0 {
+            divide(sums, ends.all, ends.onward.max(ends.back));
+            self.pass_on(way, place, entries, sums);
+        }
+    }
+
+    /// Sweeps one way over all places from the first one on.
+    fn sweep_once(&self, way: Way, entries: &mut [Entry], sums: &mut [u64])
+        requires entries { length entries.old ≡ length self.now.arcs.now * (2 * self.now.period) }
+        requires sums { length sums.old ≡ self.now.places * self.now.period }
+    {
+        let width = usize::from(self.period.get());
+        for turn in 0..self.places - self.first {
+            let place = self.place_at(way, turn);
+            let from = place * width;
+            self.sweep_place(way, place, entries, &mut sums[from..from + width]);
+        }
+    }
+
+    /// Moves what arcs tell off the places before the first one.
+    fn leave(&self, entries: &mut [Entry])
+        requires { length entries.old ≡ length self.now.arcs.now * (2 * self.now.period) }
+    {
+        let width = 2 * usize::from(self.period.get());
+        for (k, arc) in self.arcs.iter().enumerate() {
+            let from = k * width;
+            let pair = &mut entries[from..from + width];
+            if arc.tail < self.first && self.first <= arc.head {
+                renew(self.period, arc, Side::Head, self.tests, pair);
+            } else if arc.head < self.first && self.first <= arc.tail {
+                renew(self.period, arc, Side::Tail, self.tests, pair);
+            }
+        }
+    }
+
+    /// Sweeps up and down over the places from the first one on; those before are settled.
+    pub(crate) fn run(&self, entries: &mut [Entry], sums: &mut [u64])
+        requires entries { length entries.old ≡ length self.now.arcs.now * (2 * self.now.period) }
+        requires sums { length sums.old ≡ self.now.places * self.now.period }
+    {
+        self.leave(entries);
+        for _round in 0..ROUNDS {
+            self.sweep_once(Way::Up, entries, sums);
+            self.sweep_once(Way::Down, entries, sums);
+        }
+    }
+}

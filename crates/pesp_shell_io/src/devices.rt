@@ -1,0 +1,146 @@
+//! Where commands come from and where replies go.
+//!
+//! std's readers and writers keep no record of a failure or of an end, so a contract over them could
+//! not say that one came. [`Noted`] keeps both.
+
+ghost use Rattle.std.specs.Prelude.{◌≡◌, ℕ, ◌<◌, Bool, true, false, List, Option, length, IfOk, IsTrue, OnOk};
+ghost use Rattle.std.specs.Io.KnownBytes.{Keeps, ReadConsumes, WriteAppends};
+ghost use Rattle.std.specs.Io.{ReadsAtMost, WritesAtMost};
+ghost use Rattle.pesp_shell_io.specs.Devices.{MarksEnd, MarksFailure, MarksHeldBack};
+
+use std::io::{Read, Write};
+
+/// A device failed.
+#[derive(Clone, Copy, Debug, PartialEq, Eq)]
+pub struct Failed;
+
+/// Where bytes come from.
+pub trait ByteSource {
+    /// The bytes that are left, where they are known.
+    ghost left: { Self → Option (List ℕ) };
+
+    /// Whether a call failed.
+    ghost failed: { Self → Bool };
+
+    /// Whether the last call with some room found the end.
+    ghost at_end: { Self → Bool };
+
+    /// Puts bytes into the front of the room, and answers how many: 0 at the end, or where there is no room.
+    fn take(&mut self, room: &mut [u8]) -> Result<usize, Failed>
+        ensures count { ReadsAtMost result room.new }
+        ensures bytes { ReadConsumes (left self.old) (left self.new) result room.new }
+        ensures failure { MarksFailure result (failed self.old) (failed self.new) }
+        ensures end { MarksEnd result (length room.old) (at_end self.old) (at_end self.new) };
+}
+
+/// Where bytes go.
+pub trait ByteSink {
+    /// The bytes that were taken, where they are known.
+    ghost written: { Self → Option (List ℕ) };
+
+    /// Whether a call failed.
+    ghost failed: { Self → Bool };
+
+    /// Whether all bytes that were taken are passed on.
+    ghost passed_on: { Self → Bool };
+
+    /// Takes bytes from the front, one at least where there is one, and answers how many.
+    fn put(&mut self, bytes: &[u8]) -> Result<usize, Failed>
+        ensures count { WritesAtMost result bytes.now }
+        ensures some { IfOk result (λ n. 0 < length bytes.now → 0 < n) }
+        ensures bytes { WriteAppends (written self.old) (written self.new) result bytes.now }
+        ensures held { MarksHeldBack result (passed_on self.old) (passed_on self.new) }
+        ensures failure { MarksFailure result (failed self.old) (failed self.new) };
+
+    /// Passes on what it holds back.
+    fn finish(&mut self) -> Result<(), Failed>
+        ensures bytes { Keeps (written self.old) (written self.new) }
+        ensures passed { OnOk result (IsTrue (passed_on self.new)) }
+        ensures failure { MarksFailure result (failed self.old) (failed self.new) };
+}
+
+/// A reader or a writer, with a note of a failure, of the end, and of whether all that was written is flushed.
+#[derive(Drop)]
+pub struct Noted<D> {
+    device: D,
+    failed: bool,
+    at_end: bool,
+    passed_on: bool,
+}
+
+impl<D> Noted<D> {
+    ghost use Rattle.pesp_shell_io.specs.Noted.{device_of, has_failed, has_passed_on, is_at_end};
+
+    pub fn new(device: D) -> Noted<D>
+        ensures device { device_of result ≡ device }
+        ensures failed { has_failed result ≡ false }
+        ensures end { is_at_end result ≡ false }
+        ensures passed_on { has_passed_on result ≡ false }
+    {
+        Noted {
+            device,
+            failed: false,
+            at_end: false,
+            passed_on: false,
+        }
+    }
+
+    /// Marks a failure, which is then to be answered.
+    fn fail(&mut self) -> Failed
+        ensures device { device_of self.new ≡ device_of self.old }
+        ensures failed { has_failed self.new ≡ true }
+        ensures end { is_at_end self.new ≡ is_at_end self.old }
+        ensures passed_on { has_passed_on self.new ≡ has_passed_on self.old }
+    {
+        self.failed = true;
+        Failed
+    }
+}
+
+impl<R: Read> ByteSource for Noted<R> {
+    ghost left = { λ n. R.remaining n.device };
+
+    ghost failed = { λ n. n.failed };
+
+    ghost at_end = { λ n. n.at_end };
+
+    fn take(&mut self, room: &mut [u8]) -> Result<usize, Failed> {
+        let has_room = !room.is_empty();
+        match self.device.read(room) {
+            Ok(count) => {
+                if has_room {
+                    self.at_end = count == 0;
+                }
+                Ok(count)
+            }
+            Err(_) => Err(self.fail()),
+        }
+    }
+}
+
+impl<W: Write> ByteSink for Noted<W> {
+    ghost written = { λ n. W.contents n.device };
+
+    ghost failed = { λ n. n.failed };
+
+    ghost passed_on = { λ n. n.passed_on };
+
+    fn put(&mut self, bytes: &[u8]) -> Result<usize, Failed> {
+        match self.device.write(bytes) {
+            Ok(0) if bytes.is_empty() => Ok(0),
+            Ok(count) if count > 0 => {
+                self.passed_on = false;
+                Ok(count)
+            }
+            _ => Err(self.fail()),
+        }
+    }
+
+    fn finish(&mut self) -> Result<(), Failed> {
+        if self.device.flush().is_err() {
+            return Err(self.fail());
+        }
+        self.passed_on = true;
+        Ok(())
+    }
+}

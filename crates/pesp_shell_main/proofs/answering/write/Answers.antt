@@ -1,0 +1,40 @@
+-- What is passed on stands behind the whole text, which is a front of itself.
+use Rattle.std.proofs.Common.{◌≡◌, ℕ, List, Option, Some, None, Result, Ok, Err, length, take, sym, subst, ◌∙◌, OnErr, arith}
+use Rattle.std.specs.Prelude.{OnOk}
+use Rattle.std.proofs.lemmas.List.{take_all}
+use Rattle.std.specs.Io.KnownBytes.{Appends, Keeps}
+use Rattle.pesp_shell_io.specs.Devices.{MarksFailure}
+use Rattle.pesp_shell_main.proofs.answering.write.Goals as goal
+
+-- what is kept behind a text ends with it
+kept_behind : (before between after : Option (List ℕ)) (text : List ℕ) → Appends before between text → Keeps between after → Appends before after text
+kept_behind None between after text appends keeps = tt
+kept_behind (Some xs) None after text appends keeps = absurd appends
+kept_behind (Some xs) (Some ys) None text appends keeps = absurd keeps
+kept_behind (Some xs) (Some ys) (Some zs) text appends keeps = keeps ∙ appends
+
+on_any : {X E P : Type 0} (r : Result X E) → P → OnErr r P
+on_any (Ok x) p = tt
+on_any (Err e) p = p
+
+on_ok : {X E P : Type 0} (r : Result X E) → P → OnOk r P
+on_ok (Ok x) p = p
+on_ok (Err e) p = tt
+
+pub returns-clause-ok : goal.returns-clause-ok
+returns-clause-ok g c =
+    on_ok c.finish.result
+    (kept_behind (g.W.ByteSink.written c.args.sink.now) (g.W.ByteSink.written c.put_all.new.sink) (g.W.ByteSink.written c.finish.new.self) c.args.text.now c.in_ok-put_all.ensures.ok c.finish.ensures.bytes)
+
+pub returns-clause-err : goal.returns-clause-err
+returns-clause-err g c =
+    let text = c.args.text.now in
+    let whole : take (length text) text ≡ text = take_all (length text) text (omega arith) in
+    let before = g.W.ByteSink.written c.args.sink.now in
+    let after = g.W.ByteSink.written c.finish.new.self in
+    let all : Appends before after text = kept_behind before (g.W.ByteSink.written c.put_all.new.sink) after text c.in_ok-put_all.ensures.ok c.finish.ensures.bytes in
+    on_any c.finish.result (length text, subst (Appends before after) (sym whole) all)
+
+pub returns-clause-failure : goal.returns-clause-failure
+returns-clause-failure g c =
+    subst (λ mark. MarksFailure c.finish.result mark (g.W.ByteSink.failed c.finish.new.self)) c.in_ok-put_all.ensures.failure c.finish.ensures.failure
