@@ -6,7 +6,7 @@ ghost use Rattle.pesp_search_bounds.specs.Tables.{AreWithin, total_of};
 use pesp_base::Period;
 
 /// The least of the sums from one on and before another of which the test holds.
-fn least_between(sums: &[u64], tests: &[bool], from: usize, to: usize) -> u64
+pub(crate) fn least_between(sums: &[u64], tests: &[bool], from: usize, to: usize) -> u64
     requires sums { to ≤ length sums.now }
     requires tests { to ≤ length tests.now }
     ensures { (k : ℕ) → from ≤ k → k < to → IsTrue (slice_index_or tests.now k false) → result ≤ slice_index sums.now k }

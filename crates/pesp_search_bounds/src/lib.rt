@@ -5,6 +5,7 @@ mod ahead;
 mod arc;
 mod arcs;
 mod bounds;
+mod ends;
 mod entry;
 mod lower;
 mod rows;

@@ -8,14 +8,16 @@ ghost use Rattle.std.specs.Prelude.{◌≡◌, ◌*◌, ◌+◌, ◌<◌, ◌≤
 ghost use Rattle.pesp_search_bounds.specs.Sights.{IsBetween};
 
 use crate::Arc;
+use crate::bounds::least_between;
+use crate::ends::Ends;
 use crate::entry::{Entry, PAIR};
 use crate::lower::renew;
 use crate::sums::add_entries;
 use pesp_base::Period;
 use pesp_domains::Side;
 
-/// How often a sweep goes up and down.
-const ROUNDS: usize = 2;
+/// How often sweeps go up and down at most.
+const MOST_ROUNDS: usize = 4;
 
 /// What stands for no share, so that shares below it stand for what is to be added.
 const NO_SHARE: u64 = 4_611_686_018_427_387_904;
@@ -37,22 +39,56 @@ impl Way {
     }
 }
 
-/// The arcs at a place: to those that the sweep comes to later, to those before, and all, settled ones too.
+/// How many arcs a place has: to those that the sweep comes to later, to those before, and all, settled ones too.
 #[derive(Clone, Copy)]
-struct Ends {
+struct Counts {
     onward: u64,
     back: u64,
     all: u64,
 }
 
-/// The end of the arc at the place, and the place of the other one.
-fn end_at(arc: &Arc, place: usize) -> Option<(Side, usize)> {
+impl Counts {
+    fn none() -> Counts {
+        Counts {
+            onward: 0,
+            back: 0,
+            all: 0,
+        }
+    }
+
+    /// Counts an arc more, by where it leads.
+    fn add(&mut self, is_settled: bool, is_onward: bool) {
+        self.all = self.all.saturating_add(1);
+        if is_settled {
+            return;
+        }
+        if is_onward {
+            self.onward = self.onward.saturating_add(1);
+        } else {
+            self.back = self.back.saturating_add(1);
+        }
+    }
+}
+
+/// The end of the arc at the place, where it has one, and the place of the other one.
+fn end_at(arc: &Arc, place: usize) -> (Side, usize) {
     if arc.tail == place {
-        Some((Side::Tail, arc.head))
-    } else if arc.head == place {
-        Some((Side::Head, arc.tail))
+        (Side::Tail, arc.head)
     } else {
-        None
+        (Side::Head, arc.tail)
+    }
+}
+
+/// The entries at one end of an arc.
+fn entries_at(period: Period, entries: &[Entry], arc: usize, side: Side) -> &[Entry]
+    requires { arc * (2 * period) + 2 * period ≤ length entries.now }
+    ensures { length result.now ≡ period }
+{
+    let width = usize::from(period.get());
+    let from = arc * (2 * width);
+    match side {
+        Side::Tail => &entries[from..from + width],
+        Side::Head => &entries[from + width..from + 2 * width],
     }
 }
 
@@ -88,9 +124,12 @@ pub(crate) struct Sweep<'a> {
     /// The first place that is not settled.
     pub(crate) first: usize,
     pub(crate) arcs: &'a [Arc],
+    pub(crate) ends: &'a Ends,
     pub(crate) tests: &'a [bool],
     ghost begins: { first ≤ places },
     ghost between: { All (IsBetween places) arcs.now },
+    ghost ends_places: { ends.now.places ≡ places },
+    ghost ends_arcs: { ends.now.arcs ≡ length arcs.now },
     ghost rows: { length tests.now ≡ places * period },
 }
 
@@ -108,72 +147,66 @@ impl Sweep<'_> {
     }
 
     /// Sums the entries at the place up.
-    fn gather(&self, way: Way, place: usize, entries: &[Entry], sums: &mut [u64]) -> Ends
+    fn gather(&self, way: Way, place: usize, entries: &[Entry], sums: &mut [u64]) -> Counts
+        requires place { place < self.now.places }
         requires entries { length entries.now ≡ length self.now.arcs.now * (2 * self.now.period) }
         requires sums { length sums.old ≡ self.now.period }
     {
         sums.fill(0);
+        let mut counts = Counts::none();
+        for end in self.ends.at(place) {
+            let (side, other) = end_at(&self.arcs[end.arc], place);
+            add_entries(sums, 0, entries_at(self.period, entries, end.arc, side));
+            counts.add(other < self.first, way.leads(place, other));
+        }
+        counts
+    }
+
+    /// Moves the shares of one end of an arc from it to the other.
+    fn pass_along(&self, arc: &Arc, side: Side, pair: &mut [Entry], shares: &[u64])
+        requires between { IsBetween self.now.places arc.now }
+        requires pair { length pair.old ≡ 2 * self.now.period }
+        requires shares { length shares.now ≡ self.now.period }
+    {
         let width = usize::from(self.period.get());
-        let mut ends = Ends {
-            onward: 0,
-            back: 0,
-            all: 0,
-        };
-        for (k, arc) in self.arcs.iter().enumerate() {
-            let from = k * (2 * width);
-            if let Some((side, other)) = end_at(arc, place) {
-                match side {
-                    Side::Tail => add_entries(sums, 0, &entries[from..from + width]),
-                    Side::Head => add_entries(sums, 0, &entries[from + width..from + 2 * width]),
-                }
-                ends.all = ends.all.saturating_add(1);
-                if other < self.first {
-                    continue;
-                }
-                if way.leads(place, other) {
-                    ends.onward = ends.onward.saturating_add(1);
-                } else {
-                    ends.back = ends.back.saturating_add(1);
-                }
+        match side {
+            Side::Tail => {
+                take_off(&mut pair[..width], shares);
+                renew(self.period, arc, Side::Head, self.tests, pair);
+            }
+            Side::Head => {
+                take_off(&mut pair[width..], shares);
+                renew(self.period, arc, Side::Tail, self.tests, pair);
             }
         }
-        ends
     }
 
     /// Moves the shares of the place from it to the other ends of the arcs that lead onward.
     fn pass_on(&self, way: Way, place: usize, entries: &mut [Entry], shares: &[u64])
+        requires place { place < self.now.places }
         requires entries { length entries.old ≡ length self.now.arcs.now * (2 * self.now.period) }
         requires shares { length shares.now ≡ self.now.period }
     {
-        let width = usize::from(self.period.get());
-        for (k, arc) in self.arcs.iter().enumerate() {
-            if let Some((side, other)) = end_at(arc, place) {
-                if self.first <= other && way.leads(place, other) {
-                    let from = k * (2 * width);
-                    let pair = &mut entries[from..from + 2 * width];
-                    match side {
-                        Side::Tail => {
-                            take_off(&mut pair[..width], shares);
-                            renew(self.period, arc, Side::Head, self.tests, pair);
-                        }
-                        Side::Head => {
-                            take_off(&mut pair[width..], shares);
-                            renew(self.period, arc, Side::Tail, self.tests, pair);
-                        }
-                    }
-                }
+        let width = 2 * usize::from(self.period.get());
+        for end in self.ends.at(place) {
+            let arc = &self.arcs[end.arc];
+            let (side, other) = end_at(arc, place);
+            if self.first <= other && way.leads(place, other) {
+                let from = end.arc * width;
+                self.pass_along(arc, side, &mut entries[from..from + width], shares);
             }
         }
     }
 
     /// Moves what the entries at one place tell onward.
     fn sweep_place(&self, way: Way, place: usize, entries: &mut [Entry], sums: &mut [u64])
+        requires place { place < self.now.places }
         requires entries { length entries.old ≡ length self.now.arcs.now * (2 * self.now.period) }
         requires sums { length sums.old ≡ self.now.period }
     {
-        let ends = self.gather(way, place, entries, sums);
-        if ends.onward > 0 {
-            divide(sums, ends.all, ends.onward.max(ends.back));
+        let counts = self.gather(way, place, entries, sums);
+        if counts.onward > 0 {
+            divide(sums, counts.all, counts.onward.max(counts.back));
             self.pass_on(way, place, entries, sums);
         }
     }
@@ -207,15 +240,37 @@ impl Sweep<'_> {
         }
     }
 
-    /// Sweeps up and down over the places from the first one on; those before are settled.
+    /// What the entries tell at least of residues of the rows, summed over the places from the first one on.
+    fn told(&self, entries: &[Entry], sums: &mut [u64]) -> u64
+        requires entries { length entries.now ≡ length self.now.arcs.now * (2 * self.now.period) }
+        requires sums { length sums.old ≡ self.now.places * self.now.period }
+    {
+        let width = usize::from(self.period.get());
+        let mut told: u64 = 0;
+        for place in self.first..self.places {
+            let from = place * width;
+            let to = from + width;
+            self.gather(Way::Up, place, entries, &mut sums[from..to]);
+            told = told.saturating_add(least_between(sums, self.tests, from, to));
+        }
+        told
+    }
+
+    /// Sweeps up and down over the places from the first one on, until that tells no more; those before are settled.
     pub(crate) fn run(&self, entries: &mut [Entry], sums: &mut [u64])
         requires entries { length entries.old ≡ length self.now.arcs.now * (2 * self.now.period) }
         requires sums { length sums.old ≡ self.now.places * self.now.period }
     {
         self.leave(entries);
-        for _round in 0..ROUNDS {
+        let mut told = 0;
+        for _round in 0..MOST_ROUNDS {
             self.sweep_once(Way::Up, entries, sums);
             self.sweep_once(Way::Down, entries, sums);
+            let now = self.told(entries, sums);
+            if now <= told {
+                break;
+            }
+            told = now;
         }
     }
 }

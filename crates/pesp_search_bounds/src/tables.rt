@@ -9,6 +9,7 @@ ghost use Rattle.pesp_search_bounds.specs.Sights.{IsBetween, IsSightOf, IsSound,
 use crate::Arc;
 use crate::arcs::arcs_of;
 use crate::bounds::tell_bounds;
+use crate::ends::Ends;
 use crate::entry::{Entry, PAIR};
 use crate::size::{MOST_PLACES, size_of};
 use crate::sums::renew_all;
@@ -24,6 +25,8 @@ pub(crate) struct Tables {
     period: Period,
     places: usize,
     arcs: Vec<Arc>,
+    // The arcs at each place.
+    ends: Ends,
     // What loops cost.
     loops: u64,
     // For each place, for each arc, the entries of its tail and then those of its head, by residue.
@@ -42,7 +45,7 @@ impl Model for Tables {
 
     ghost view = { λ a. record { period = a.period; places = a.places; arcs = a.arcs.items; loops = a.loops; bounds = a.bounds.items } };
 
-    ghost invariant = { λ a. (length a.arcs.items ≤ 100000) × (length a.entries.items ≡ a.places * (length a.arcs.items * (2 * a.period))) × (length a.sums.items ≡ a.places * a.period) × (length a.bounds.items ≡ a.places * a.period) };
+    ghost invariant = { λ a. (length a.arcs.items ≤ 100000) × (length a.entries.items ≡ a.places * (length a.arcs.items * (2 * a.period))) × (length a.sums.items ≡ a.places * a.period) × (length a.bounds.items ≡ a.places * a.period) × (a.ends.places ≡ a.places) × (a.ends.arcs ≡ length a.arcs.items) };
 }
 
 impl Tables {
@@ -66,10 +69,12 @@ impl Tables {
             return Ok(None);
         };
         let cells = places * usize::from(period.get());
+        let ends = Ends::new(alloc, places, &arcs)?;
         Ok(Some(Tables {
             period,
             places,
             arcs,
+            ends,
             loops,
             entries: vec![in alloc; Entry::zero(); size]?,
             sums: vec![in alloc; 0; cells]?,
@@ -108,6 +113,7 @@ impl Tables {
             places: self.places,
             first: place,
             arcs: &self.arcs,
+            ends: &self.ends,
             tests,
         };
         let size = self.arcs.len() * (2 * usize::from(self.period.get()));

@@ -100,6 +100,8 @@ invariant_of-self c =
       sym (length_refill a.entries.len a.entries.items _ a.entries.ok.0) ∙ a.entries.ok.0 ∙ v.1,
       sym (length_refill a.sums.len a.sums.items _ a.sums.ok.0) ∙ a.sums.ok.0 ∙ v.2,
       sym (length_refill a.bounds.len a.bounds.items _ a.bounds.ok.0) ∙ a.bounds.ok.0 ∙ v.3,
+      v.4,
+      v.5,
     )
 
 pub returns-clause-of : goal.returns-clause-of

@@ -12,6 +12,8 @@ invariant_of-sweep c =
     record {
       begins = omega (arith, place);
       between = subst (λ xs. All (IsBetween a.places) xs) (sym c.deref.ensures.value) (subst (λ (s : Sight). All (IsBetween s.places) s.arcs) (sym c.self.view_is) c.requires.between);
+      ends_places = c.self.invariant.4;
+      ends_arcs = c.self.invariant.5 ∙ ap length (sym c.deref.ensures.value);
       rows = subst (λ (s : Sight). length c.args.tests.now ≡ s.places * s.period) (sym c.self.view_is) c.requires.tests;
     }
 
@@ -53,6 +55,8 @@ invariant_of-self c =
       sym (length_refill a.entries.len a.entries.items _ a.entries.ok.0) ∙ a.entries.ok.0 ∙ v.1,
       sym (length_refill a.sums.len a.sums.items _ a.sums.ok.0) ∙ a.sums.ok.0 ∙ v.2,
       v.3,
+      v.4,
+      v.5,
     )
 
 pub returns : goal.returns
