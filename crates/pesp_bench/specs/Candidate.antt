@@ -1,4 +1,4 @@
--- The timetable of a forgotten optimum, as the bound of a search.
+-- The timetable of a forgotten optimum, or of a search that stopped, as the bound of the next one.
 use Rattle.std.specs.Prelude.{◌≡◌, ℕ, Option, IfSome, IsSomeAnd}
 use Rattle.pesp_instance.specs.Network.{Network}
 use Rattle.pesp_search.specs.Optima.{IsMember}

@@ -22,7 +22,8 @@ pub struct Bench<K: Keeper> {
     keeper: K,
     times: Timetable,
     known: Option<Answer>,
-    // The timetable of an optimum that was forgotten; whether it still meets everything is asked where it is used.
+    // The timetable of an optimum that was forgotten, or that a search stopped with; whether it meets everything is
+    // asked where it is used.
     candidate: Option<Timetable>,
     // Of the last search.
     nodes: u64,

@@ -1,4 +1,5 @@
-//! The timetable of a forgotten optimum: where it still meets everything, it bounds the next search.
+//! The timetable of a forgotten optimum, or of a search that stopped: where it still meets everything, it bounds the
+//! next search.
 
 ghost use Rattle.std.specs.Prelude.{◌≡◌, ℕ, IfNone, IfSome, None};
 ghost use Rattle.pesp_instance.specs.Network.{Network};

@@ -1,6 +1,6 @@
 //! The optimum: found, kept, and taken as the working timetable.
 
-ghost use Rattle.std.specs.Prelude.{◌≡◌, ℕ, IsErr, IfOk, IfErr, IfSome, IsOkAnd, IsSomeAnd, OnOk, OnErr, Some, None};
+ghost use Rattle.std.specs.Prelude.{◌≡◌, ◌⊎◌, ℕ, IsErr, IfOk, IfErr, IfSome, IsOkAnd, IsSomeAnd, OnOk, OnErr, Some, None};
 ghost use Rattle.pesp_base.specs.declared.refusal.Refusal.TheVariants as no;
 ghost use Rattle.std.specs.List.Sorted.{IsStrictlyIncreasing};
 ghost use Rattle.pesp_tension.specs.Timetables.{timed_events};
@@ -12,7 +12,7 @@ use crate::candidate::{candidate_cost, or_candidate};
 use crate::{Attempt, Bench};
 use pesp_base::{Memory, Refusal};
 use pesp_domains::Keeper;
-use pesp_search::{Answer, Tried, best, best_within};
+use pesp_search::{Answer, Best, Tried, best, best_within};
 use pesp_tension::Timetable;
 use std::alloc::Global;
 
@@ -28,6 +28,17 @@ fn copy_of(alloc: Global, times: &Timetable) -> Result<Timetable, Memory>
         }
     }
     Ok(copy)
+}
+
+/// Makes the timetable that a search stopped with the candidate, where there is memory to copy it.
+fn keep_found(alloc: Global, found: &Option<Best>, candidate: &mut Option<Timetable>)
+    ensures { (candidate.new ≡ candidate.old) ⊎ IsSomeAnd found.now (λ best. candidate.new ≡ Some best.times) }
+{
+    if let Some(best) = found {
+        if let Ok(copy) = copy_of(alloc, &best.times) {
+            *candidate = Some(copy);
+        }
+    }
 }
 
 /// The optimum's timetable, or the refusal where there is none.
@@ -109,8 +120,9 @@ impl<K: Keeper> Bench<K> {
                 Ok(Attempt::Done)
             }
             Tried::Stopped { best } => {
-                let best = or_candidate(best, bound, &mut self.candidate);
-                Ok(Attempt::Stopped(best))
+                let found = or_candidate(best, bound, &mut self.candidate);
+                keep_found(alloc, &found, &mut self.candidate);
+                Ok(Attempt::Stopped(found))
             }
         }
     }

@@ -18,4 +18,4 @@ returns-in-Stopped-clause-ok g c =
     let unknown : c.self.inside.known ≡ None = search rules in
     let tried : MayTry I c.candidate_cost-bound.result c.args.limit (Stopped c.in-Stopped.best) c.in-Ok.nodes = rw c.in-Stopped.is at c.in-Ok.ensures.tried in
     let candidate : IsCandidate I c.candidate_cost-bound.result c.self.inside.candidate = subst (λ J. IsCandidate J c.candidate_cost-bound.result c.self.inside.candidate) c.instance.ensures c.candidate_cost-bound.ensures.cost in
-    (unknown, tried.1, subst (λ J. MayStop J None c.args.limit c.or_candidate-best.result) (sym c.best_within.ensures.network) (c.or_candidate-best.ensures I c.args.limit candidate tried.0))
+    (unknown, tried.1, subst (λ J. MayStop J None c.args.limit c.or_candidate-found.result) (sym c.best_within.ensures.network) (c.or_candidate-found.ensures I c.args.limit candidate tried.0))
