@@ -1,13 +1,10 @@
--- The least of one more.
-use Rattle.std.proofs.Common.{◌≡◌, ℕ, ◌+◌, ◌<◌, ◌⊎◌, ℤ, ◌≤ℤ◌, ◌<ℤ◌, List, length, sym, subst, ◌∙◌, inl, inr, arith}
+-- The least of one more, and the least sums of two rows.
+use Rattle.std.proofs.Common.{◌≡◌, ℕ, ◌+◌, ◌<◌, ◌⊎◌, ℤ, ◌≤ℤ◌, List, length, refl, sym, subst, ◌∙◌, inl, inr, arith}
 use Rattle.std.proofs.lemmas.Bool.{cases_eq}
 use Rattle.std.proofs.lemmas.Int.{ints}
-use Rattle.pesp_search_rows.specs.Rows.{IsLeast, IsNumber, IsReached, IsRow, IsSum, AreEntries, at, greatest_sum, none, sum_at}
+use Rattle.pesp_search_rows.specs.Rows.{ArePlaces, AreEntries, IsLeast, IsLeastSum, IsReached, IsRow, IsSum, greatest_sum, sum_at}
 
-pub nothing_least : (f : ℕ → ℤ) (l : ℤ) → l ≡ none → IsLeast f 0 l
-nothing_least f l is = record { cap = omega (arith, ints, is); bound = λ k h. absurd (omega (arith, h)); reached = inl is }
-
-pub least_more : (f : ℕ → ℤ) (n : ℕ) (old new : ℤ) → IsLeast f n old → new ≤ℤ old → new ≤ℤ f n → (new ≡ old) ⊎ (f n ≡ new) → IsLeast f (n + 1) new
+pub least_more : (f : ℕ → ℤ) (n : ℕ) (old new : ℤ) → IsLeast f n old → new ≤ℤ old → new ≤ℤ f n → (new ≡ old) ⊎ (new ≡ f n) → IsLeast f (n + 1) new
 least_more f n old new was less here one = record {
   cap = omega (arith, ints, was.cap, less);
   bound = λ k h.
@@ -21,7 +18,7 @@ least_more f n old new was less here one = record {
           | inl is ↦ inl (kept ∙ is)
           | inr w ↦ inr (w.0, omega (arith, w.1), w.2 ∙ sym kept)
         ]
-        | inr now ↦ inr (n, omega arith, now)
+        | inr now ↦ inr (n, omega arith, sym now)
       ];
 }
 
@@ -32,24 +29,45 @@ entries row is k =
       | inr nothing ↦ record { low = omega (arith, ints, nothing); high = omega (arith, ints, nothing) }
     ]
 
+sized : (u w : List ℤ) (d n : ℕ) (place : ℕ → ℕ) (l : ℤ) → IsRow u → IsRow w → IsLeast (λ j. sum_at u w d (place j)) n l → IsSum l
+sized u w d n place l isu isw least = record {
+  high = least.cap;
+  low = elim least.reached [
+    | inl nothing ↦ omega (arith, ints, nothing)
+    | inr t ↦
+        let low = (entries u isu (place t.0)).low in
+        let low2 = (entries w isw (d + place t.0)).low in
+        let sum = t.2 in
+        omega (arith, ints, low, low2, sum)
+  ];
+}
+
 -- a sum that is not too great is one of numbers
-pub reached_by : (u w : List ℤ) (d : ℕ) (l : ℤ) → IsRow u → IsRow w → IsLeast (sum_at u w d) (length u) l → l ≤ℤ greatest_sum → IsReached u w d l
-reached_by u w d l isu isw least small =
-    elim least.reached [
-      | inl nothing ↦ absurd (omega (arith, ints, nothing, small))
-      | inr t ↦
-          let k = t.0 in
-          let low = (entries u isu k).low in
-          let low2 = (entries w isw (d + k)).low in
-          let sum = t.2 in
-          elim (isu k) [
-            | inl a ↦ elim (isw (d + k)) [
-              | inl b ↦ record { entry = k; inside = t.1; first = a; second = b; sum = sum }
-              | inr nothing ↦ absurd (omega (arith, ints, nothing, small, low, sum))
-            ]
-            | inr nothing ↦ absurd (omega (arith, ints, nothing, small, low2, sum))
-          ]
+reached_by : (u w : List ℤ) (d k : ℕ) (l : ℤ) → IsRow u → IsRow w → k < length u → sum_at u w d k ≡ l → l ≤ℤ greatest_sum → IsReached u w d l
+reached_by u w d k l isu isw inside sum small =
+    let low = (entries u isu k).low in
+    let low2 = (entries w isw (d + k)).low in
+    elim (isu k) [
+      | inl a ↦ elim (isw (d + k)) [
+        | inl b ↦ record { entry = k; inside = inside; first = a; second = b; sum = sum }
+        | inr nothing ↦ absurd (omega (arith, ints, nothing, small, low, sum))
+      ]
+      | inr nothing ↦ absurd (omega (arith, ints, nothing, small, low2, sum))
     ]
+
+-- going over places at which all numbers of the row stand, one finds the least sum
+pub least_sum : (u w : List ℤ) (d n : ℕ) (place : ℕ → ℕ) (l : ℤ) → IsRow u → IsRow w → ArePlaces u n place → IsLeast (λ j. sum_at u w d (place j)) n l → IsLeastSum u w d l
+least_sum u w d n place l isu isw are least = record {
+  size = sized u w d n place l isu isw least;
+  bound = λ k inside a b. let t = are.all k inside a in subst (λ m. l ≤ℤ sum_at u w d m) t.2 (least.bound t.0 t.1);
+  reached = λ small. elim least.reached [
+    | inl nothing ↦ absurd (omega (arith, ints, nothing, small))
+    | inr t ↦ reached_by u w d (place t.0) l isu isw (are.inside t.0 t.1) t.2 small
+  ];
+}
+
+pub all_places : (u : List ℤ) → ArePlaces u (length u) (λ j. j)
+all_places u = record { inside = λ j h. h; all = λ k h number. (k, h, refl) }
 
 -- what holds at all places before one, where four more are written there
 pub next_four : (P : ℕ → ℤ → Type 0) (old new : ℕ → ℤ) (n : ℕ) → ((d : ℕ) → d < n → P d (old d)) → ((d : ℕ) → d < n → new d ≡ old d) → P n (new n) → P (n + 1) (new (n + 1)) → P (n + 2) (new (n + 2)) → P (n + 3) (new (n + 3)) → (d : ℕ) → d < n + 4 → P d (new d)
@@ -66,25 +84,4 @@ next_four P old new n before kept first second third fourth d h =
           ]
         ]
       ]
-    ]
-
-pub sized : (u w : List ℤ) (d n : ℕ) (l : ℤ) → AreEntries u → AreEntries w → IsLeast (sum_at u w d) n l → IsSum l
-sized u w d n l isu isw least = record {
-  high = least.cap;
-  low = elim least.reached [
-    | inl nothing ↦ omega (arith, ints, nothing)
-    | inr t ↦
-        let low = (isu t.0).low in
-        let low2 = (isw (d + t.0)).low in
-        let sum = t.2 in
-        omega (arith, ints, low, low2, sum)
-  ];
-}
-
--- where the least sum is too great for one of numbers, no two numbers stand at that distance
-pub closed_by : (u w : List ℤ) (d n : ℕ) (l : ℤ) → IsRow w → IsLeast (sum_at u w d) n l → greatest_sum <ℤ l → (k : ℕ) → k < n → IsNumber (at u k) → at w (d + k) ≡ none
-closed_by u w d n l isw least great k h a =
-    elim (isw (d + k)) [
-      | inl b ↦ let bound = least.bound k h in absurd (omega (arith, ints, bound, great, a.high, b.high))
-      | inr nothing ↦ nothing
     ]

@@ -1,5 +1,5 @@
 -- Rows of numbers in which some entries are none, and least sums of two rows.
-use Rattle.std.specs.Prelude.{◌≡◌, ℕ, ◌+◌, ◌<◌, ◌⊎◌, ℤ, pos, neg_ℤ, ◌+ℤ◌, ◌≤ℤ◌, Bool, false, List, length, slice_index_or, if◌then◌else◌}
+use Rattle.std.specs.Prelude.{◌≡◌, ℕ, ◌+◌, ◌<◌, ◌⊎◌, ℤ, pos, neg_ℤ, ◌+ℤ◌, ◌≤ℤ◌, Bool, false, List, length, slice_index, slice_index_or, if◌then◌else◌}
 
 -- what stands for an entry that is none
 abbrev pub none : ℤ
@@ -43,6 +43,26 @@ pub record IsReached (u w : List ℤ) (d : ℕ) (l : ℤ) : Type 0 where
   pub second : IsNumber (at w (d + entry))
   pub sum : sum_at u w d entry ≡ l
 
+-- a sum of two entries, or none
+pub record IsSum (z : ℤ) : Type 0 where
+  pub low : neg_ℤ greatest_sum ≤ℤ z
+  pub high : z ≤ℤ none
+
+-- l is the least sum of two numbers at the distance d; where no two numbers stand there, it is greater than any sum
+pub record IsLeastSum (u w : List ℤ) (d : ℕ) (l : ℤ) : Type 0 where
+  pub size : IsSum l
+  pub bound : (k : ℕ) → k < length u → IsNumber (at u k) → IsNumber (at w (d + k)) → l ≤ℤ sum_at u w d k
+  pub reached : l ≤ℤ greatest_sum → IsReached u w d l
+
+-- the number in a list of places
+abbrev pub place_at : List ℕ → ℕ → ℕ
+place_at places j = slice_index places j
+
+-- the first n places are places of the row, and each of its numbers stands at one of them
+pub record ArePlaces (u : List ℤ) (n : ℕ) (place : ℕ → ℕ) : Type 0 where
+  pub inside : (j : ℕ) → j < n → place j < length u
+  pub all : (k : ℕ) → k < length u → IsNumber (at u k) → (j : ℕ) × (j < n) × (place j ≡ k)
+
 -- a number or none, by its size alone: the sum of two fits 32 bits
 pub record IsEntry (z : ℤ) : Type 0 where
   pub low : neg_ℤ greatest ≤ℤ z
@@ -62,8 +82,3 @@ AreNumbers numbers = (k : ℕ) → IsNumber (at numbers k)
 -- from a place on a row has the entries of a table
 abbrev pub IsLaid : List ℤ → List Bool → ℕ → List ℤ → Type 0
 IsLaid numbers tests from row = (k : ℕ) → k < length numbers → at row (from + k) ≡ laid numbers tests k
-
--- a sum of two entries, or none
-pub record IsSum (z : ℤ) : Type 0 where
-  pub low : neg_ℤ greatest_sum ≤ℤ z
-  pub high : z ≤ℤ none

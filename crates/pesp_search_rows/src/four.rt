@@ -1,7 +1,7 @@
 //! Least sums at four neighbouring distances at once.
 
-ghost use Rattle.std.specs.Prelude.{◌≡◌, ℕ, ◌+◌, ◌<◌, ◌≤◌, ◌+ℤ◌, length};
-ghost use Rattle.pesp_search_rows.specs.Rows.{IsEntry, IsLeast, AreEntries, sum_at};
+ghost use Rattle.std.specs.Prelude.{◌≡◌, ℕ, ℤ, ◌+◌, ◌<◌, ◌≤◌, ◌+ℤ◌, length};
+ghost use Rattle.pesp_search_rows.specs.Rows.{ArePlaces, IsEntry, IsLeast, IsLeastSum, IsRow, place_at, sum_at};
 
 /// What stands for an entry that is none.
 pub(crate) const NONE: i32 = 1_073_741_823;
@@ -23,32 +23,63 @@ fn sum(a: i32, b: i32) -> i32
     a + b
 }
 
-/// The least sum with one more: that of entry `k` with the one at the distance `d` from it.
+/// The least with one more, the sum of entry `k` and the one at the distance `d` from it.
 fn lower(least: i32, u: &[i32], w: &[i32], d: usize, k: usize) -> i32
     requires inside { (k < length u.now) × (d + k < length w.now) }
-    requires u { AreEntries u.now }
-    requires w { AreEntries w.now }
-    ensures { IsLeast (sum_at u.now w.now d) k least → IsLeast (sum_at u.now w.now d) (k + 1) result }
+    requires u { IsRow u.now }
+    requires w { IsRow w.now }
+    ensures { (f : ℕ → ℤ) (n : ℕ) → f n ≡ sum_at u.now w.now d k
+        → IsLeast f n least → IsLeast f (n + 1) result }
 {
     let here = sum(u[k], w[d + k]);
     if here < least { here } else { least }
 }
 
-/// The least sums of two rows at the distance `from` and at the three next.
+/// The least sums of two rows at the distance `from` and at the three next, over all entries of the first.
 pub(crate) fn least_four(u: &[i32], w: &[i32], from: usize) -> Four
     requires long { from + length u.now + 3 ≤ length w.now }
-    requires u { AreEntries u.now }
-    requires w { AreEntries w.now }
-    ensures first { IsLeast (sum_at u.now w.now from) (length u.now) result.first }
-    ensures second { IsLeast (sum_at u.now w.now (from + 1)) (length u.now) result.second }
-    ensures third { IsLeast (sum_at u.now w.now (from + 2)) (length u.now) result.third }
-    ensures fourth { IsLeast (sum_at u.now w.now (from + 3)) (length u.now) result.fourth }
+    requires u { IsRow u.now }
+    requires w { IsRow w.now }
+    ensures first { IsLeastSum u.now w.now from result.first }
+    ensures second { IsLeastSum u.now w.now (from + 1) result.second }
+    ensures third { IsLeastSum u.now w.now (from + 2) result.third }
+    ensures fourth { IsLeastSum u.now w.now (from + 3) result.fourth }
 {
     let mut first = NONE;
     let mut second = NONE;
     let mut third = NONE;
     let mut fourth = NONE;
     for k in 0..u.len() {
+        first = lower(first, u, w, from, k);
+        second = lower(second, u, w, from + 1, k);
+        third = lower(third, u, w, from + 2, k);
+        fourth = lower(fourth, u, w, from + 3, k);
+    }
+    Four {
+        first,
+        second,
+        third,
+        fourth,
+    }
+}
+
+/// The same over the first row's numbers alone, which stand at the places.
+pub(crate) fn least_four_at(u: &[i32], w: &[i32], places: &[u16], from: usize) -> Four
+    requires long { from + length u.now + 3 ≤ length w.now }
+    requires u { IsRow u.now }
+    requires w { IsRow w.now }
+    requires places { ArePlaces u.now (length places.now) (place_at places.now) }
+    ensures first { IsLeastSum u.now w.now from result.first }
+    ensures second { IsLeastSum u.now w.now (from + 1) result.second }
+    ensures third { IsLeastSum u.now w.now (from + 2) result.third }
+    ensures fourth { IsLeastSum u.now w.now (from + 3) result.fourth }
+{
+    let mut first = NONE;
+    let mut second = NONE;
+    let mut third = NONE;
+    let mut fourth = NONE;
+    for place in places {
+        let k = usize::from(*place);
         first = lower(first, u, w, from, k);
         second = lower(second, u, w, from + 1, k);
         third = lower(third, u, w, from + 2, k);

@@ -1,9 +1,47 @@
 //! Least sums of two rows at all distances.
 
-ghost use Rattle.std.specs.Prelude.{◌≡◌, ℕ, ◌+◌, ◌<◌, ◌≤◌, ◌≤ℤ◌, length};
-ghost use Rattle.pesp_search_rows.specs.Rows.{IsLeast, IsReached, IsRow, IsSum, AreEntries, at, greatest_sum, sum_at};
+ghost use Rattle.std.specs.Prelude.{◌≡◌, ℕ, ◌+◌, ◌<◌, ◌≤◌, length};
+ghost use Rattle.pesp_search_rows.specs.Rows.{ArePlaces, IsLeastSum, IsRow, at, place_at};
 
-use crate::four::{Four, least_four};
+use crate::four::{Four, NONE, least_four, least_four_at};
+
+/// Writes the places of a row's numbers in rising order, and says how many there are.
+fn places_of(u: &[i32], places: &mut [u16]) -> usize
+    requires short { length u.now ≤ 65_536 }
+    requires room { length u.now ≤ length places.old }
+    ensures places { ArePlaces u.now result (place_at places.new) }
+    ensures fewer { result ≤ length u.now }
+{
+    let mut count = 0;
+    for k in 0..u.len() {
+        // Each place is written and only a number's is counted, without a jump.
+        places[count] = k as u16;
+        if u[k] < NONE {
+            count += 1;
+        }
+    }
+    count
+}
+
+/// The least sums at four distances, over the first row's numbers alone where half of it or more is none.
+fn four_sums(u: &[i32], w: &[i32], places: &[u16], from: usize) -> Four
+    requires long { from + length u.now + 3 ≤ length w.now }
+    requires u { IsRow u.now }
+    requires w { IsRow w.now }
+    requires places { ArePlaces u.now (length places.now) (place_at places.now) }
+    requires fewer { length places.now ≤ length u.now }
+    requires short { length u.now ≤ 65_536 }
+    ensures first { IsLeastSum u.now w.now from result.first }
+    ensures second { IsLeastSum u.now w.now (from + 1) result.second }
+    ensures third { IsLeastSum u.now w.now (from + 2) result.third }
+    ensures fourth { IsLeastSum u.now w.now (from + 3) result.fourth }
+{
+    if places.len() * 2 <= u.len() {
+        least_four_at(u, w, places, from)
+    } else {
+        least_four(u, w, from)
+    }
+}
 
 /// Writes four numbers from a place on.
 fn store(out: &mut [i32], from: usize, four: Four)
@@ -20,20 +58,23 @@ fn store(out: &mut [i32], from: usize, four: Four)
     out[from + 3] = four.fourth;
 }
 
-/// The least sums of two rows at each distance: the least of `u[k] + w[d + k]` over all k.
+/// The least sums of two rows at each distance: the least of `u[k] + w[d + k]` over all k at which both are
+/// numbers. `places` is written over.
 #[inline(never)]
-pub fn least_sums(u: &[i32], w: &[i32], out: &mut [i32])
+pub fn least_sums(u: &[i32], w: &[i32], places: &mut [u16], out: &mut [i32])
     requires u { IsRow u.now }
     requires w { IsRow w.now }
+    requires short { length u.now ≤ 65_536 }
     requires long { length u.now + length u.now + 2 ≤ length w.now }
+    requires places { length u.now ≤ length places.old }
     requires room { length u.now + 3 ≤ length out.old }
-    ensures least { (d : ℕ) → d < length u.now → IsLeast (sum_at u.now w.now d) (length u.now) (at out.new d) }
-    ensures size { (d : ℕ) → d < length u.now → IsSum (at out.new d) }
-    ensures reached { (d : ℕ) → d < length u.now → at out.new d ≤ℤ greatest_sum → IsReached u.now w.now d (at out.new d) }
+    ensures least { (d : ℕ) → d < length u.now → IsLeastSum u.now w.now d (at out.new d) }
 {
+    let count = places_of(u, places);
+    let numbers = &places[..count];
     let mut from = 0;
     while from < u.len() {
-        store(out, from, least_four(u, w, from));
+        store(out, from, four_sums(u, w, numbers, from));
         from += 4;
     }
 }

@@ -4,7 +4,7 @@ use Rattle.std.proofs.Math.Nat.{add-mod_right, mod-eq_of_lt, mod-lt, mod_self}
 use Rattle.std.proofs.lemmas.Bool.{cases_eq, cases_lt}
 use Rattle.std.proofs.lemmas.Int.{ints}
 use Rattle.std.proofs.lemmas.List.{get_or-drop, get_or_past, get_or-replicate, get_or-take, length-drop, length-replicate, length-take-le}
-use Rattle.pesp_search_rows.specs.Rows.{AreNumbers, IsLeast, IsNumber, IsRow, at, laid, none, sum_at}
+use Rattle.pesp_search_rows.specs.Rows.{AreNumbers, IsLeastSum, IsNumber, IsRow, at, laid, none}
 use Rattle.pesp_search_tables.specs.declared.triple.Side.{Side}
 use Rattle.pesp_search_tables.specs.declared.triple.Turn.{Turn}
 use Rattle.pesp_search_tables.specs.declared.triple.Way.{Way}
@@ -96,17 +96,17 @@ laid_twice T row f first second q h =
 entry_is : (T : ℕ) (own : List ℤ) (tests : List Bool) (s : Side) (k : ℕ) → admits_at T tests s.pair k ≡ true → entry_at T own tests s k ≡ number_at T own s.own k
 entry_is T own tests s k a = ap (λ b. cond b (number_at T own s.own k) none) a
 
-pub leasts_of : (t : Turn) (own : List ℤ) (tests : List Bool) (once part twice row : List ℤ)
+pub leasts_of : (t : Turn) (own : List ℤ) (tests : List Bool) (once part twice row : List ℤ) → AreNumbers own
     → ((k : ℕ) → k < t.period → at once (spot t.way t.period k) ≡ entry_at t.period own tests t.other k)
     → ((q : ℕ) → q < t.period + t.period → at twice q ≡ entry_at t.period own tests t.third (q % t.period))
     → length part ≡ t.period → ((k : ℕ) → k < t.period → at part k ≡ at once k)
-    → ((d : ℕ) → d < length part → IsLeast (sum_at part twice d) (length part) (at row d)) → AreLeasts t tests own row
-leasts_of t own tests once part twice row first second long same least e k he hk a b =
+    → ((d : ℕ) → d < length part → IsLeastSum part twice d (at row d)) → AreLeasts t tests own row
+leasts_of t own tests once part twice row small first second long same least e k he hk a b =
     let T = t.period in
     let j : ℕ = spot t.way T k in
     let hj : j < T = spot_below t.way T k hk in
-    let low = (least e (omega (arith, he, long))).bound j (omega (arith, hj, long)) in
     let goes = spot_goes t.way T e k hk in
     let one = same j hj ∙ first k hk ∙ entry_is T own tests t.other k a in
     let two = second (e + j) (omega (arith, he, hj)) ∙ ap (entry_at T own tests t.third) goes ∙ entry_is T own tests t.third (third t.way T e k) b in
+    let low = (least e (omega (arith, he, long))).bound j (omega (arith, hj, long)) (subst IsNumber (sym one) (small (t.other.own * T + k))) (subst IsNumber (sym two) (small (t.third.own * T + third t.way T e k))) in
     omega (arith, ints, low, one, two)

@@ -4,8 +4,9 @@ ghost use Rattle.std.specs.Prelude.{◌≡◌, ℕ, ◌+◌, ◌*◌, ◌%◌, �
 ghost use Rattle.pesp_search_rows.specs.Rows.{AreNumbers, IsRow, IsSum, at};
 ghost use Rattle.pesp_search_tables.specs.Moves.{AreLeasts, Fits, entry_at, spot};
 
+use crate::scratch::Scratch;
 use crate::triple::{Turn, Way};
-use pesp_search_rows::{clear, lay, lay_back, lay_twice, least_sums};
+use pesp_search_rows::{lay, lay_back, lay_twice, least_sums};
 
 /// The numbers at a place.
 fn numbers_of(numbers: &[i32], period: usize, place: usize) -> &[i32]
@@ -61,20 +62,22 @@ fn lay_third(own: &[i32], tests: &[bool], turn: Turn, row: &mut [i32])
 
 /// For each difference at this side the least sum of the triple's own numbers at the two other sides, of those
 /// that their pairs admit; more than any sum of two numbers where they admit none.
-pub(crate) fn least_of_others(own: &[i32], tests: &[bool], turn: Turn, row: &mut [i32])
+pub(crate) fn least_of_others(own: &[i32], tests: &[bool], turn: Turn, scratch: &mut Scratch)
     requires period { turn.period ≤ 1440 }
     requires pairs { (Fits turn.period turn.other.pair (length tests.now)) × (Fits turn.period turn.third.pair (length tests.now)) }
     requires own { (Fits turn.period turn.other.own (length own.now)) × (Fits turn.period turn.third.own (length own.now)) }
     requires small { AreNumbers own.now }
-    requires row { turn.period + 3 ≤ length row.old }
-    ensures least { AreLeasts turn tests.now own.now row.new }
-    ensures sums { (e : ℕ) → e < turn.period → IsSum (at row.new e) }
+    requires rows { IsRow scratch.old.once × IsRow scratch.old.twice }
+    ensures least { AreLeasts turn tests.now own.now scratch.new.sums }
+    ensures rows { IsRow scratch.new.once × IsRow scratch.new.twice }
+    ensures sums { (e : ℕ) → e < turn.period → IsSum (at scratch.new.sums e) }
 {
-    let mut once = [0; 1440];
-    let mut twice = [0; 2882];
-    clear(&mut once);
-    clear(&mut twice);
-    lay_other(own, tests, turn, &mut once);
-    lay_third(own, tests, turn, &mut twice);
-    least_sums(numbers_of(&once, turn.period, 0), &twice, row);
+    lay_other(own, tests, turn, &mut scratch.once);
+    lay_third(own, tests, turn, &mut scratch.twice);
+    least_sums(
+        numbers_of(&scratch.once, turn.period, 0),
+        &scratch.twice,
+        &mut scratch.places,
+        &mut scratch.sums,
+    );
 }

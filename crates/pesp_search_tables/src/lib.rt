@@ -6,6 +6,7 @@ mod cuts;
 mod growth;
 mod least;
 mod numbers;
+mod scratch;
 mod seats;
 mod step;
 mod tables;

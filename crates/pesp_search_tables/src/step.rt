@@ -1,25 +1,31 @@
 //! Steps at triples: what the tables of pairs hold goes to the triple, and shares of the least sums come back.
 
-ghost use Rattle.std.specs.Prelude.{◌≡◌, ◌≢◌, ℕ, ◌+◌, ◌<◌, ◌≤◌, ◌<ℤ◌, ◌≤ℤ◌, ◌+ℤ◌, true, pos, length};
-ghost use Rattle.pesp_search_rows.specs.Rows.{AreNumbers, IsNumber, IsSum, at, greatest_sum};
+ghost use Rattle.std.specs.Prelude.{◌≡◌, ◌≢◌, ℕ, ◌+◌, ◌<◌, ◌≤◌, ◌≤ℤ◌, ◌+ℤ◌, true, length};
+ghost use Rattle.pesp_search_rows.specs.Rows.{AreNumbers, IsNumber, IsRow, IsSum, at, greatest_sum};
 ghost use Rattle.pesp_search_tables.specs.Moves.{AreLeasts, AreShared, AreTrimmed, AreWithin, Fits, IsFloor, IsSupported, KeepOthers, KeepSums, KeepTests};
 ghost use Rattle.pesp_search_tables.specs.Sums.{admits_at, number_at};
 ghost use Rattle.pesp_search_tables.specs.Floors.{IsShallow};
 
 use crate::least::least_of_others;
 use crate::numbers::{GREATEST_SUM, moved, take};
-use crate::triple::{Seat, Turn, Way};
+use crate::scratch::Scratch;
+use crate::triple::{Part, Seat, Turn, Way};
 
 /// More than any sum of two numbers.
 const NONE: i32 = 1_073_741_823;
 
 /// A part of what a least sum and the own number make together.
-fn share_of(own: i32, least: i32, part: i32) -> i32
+fn share_of(own: i32, least: i32, part: Part) -> i32
     requires own { IsNumber own }
     requires least { IsSum least }
-    requires part { pos 0 <ℤ part }
 {
-    (least + own) / part
+    let sum = least + own;
+    // Divisors that are known here need no division in the loop.
+    match part {
+        Part::All => sum,
+        Part::Half => sum / 2,
+        Part::Third => sum / 3,
+    }
 }
 
 /// Whether an entry stays one.
@@ -34,7 +40,6 @@ fn stays(test: bool, least: i32) -> bool
 fn give(numbers: &mut [i32], tests: &mut [bool], own: &mut [i32], turn: Turn, row: &[i32])
     requires pair { (Fits turn.period turn.this.pair (length numbers.old)) × (Fits turn.period turn.this.pair (length tests.old)) }
     requires own { Fits turn.period turn.this.own (length own.old) }
-    requires part { pos 0 <ℤ turn.part }
     requires small { AreNumbers numbers.old × AreNumbers own.old }
     requires row { turn.period ≤ length row.now }
     requires sums { (e : ℕ) → e < turn.period → IsSum (at row.now e) }
@@ -53,24 +58,30 @@ fn give(numbers: &mut [i32], tests: &mut [bool], own: &mut [i32], turn: Turn, ro
     }
 }
 
-/// One side of a triple is given its part of the least sums, which the row tells.
-fn take_turn(numbers: &mut [i32], tests: &mut [bool], own: &mut [i32], turn: Turn, row: &mut [i32])
+/// One side of a triple is given its part of the least sums, which stay in the scratch rows.
+fn take_turn(
+    numbers: &mut [i32],
+    tests: &mut [bool],
+    own: &mut [i32],
+    turn: Turn,
+    scratch: &mut Scratch,
+)
     requires period { turn.period ≤ 1440 }
     requires long { length numbers.old ≡ length tests.old }
     requires pairs { (Fits turn.period turn.this.pair (length tests.old)) × (Fits turn.period turn.other.pair (length tests.old)) × (Fits turn.period turn.third.pair (length tests.old)) }
     requires own { (Fits turn.period turn.this.own (length own.old)) × (Fits turn.period turn.other.own (length own.old)) × (Fits turn.period turn.third.own (length own.old)) }
     requires apart { (turn.other.own ≢ turn.this.own) × (turn.third.own ≢ turn.this.own) }
-    requires part { pos 0 <ℤ turn.part }
     requires small { AreNumbers numbers.old × AreNumbers own.old }
-    requires row { turn.period + 3 ≤ length row.old }
+    requires rows { IsRow scratch.old.once × IsRow scratch.old.twice }
     ensures shared { AreShared turn.period turn.this numbers.old numbers.new own.old own.new }
     ensures trimmed { AreTrimmed turn.period turn.this.pair (IsSupported turn tests.old) tests.old tests.new }
     ensures small { AreNumbers numbers.new × AreNumbers own.new }
-    ensures least { AreLeasts turn tests.new own.new row.new }
-    ensures sums { (e : ℕ) → e < turn.period → IsSum (at row.new e) }
+    ensures least { AreLeasts turn tests.new own.new scratch.new.sums }
+    ensures sums { (e : ℕ) → e < turn.period → IsSum (at scratch.new.sums e) }
+    ensures rows { IsRow scratch.new.once × IsRow scratch.new.twice }
 {
-    least_of_others(own, tests, turn, row);
-    give(numbers, tests, own, turn, row);
+    least_of_others(own, tests, turn, scratch);
+    give(numbers, tests, own, turn, &scratch.sums);
 }
 
 /// All numbers of a triple's pairs are moved to the triple.
@@ -136,14 +147,14 @@ pub(crate) fn step_at(numbers: &mut [i32], tests: &mut [bool], own: &mut [i32], 
     ensures shallow { IsShallow result }
     ensures small { AreNumbers numbers.new × AreNumbers own.new }
 {
-    let mut row = [0; 1443];
+    let mut scratch = Scratch::new();
     let ab = Turn {
         period: seat.period,
         this: seat.ab,
         other: seat.bc,
         third: seat.ac,
         way: Way::Behind,
-        part: 3,
+        part: Part::Third,
     };
     let bc = Turn {
         period: seat.period,
@@ -151,7 +162,7 @@ pub(crate) fn step_at(numbers: &mut [i32], tests: &mut [bool], own: &mut [i32], 
         other: seat.ab,
         third: seat.ac,
         way: Way::Behind,
-        part: 2,
+        part: Part::Half,
     };
     let ac = Turn {
         period: seat.period,
@@ -159,14 +170,21 @@ pub(crate) fn step_at(numbers: &mut [i32], tests: &mut [bool], own: &mut [i32], 
         other: seat.ab,
         third: seat.bc,
         way: Way::Between,
-        part: 1,
+        part: Part::All,
     };
     take_all(numbers, own, seat);
-    take_turn(numbers, tests, own, ab, &mut row);
-    take_turn(numbers, tests, own, bc, &mut row);
-    take_turn(numbers, tests, own, ac, &mut row);
-    take_turn(numbers, tests, own, Turn { part: 1, ..ab }, &mut row);
-    let last = Turn { part: 1, ..bc };
-    take_turn(numbers, tests, own, last, &mut row);
-    floor_of(own, tests, last, &row)
+    take_turn(numbers, tests, own, ab, &mut scratch);
+    take_turn(numbers, tests, own, bc, &mut scratch);
+    take_turn(numbers, tests, own, ac, &mut scratch);
+    let again = Turn {
+        part: Part::All,
+        ..ab
+    };
+    take_turn(numbers, tests, own, again, &mut scratch);
+    let last = Turn {
+        part: Part::All,
+        ..bc
+    };
+    take_turn(numbers, tests, own, last, &mut scratch);
+    floor_of(own, tests, last, &scratch.sums)
 }

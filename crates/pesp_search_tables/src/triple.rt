@@ -40,6 +40,14 @@ pub(crate) enum Way {
     Between,
 }
 
+/// How much of the least sums a side is given.
+#[derive(Clone, Copy)]
+pub(crate) enum Part {
+    All,
+    Half,
+    Third,
+}
+
 /// A triple seen from one of its sides, and the part of the least sums that this side is given.
 #[derive(Clone, Copy)]
 pub(crate) struct Turn {
@@ -48,5 +56,5 @@ pub(crate) struct Turn {
     pub(crate) other: Side,
     pub(crate) third: Side,
     pub(crate) way: Way,
-    pub(crate) part: i32,
+    pub(crate) part: Part,
 }

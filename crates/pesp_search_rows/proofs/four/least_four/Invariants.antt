@@ -1,6 +1,6 @@
 -- The least sums of the entries before this one.
-use Rattle.pesp_search_rows.specs.Rows.{IsLeast, sum_at}
 use Rattle.std.proofs.Common.{◌+◌}
+use Rattle.pesp_search_rows.specs.Rows.{IsLeast, sum_at}
 use Rattle.pesp_search_rows.proofs.four.least_four.Given as goal
 
 abbrev pub invariant-loop-k : goal.invariant-loop-k

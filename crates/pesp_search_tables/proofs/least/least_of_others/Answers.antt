@@ -26,7 +26,25 @@ least_sums-requires-clause-room c =
     let once = c.lay_other.new.row in
     let fits : 0 * T + T ≤ length once = search rules in
     let long = ap length c.numbers_of.ensures ∙ part_long once (0 * T) T fits in
-    let room = c.requires.row in
+    let room : T + 3 ≤ length c.args.scratch.now.sums = search rules in
+    omega (arith, long, room)
+
+pub least_sums-requires-clause-short : goal.least_sums-requires-clause-short
+least_sums-requires-clause-short c =
+    let T = c.args.turn.period in
+    let once = c.lay_other.new.row in
+    let fits : 0 * T + T ≤ length once = search rules in
+    let long = ap length c.numbers_of.ensures ∙ part_long once (0 * T) T fits in
+    let period = c.requires.period in
+    omega (arith, long, period)
+
+pub least_sums-requires-clause-places : goal.least_sums-requires-clause-places
+least_sums-requires-clause-places c =
+    let T = c.args.turn.period in
+    let once = c.lay_other.new.row in
+    let fits : 0 * T + T ≤ length once = search rules in
+    let long = ap length c.numbers_of.ensures ∙ part_long once (0 * T) T fits in
+    let room : T ≤ length c.args.scratch.now.places = search rules in
     omega (arith, long, room)
 
 pub returns-clause-least : goal.returns-clause-least
@@ -37,7 +55,7 @@ returns-clause-least c =
     let long = ap length c.numbers_of.ensures ∙ part_long once (0 * T) T fits in
     let same : (k : ℕ) → k < T → at c.numbers_of.result.now k ≡ at once k =
     λ k h. let start : 0 * T + k ≡ k = omega arith in ap (λ xs. at xs k) c.numbers_of.ensures ∙ part_at once (0 * T) T k (pos 0) h ∙ ap (at once) start in
-    leasts_of c.args.turn c.args.own.now c.args.tests.now once c.numbers_of.result.now c.lay_third.new.row c.least_sums.new.out c.lay_other.ensures.laid c.lay_third.ensures.laid long same c.least_sums.ensures.least
+    leasts_of c.args.turn c.args.own.now c.args.tests.now once c.numbers_of.result.now c.lay_third.new.row c.least_sums.new.out c.requires.small c.lay_other.ensures.laid c.lay_third.ensures.laid long same c.least_sums.ensures.least
 
 pub returns-clause-sums : goal.returns-clause-sums
 returns-clause-sums c e h =
@@ -45,4 +63,4 @@ returns-clause-sums c e h =
     let once = c.lay_other.new.row in
     let fits : 0 * T + T ≤ length once = search rules in
     let long = ap length c.numbers_of.ensures ∙ part_long once (0 * T) T fits in
-    c.least_sums.ensures.size e (omega (arith, h, long))
+    (c.least_sums.ensures.least e (omega (arith, h, long))).size

@@ -1,6 +1,7 @@
 -- Each part keeps the sums, what is admitted and the numbers of other triples; the last one leaves a floor.
-use Rattle.std.proofs.Common.{◌≡◌, ◌+◌, ◌%◌, ◌∙◌, refl, sym, ap, add_comm, pos, arith}
+use Rattle.std.proofs.Common.{◌≡◌, ◌+◌, ◌%◌, ◌∙◌, refl, sym, ap, add_comm, arith}
 use Rattle.std.proofs.lemmas.Int.{ints}
+use Rattle.pesp_search_tables.specs.declared.triple.Part.TheVariants.{All, Half, Third}
 use Rattle.pesp_search_tables.specs.declared.triple.Turn.{Turn}
 use Rattle.pesp_search_tables.specs.declared.triple.Way.TheVariants.{Behind, Between}
 use Rattle.pesp_search_tables.specs.Sums.{admits_at, number_at}
@@ -45,11 +46,11 @@ returns-clause-tests c =
     let t3 = c.take_turn-3.new.tests in
     let t4 = c.take_turn-4.new.tests in
     let t5 = c.take_turn-5.new.tests in
-    let ab : Turn = record { period = T; this = s.ab; other = s.bc; third = s.ac; way = Behind; part = pos 3 } in
-    let ab1 : Turn = record { period = T; this = s.ab; other = s.bc; third = s.ac; way = Behind; part = pos 1 } in
-    let bc : Turn = record { period = T; this = s.bc; other = s.ab; third = s.ac; way = Behind; part = pos 2 } in
-    let bc1 : Turn = record { period = T; this = s.bc; other = s.ab; third = s.ac; way = Behind; part = pos 1 } in
-    let ac : Turn = record { period = T; this = s.ac; other = s.ab; third = s.bc; way = Between; part = pos 1 } in
+    let ab : Turn = record { period = T; this = s.ab; other = s.bc; third = s.ac; way = Behind; part = Third } in
+    let ab1 : Turn = record { period = T; this = s.ab; other = s.bc; third = s.ac; way = Behind; part = All } in
+    let bc : Turn = record { period = T; this = s.bc; other = s.ab; third = s.ac; way = Behind; part = Half } in
+    let bc1 : Turn = record { period = T; this = s.bc; other = s.ab; third = s.ac; way = Behind; part = All } in
+    let ac : Turn = record { period = T; this = s.ac; other = s.ab; third = s.bc; way = Between; part = All } in
     tests_then s t0 t4 t5
     (tests_then s t0 t3 t4
     (tests_then s t0 t2 t3

@@ -10,11 +10,11 @@ pub returns-clause-trimmed : goal.returns-clause-trimmed
 returns-clause-trimmed c =
     let turn = c.args.turn in
     let tests = c.args.tests.now in
-    let row = c.least_of_others.new.row in
+    let row = c.least_of_others.new.scratch.sums in
     trim_narrow turn.period turn.this.pair (λ e. at row e ≤ℤ greatest_sum) (IsSupported turn tests) tests c.give.new.tests
     (supported_small turn tests c.args.own.now row c.requires.small.1 c.least_of_others.ensures.least)
     c.give.ensures.trimmed
 
 pub returns-clause-least : goal.returns-clause-least
 returns-clause-least c =
-    leasts_stay c.args.turn c.args.tests.now c.give.new.tests c.args.own.now c.give.new.own c.least_of_others.new.row c.give.ensures.trimmed.within c.give.ensures.shared.own c.requires.apart.0 c.requires.apart.1 c.least_of_others.ensures.least
+    leasts_stay c.args.turn c.args.tests.now c.give.new.tests c.args.own.now c.give.new.own c.least_of_others.new.scratch.sums c.give.ensures.trimmed.within c.give.ensures.shared.own c.requires.apart.0 c.requires.apart.1 c.least_of_others.ensures.least

@@ -1,0 +1,11 @@
+-- The places of the numbers before this entry.
+use Rattle.std.proofs.Common.{◌≡◌, ℕ, ◌<◌, ◌≤◌, length}
+use Rattle.pesp_search_rows.specs.Rows.{IsNumber, at, place_at}
+use Rattle.pesp_search_rows.proofs.sums.places_of.Given as goal
+
+abbrev pub invariant-loop-k : goal.invariant-loop-k
+invariant-loop-k l = record {
+  fewer : l.count ≤ l.k;
+  inside : (j : ℕ) → j < l.count → place_at l.places j < length l.u;
+  all : (k : ℕ) → k < l.k → IsNumber (at l.u k) → (j : ℕ) × (j < l.count) × (place_at l.places j ≡ k);
+}
