@@ -7,3 +7,11 @@ pub mod Searched
 pub mod Settled
 pub mod Narrowed
 pub mod Outcomes
+pub mod Ranged
+pub mod Selected
+pub mod Raised
+pub mod Turned
+pub mod Joined
+pub mod Shares
+pub mod Together
+pub mod Thinned

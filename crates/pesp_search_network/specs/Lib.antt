@@ -1,6 +1,9 @@
 pub mod Arcs
 pub mod Narrow
+pub mod Ranges
+pub mod Pieces
 pub mod Relaxed
 pub mod Scales
 pub mod Splits
+pub mod SumsApart
 pub mod Ways

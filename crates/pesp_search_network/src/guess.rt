@@ -98,18 +98,28 @@ fn residue_for(
     }
 }
 
-/// The residues of the events.
-fn map_of(alloc: Global, chosen: &[Option<u16>]) -> Result<Vec<u16>, Memory> {
+/// The residues of the events, all turned so that the origin, which is the last node, stands at 0.
+fn map_of(alloc: Global, chosen: &[Option<u16>], period: usize) -> Result<Vec<u16>, Memory>
+    requires { (0 < period) × (period ≤ 1440) }
+{
+    let Some((origin, events)) = chosen.split_last() else {
+        return Ok(Vec::new(alloc));
+    };
+    let facing = Facing::From(origin.unwrap_or(0));
     let mut map = Vec::new(alloc);
-    for residue in chosen {
-        if map.push(residue.unwrap_or(0)).is_err() {
+    for residue in events {
+        let turned = difference(period, facing, usize::from(residue.unwrap_or(0)));
+        if map.push(turned as u16).is_err() {
             return Err(Memory);
         }
     }
     Ok(map)
 }
 
-/// A map in the reverse of an order, each event at the residue of least sum to those that have theirs. The origin stands at 0.
+/// A map in the reverse of an order, each node at the residue of least sum to those that have theirs.
+///
+/// The origin takes its turn like any event, and all are turned at the end so that it stands at 0: with a residue
+/// from the start it would come before the nodes that close its circles.
 pub(crate) fn guess(
     alloc: Global,
     tables: &Tables,
@@ -122,16 +132,15 @@ pub(crate) fn guess(
     let Ok(mut chosen) = vec![in alloc; None; events + 1] else {
         return Err(Memory);
     };
-    chosen[events] = Some(0);
     for node in order.iter().rev() {
-        if *node < events {
+        if *node <= events {
             let Some(residue) = residue_for(alloc, tables, *node, &chosen)? else {
                 return Ok(None);
             };
             chosen[*node] = Some(residue);
         }
     }
-    match map_of(alloc, &chosen[..events]) {
+    match map_of(alloc, &chosen, tables.period()) {
         Ok(map) => Ok(Some(map)),
         Err(_) => Err(Memory),
     }

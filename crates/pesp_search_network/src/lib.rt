@@ -2,9 +2,13 @@
 #![tactic(auto)]
 
 mod admitted;
+mod apart;
 mod arc;
+#[cfg(test)]
+mod by_ranges;
 mod climb;
 mod costs;
+mod cut;
 mod eliminate;
 mod entries;
 mod floor;
@@ -15,13 +19,24 @@ mod narrow;
 mod network;
 mod node;
 mod pairs;
+mod pieces;
+mod ranges;
 mod region;
 mod root;
 mod scale;
 mod search;
+mod selection;
+mod selections;
+mod separation;
+mod share;
 #[cfg(test)]
 mod tests;
+#[cfg(test)]
+mod tests_apart;
+mod turning;
+mod walk;
 mod way;
+mod widest;
 
 pub use arc::Arc;
 pub use network::Network;

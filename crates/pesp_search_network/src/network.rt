@@ -1,9 +1,11 @@
 //! Networks.
 
-ghost use Rattle.std.specs.Prelude.{◌≡◌, ℕ, ◌+◌, ◌*◌, ◌<◌, ◌≤◌, [], ◌∷◌, ◌++◌, true, false, IfOk, OnOk, OnErr, length, replicate, slice_index_or, slice_set};
+ghost use Rattle.std.specs.Prelude.{◌≡◌, ℕ, ◌+◌, ◌*◌, ◌<◌, ◌≤◌, [], ◌∷◌, ◌++◌, true, false, IfOk, OnOk, OnErr, filter, length, replicate, slice_index_or, slice_set};
 ghost use Rattle.pesp_search_network.specs.Arcs.{IsBetween, has};
+ghost use Rattle.pesp_search_network.specs.Pieces.{is_of};
 
 use crate::Arc;
+use crate::separation::Separation;
 use pesp_base::{Memory, Period};
 use std::alloc::Global;
 use std::marker::Model;
@@ -69,6 +71,15 @@ impl Network {
         self.rows[place] = false;
     }
 
+    /// Puts an arc in the place of another.
+    pub(crate) fn set_arc(&mut self, index: usize, arc: Arc)
+        requires index { index < length self.old.arcs }
+        requires between { IsBetween self.old.events arc }
+        ensures { self.new ≡ record self.old { arcs = slice_set self.old.arcs index arc } }
+    {
+        self.arcs[index] = arc;
+    }
+
     /// The same network once more.
     pub(crate) fn copy(&self) -> Result<Network, Memory>
         ensures { IfOk result (λ network. network ≡ self.now) }
@@ -76,6 +87,40 @@ impl Network {
         let Ok(arcs) = self.arcs.clone() else {
             return Err(Memory);
         };
+        let Ok(rows) = self.rows.clone() else {
+            return Err(Memory);
+        };
+        Ok(Network {
+            period: self.period,
+            events: self.events,
+            arcs,
+            rows,
+        })
+    }
+
+    /// The arcs on this side of a cut.
+    fn arcs_of(&self, alloc: Global, cut: &Separation, side: bool) -> Result<Vec<Arc>, Memory>
+        ensures { IfOk result (λ arcs. arcs.items ≡ filter (is_of cut.now.inner.items side) self.now.arcs) }
+    {
+        let mut arcs = Vec::new(alloc);
+        for arc in &self.arcs {
+            if cut.touches(arc) == side && arcs.push(*arc).is_err() {
+                return Err(Memory);
+            }
+        }
+        Ok(arcs)
+    }
+
+    /// The same events, with the arcs on this side of a cut.
+    pub(crate) fn with_arcs_of(
+        &self,
+        alloc: Global,
+        cut: &Separation,
+        side: bool,
+    ) -> Result<Network, Memory>
+        ensures { IfOk result (λ network. network ≡ record self.now { arcs = filter (is_of cut.now.inner.items side) self.now.arcs }) }
+    {
+        let arcs = self.arcs_of(alloc, cut, side)?;
         let Ok(rows) = self.rows.clone() else {
             return Err(Memory);
         };

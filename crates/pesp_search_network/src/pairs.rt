@@ -98,7 +98,7 @@ fn sides_of(tables: &Tables, one: usize, two: usize, three: usize) -> Option<Sid
 }
 
 /// Whether there is room for a triple.
-fn has_room(tables: &Tables) -> bool {
+pub(crate) fn has_room(tables: &Tables) -> bool {
     let tables_of_triples = tables.triples().saturating_mul(3);
     let count = tables.pairs().saturating_add(tables_of_triples);
     count.saturating_mul(tables.period()) < MOST_NUMBERS

@@ -29,7 +29,7 @@ pub(crate) struct Joined {
 }
 
 /// Whether the event may stand at every residue.
-fn is_full(row: &[bool]) -> bool {
+pub(crate) fn is_full(row: &[bool]) -> bool {
     row.iter().all(|held| *held)
 }
 
@@ -49,7 +49,7 @@ impl Network {
 
     /// The nodes whose pair has the arc's table: its ends, or the origin and one of these where the other one is no
     /// other or has one residue alone.
-    fn nodes_of(&self, arc: &Arc) -> Ends
+    pub(crate) fn nodes_of(&self, arc: &Arc) -> Ends
         requires { IsBetween self.now.events arc.now }
         ensures { result.to < self.now.events }
     {
@@ -72,12 +72,13 @@ impl Network {
         }
     }
 
-    /// A graph of the events and of the origin, which is joined with those events that may not stand everywhere.
+    /// A graph of the events and of the origin, which is joined with those events that may not stand everywhere; one that has one
+    /// residue alone is joined with nothing.
     pub(crate) fn graph(&self, alloc: Global) -> Result<Graph, Memory> {
         let origin = self.events();
         let mut graph = Graph::new(alloc, origin + 1)?;
         for event in 0..origin {
-            if !is_full(self.row(event)) {
+            if !is_full(self.row(event)) && self.only(event).is_none() {
                 graph.join(origin, event, event)?;
             }
         }

@@ -11,6 +11,7 @@ use crate::climb::Stage;
 use crate::costs::most_between;
 use crate::eliminate::{Eliminated, eliminate};
 use crate::node::Node;
+use crate::pairs::has_room;
 use crate::root::{Joined, Plan};
 use crate::scale::Scale;
 use pesp_base::Memory;
@@ -40,6 +41,13 @@ impl Network {
         let width = usize::from(self.period().get());
         let sums = pairs.saturating_mul(width).saturating_mul(width);
         pairs <= MOST_PAIRS && sums <= MOST_SUMS && Scale::of(self.most()).is_exact()
+    }
+
+    /// Whether there is room for each triple that a node makes with two neighbours when it is taken out. Where there is not, bounds
+    /// are poor.
+    pub fn is_thin(&self, alloc: Global) -> Result<bool, Memory> {
+        let made = self.relaxed(alloc, Scale::of(self.most()))?;
+        Ok(has_room(&made.tables))
     }
 
     /// The most that arcs can cost.
@@ -74,11 +82,8 @@ impl Network {
         })
     }
 
-    /// A map of least cost, where some cost is below the cap.
-    ///
-    /// No cost is below the floor. The search ends with a least one, and stops before that only where the budget is
-    /// spent. Tables take memory as [`Network::is_small`] allows.
-    pub fn least(
+    /// A map of least cost, where some cost is below the cap, by one search for all maps.
+    pub(crate) fn least_whole(
         &self,
         alloc: Global,
         limits: Limits,

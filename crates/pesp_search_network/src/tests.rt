@@ -10,7 +10,7 @@ use std::alloc::Global;
 use std::process::Abort;
 
 /// The ends of an arc, its bounds and its weight.
-type Line = (usize, usize, i32, i32, u32);
+pub(crate) type Line = (usize, usize, i32, i32, u32);
 
 /// At period ten a circle of four events, two arcs across it, and a loop.
 const LINES: &[Line] = &[
@@ -36,18 +36,26 @@ fn add(rt: &impl Abort, network: &mut Network, line: Line) {
     network.add(arc).ok().expect(rt, "memory");
 }
 
-/// The network, whose events may stand everywhere.
-fn square(rt: &impl Abort, alloc: Global) -> Network {
+/// A network of these arcs, whose events may stand everywhere.
+pub(crate) fn network_of(rt: &impl Abort, alloc: Global, events: usize, lines: &[Line]) -> Network {
     let period = Period::new(10).expect(rt, "a period");
-    let mut network = Network::new(alloc, period, 4).ok().expect(rt, "memory");
-    for line in LINES {
+    assert!(rt; events <= 20_000, "few events");
+    let mut network = Network::new(alloc, period, events)
+        .ok()
+        .expect(rt, "memory");
+    for line in lines {
         add(rt, &mut network, *line);
     }
     network
 }
 
+/// The network.
+pub(crate) fn square(rt: &impl Abort, alloc: Global) -> Network {
+    network_of(rt, alloc, 4, LINES)
+}
+
 /// Leaves the event the residues from `low` on and before `high`.
-fn hold(rt: &impl Abort, network: &mut Network, event: usize, low: u16, high: u16) {
+pub(crate) fn hold(rt: &impl Abort, network: &mut Network, event: usize, low: u16, high: u16) {
     for residue in 0..10 {
         if residue < low || residue >= high {
             assert!(rt;
@@ -72,7 +80,7 @@ fn found(rt: &impl Abort, alloc: Global, network: &Network, cap: u64, units: u64
 }
 
 /// The first map of least cost, and that cost.
-fn try_first(rt: &impl Abort, alloc: Global, network: Network, cost: u64, map: &[u16]) {
+pub(crate) fn try_first(rt: &impl Abort, alloc: Global, network: Network, cost: u64, map: &[u16]) {
     let Outcome::Found(candidate) = found(rt, alloc, &network, 1_000, 1_000_000) else {
         assert!(rt; false, "found");
         return;

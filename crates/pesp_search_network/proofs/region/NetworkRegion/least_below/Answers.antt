@@ -1,33 +1,12 @@
--- Maps with a lesser residue are those of the network in which the others are forbidden.
-use Rattle.std.proofs.Common.{◌≡◌, ℕ, ◌+◌, min, subst, ap, ◌∙◌}
+-- Residue 0 is below the residue.
+use Rattle.std.proofs.Common.{◌+◌, IfSome, subst}
+use Rattle.pesp_search_least.specs.declared.outcome.Outcome.TheVariants.{Found}
 use Rattle.pesp_search_least.specs.Order.{BelowResidue}
-use Rattle.pesp_search_network.specs.Arcs.{Arcs, IsCosted}
-use Rattle.pesp_search_network.specs.Narrow.{IsNarrowed}
-use Rattle.pesp_search_network.proofs.Narrowed.{below_back, below_there, narrowed-within}
-use Rattle.pesp_search_network.proofs.Outcomes.{ok_along}
+use Rattle.pesp_search_least.specs.Sums.{IsOutcome}
+use Rattle.pesp_search_network.specs.Arcs.{IsCosted}
 use Rattle.pesp_search_network.proofs.region.NetworkRegion.least_below.Goals as goal
 
-narrowed : (event end high : ℕ) (N M U : Arcs) → M ≡ N → high ≡ N.period → IsNarrowed event end high M U → IsNarrowed event end N.period N U
-narrowed event end high N M U copied top is = subst (λ (T : ℕ). IsNarrowed event end T N U) top (subst (λ (Q : Arcs). IsNarrowed event end high Q U) copied is)
-
-pub least-requires : goal.least-requires
-least-requires c = record {
-  floor = λ map sum is.
-      (let N = c.args.self.now in
-      let top = c.get-period.ensures.value ∙ c.period.ensures in
-      let less = narrowed c.args.event c.min-end.result c.get-period.result N c.in_ok-below.below c.forbid_from.new.self c.in_ok-below.ensures top c.forbid_from.ensures in
-      c.requires.floor map sum (narrowed-within c.args.event c.min-end.result N.period N c.forbid_from.new.self less map sum is));
-}
-
-pub returns-clause-outcome : goal.returns-clause-outcome
-returns-clause-outcome c =
-    let N = c.args.self.now in
-    let U = c.forbid_from.new.self in
-    let event = c.args.event in
-    let residue = c.args.residue in
-    let end = c.min-end.result in
-    let top = c.get-period.ensures.value ∙ c.period.ensures in
-    let least : end ≡ min residue N.period = c.min-end.ensures ∙ ap (min residue) top in
-    let less = narrowed event end c.get-period.result N c.in_ok-below.below U c.in_ok-below.ensures top c.forbid_from.ensures in
-    ok_along (IsCosted U) (BelowResidue (IsCosted N) event residue) (c.args.cost + 1) c.least.result
-    (below_there event residue end N U c.requires.event least less) (below_back event residue end N U c.requires.event least less) c.least.ensures.outcome
+pub returns-in-Some-clause-outcome : goal.returns-in-Some-clause-outcome
+returns-in-Some-clause-outcome c =
+    subst (λ found. IfSome found (λ candidate. IsOutcome (BelowResidue (IsCosted c.args.self.now) c.args.event c.args.residue) (c.args.cost + 1) (Found candidate)))
+    c.in-Some.is (c.in_ok-found.ensures.found c.args.residue c.if-residue-gt0.true)

@@ -1,0 +1,123 @@
+//! Least maps of a network, by pieces that are solved apart.
+
+ghost use Rattle.std.specs.Prelude.{◌≡◌, ◌≢◌, ◌+◌, ◌-◌, ◌<◌, ◌≤◌, ◌^◌, ℕ, Option, Some, IfOk, OnOk};
+ghost use Rattle.pesp_search_least.specs.Spending.{OnlySpends, TakesUnit};
+ghost use Rattle.pesp_search_least.specs.Sums.{IsCandidate, IsLeast, IsLowerBound, IsOutcome, IsStop, StopsWhereSpent};
+ghost use Rattle.pesp_search_network.specs.Arcs.{IsCosted};
+ghost use Rattle.pesp_search_network.specs.Pieces.{IsPeeled};
+
+use crate::Network;
+use crate::pieces::Peeled;
+use pesp_base::Memory;
+use pesp_search_least::{Budget, Candidate, Limits, Outcome};
+use std::alloc::Global;
+
+/// How many pieces may be taken off, one within the other; small networks have fewer.
+const MOST_PIECES: usize = 100;
+
+impl Network {
+    /// The map that those of the piece and of the rest make, at what both cost.
+    fn joined(&self, peeled: &Peeled, piece: &Candidate, rest: Candidate) -> Candidate
+        requires peeled { IsPeeled self.now peeled.now.piece peeled.now.rest peeled.now.cut.inner.items peeled.now.cut.joint }
+        requires piece { IsCandidate (IsCosted peeled.now.piece) piece.now }
+        requires rest { IsCandidate (IsCosted peeled.now.rest) rest }
+        requires room { piece.now.cost + rest.cost < 2 ^ 64 }
+        ensures costed { IsCandidate (IsCosted self.now) result }
+        ensures cost { result.cost ≡ piece.now.cost + rest.cost }
+    {
+        let Candidate { cost, map } = rest;
+        let turn = peeled.cut.turn(self.period(), &piece.map, &map);
+        Candidate {
+            cost: piece.cost + cost,
+            map: peeled.cut.join(self.period(), turn, &piece.map, map),
+        }
+    }
+
+    /// The answer where the piece has a least map, and the rest has been searched below what is left of the cap.
+    fn joined_outcome(&self, peeled: &Peeled, piece: &Candidate, cap: u64, rest: Outcome) -> Outcome
+        requires peeled { IsPeeled self.now peeled.now.piece peeled.now.rest peeled.now.cut.inner.items peeled.now.cut.joint }
+        requires least { IsLeast (IsCosted peeled.now.piece) piece.now }
+        requires below { piece.now.cost ≤ cap }
+        requires rest { IsOutcome (IsCosted peeled.now.rest) (cap - piece.now.cost) rest }
+        ensures outcome { IsOutcome (IsCosted self.now) cap result }
+        ensures spent { (left : Option ℕ) → StopsWhereSpent left rest → StopsWhereSpent left result }
+    {
+        match rest {
+            Outcome::Found(rest) => Outcome::Found(self.joined(peeled, piece, rest)),
+            Outcome::NoneBelow => Outcome::NoneBelow,
+            Outcome::Spent { best, lower } => {
+                let best = match best {
+                    Some(rest) => Some(self.joined(peeled, piece, rest)),
+                    None => None,
+                };
+                Outcome::Spent {
+                    best,
+                    lower: piece.cost.saturating_add(lower),
+                }
+            }
+        }
+    }
+
+    /// The same as [`Network::least`], with so many pieces solved apart at most.
+    fn least_apart(
+        &self,
+        alloc: Global,
+        limits: Limits,
+        budget: &mut Budget,
+        pieces: usize,
+    ) -> Result<Outcome, Memory>
+        requires floor { IsLowerBound (IsCosted self.now) limits.floor }
+        ensures outcome { IfOk result (IsOutcome (IsCosted self.now) limits.cap) }
+        ensures spent { IfOk result (StopsWhereSpent budget.new.left) }
+        ensures budget { OnlySpends budget.old.left budget.new.left }
+        ensures stops { limits.floor < limits.cap → budget.old.left ≡ Some 0 → IfOk result IsStop }
+        ensures takes { limits.floor < limits.cap → budget.old.left ≢ Some 0 → OnOk result (TakesUnit budget.old.left budget.new.left) }
+    {
+        if pieces == 0 {
+            return self.least_in_one(alloc, limits, budget);
+        }
+        let Some(peeled) = self.peel(alloc)? else {
+            return self.least_in_one(alloc, limits, budget);
+        };
+        let of_piece = Limits {
+            floor: 0,
+            cap: limits.cap,
+        };
+        match peeled.piece.least_in_one(alloc, of_piece, budget)? {
+            Outcome::Found(piece) => {
+                let left = Limits {
+                    floor: limits.floor.saturating_sub(piece.cost),
+                    cap: limits.cap - piece.cost,
+                };
+                let rest = peeled.rest.least_apart(alloc, left, budget, pieces - 1)?;
+                Ok(self.joined_outcome(&peeled, &piece, limits.cap, rest))
+            }
+            Outcome::NoneBelow => Ok(Outcome::NoneBelow),
+            Outcome::Spent { lower, .. } => Ok(Outcome::Spent {
+                best: None,
+                lower: lower.max(limits.floor),
+            }),
+        }
+    }
+
+    /// A map of least cost, where some cost is below the cap.
+    ///
+    /// No cost is below the floor. The search ends with a least one, and stops before that only where the budget is
+    /// spent. Tables take memory as [`Network::is_small`] allows.
+    pub fn least(
+        &self,
+        alloc: Global,
+        limits: Limits,
+        budget: &mut Budget,
+    ) -> Result<Outcome, Memory>
+        requires floor { IsLowerBound (IsCosted self.now) limits.floor }
+        ensures outcome { IfOk result (IsOutcome (IsCosted self.now) limits.cap) }
+        ensures spent { IfOk result (StopsWhereSpent budget.new.left) }
+        ensures budget { OnlySpends budget.old.left budget.new.left }
+        // Without a unit there is no visit, and without a visit no answer.
+        ensures stops { limits.floor < limits.cap → budget.old.left ≡ Some 0 → IfOk result IsStop }
+        ensures takes { limits.floor < limits.cap → budget.old.left ≢ Some 0 → OnOk result (TakesUnit budget.old.left budget.new.left) }
+    {
+        self.least_apart(alloc, limits, budget, MOST_PIECES)
+    }
+}
