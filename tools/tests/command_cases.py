@@ -4,6 +4,9 @@ NOTHING = ""
 TWO = "1; 1; 2; 3; 5; 2 / 2; 2; 1; 4; 6; 1"
 THREE = "1; 1; 2; 1; 2; 0 / 2; 1; 3; 1; 2; 0 / 3; 2; 3; 1; 2; 0"
 
+STOPPED = "1 0 / 2 1 / 3 9"
+# They cost nothing, and are so heavy that costs are too great for the search over differences: the tree alone is searched.
+HEAVY_LOOPS = " / ".join(f"{number}; 1; 1; 0; 9; 1000000" for number in range(4, 34))
 TEN = "0 1 2 3 4 5 6 7 8 9"
 FULL = f"domains 2 / 1: {TEN} / 2: {TEN}"
 BEST = "optimum 4 2 / 1 0 / 2 4"
@@ -92,14 +95,22 @@ CASES = [
         10,
         "1; 1; 2; 3; 12; 1",
         "try 1 / try 2 / optimum",
-        "stopped none / optimum 0 2 / 1 0 / 2 3 / optimum 0 2 / 1 0 / 2 3",
+        "optimum 0 2 / 1 0 / 2 3 / optimum 0 2 / 1 0 / 2 3 / optimum 0 2 / 1 0 / 2 3",
     ),
     (
         "a stop with the old optimum's timetable",
         10,
         TWO,
         "optimum / weight 1 3 / try 0 / try 0",
-        f"{BEST} / ok / stopped 5 2 / 1 0 / 2 4 / stopped none",
+        f"{BEST} / ok / stopped 5 2 / 1 0 / 2 4 / stopped 5 2 / 1 0 / 2 4",
+    ),
+    (
+        "a stop with what an earlier one told",
+        10,
+        f"1; 3; 2; 2; 8; 3 / 2; 3; 2; 8; 14; 3 / 3; 1; 2; 1; 7; 1 / {HEAVY_LOOPS}",
+        "try 0 / try 3 / try 0 / weight 2 4 / try 0 / fix 1 3 / try 0 / unfix 1 / try 0",
+        f"stopped none / stopped 12 3 / {STOPPED} / stopped 12 3 / {STOPPED} / ok / stopped 16 3 / {STOPPED} / ok / stopped none"
+        f" / ok / stopped 16 3 / {STOPPED}",
     ),
     (
         "refusals and dump",

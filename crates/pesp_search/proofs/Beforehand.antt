@@ -5,7 +5,7 @@ use Rattle.std.proofs.lemmas.Option.{none-some}
 use Rattle.pesp_instance.specs.Network.{Network}
 use Rattle.pesp_tension.specs.Answers.{cost_of}
 use Rattle.pesp_search.specs.declared.answer.Best.{Best}
-use Rattle.pesp_search.specs.Dived.{least_bound, told_best}
+use Rattle.pesp_search.specs.Dived.{dive_limit, first_known, least_bound, told_best}
 use Rattle.pesp_search.specs.Optima.{IsBound}
 use Rattle.pesp_search.specs.Tried.{IsBestSoFar, IsFound, IsOutcome, IsWithin, MayStop}
 
@@ -44,6 +44,16 @@ stop_more I bound limit before found is stop =
       member = found_more I bound before found is stop.member;
       best = best_more I bound limit before found stop.member stop.best;
     }
+
+-- a timetable that was found before or by a dive is within the bound
+pub known_found : (I : Network) (bound : Option ℕ) (found dived : Option Best) → IfSome found (IsFound I bound) → IfSome dived (IsFound I bound) → IfSome (first_known found dived) (IsFound I bound)
+known_found I bound None dived first second = second
+known_found I bound (Some best) dived first second = first
+
+-- with limit 0 there is none
+pub known_none : (limit : Option ℕ) (found dived : Option Best) → (limit ≡ Some 0 → found ≡ None) → (dive_limit found limit ≡ Some 0 → dived ≡ None) → limit ≡ Some 0 → first_known found dived ≡ None
+known_none limit None dived first second zero = second zero
+known_none limit (Some best) dived first second zero = absurd (none-some _ (sym (first zero)))
 
 -- where there is no such member, the bound is the given one
 pub bound_of_before : (I : Network) (bound : Option ℕ) (before : Option Best) → IsBound I bound → IfSome before (IsFound I bound) → IsBound I (least_bound bound before)

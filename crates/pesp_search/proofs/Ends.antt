@@ -169,14 +169,14 @@ more_within (Some l) nodes more within apart le = omega (arith, within, apart, l
 -- ---- an event without a residue
 
 -- the tree of an instance with an empty domain has no node
-dead_size : (I : Network) → IsDead I [] → IsTreeSize I 0
+pub dead_size : (I : Network) → IsDead I [] → IsTreeSize I 0
 dead_size I dead = by (length (event_ids I)) refl
   where
     by : (n : ℕ) → length (event_ids I) ≡ n → IsTreeSize I 0
     by zero none = rw none refl
     by (suc n) some = rw some (inl (dead, refl))
 
-no_member : (I : Network) (m : Times) → IsNetwork I → IsDead I [] → IsMember I m → ⊥
+pub no_member : (I : Network) (m : Times) → IsNetwork I → IsDead I [] → IsMember I m → ⊥
 no_member I m network dead member =
     let w = full_of_member I m network member in
     dead.2 _ (member_in_domains I [] w.0 network w.1 tt dead.0 dead.1)

@@ -1,9 +1,9 @@
-pub mod BestSoFar
 pub mod Beforehand
+pub mod BestSoFar
 mod Cases
-pub mod Counted
 pub mod Costed
 pub mod Costs
+pub mod Counted
 pub mod Cuts
 pub mod Decided
 pub mod Ends
@@ -11,13 +11,16 @@ pub mod Enumerated
 pub mod Events
 pub mod Fronts
 pub mod Labels
+pub mod Maps
 pub mod Members
+pub mod Networks
 pub mod Order
 pub mod Placed
 pub mod Residues
 pub mod Rest
 pub mod Seen
 pub mod Sizes
+pub mod Sought
 pub mod Stations
 pub mod Timed
 pub mod Turns

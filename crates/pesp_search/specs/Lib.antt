@@ -1,3 +1,4 @@
+pub mod Arcs
 pub mod Branch
 pub mod Dived
 pub mod Found
@@ -5,6 +6,7 @@ pub mod Optima
 pub mod Parts
 pub mod Places
 pub mod Seen
+pub mod Sought
 pub mod Tree
 pub mod Tried
 pub mod Walk

@@ -3,7 +3,8 @@
 ghost use Rattle.std.specs.Prelude.{◌≡◌, ◌≤◌, ◌*◌, ◌↔◌, IfOk, IfSome, IfNone, IsTrue, Some, None};
 ghost use Rattle.pesp_instance.specs.Network.{IsNetwork, event_ids};
 ghost use Rattle.pesp_search_bounds.specs.Sights.{IsSightOf};
-ghost use Rattle.pesp_search.specs.Dived.{least_bound};
+ghost use Rattle.pesp_search.specs.Dived.{dive_limit, first_known, least_bound};
+ghost use Rattle.pesp_search.specs.declared.dived.TheConstants.{DIVE_STEPS};
 ghost use Rattle.pesp_search.specs.Optima.{IsMember};
 ghost use Rattle.pesp_search.specs.Tried.{IsFound, IsWithin};
 ghost use Rattle.pesp_tension.specs.Answers.{cost_of};
@@ -19,12 +20,15 @@ use pesp_search_dive::dive;
 use pesp_tension::Timetable;
 use std::alloc::Global;
 
+/// How many steps of a dive there are for each event.
+const DIVE_STEPS: u64 = 10;
+
 /// For each event so many steps of a dive, but no more than nodes are allowed.
 fn steps_of(events: usize, limit: Option<u64>) -> u64
-    ensures small { result ≤ 50 * events }
+    ensures small { result ≤ DIVE_STEPS * events }
     ensures within { IfSome limit (λ l. result ≤ l) }
 {
-    let steps = (events as u64).saturating_mul(50);
+    let steps = DIVE_STEPS.saturating_mul(events as u64);
     match limit {
         Some(limit) => steps.min(limit),
         None => steps,
@@ -65,6 +69,26 @@ pub(crate) fn lowest(bound: Option<u64>, before: &Option<Best>) -> Option<u64>
     match before {
         Some(best) => Some(best.cost),
         None => bound,
+    }
+}
+
+/// With a timetable at hand there is no dive.
+pub(crate) fn limit_of_dive(found: &Option<Best>, limit: Option<u64>) -> Option<u64>
+    ensures { result ≡ dive_limit found.now limit }
+{
+    match found {
+        Some(_) => Some(0),
+        None => limit,
+    }
+}
+
+/// What was found before, or else what the dive found.
+pub(crate) fn first_known(found: Option<Best>, by_dive: Option<Best>) -> Option<Best>
+    ensures { result ≡ first_known found by_dive }
+{
+    match found {
+        Some(best) => Some(best),
+        None => by_dive,
     }
 }
 

@@ -15,20 +15,24 @@ use std::alloc::Global;
 /// What tells how much timetables cost at least that take a residue.
 #[derive(Drop)]
 pub(crate) struct Guide {
-    // For each place on the path what was told there; None where the tables would be too large.
+    // For each place on the path what was told there; None where the tables would be too large, or no node is allowed.
     pub(crate) ahead: Option<Ahead>,
 }
 
 impl Guide {
-    /// One for the instance.
+    /// One for the instance; with limit 0 there are no tables.
     pub(crate) fn new(
         alloc: Global,
         instance: &Instance,
         events: &[EventId],
+        limit: Option<u64>,
     ) -> Result<Guide, Memory>
         requires events { events.now ≡ event_ids instance.now }
         ensures of { IfOk result (λ guide. IfSome guide.ahead (IsSightOf instance.now)) }
     {
+        if limit == Some(0) {
+            return Ok(Guide { ahead: None });
+        }
         Ok(Guide {
             ahead: Ahead::new(alloc, instance, events)?,
         })

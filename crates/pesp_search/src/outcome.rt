@@ -1,6 +1,6 @@
 //! What a search ends with.
 
-ghost use Rattle.std.specs.Prelude.{◌≡◌, ◌<◌, true, IsSome, All, [], length};
+ghost use Rattle.std.specs.Prelude.{◌≡◌, ◌<◌, true, false, None, IsSome, All, [], length};
 ghost use Rattle.pesp_instance.specs.Network.{IsNetwork, Network, event_ids};
 ghost use Rattle.pesp_search.specs.Branch.{IsFront};
 ghost use Rattle.pesp_search.specs.Dived.{told_best};
@@ -70,6 +70,19 @@ pub(crate) fn best_of(
             })
         }
         _ => None,
+    }
+}
+
+/// What a search ends with that came to its end without a push.
+pub(crate) fn ended(best: Option<Best>) -> Outcome
+    ensures best { result.best ≡ best }
+    ensures stopped { result.is_stopped ≡ false }
+    ensures nodes { result.nodes ≡ 0 }
+{
+    Outcome {
+        best,
+        is_stopped: false,
+        nodes: 0,
     }
 }
 

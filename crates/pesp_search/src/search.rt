@@ -1,22 +1,24 @@
 //! The search.
 
-ghost use Rattle.std.specs.Prelude.{◌≡◌, [], IfOk};
+ghost use Rattle.std.specs.Prelude.{◌≡◌, [], IfOk, IfSome, None, Some};
 ghost use Rattle.pesp_instance.specs.Network.{IsNetwork, event_ids};
 ghost use Rattle.pesp_search.specs.declared.answer.Answer.TheVariants as answers;
 ghost use Rattle.pesp_search.specs.declared.answer.Tried.TheVariants as attempts;
 ghost use Rattle.pesp_search.specs.Optima.{IsAnswer, IsBound};
 ghost use Rattle.pesp_search.specs.Places.{IsDead};
 ghost use Rattle.pesp_search.specs.Tree.{AreNodes};
-ghost use Rattle.pesp_search.specs.Tried.{IsOutcome, MayTry};
+ghost use Rattle.pesp_search.specs.Tried.{IsFound, IsOutcome, MayTry};
 
 use crate::branch::Branch;
-use crate::dived::{dived, lowest};
+use crate::differences::seek;
+use crate::dived::{dived, first_known, limit_of_dive, lowest};
 use crate::guide::Guide;
 use crate::incumbent::Incumbent;
-use crate::outcome::{Outcome, answer_of, told};
+use crate::outcome::{Outcome, answer_of, ended, told};
 use crate::parts::least_of_parts;
+use crate::steps::has_empty_row;
 use crate::walk::walk;
-use crate::{Answer, Tried};
+use crate::{Answer, Best, Tried};
 use pesp_base::{EventId, Memory};
 use pesp_domains::Keeper;
 use pesp_instance::Instance;
@@ -38,8 +40,65 @@ fn events_of(alloc: Global, instance: &Instance) -> Result<Vec<EventId>, Memory>
     Ok(events)
 }
 
-/// Dives for a first timetable, and then goes through the tree for what costs no more than that. All memory is taken before the walk,
-/// and so before the first node.
+/// Goes through the tree for what costs no more than the timetable that was found, or that a dive finds where none was. All memory
+/// is taken before the walk, and so before the first node that it counts.
+fn search_tree<K: Keeper>(
+    alloc: Global,
+    keeper: &mut K,
+    events: &[EventId],
+    found: Option<Best>,
+    bound: Option<u64>,
+    limit: Option<u64>,
+) -> Result<Outcome, Memory>
+    requires network { IsNetwork (K.network keeper.old) }
+    requires events { events.now ≡ event_ids (K.network keeper.old) }
+    requires pushes { K.pushes keeper.old ≡ [] }
+    requires bound { IsBound (K.network keeper.old) bound }
+    requires found { IfSome found (IsFound (K.network keeper.old) bound) }
+    requires none { limit ≡ Some 0 → found ≡ None }
+    ensures outcome { IfOk result (λ outcome. IsOutcome (K.network keeper.old) bound limit outcome.is_stopped outcome.best outcome.nodes) }
+    ensures nodes { IfOk result (λ outcome. AreNodes (K.network keeper.old) outcome.nodes) }
+    ensures network { K.network keeper.new ≡ K.network keeper.old }
+    ensures pushes { K.pushes keeper.new ≡ [] }
+{
+    // The events at which residue 0 alone is tried.
+    let least = least_of_parts(alloc, keeper.instance(), events)?;
+    let mut guide = Guide::new(alloc, keeper.instance(), events, limit)?;
+    let steps = limit_of_dive(&found, limit);
+    let by_dive = dived(alloc, keeper, events, &least, &mut guide, bound, steps)?;
+    let before = first_known(found, by_dive);
+    let lowest = lowest(bound, &before);
+    let branch = Branch::new(alloc, keeper.instance())?;
+    let incumbent = Incumbent::new(alloc, events.len(), lowest)?;
+    let outcome = walk(keeper, events, &least, guide, branch, incumbent, limit);
+    Ok(told(outcome, before))
+}
+
+/// Asks the search over differences, and where that does not come to its end goes through the tree.
+fn search_in_turn<K: Keeper>(
+    alloc: Global,
+    keeper: &mut K,
+    events: &[EventId],
+    bound: Option<u64>,
+    limit: Option<u64>,
+) -> Result<Outcome, Memory>
+    requires network { IsNetwork (K.network keeper.old) }
+    requires events { events.now ≡ event_ids (K.network keeper.old) }
+    requires pushes { K.pushes keeper.old ≡ [] }
+    requires bound { IsBound (K.network keeper.old) bound }
+    ensures outcome { IfOk result (λ outcome. IsOutcome (K.network keeper.old) bound limit outcome.is_stopped outcome.best outcome.nodes) }
+    ensures nodes { IfOk result (λ outcome. AreNodes (K.network keeper.old) outcome.nodes) }
+    ensures network { K.network keeper.new ≡ K.network keeper.old }
+    ensures pushes { K.pushes keeper.new ≡ [] }
+{
+    let sought = seek(alloc, keeper, events, bound, limit)?;
+    if sought.is_end {
+        return Ok(ended(sought.best));
+    }
+    search_tree(alloc, keeper, events, sought.best, bound, limit)
+}
+
+/// Looks for an empty domain, and else searches.
 fn search<K: Keeper>(
     alloc: Global,
     keeper: &mut K,
@@ -56,15 +115,10 @@ fn search<K: Keeper>(
 {
     // The order in which the tree gives them their times.
     let events = events_of(alloc, keeper.instance())?;
-    // The events at which residue 0 alone is tried.
-    let least = least_of_parts(alloc, keeper.instance(), &events)?;
-    let mut guide = Guide::new(alloc, keeper.instance(), &events)?;
-    let before = dived(alloc, keeper, &events, &least, &mut guide, bound, limit)?;
-    let lowest = lowest(bound, &before);
-    let branch = Branch::new(alloc, keeper.instance())?;
-    let incumbent = Incumbent::new(alloc, events.len(), lowest)?;
-    let outcome = walk(keeper, &events, &least, guide, branch, incumbent, limit);
-    Ok(told(outcome, before))
+    if has_empty_row(keeper, &events) {
+        return Ok(ended(None));
+    }
+    search_in_turn(alloc, keeper, &events, bound, limit)
 }
 
 /// The optimum of the keeper's instance, and the number of nodes.

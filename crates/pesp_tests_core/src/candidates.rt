@@ -1,27 +1,58 @@
-//! The timetable of a forgotten optimum, which a search that stops may hand out.
+//! The timetable of a forgotten optimum, or of a search that stopped, which a later search that stops may hand out.
 
 use crate::asserts::{hold, same};
 use crate::changes::Change;
-use crate::workbench::{assert_times, assert_unknown, bench, change, find};
+use crate::unpushed::Unpushed;
+use crate::workbench::{assert_times, assert_unknown, bench, bench_of, change, find};
 use pesp_bench::{Attempt, Bench};
 use pesp_counts::CountKeeper;
 use pesp_domains::{Keeper, PlainKeeper};
 use pesp_search::Best;
 use std::process::Abort;
 
-/// What a search that may visit no node stops with; none also where it ends.
-fn stopped_with<K: Keeper>(rt: &(impl Abort + AllocGlobal), bench: &mut Bench<K>) -> Option<Best> {
-    match bench.try_optimum(rt.alloc(), 0) {
+/// Three events, of which the tree has a timetable sooner than it knows that none costs less.
+const THREE_EVENTS: &[Change] = &[
+    Change::AddEvent(1),
+    Change::AddEvent(2),
+    Change::AddEvent(3),
+    Change::AddActivity(1, (3, 2), (2, 8), 3),
+    Change::AddActivity(2, (3, 2), (8, 14), 3),
+    Change::AddActivity(3, (1, 2), (1, 7), 1),
+];
+
+/// Loops that cost nothing, and of such a weight that costs are too great for the tables of the search over differences: the tree
+/// alone is searched.
+const LOOPS: std::ops::Range<u32> = 4..34;
+
+/// The old optimum of the two activities.
+const OLD: &[(u32, u16)] = &[(1, 0), (2, 4)];
+
+/// What is found of the three events.
+const FOUND: &[(u32, u16)] = &[(1, 0), (2, 1), (3, 9)];
+
+/// What a search stops with that may visit so many nodes; none also where it ends.
+fn stopped_with<K: Keeper>(
+    rt: &(impl Abort + AllocGlobal),
+    bench: &mut Bench<K>,
+    limit: u64,
+) -> Option<Best> {
+    match bench.try_optimum(rt.alloc(), limit) {
         Ok(Attempt::Stopped(best)) => best,
         _ => None,
     }
 }
 
-/// A search that may visit no node stops with the old optimum's timetable, at this cost.
-fn assert_handed_out<K: Keeper>(rt: &(impl Abort + AllocGlobal), bench: &mut Bench<K>, cost: u64) {
-    let best = stopped_with(rt, bench).expect(rt, "the candidate");
-    same(rt, best.cost, cost, "the candidate");
-    assert_times(rt, &best.times, &[(1, 0), (2, 4)], "the candidate");
+/// A search that may visit so many nodes stops with this timetable, at this cost.
+fn assert_stopped_with<K: Keeper>(
+    rt: &(impl Abort + AllocGlobal),
+    bench: &mut Bench<K>,
+    limit: u64,
+    cost: u64,
+    wanted: &[(u32, u16)],
+) {
+    let best = stopped_with(rt, bench, limit).expect(rt, "a timetable");
+    same(rt, best.cost, cost, "its cost");
+    assert_times(rt, &best.times, wanted, "its times");
 }
 
 fn assert_no_candidate<K: Keeper>(
@@ -29,7 +60,7 @@ fn assert_no_candidate<K: Keeper>(
     bench: &mut Bench<K>,
     message: &str,
 ) {
-    hold(rt, stopped_with(rt, bench).is_none(), message);
+    hold(rt, stopped_with(rt, bench, 0).is_none(), message);
     assert_unknown(rt, bench, message);
 }
 
@@ -39,15 +70,15 @@ fn find_before<K: Keeper>(rt: &(impl Abort + AllocGlobal), bench: &mut Bench<K>,
     change(rt, bench, edit);
 }
 
-fn hand_out<K: Keeper>(rt: &(impl Abort + AllocGlobal), bench: &mut Bench<K>) {
+fn hand_out_twice<K: Keeper>(rt: &(impl Abort + AllocGlobal), bench: &mut Bench<K>) {
     find_before(rt, bench, Change::SetWeight(1, 3));
-    assert_handed_out(rt, bench, 5);
-    assert_no_candidate(rt, bench, "it was handed out");
+    assert_stopped_with(rt, bench, 0, 5, OLD);
+    assert_stopped_with(rt, bench, 0, 5, OLD);
 }
 
 fn candidate_is_handed_out_by<K: Keeper, R: Abort + AllocGlobal>(rt: &R) {
     let mut bench: Bench<K> = bench(rt);
-    hand_out(rt, &mut bench);
+    hand_out_twice(rt, &mut bench);
 }
 
 #[test]
@@ -60,7 +91,7 @@ fn keep_no_member<K: Keeper>(rt: &(impl Abort + AllocGlobal), bench: &mut Bench<
     find_before(rt, bench, Change::Fix(1, 3));
     assert_no_candidate(rt, bench, "fixed elsewhere");
     change(rt, bench, Change::Unfix(1));
-    assert_handed_out(rt, bench, 4);
+    assert_stopped_with(rt, bench, 0, 4, OLD);
 }
 
 fn candidate_that_is_no_member_by<K: Keeper, R: Abort + AllocGlobal>(rt: &R) {
@@ -72,4 +103,30 @@ fn candidate_that_is_no_member_by<K: Keeper, R: Abort + AllocGlobal>(rt: &R) {
 fn candidate_that_is_no_member(rt: HostRuntime) {
     candidate_that_is_no_member_by::<PlainKeeper, _>(&rt);
     candidate_that_is_no_member_by::<CountKeeper, _>(&rt);
+}
+
+fn keep_what_is_found<K: Keeper>(rt: &(impl Abort + AllocGlobal), bench: &mut Bench<K>) {
+    for number in LOOPS {
+        change(
+            rt,
+            bench,
+            Change::AddActivity(number, (1, 1), (0, 9), 1_000_000),
+        );
+    }
+    assert_no_candidate(rt, bench, "nothing is found yet");
+    assert_stopped_with(rt, bench, 3, 12, FOUND);
+    assert_stopped_with(rt, bench, 0, 12, FOUND);
+    change(rt, bench, Change::SetWeight(2, 4));
+    assert_stopped_with(rt, bench, 0, 16, FOUND);
+}
+
+fn found_is_kept_by<K: Keeper, R: Abort + AllocGlobal>(rt: &R) {
+    let mut bench: Bench<K> = bench_of(rt, Unpushed::made(rt, 10, THREE_EVENTS));
+    keep_what_is_found(rt, &mut bench);
+}
+
+#[test]
+fn found_is_kept(rt: HostRuntime) {
+    found_is_kept_by::<PlainKeeper, _>(&rt);
+    found_is_kept_by::<CountKeeper, _>(&rt);
 }

@@ -98,7 +98,7 @@ pub(crate) enum Step {
     Edit(Change),
     /// The optimum is looked for.
     Find,
-    /// The optimum is looked for, which takes a search.
+    /// The optimum is looked for, where none is known.
     Search,
     /// The known optimum serves, without a node.
     FindAgain,
@@ -126,8 +126,8 @@ pub(crate) fn assert_knows<K: Keeper>(
 }
 
 fn search<K: Keeper>(rt: &(impl Abort + AllocGlobal), bench: &mut Bench<K>, message: &str) {
+    assert_unknown(rt, bench, message);
     hold(rt, is_answered(rt, bench), message);
-    hold(rt, bench.last_nodes() > 0, message);
 }
 
 fn find_again<K: Keeper>(rt: &(impl Abort + AllocGlobal), bench: &mut Bench<K>, message: &str) {

@@ -39,6 +39,28 @@ pub(crate) fn two(alloc: Global) -> Option<Instance> {
     Some(instance)
 }
 
+/// A loop that costs nothing, and is as heavy as any.
+fn heavy_loop(number: u32) -> Option<Activity> {
+    Some(Activity {
+        id: ActivityId::new(number)?,
+        from: EventId::new(1)?,
+        to: EventId::new(1)?,
+        span: Span::new(0, 9).ok()?,
+        weight: Weight::new(1_000_000)?,
+    })
+}
+
+/// The same with so many heavy loops that costs are too great for the search over differences: the tree alone is searched.
+pub(crate) fn heavy(alloc: Global) -> Option<Instance> {
+    let mut instance = two(alloc)?;
+    for number in 3..33 {
+        instance
+            .apply(&Edit::AddActivity(heavy_loop(number)?))
+            .ok()?;
+    }
+    Some(instance)
+}
+
 /// The edits that take memory, each of a number: an event more, an activity more, an activity that leads to another event.
 pub(crate) fn edit(kind: Kind, number: u32) -> Option<Edit> {
     Some(match kind {

@@ -1,4 +1,4 @@
-//! Searches of what is kept. How many pairs were pushed is told with the keeper, so a search that wants memory behind its first node is seen.
+//! Searches of what is kept. How many pairs were pushed is told with the keeper, so a search that wants memory after its first node is seen.
 
 ghost use Rattle.std.specs.Prelude.{◌≡◌, []};
 
@@ -6,6 +6,7 @@ use crate::call::{Call, is_asked, try_and_drop};
 use crate::counting::Counting;
 use crate::{made, showing, telling};
 use pesp_domains::Keeper;
+use pesp_instance::Instance;
 use pesp_search::{Tried, best, best_within};
 use std::alloc::Global;
 use std::marker::Model;
@@ -83,17 +84,35 @@ impl Call for Searched {
     }
 }
 
-fn try_case<R: Print + AllocGlobal>(rt: &R, limit: Option<u64>) -> Option<()> {
-    let keeper = Counting::from_instance(rt.alloc(), made::two(rt.alloc())?).ok()?;
+fn try_case<R: Print + AllocGlobal>(rt: &R, instance: Instance, limit: Option<u64>) -> Option<()> {
+    let keeper = Counting::from_instance(rt.alloc(), instance).ok()?;
     try_and_drop(rt, Searched { keeper, limit });
     Some(())
 }
 
-pub(crate) fn try_all<R: Print + AllocGlobal>(rt: &R, words: &[String]) -> Option<()> {
+/// Over differences, which end the search of so small an instance before anything is pushed.
+fn try_differences<R: Print + AllocGlobal>(rt: &R, words: &[String]) -> Option<()> {
     for (name, limit) in [("best", None), ("best_within", Some(1))] {
         if is_asked(rt, words, name) {
-            try_case(rt, limit)?;
+            try_case(rt, made::two(rt.alloc())?, limit)?;
         }
     }
     Some(())
+}
+
+fn try_tree<R: Print + AllocGlobal>(rt: &R, words: &[String]) -> Option<()> {
+    for (name, limit) in [
+        ("best in the tree", None),
+        ("best_within in the tree", Some(1)),
+    ] {
+        if is_asked(rt, words, name) {
+            try_case(rt, made::heavy(rt.alloc())?, limit)?;
+        }
+    }
+    Some(())
+}
+
+pub(crate) fn try_all<R: Print + AllocGlobal>(rt: &R, words: &[String]) -> Option<()> {
+    try_differences(rt, words)?;
+    try_tree(rt, words)
 }
