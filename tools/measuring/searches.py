@@ -18,7 +18,7 @@ def ends(network, limit):
 
 
 def nodes_of(network):
-    """The nodes of the search, or None where there are more than the most that are tried."""
+    """The least limit at which the search ends, or None where it is more than the most that are tried."""
     high = 1
     while not ends(network, high):
         if high == MOST_NODES:
@@ -38,9 +38,9 @@ def seconds_of(network, limit):
 
 
 def measure_search(program, folder, events, seed):
-    """The nodes of the search, the instructions of a node and the seconds of all of it, on one network of the set.
+    """The least limit that ends the search, the instructions for each node of it and the seconds, on one network of the set.
 
-    Where it has many nodes, the instructions are those of its first ones. What comes before the first node counts.
+    Where that is great, the instructions are those of a lesser limit. By differences a limit bounds work, and no node need be visited.
     """
     rows = events * ACTIVITIES_OF_AN_EVENT
     network = Network(program, folder, rows, events, lambda event: False, seed, WIDTHS)
@@ -56,8 +56,8 @@ def columns(nodes, figure, seconds):
 
 def print_searches(programs, folder):
     """The figures of each program beside each other."""
-    print("\nnodes of a search, instructions of a node, and seconds of the search" + (", before and now" if programs[1:] else ""))
-    print(f"{'events':>7} {'seed':>5}" + f" {'nodes':>9} {'a node':>9} {'seconds':>9}" * len(programs))
+    print("\nthe least limit of `try` that ends the search, instructions for each node of it, and seconds" + (", before and now" if programs[1:] else ""))
+    print(f"{'events':>7} {'seed':>5}" + f" {'limit':>9} {'a node':>9} {'seconds':>9}" * len(programs))
     ended = [[] for _ in programs]
     for events in EVENTS:
         for seed in SEEDS:
@@ -66,7 +66,7 @@ def print_searches(programs, folder):
             for nodes, (found, _, _) in zip(ended, figures):
                 nodes.append(found)
     for nodes in ended:
-        print(f"{sum(map(bool, nodes))} end, with {sum(filter(None, nodes))} nodes in sum")
+        print(f"{sum(map(bool, nodes))} end, with {sum(filter(None, nodes))} in sum")
     if programs[1:]:
         shared = [(first, last) for first, last in zip(ended[0], ended[-1]) if first]
-        print(f"of those that ended before: {sum(first for first, _ in shared)} nodes, now {sum(last or 0 for _, last in shared)}")
+        print(f"of those that ended before: {sum(first for first, _ in shared)}, now {sum(last or 0 for _, last in shared)}")
