@@ -80,14 +80,19 @@ def play(suite, session):
     return came["standard output"].decode().split(f"{mark}\n")[1:]
 
 
+def shown_in():
+    """The documents that show sessions."""
+    folders = ["", "docs/", "embedded/", "python/", "examples/**/"]
+    return sorted(path for pattern in [*(f"{folder}*.md" for folder in folders), "man/*.1"] for path in TOP.glob(pattern))
+
+
 @within(240)
 def documents(suite):
     commands = suite.folder / "bin"
     commands.mkdir()
     (commands / "pespbench").symlink_to(suite.program)
-    paths = [TOP / "README.md", *(TOP / "docs").glob("*.md"), *(TOP / "embedded").glob("*.md"), *(TOP / "examples").glob("**/*.md")]
-    for path in sorted([*paths, *(TOP / "man").glob("*.1")]):
-        for number, session in enumerate(sessions(path) if path.exists() else [], 1):
+    for path in shown_in():
+        for number, session in enumerate(sessions(path), 1):
             titles = [f"what command {place} prints, {shown.command}," for place, shown in enumerate(session, 1)]
             wanted = dict(zip(titles, [shown.wanted() for shown in session]))
             printed = play(suite, session)
@@ -115,7 +120,7 @@ def named_texts(suite):
 def shown_scripts(suite):
     """A block of Python in a document is a part of a script of examples/."""
     scripts = [path.read_text() for path in (TOP / "examples").glob("*.py")]
-    for name, wanted in {"README.md": "Bench.open(", "docs/FORMATS.md": "replies_of("}.items():
+    for name, wanted in {"python/README.md": "Bench.open(", "docs/FORMATS.md": "replies_of("}.items():
         blocks = re.findall(r"^```python\n(.*?)^```$", (TOP / name).read_text(), re.M | re.S)
         suite.holds(f"{name} shows Python that has '{wanted}'", any(wanted in block for block in blocks))
         for block in blocks:
@@ -124,8 +129,9 @@ def shown_scripts(suite):
 
 def checks_say_so(suite):
     """A command line that is shown without commands means a check, and says `--check`."""
-    for path in sorted([TOP / "README.md", *(TOP / "docs").glob("*.md"), *(TOP / "man").glob("*.1")]):
-        for session in sessions(path):
+    for path in shown_in():
+        # The callers of the library in process are programs of their own, and have no such word.
+        for session in sessions(path) if path.parent.name != "embedded" else []:
             for shown in session:
                 is_check = any(line.startswith(("tensions ", "pespbench: ")) for line in shown.printed)
                 is_fine = not is_check or shown.typed or "--check" in shown.command or "|" in shown.command

@@ -1,0 +1,166 @@
+"""What documents say of the tree, held against it: their words, links and paths, the crates, the definition files of the
+theorem, the functions of the walks, and the wrong bodies."""
+
+import re
+
+from tests.harness import TOP
+from tests.shelves import MOST_ON_THE_FIRST
+
+# The words that a document should have; it may have a tenth more. HISTORY is only added to, and has no limit.
+TARGETS = {
+    "README.md": 1500,
+    "docs/PROMISES.md": 1500,
+    "docs/ARCHITECTURE.md": 1300,
+    "docs/DECISIONS.md": 2500,
+    "docs/MEASURES.md": 1500,
+    "docs/THEOREM.md": 600,
+    "docs/GLOSSARY.md": 800,
+    "docs/STYLE.md": 700,
+    "docs/PROOFS.md": 700,
+}
+
+FOLDERS = r"(?:crates|docs|tools|examples|python|embedded|page|man|completions|\.ci|\.github)"
+PATH = re.compile(rf"(?<![\w/.~-])({FOLDERS}/[\w./-]*[\w/])")
+LINK = re.compile(r"\]\(([^)#\s]+)(?:#[^)\s]*)?\)")
+# A file of a crate, named without its folder: in the crate's own page, or after the crate's path in the same line.
+PART = re.compile(r"(?<![\w/.~-])((?:src|specs|proofs)/[\w/]+\.(?:rt|antt))")
+STEP = re.compile(r"`(crates/[\w/]+\.rt)`: ((?:`\w+`(?:, | and | with )?)+)")
+
+
+def pages():
+    """Each document of the tree, but for what a build leaves."""
+    return sorted(path for path in TOP.rglob("*.md") if not {"out", ".git", "build"} & set(path.relative_to(TOP).parts))
+
+
+def text_of(name):
+    path = TOP / name
+    return path.read_text() if path.exists() else ""
+
+
+def document_words(suite):
+    for name, target in TARGETS.items():
+        count = len(text_of(name).split())
+        suite.holds(f"{name} has {count} words, and may have {target * 11 // 10}", 0 < count <= target * 11 // 10)
+
+
+def numbers_told_once(suite):
+    """A number that changes with the tree stands in one document, and is right there."""
+    told = [str(page.relative_to(TOP)) for page in pages() if f"at most {MOST_ON_THE_FIRST} in all" in page.read_text()]
+    suite.note("who says how many wrong bodies the first shelf may have", {"pages": ["docs/STYLE.md"]}, {"pages": told})
+    kit = [str(page.relative_to(TOP)) for page in pages() if re.search(r"proved with rattle-kit-\w+", page.read_text())]
+    suite.note("who says with which kit it is proved", {"pages": ["README.md"]}, {"pages": kit})
+    counts = [str(page.relative_to(TOP)) for page in pages() if re.search(r"[\d,]+ passed, \d+ failed", page.read_text())]
+    suite.note("who counts cases of tests", {"pages": ["docs/HISTORY.md"]}, {"pages": counts})
+
+
+def links_of(page):
+    """The files that a page links to."""
+    return [page.parent / link for link in LINK.findall(page.read_text()) if "://" not in link]
+
+
+def is_built(name):
+    return "/out" in name or "NAME" in name
+
+
+def paths_of(page):
+    """The files of the tree that a page names by their path."""
+    return [TOP / name for name in PATH.findall(page.read_text()) if not is_built(name)]
+
+
+def parts_of(page):
+    """The files of a crate that a page names within it."""
+    own = page.parent if (page.parent / "src").is_dir() else None
+    found = []
+    for line in page.read_text().splitlines():
+        crate = own
+        for token in re.findall(rf"{PATH.pattern}|{PART.pattern}", line):
+            if token[0].startswith("crates/"):
+                crate = TOP / "/".join(token[0].split("/")[:2])
+            elif token[1] and crate:
+                found.append(crate / token[1])
+    return found
+
+
+def document_paths(suite):
+    """Each link of a document leads to a file, and each path that it names is there."""
+    for page in pages():
+        named = [*links_of(page), *paths_of(page), *parts_of(page)]
+        lost = sorted({str(path) for path in named if not path.exists()})
+        suite.note(f"what {page.relative_to(TOP)} names is there", {"lost": []}, {"lost": lost})
+
+
+def document_crates(suite):
+    """The table of ARCHITECTURE has each crate once, with its page."""
+    listed = re.findall(r"^(\w+)(?: staticlib)?:", text_of("crates.txt"), re.M)
+    told = re.findall(r"^\| \[(\w+)\]\(\.\./crates/\1/README\.md\) \|", text_of("docs/ARCHITECTURE.md"), re.M)
+    suite.note("the crates of ARCHITECTURE", {"crates": sorted(listed)}, {"crates": sorted(told)})
+
+
+def definition_files():
+    """The definition files of THEOREM in its order, each as a crate, a name and the number of its lines."""
+    rows = re.findall(r"^\| crates/(\w+)/specs \| ([^|]+) \|", text_of("docs/THEOREM.md"), re.M)
+    return [(crate, *file.split()) for crate, files in rows for file in files.split(", ")]
+
+
+def cited_by(crate, name):
+    """The definition files of this tree that a definition file cites; declarations of code are none."""
+    text = text_of(f"crates/{crate}/specs/{name}.antt")
+    cited = re.findall(r"^(?:pub )?use Rattle\.(pesp\w*)\.specs\.(\w+)", text, re.M)
+    return [(crate, name) for crate, name in cited if name != "declared"]
+
+
+def theorem_files(suite):
+    """THEOREM names all definitions that the headline cites, each with its lines and above those that cite it."""
+    above, roots = [], [("pesp_shell", "Runs"), ("pesp_shell_replies", "Transcripts")]
+    cited = list(roots)
+    for crate, name, lines in definition_files():
+        long = len(text_of(f"crates/{crate}/specs/{name}.antt").splitlines())
+        suite.note(f"the lines of {crate} {name}", {"lines": long}, {"lines": int(lines)})
+        late = [other for other in cited_by(crate, name) if other not in above]
+        suite.note(f"what {crate} {name} cites stands above it", {"late": []}, {"late": late})
+        above.append((crate, name))
+        cited += cited_by(crate, name)
+    suite.note("each is cited, or has the headline", {"files": sorted(set(cited))}, {"files": sorted(above)})
+
+
+def walked_functions(suite):
+    """Each step of a walk of ARCHITECTURE is a function of the file that it names."""
+    steps = STEP.findall(text_of("docs/ARCHITECTURE.md"))
+    suite.holds("ARCHITECTURE has three walks", len(steps) > 20)
+    for path, names in steps:
+        for name in re.findall(r"`(\w+)`", names):
+            suite.holds(f"{path} has the function {name}", re.search(rf"\bfn {name}\b", text_of(path)))
+
+
+def promised():
+    """The names of each row of PROMISES: those of contracts, and those of wrong bodies, each with its crate."""
+    for line in text_of("docs/PROMISES.md").splitlines():
+        cells = [cell.strip() for cell in line.split("|")[1:-1]]
+        if len(cells) == 3:
+            yield [named(cells[1]), named(cells[2])]
+
+
+def named(cell):
+    """Each name in a cell as `crate: a, b; crate: c`, with its crate."""
+    parts = re.findall(r"(pesp\w*): ((?:`[\w:]+`(?:, )?)+)", cell)
+    return [(crate, name) for crate, names in parts for name in re.findall(r"\w+", names)]
+
+
+def sources_of(crate):
+    found = [path for kind in ("src/**/*.rt", "specs/**/*.antt") for path in (TOP / "crates" / crate).glob(kind)]
+    return "\n".join(path.read_text() for path in found)
+
+
+def promises(suite):
+    """Each contract that PROMISES names is a word of its crate, and each wrong body stands on a shelf of its crate."""
+    rows = list(promised())
+    suite.holds("PROMISES has its table", len(rows) > 30)
+    texts = {crate: sources_of(crate) for contracts, _ in rows for crate, _ in contracts}
+    for contracts, bodies in rows:
+        for crate, name in contracts:
+            suite.holds(f"{crate} has the contract {name}", re.search(rf"\b{name}\b", texts[crate]))
+        for crate, name in bodies:
+            suite.holds(f"{crate} has the wrong body {name}", list((TOP / "crates" / crate).glob(f"*/{name}.edit")))
+
+
+GROUPS = [document_words, numbers_told_once, document_paths, document_crates, theorem_files, walked_functions, promises]
