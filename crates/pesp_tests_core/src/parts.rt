@@ -3,14 +3,14 @@
 use crate::asked::{Step, Steps, Times, try_steps};
 use crate::changes::{Change, TWO_ACTIVITIES};
 
-const INFEASIBLE_AT_ONE_NODE: Steps<'_> = &[
+const INFEASIBLE_WITHOUT_A_NODE: Steps<'_> = &[
     (Step::Edit(Change::SetSpan(1, 3, 3)), "3 to 3"),
-    (Step::Infeasible(Some(1)), "event 1 at 0 alone"),
+    (Step::Infeasible(Some(0)), "told by differences"),
 ];
 
 #[test]
-fn infeasible_at_one_node(rt: HostRuntime) {
-    try_steps(&rt, 10, TWO_ACTIVITIES, INFEASIBLE_AT_ONE_NODE);
+fn infeasible_without_a_node(rt: HostRuntime) {
+    try_steps(&rt, 10, TWO_ACTIVITIES, INFEASIBLE_WITHOUT_A_NODE);
 }
 
 /// Events 1 and 2 with one activity, and events 3 and 4 with another.
