@@ -1,6 +1,7 @@
 -- The residues that go with one stand in two ranges.
-use Rattle.std.proofs.Common.{◌≡◌, ℕ, ◌+◌, ◌-◌, ◌*◌, ◌%◌, ◌<◌, ◌≤◌, ◌&&◌, ◌||◌, nat_le, nat_lt, Bool, true, false, refl, ◌∙◌, inl, inr, arith}
+use Rattle.std.proofs.Common.{◌≡◌, ℕ, ◌+◌, ◌-◌, ◌*◌, ◌%◌, ◌<◌, ◌≤◌, ◌||◌, nat_le, nat_lt, true, false, refl, ◌∙◌, inl, inr, arith}
 use Rattle.std.proofs.Math.Nat.{mod-eq_of_lt, mod-eq-sub-mod}
+use Rattle.std.proofs.Math.Bool.{and-false}
 use Rattle.std.proofs.lemmas.Bool.{cases_lt}
 use Rattle.pesp_counts_arcs.specs.Ends.{is_from_to}
 
@@ -19,19 +20,7 @@ pub far_below : (T a s : ℕ) → a < T → s < a → (s + (T - a)) % T ≡ s + 
 far_below T a s al lt = mod_below T (s + (T - a)) (omega (arith, al, lt))
 
 none_below : (s : ℕ) → is_from_to 0 0 s ≡ false
-none_below s = let a : nat_lt s 0 ≡ false = grind arith in rw a (none (nat_le 0 s))
-  where
-    none : (b : Bool) → (b && false) ≡ false
-    none true = refl
-    none false = refl
-
-or_false : (b : Bool) → (b || false) ≡ b
-or_false true = refl
-or_false false = refl
-
-or_true : (b : Bool) → (b || true) ≡ true
-or_true true = refl
-or_true false = refl
+none_below s = let a : nat_lt s 0 ≡ false = grind arith in rw a (and-false (nat_le 0 s))
 
 module _ (T a w s : ℕ) (al : a < T) (sl : s < T) (wide : w ≤ T) where
   pub ranges_flat : w ≤ T - a → nat_lt ((s + (T - a)) % T) w ≡ (is_from_to a (a + w) s || is_from_to 0 0 s)

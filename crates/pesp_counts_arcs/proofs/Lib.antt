@@ -1,5 +1,8 @@
 pub mod EndLaws
 pub mod ListLaws
+pub mod RingEdits
+pub mod RingLaws
+pub mod RingStores
 pub mod StandAround
 pub mod StandEdits
 pub mod StandLaws

@@ -1,5 +1,5 @@
 -- An item in front of a list, and the others as they were.
-use Rattle.std.proofs.Common.{◌≡◌, ◌≢◌, ℕ, zero, suc, ◌+◌, ◌-◌, ◌<◌, ◌≤◌, eqb, List, [], ◌∷◌, ◌++◌, AllPairs, length, get_or, replicate, set, take, refl, sym, ap, subst, ◌∙◌, inl, inr, ◌⊎◌, arith}
+use Rattle.std.proofs.Common.{◌≡◌, ◌≢◌, ℕ, zero, suc, ◌+◌, ◌-◌, ◌<◌, ◌≤◌, eqb, List, [], ◌∷◌, ◌++◌, AllPairs, drop, length, get_or, replicate, set, take, refl, sym, ap, subst, ◌∙◌, inl, inr, ◌⊎◌, arith}
 use Rattle.std.specs.List.{Contains, list_any, range_with_len}
 use Rattle.std.specs.Cmp.{nat_eq_equiv}
 use Rattle.std.proofs.lemmas.Bool.{cases_Bool, cases_eq, cases_lt, ne_eqb}
@@ -16,50 +16,62 @@ use Rattle.pesp_counts_arcs.specs.Lists.{AreShared, items_at, lists_of, steps}
 abbrev pub no_head : Head
 no_head = record { first = 0; count = 0 }
 
--- what stands at an item that is not among them does not matter
-pub steps_same : (next : List ℕ) (item n k v : ℕ) → (Contains (steps next item n) k → ⊥) → steps (set next k v) item n ≡ steps next item n
-steps_same next item zero k v out = refl
-steps_same next item (suc n) k v out =
-    let apart : item ≢ k = λ same. out (subst (Contains (item ∷ steps next (get_or next item 0) n)) same (here item (steps next (get_or next item 0) n))) in
-    let rest = steps_same next (get_or next item 0) n k v (λ i. out (there k item (steps next (get_or next item 0) n) i)) in
-    let read : get_or (set next k v) item 0 ≡ get_or next item 0 = get_or-set_other next k item v 0 apart in
-    ap (λ xs. item ∷ xs) (ap (λ j. steps (set next k v) j n) read ∙ rest)
-
 pub length-steps : (next : List ℕ) (item n : ℕ) → length (steps next item n) ≡ n
 length-steps next item zero = refl
 length-steps next item (suc n) = ap suc (length-steps next (get_or next item 0) n)
+
+-- what stands at the last of them does not matter, nor at an item that is not among them
+pub steps_same_to : (next : List ℕ) (item n k v : ℕ) → ((i : ℕ) → suc i < n → get_or (steps next item n) i 0 ≢ k) → steps (set next k v) item n ≡ steps next item n
+steps_same_to next item zero k v out = refl
+steps_same_to next item (suc zero) k v out = refl
+steps_same_to next item (suc (suc n)) k v out =
+    let rest = steps_same_to next (get_or next item 0) (suc n) k v (λ i l. out (suc i) (omega (arith, l))) in
+    let read : get_or (set next k v) item 0 ≡ get_or next item 0 = get_or-set_other next k item v 0 (out zero (omega arith)) in
+    ap (λ xs. item ∷ xs) (ap (λ j. steps (set next k v) j (suc n)) read ∙ rest)
+
+pub steps_same : (next : List ℕ) (item n k v : ℕ) → (Contains (steps next item n) k → ⊥) → steps (set next k v) item n ≡ steps next item n
+steps_same next item n k v out =
+    steps_same_to next item n k v
+    (λ i l same. out (subst (Contains (steps next item n)) same (Contains-get_or (steps next item n) i 0 (omega (arith, l, length-steps next item n)))))
 
 -- the list of a head
 pub items_of : (next : List ℕ) (heads : List Head) (p : ℕ) (d : Head) → p < length heads → items_at (lists_of next heads) p ≡ steps next (get_or heads p d).first (get_or heads p d).count
 items_of next heads p d within = get_or-map (λ h. steps next h.first h.count) heads p d [] within
 
--- all lists stay where an item in none of them is changed
-pub lists_same : (next : List ℕ) (heads : List Head) (k v : ℕ) → ((p : ℕ) → Contains (items_at (lists_of next heads) p) k → ⊥) → lists_of (set next k v) heads ≡ lists_of next heads
-lists_same next heads k v out =
+-- all lists stay where what changes stands at no item, or at the last of a list
+pub lists_same_to : (next : List ℕ) (heads : List Head) (k v : ℕ) → ((p i : ℕ) → suc i < length (items_at (lists_of next heads) p) → get_or (items_at (lists_of next heads) p) i 0 ≢ k) → lists_of (set next k v) heads ≡ lists_of next heads
+lists_same_to next heads k v out =
     same_lists (lists_of (set next k v) heads) (lists_of next heads)
     (length-map heads (λ h. steps (set next k v) h.first h.count) ∙ sym (length-map heads (λ h. steps next h.first h.count)))
     (λ p d l.
     let within : p < length heads = omega (arith, l, length-map heads (λ (h : Head). steps (set next k v) h.first h.count)) in
     let h : Head = get_or heads p no_head in
+    let at = items_of next heads p no_head within in
     get_or-map (λ h. steps (set next k v) h.first h.count) heads p no_head d within
-    ∙ steps_same next h.first h.count k v (λ i. out p (subst (λ xs. Contains xs k) (sym (items_of next heads p no_head within)) i))
+    ∙ steps_same_to next h.first h.count k v
+    (λ i m. subst (λ xs. get_or xs i 0 ≢ k) at (out p i (omega (arith, m, ap length at, length-steps next h.first h.count))))
     ∙ sym (get_or-map (λ h. steps next h.first h.count) heads p no_head d within))
 
--- the lists with an item in front of one of them
-pub lists_added : (next : List ℕ) (heads : List Head) (p k : ℕ) (head : Head) → p < length heads → k < length next → ((d : Head) → head ≡ get_or heads p d) → ((q : ℕ) → Contains (items_at (lists_of next heads) q) k → ⊥)
-    → lists_of (set next k head.first) (set heads p (record { first = k; count = head.count + 1 })) ≡ set (lists_of next heads) p (k ∷ items_at (lists_of next heads) p)
-lists_added next heads p k head within item is out =
-    let after : List ℕ = set next k head.first in
+pub lists_same : (next : List ℕ) (heads : List Head) (k v : ℕ) → ((p : ℕ) → Contains (items_at (lists_of next heads) p) k → ⊥) → lists_of (set next k v) heads ≡ lists_of next heads
+lists_same next heads k v out =
+    lists_same_to next heads k v
+    (λ p i l same. out p (subst (Contains (items_at (lists_of next heads) p)) same (Contains-get_or (items_at (lists_of next heads) p) i 0 (omega (arith, l)))))
+
+-- the lists with an item in front of one of them, where it leads to what is walked as the list was
+pub lists_added : (next : List ℕ) (heads : List Head) (p k first : ℕ) (head : Head) → p < length heads → k < length next → ((d : Head) → head ≡ get_or heads p d) → steps next first head.count ≡ steps next head.first head.count
+    → ((q : ℕ) → Contains (items_at (lists_of next heads) q) k → ⊥) → lists_of (set next k first) (set heads p (record { first = k; count = head.count + 1 })) ≡ set (lists_of next heads) p (k ∷ items_at (lists_of next heads) p)
+lists_added next heads p k first head within item is leads out =
+    let after : List ℕ = set next k first in
     let fresh : Head = record { first = k; count = head.count + 1 } in
-    let at : items_at (lists_of next heads) p ≡ steps next head.first head.count = items_of next heads p no_head within ∙ ap (λ (h : Head). steps next h.first h.count) (sym (is no_head)) in
-    let read : get_or after k 0 ≡ head.first = get_or-set_same next k head.first 0 item in
+    let at : items_at (lists_of next heads) p ≡ steps next first head.count = items_of next heads p no_head within ∙ ap (λ (h : Head). steps next h.first h.count) (sym (is no_head)) ∙ sym leads in
+    let read : get_or after k 0 ≡ first = get_or-set_same next k first 0 item in
     let count : head.count + 1 ≡ suc head.count = omega arith in
-    let first : steps after k (head.count + 1) ≡ k ∷ steps next head.first head.count =
-    ap (steps after k) count ∙ ap (λ j. k ∷ steps after j head.count) read ∙ ap (λ xs. k ∷ xs) (steps_same next head.first head.count k head.first (λ i. out p (subst (λ xs. Contains xs k) (sym at) i)))
+    let begun : steps after k (head.count + 1) ≡ k ∷ steps next first head.count =
+    ap (steps after k) count ∙ ap (λ j. k ∷ steps after j head.count) read ∙ ap (λ xs. k ∷ xs) (steps_same next first head.count k first (λ i. out p (subst (λ xs. Contains xs k) (sym at) i)))
     in
     map-set (λ (h : Head). steps after h.first h.count) heads p fresh
-    ∙ ap (λ xs. set xs p (steps after k (head.count + 1))) (lists_same next heads k head.first out)
-    ∙ ap (set (lists_of next heads) p) (first ∙ ap (λ xs. k ∷ xs) (sym at))
+    ∙ ap (λ xs. set xs p (steps after k (head.count + 1))) (lists_same next heads k first out)
+    ∙ ap (set (lists_of next heads) p) (begun ∙ ap (λ xs. k ∷ xs) (sym at))
 
 -- ---- what stays true of the lists
 
@@ -155,24 +167,27 @@ steps_more next item (suc n) some = let e : suc n - 1 ≡ n = omega arith in rw 
 
 -- ---- more room
 
-resized : {X : Type 0} (xs : List X) (n long : ℕ) (v : X) → long ≡ length xs → long < n → (i : ℕ) → get_or (take n xs ++ replicate (n - long) v) i v ≡ get_or xs i v
+pub resized : {X : Type 0} (xs : List X) (n long : ℕ) (v : X) → long ≡ length xs → long < n → (i : ℕ) → get_or (take n xs ++ replicate (n - long) v) i v ≡ get_or xs i v
 resized xs n long v is more i = grind (arith, common_steps)
+
+-- what a slice of a vector becomes, the vector holds
+pub items_written : {X : Type 0} (ws items : List X) (len : ℕ) → len ≡ length items → length ws ≡ length items → take len (ws ++ drop (length ws) items) ≡ ws
+items_written ws items len is same = grind (arith, common_steps)
 
 -- as many steps over what reads the same
 steps_read : (next after : List ℕ) → ((i : ℕ) → get_or after i 0 ≡ get_or next i 0) → (item n : ℕ) → steps after item n ≡ steps next item n
 steps_read next after same item zero = refl
 steps_read next after same item (suc n) = ap (λ xs. item ∷ xs) (ap (λ j. steps after j n) (same item) ∙ steps_read next after same (get_or next item 0) n)
 
--- room for more items changes no list
-pub lists_of_more : (next : List ℕ) (heads : List Head) (n long : ℕ) → long ≡ length next → long < n → lists_of (take n next ++ replicate (n - long) 0) heads ≡ lists_of next heads
-lists_of_more next heads n long is more =
-    let after : List ℕ = take n next ++ replicate (n - long) 0 in
+-- lists stay where what stands at each item reads the same
+pub lists_read : (next after : List ℕ) → ((i : ℕ) → get_or after i 0 ≡ get_or next i 0) → (heads : List Head) → lists_of after heads ≡ lists_of next heads
+lists_read next after same heads =
     same_lists (lists_of after heads) (lists_of next heads)
     (length-map heads (λ (h : Head). steps after h.first h.count) ∙ sym (length-map heads (λ (h : Head). steps next h.first h.count)))
     (λ p d l.
     let within : p < length heads = omega (arith, l, length-map heads (λ (h : Head). steps after h.first h.count)) in
     get_or-map (λ h. steps after h.first h.count) heads p no_head d within
-    ∙ steps_read next after (resized next n long 0 is more) _ _
+    ∙ steps_read next after same _ _
     ∙ sym (get_or-map (λ h. steps next h.first h.count) heads p no_head d within))
 
 -- the items at any place, also where there is no list

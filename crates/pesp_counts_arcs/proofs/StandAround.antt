@@ -2,7 +2,6 @@
 use Rattle.std.proofs.Common.{◌≡◌, ◌≢◌, ◌⊎◌, ℕ, ◌+◌, ◌*◌, ◌==◌, true, false, if◌then◌else◌, cond, List, [], ◌∷◌, ◌++◌, length, take, drop, Option, Some, None, is_some, Ok, IfSome, refl, sym, ap, subst, ◌∙◌, inl, inr, arith}
 use Rattle.std.specs.List.{Contains}
 use Rattle.std.proofs.lemmas.Bool.{cases_eq, eqb-true, false≢true}
-use Rattle.std.proofs.lemmas.Grind.{common_steps}
 use Rattle.pesp_base.specs.declared.activity.Activity.{Activity}
 use Rattle.pesp_base.specs.Bounds.{Bounds}
 use Rattle.pesp_base.specs.Numbered.{change_in, take_out, with_number}
@@ -22,6 +21,7 @@ use Rattle.pesp_counts_arcs.specs.Lists.{AreShared}
 use Rattle.pesp_counts_arcs.specs.Places.{ArePlaces, Places, place_of}
 use Rattle.pesp_counts_arcs.specs.Shared.{Shared}
 use Rattle.pesp_counts_arcs.proofs.StandEdits.{none_some, went_here, went_other, went_some}
+use Rattle.pesp_counts_arcs.proofs.ListLaws.{items_written}
 use Rattle.pesp_counts_arcs.proofs.StandLaws.{end_kept, has_changed, has_taken, some_same}
 use Rattle.pesp_counts_arcs.proofs.StandMembers.{in_change_other, in_change_same, in_take_out, of_change, of_take_out}
 
@@ -180,10 +180,6 @@ module _ (I : Network) (before : Links) (ends : List End) (n q : ℕ) (span : Bo
         number = w.number ∙ ap (end_number w.side) place;
         is_end = respanned w.side w.activity p (subst (IsEndOf I.period before w.side w.activity p) place w.is_end);
       })
-
--- what a slice of a vector becomes, the vector holds
-pub items_written : (ws items : List End) (len : ℕ) → len ≡ length items → length ws ≡ length items → take len (ws ++ drop (length ws) items) ≡ ws
-items_written ws items len is same = grind (arith, common_steps)
 
 -- ends as a vector holds them that had a slice of them written
 abbrev pub written : List End → ℕ → List End → List End

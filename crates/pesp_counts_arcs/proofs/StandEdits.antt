@@ -1,5 +1,6 @@
 -- Places that stood for an instance stand for the edited one, once they are changed as it is.
-use Rattle.std.proofs.Common.{◌≡◌, ◌≢◌, ℕ, ◌<◌, ◌==◌, ◌||◌, Bool, true, false, if◌then◌else◌, List, [], ◌∷◌, length, filter, find, Option, Some, None, option_map, is_some, Result, Ok, Err, OnErr, refl, sym, ap, subst, ◌∙◌, inl, inr, arith}
+use Rattle.std.proofs.Common.{◌≡◌, ◌≢◌, ℕ, ◌<◌, ◌==◌, Bool, true, false, if◌then◌else◌, List, [], ◌∷◌, length, filter, find, Option, Some, None, option_map, is_some, Ok, refl, sym, ap, subst, ◌∙◌, inl, inr, arith}
+use Rattle.std.proofs.Math.Bool.{or-true}
 use Rattle.std.specs.List.{Contains}
 use Rattle.std.specs.Result.{is_ok}
 use Rattle.std.proofs.lemmas.Bool.{cases_eq, eq-eqb, false≢true, ne_eqb}
@@ -138,11 +139,7 @@ map_none f (Some a) is = absurd (cc)
 
 either_end : (side : Side) (e : ℕ) (a : Activity) → own side a ≡ e → is_end_of e a ≡ true
 either_end Tail e a same = rw (eq-eqb a.from e same) refl
-either_end Head e a same = rw (eq-eqb a.to e same) (or_true (a.from == e))
-  where
-    or_true : (b : Bool) → (b || true) ≡ true
-    or_true true = refl
-    or_true false = refl
+either_end Head e a same = rw (eq-eqb a.to e same) (or-true (a.from == e))
 
 -- an event that is dropped is no end of an activity
 unused : (I J : Network) (e : ℕ) → edited I (edits.DropEvent e) ≡ Ok J → (side : Side) (a : Activity) → Contains I.activities a → own side a ≢ e
@@ -186,10 +183,6 @@ module _ (I J : Network) (before after : Links) (e : ℕ) (ok : edited I (edits.
   event_dropped = subst (λ K. StandFor K after) (sym (effect_is I J (edits.DropEvent e) ok)) less_event
 
 -- ---- what is refused
-
-pub always_err : {X E P : Type 0} (r : Result X E) → P → OnErr r P
-always_err (Ok x) holds = tt
-always_err (Err e) holds = holds
 
 -- places that are looked up as before, and lists with the same items
 pub look_same : (events events' activities activities' : Places) (ends : List End) (at : Shared) (lists : List (List ℕ)) → AreHoused events activities ends at → ArePlaces events' → ArePlaces activities'

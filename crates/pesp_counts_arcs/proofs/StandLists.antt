@@ -6,7 +6,7 @@ use Rattle.std.proofs.lemmas.List.{get_or_default, get_or-map, get_or-set_other,
 use Rattle.std.proofs.lemmas.List.Elements.{Contains-get_or}
 use Rattle.pesp_domains.proofs.Families.{here, in_filter, not_in_none, of_filter, there}
 use Rattle.pesp_counts_arcs.specs.declared.lists.Head.{Head}
-use Rattle.pesp_counts_arcs.specs.Lists.{AreShared, IsBefore, items_at, lists_of, steps}
+use Rattle.pesp_counts_arcs.specs.Lists.{AreShared, items_at, lists_of, steps}
 use Rattle.pesp_counts_arcs.proofs.ListLaws.{items_of, length-steps, no_head, steps_same}
 
 -- ---- lists in which no two items are one
@@ -36,6 +36,13 @@ pub all_but_later : (item x : ℕ) (xs : List ℕ) → x ≢ item → all_but it
 all_but_later item x xs apart = rw (ne_eqb x item apart) refl
 
 -- ---- the chain without an item
+
+-- the one item stands just before the other
+pub record IsBefore (items : List ℕ) (before item : ℕ) : Type 0 where
+  pub at : ℕ
+  pub within : at + 1 < length items
+  pub first : get_or items at 0 ≡ before
+  pub second : get_or items (at + 1) 0 ≡ item
 
 -- what stands at an item of the chain is the one after it
 pub step_next : (next : List ℕ) (first n k : ℕ) → suc k < n → get_or (steps next first n) (suc k) 0 ≡ get_or next (get_or (steps next first n) k 0) 0
@@ -80,48 +87,6 @@ without_later next item before first (suc n) (suc k) l within is then once =
     ap (λ xs. first ∷ xs) (ap (λ j. steps (set next before after) j n) read ∙ later)
     ∙ sym (all_but_later item first rest apart)
 
--- ---- the item before another one
-
--- a list with an item begins with the first one
-pub first_item : (next : List ℕ) (first item n : ℕ) → Contains (steps next first n) item → get_or (steps next first n) 0 0 ≡ first
-first_item next first item zero i = absurd (let l = i.1 in omega (arith, l))
-first_item next first item (suc n) i = refl
-
-module _ (next : List ℕ) (first n item i : ℕ) (there_is : Contains (steps next first n) item) (passed : (j : ℕ) → j ≤ i → get_or (steps next first n) j 0 ≢ item) where
-  -- an item that none up to i is stands later
-  pub later : suc i < n
-  later =
-      let xs : List ℕ = steps next first n in
-      let far : i < there_is.0 =
-      elim (cases_lt i there_is.0) [
-        | inl over ↦ over
-        | inr within ↦ absurd (passed there_is.0 within (get_or_default xs there_is.0 0 item there_is.1 ∙ there_is.2))
-      ]
-      in
-      let low = there_is.1 in
-      omega (arith, far, low, length-steps next first n)
-
-  pub stands_there : Contains (steps next first n) (get_or (steps next first n) i 0)
-  stands_there = Contains-get_or (steps next first n) i 0 (omega (arith, later, length-steps next first n))
-
-  -- where the one after i is not the item, none up to it is
-  pub passed_more : get_or next (get_or (steps next first n) i 0) 0 ≢ item → (j : ℕ) → j ≤ i + 1 → get_or (steps next first n) j 0 ≢ item
-  passed_more apart j le =
-      elim (cases_eq j (suc i)) [
-        | inl same ↦ λ is. apart (sym (step_next next first n i later) ∙ ap (λ k. get_or (steps next first n) k 0) (sym same) ∙ is)
-        | inr other ↦ passed j (omega (arith, le, other))
-      ]
-
-  pub stands_before : get_or next (get_or (steps next first n) i 0) 0 ≡ item → IsBefore (steps next first n) (get_or (steps next first n) i 0) item
-  stands_before is =
-      let one : i + 1 ≡ suc i = omega arith in
-      record {
-        at = i;
-        within = omega (arith, later, length-steps next first n);
-        first = refl;
-        second = ap (λ k. get_or (steps next first n) k 0) one ∙ step_next next first n i later ∙ is;
-      }
-
 -- ---- the lists without an item
 
 -- lists change at one place alone where what changes in the store is in no other
@@ -161,7 +126,7 @@ list_there lists p k i =
     ]
 
 module _ (next : List ℕ) (heads : List Head) (p item : ℕ) (head : Head) (within : p < length heads) (is : (d : Head) → head ≡ get_or heads p d) (there_is : Contains (items_at (lists_of next heads) p) item) (shared : AreShared (length next) (lists_of next heads)) where
-  chain : items_at (lists_of next heads) p ≡ steps next head.first head.count
+  pub chain : items_at (lists_of next heads) p ≡ steps next head.first head.count
   chain = items_of next heads p no_head within ∙ ap (λ (h : Head). steps next h.first h.count) (sym (is no_head))
 
   pub in_chain : Contains (steps next head.first head.count) item
@@ -173,7 +138,7 @@ module _ (next : List ℕ) (heads : List Head) (p item : ℕ) (head : Head) (wit
   pub some : 0 < head.count
   some = let l = in_chain.1 in omega (arith, l, length-steps next head.first head.count)
 
-  once : AllPairs (λ a b. a ≢ b) (steps next head.first head.count)
+  pub once : AllPairs (λ a b. a ≢ b) (steps next head.first head.count)
   once = subst (AllPairs (λ a b. a ≢ b)) chain (shared.once p)
 
   one_more : suc (head.count - 1) ≡ head.count

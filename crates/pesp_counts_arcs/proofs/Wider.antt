@@ -1,11 +1,11 @@
 -- Whether one window has a residue that another one lacks is told by how far apart they begin.
 use Rattle.std.proofs.Common.{◌≡◌, ℕ, ◌+◌, ◌-◌, ◌%◌, ◌<◌, ◌≤◌, ◌⊎◌, ◌&&◌, not, nat_lt, Bool, true, false, IsTrue, refl, sym, ap, ◌∙◌, inl, inr, arith}
 use Rattle.std.specs.List.{list_any, range_with_len}
-use Rattle.std.proofs.lemmas.Bool.{and_from, cases_Bool, cases_lt, false≢true}
-use Rattle.pesp_domains.proofs.Anew.{some_below}
+use Rattle.std.proofs.lemmas.Bool.{and_from, cases_Bool, cases_lt, false≢true, lt-ltb, ltb-true}
 use Rattle.pesp_domains.proofs.Families.{and_left, and_right, of_range, passing}
 use Rattle.pesp_counts_arcs.specs.declared.end.End.{End}
 use Rattle.pesp_counts_arcs.specs.Ends.{passes, passes_more}
+use Rattle.pesp_base.proofs.Ranges.{some_below}
 use Rattle.pesp_counts_arcs.proofs.EndRanges.{far_above, far_below, mod_below}
 
 -- how far a residue is behind the first one of a window
@@ -18,9 +18,6 @@ behind_is T first s fl sl =
       | inl low ↦ inr (low, far_below T first s fl low)
       | inr high ↦ inl (omega (arith, high), far_above T first s fl sl (omega (arith, high)))
     ]
-
-is_below : (a b : ℕ) → a < b → nat_lt a b ≡ true
-is_below a b l = grind (arith, l)
 
 is_above : (a b : ℕ) → b ≤ a → nat_lt a b ≡ false
 is_above a b l = grind (arith, l)
@@ -37,7 +34,7 @@ module _ (T old old_width new new_width : ℕ) (old_first : old < T) (new_first 
   apart = behind T old new
 
   both : (s : ℕ) → behind T new s < new_width → old_width ≤ behind T old s → test s ≡ true
-  both s near far = and_from _ _ (is_below _ _ near) (ap not (is_above _ _ far))
+  both s near far = and_from _ _ (lt-ltb _ _ near) (ap not (is_above _ _ far))
 
   -- so far behind the first one of the new window
   at : (k s : ℕ) → k < T → s < T → (s ≡ new + k) ⊎ (s + T ≡ new + k) → behind T new s ≡ k
@@ -134,20 +131,17 @@ module _ (T old old_width new new_width : ℕ) (old_first : old < T) (new_first 
         | inl some ↦
             let x = passing test (range_with_len 0 T) some in
             let sl : x.0 < T = let l = of_range 0 T x.0 x.1 in omega (arith, l.1) in
-            let near : behind T new x.0 < new_width = below (behind T new x.0) new_width (and_left _ _ x.2) in
-            absurd (not_true (nat_lt (behind T old x.0) old_width) (is_below _ _ (inside_old fits x.0 sl near)) (and_right (nat_lt (behind T new x.0) new_width) _ x.2))
+            let near : behind T new x.0 < new_width = ltb-true (behind T new x.0) new_width (and_left _ _ x.2) in
+            absurd (not_true (nat_lt (behind T old x.0) old_width) (lt-ltb _ _ (inside_old fits x.0 sl near)) (and_right (nat_lt (behind T new x.0) new_width) _ x.2))
         | inr none ↦ none
       ]
-    where
-      below : (a b : ℕ) → IsTrue (nat_lt a b) → a < b
-      below a b t = grind (arith, t)
 
   pub more_is : list_any test (range_with_len 0 T) ≡ (nat_lt old_width T && nat_lt old_width (apart + new_width))
   more_is =
       elim (cases_lt old_width T) [
         | inl short ↦ elim (cases_lt old_width (apart + new_width)) [
-          | inl beyond ↦ more short beyond ∙ sym (and_from _ _ (is_below _ _ short) (is_below _ _ beyond))
-          | inr fits ↦ no_more (inr (omega (arith, fits))) ∙ sym (rw (is_below _ _ short) (is_above _ _ (omega (arith, fits))))
+          | inl beyond ↦ more short beyond ∙ sym (and_from _ _ (lt-ltb _ _ short) (lt-ltb _ _ beyond))
+          | inr fits ↦ no_more (inr (omega (arith, fits))) ∙ sym (rw (lt-ltb _ _ short) (is_above _ _ (omega (arith, fits))))
         ]
         | inr full ↦ no_more (inl (omega (arith, full, old_within))) ∙ sym (rw (is_above old_width T (omega (arith, full))) refl)
       ]

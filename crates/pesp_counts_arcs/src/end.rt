@@ -104,7 +104,8 @@ impl End {
         ensures order { result.start ≤ result.end }
         ensures below { result.end ≤ period }
         ensures wrapped { result.wrapped ≤ result.start }
-        ensures passes { (s : ℕ) → s < period → passes period self.now residue s ≡ (is_from_to result.start result.end s || is_from_to 0 result.wrapped s) }
+        ensures passes { (s : ℕ) → s < period → passes period self.now residue s
+            ≡ (is_from_to result.start result.end s || is_from_to 0 result.wrapped s) }
     {
         let sum = residue + self.first;
         let start = if sum < period { sum } else { sum - period };

@@ -20,12 +20,18 @@ use pesp_base::{Activity, ActivityId, EventId, Period, Span};
 use std::alloc::{AllocError, Global};
 use std::marker::Model;
 
-/// The ends of activities, listed at the places of their events. The activity at place q has the ends 2q and 2q + 1.
+/// The ends of activities, listed at the places of their events. The activity at place q has the
+/// ends 2q and 2q + 1.
 #[derive(Drop)]
 pub struct Links {
+    /// The places of events. Each has a list.
     events: Places,
+    /// The places of activities. Each has both its ends.
     activities: Places,
+    /// Each end, by its number. Those of a place that no activity has say nothing.
     ends: Vec<End>,
+    /// The ends at each event's place. There is an item for each end, and each that is listed is
+    /// one of an activity that has a place.
     at: Lists,
 }
 
@@ -34,7 +40,12 @@ impl Model for Links {
 
     ghost Value = { words.Links };
 
-    ghost view = { λ a. record { events = a.events; activities = a.activities; ends = a.ends.items; lists = a.at.lists } };
+    ghost view = { λ a. record {
+      events = a.events;
+      activities = a.activities;
+      ends = a.ends.items;
+      lists = a.at.lists;
+    } };
 
     ghost invariant = { λ a. words.AreHoused a.events a.activities a.ends.items a.at };
 }
@@ -81,14 +92,17 @@ impl Links {
         self.at.at(place)
     }
 
-    /// Gives a new event a place, at which no end is listed. Without the memory for it, all that stood for something does.
+    /// Gives a new event a place, at which no end is listed. Without the memory for it, all that
+    /// stood for something does.
     pub fn add_event(&mut self, event: EventId) -> Result<usize, AllocError>
         requires absent { place_of (self.old).events event ≡ None }
-        ensures ok { OnOk result ((I : Network) → StandFor I self.old → StandFor (effect I (edits.AddEvent event)) self.new) }
+        ensures ok { OnOk result ((I : Network) → StandFor I self.old →
+            StandFor (effect I (edits.AddEvent event)) self.new) }
         ensures place { IfOk result (λ p. place_of (self.new).events event ≡ Some p) }
         ensures room { IfOk result (λ p. p < length (self.new).lists) }
         ensures fresh { IfOk result (λ p. (e : ℕ) → place_of (self.old).events e ≡ Some p → ⊥) }
-        ensures others { OnOk result ((e : ℕ) → (e ≡ event → ⊥) → place_of (self.new).events e ≡ place_of (self.old).events e) }
+        ensures others { OnOk result ((e : ℕ) → (e ≡ event → ⊥) →
+            place_of (self.new).events e ≡ place_of (self.old).events e) }
         ensures ends { (self.new).ends ≡ (self.old).ends }
         ensures lists { (p : ℕ) → ends_of (self.new).lists p ≡ ends_of (self.old).lists p }
         ensures more { length (self.old).lists ≤ length (self.new).lists }
@@ -104,21 +118,27 @@ impl Links {
 
     /// Takes the place of an event away.
     pub fn drop_event(&mut self, event: EventId)
-        ensures stand { (I J : Network) → edited I (edits.DropEvent event) ≡ Ok J → StandFor I self.old → StandFor J self.new }
-        ensures others { (e : ℕ) → (e ≡ event → ⊥) → place_of (self.new).events e ≡ place_of (self.old).events e }
+        ensures stand { (I J : Network) → edited I (edits.DropEvent event) ≡ Ok J →
+            StandFor I self.old → StandFor J self.new }
+        ensures others { (e : ℕ) → (e ≡ event → ⊥) →
+            place_of (self.new).events e ≡ place_of (self.old).events e }
         ensures ends { (self.new).ends ≡ (self.old).ends }
         ensures lists { (self.new).lists ≡ (self.old).lists }
     {
         self.events.remove(event.get());
     }
 
-    /// Gives a new activity a place, and lists its ends. Without the memory for it, all that stood for something does.
+    /// Gives a new activity a place, and lists its ends. Without the memory for it, all that stood
+    /// for something does.
     pub fn add_activity(&mut self, period: Period, activity: &Activity) -> Result<usize, AllocError>
         requires absent { place_of (self.old).activities (activity.now).id ≡ None }
         requires from { IsSome (place_of (self.old).events (activity.now).from) }
         requires to { IsSome (place_of (self.old).events (activity.now).to) }
-        ensures ok { OnOk result ((I J : Network) → I.period ≡ period → edited I (edits.AddActivity activity.now) ≡ Ok J → StandFor I self.old → StandFor J self.new) }
-        ensures place { IfOk result (λ q. place_of (self.new).activities (activity.now).id ≡ Some q) }
+        ensures ok { OnOk result ((I J : Network) → I.period ≡ period →
+            edited I (edits.AddActivity activity.now) ≡ Ok J →
+            StandFor I self.old → StandFor J self.new) }
+        ensures place { IfOk result (λ q.
+            place_of (self.new).activities (activity.now).id ≡ Some q) }
         ensures changed { IfOk result (λ q. IsChangedAt self.old self.new q) }
         ensures lists { length (self.new).lists ≡ length (self.old).lists }
         ensures more { length (self.old).ends ≤ length (self.new).ends }
@@ -146,9 +166,12 @@ impl Links {
     /// Takes the place of an activity away, and its ends out of the lists.
     pub fn drop_activity(&mut self, id: ActivityId)
         requires { (I : Network) × StandFor I self.old }
-        ensures stand { (I J : Network) → edited I (edits.DropActivity id) ≡ Ok J → StandFor I self.old → StandFor J self.new }
-        ensures changed { IfSome (place_of (self.old).activities id) (λ q. IsChangedAt self.old self.new q) }
-        ensures gone { IfSome (place_of (self.old).activities id) (λ q. (p k : ℕ) → Contains (ends_of (self.new).lists p) k → IsEndOfPlace q k → ⊥) }
+        ensures stand { (I J : Network) → edited I (edits.DropActivity id) ≡ Ok J →
+            StandFor I self.old → StandFor J self.new }
+        ensures changed { IfSome (place_of (self.old).activities id)
+            (λ q. IsChangedAt self.old self.new q) }
+        ensures gone { IfSome (place_of (self.old).activities id) (λ q. (p k : ℕ) →
+            Contains (ends_of (self.new).lists p) k → IsEndOfPlace q k → ⊥) }
         ensures events { (self.new).events ≡ (self.old).events }
         ensures lists { length (self.new).lists ≡ length (self.old).lists }
         ensures ends { length (self.new).ends ≡ length (self.old).ends }
@@ -162,8 +185,10 @@ impl Links {
 
     /// Gives the ends of the activity at a place another span.
     pub fn set_span(&mut self, period: Period, id: ActivityId, span: Span)
-        ensures stand { (I J : Network) → I.period ≡ period → edited I (edits.SetSpan id span) ≡ Ok J → StandFor I self.old → StandFor J self.new }
-        ensures changed { IfSome (place_of (self.old).activities id) (λ q. IsChangedAt self.old self.new q) }
+        ensures stand { (I J : Network) → I.period ≡ period →
+            edited I (edits.SetSpan id span) ≡ Ok J → StandFor I self.old → StandFor J self.new }
+        ensures changed { IfSome (place_of (self.old).activities id)
+            (λ q. IsChangedAt self.old self.new q) }
         ensures events { (self.new).events ≡ (self.old).events }
         ensures activities { (self.new).activities ≡ (self.old).activities }
         ensures lists { (self.new).lists ≡ (self.old).lists }
@@ -180,9 +205,12 @@ impl Links {
         requires stood { (I : Network) × StandFor I self.old }
         requires from { IsSome (place_of (self.old).events from) }
         requires to { IsSome (place_of (self.old).events to) }
-        ensures stand { (I J : Network) → edited I (edits.SetEnds id from to) ≡ Ok J → StandFor I self.old → StandFor J self.new }
-        ensures changed { IfSome (place_of (self.old).activities id) (λ q. IsChangedAt self.old self.new q) }
-        ensures listed { (p k : ℕ) → Contains (ends_of (self.new).lists p) k → (q : ℕ) × Contains (ends_of (self.old).lists q) k }
+        ensures stand { (I J : Network) → edited I (edits.SetEnds id from to) ≡ Ok J →
+            StandFor I self.old → StandFor J self.new }
+        ensures changed { IfSome (place_of (self.old).activities id)
+            (λ q. IsChangedAt self.old self.new q) }
+        ensures listed { (p k : ℕ) → Contains (ends_of (self.new).lists p) k →
+            (q : ℕ) × Contains (ends_of (self.old).lists q) k }
         ensures events { (self.new).events ≡ (self.old).events }
         ensures activities { (self.new).activities ≡ (self.old).activities }
         ensures lists { length (self.new).lists ≡ length (self.old).lists }
@@ -260,8 +288,10 @@ fn write_ends(
 /// Lets the two ends of the activity at a place look at other events.
 fn turn_ends(ends: &mut [End], place: usize, tail_at: usize, head_at: usize)
     requires { 2 * place + 1 < length ends.old }
-    ensures tail { end_at ends.new (2 * place) ≡ record (end_at ends.old (2 * place)) { looks_at = head_at } }
-    ensures head { end_at ends.new (2 * place + 1) ≡ record (end_at ends.old (2 * place + 1)) { looks_at = tail_at } }
+    ensures tail { end_at ends.new (2 * place)
+        ≡ record (end_at ends.old (2 * place)) { looks_at = head_at } }
+    ensures head { end_at ends.new (2 * place + 1)
+        ≡ record (end_at ends.old (2 * place + 1)) { looks_at = tail_at } }
     ensures others { KeepOthers ends.old ends.new place }
 {
     let tail = 2 * place;

@@ -1,58 +1,79 @@
-//! Lists of small numbers that share one store, so that an item goes from one list to another without memory.
+//! Lists of small numbers that share one store, so that an item goes from one list to another
+//! without memory, and in constant time.
 
-ghost use Rattle.std.specs.Prelude.{◌≡◌, ◌≢◌, ℕ, ◌+◌, ◌^◌, ◌<◌, ◌≤◌, ◌==◌, not, [], ◌∷◌, filter, length, slice_index_or, slice_set, OnOk, OnErr};
+ghost use Rattle.std.specs.Prelude.{◌≡◌, ℕ, ◌^◌, ◌<◌, ◌≤◌, ◌==◌, not, [], ◌∷◌, filter, length, slice_set, OnOk, OnErr};
 ghost use Rattle.std.specs.List.{Contains};
 ghost use Rattle.std.specs.Iterator.{YieldsFirst, item_count};
-ghost use Rattle.pesp_counts_arcs.specs.Lists.{AreShared, IsBefore, items_at, steps};
+ghost use Rattle.pesp_counts_arcs.specs.Lists.{AreShared, afters, befores, first_of, items_at, last_of};
 
 use std::alloc::{AllocError, Global};
 use std::marker::Model;
 
-/// The first item of a list, and how many it has.
+/// The first item of a list, and how many it has. The first of an empty list says nothing.
 #[derive(Clone, Copy)]
 pub struct Head {
-    pub first: usize,
-    pub count: usize,
+    pub first: u32,
+    pub count: u32,
 }
 
-/// Lists, each of which has its first item in a head; at each item stands the one after it.
+/// The items before and after one in its list, around it: after the last item comes the first.
+/// Those of an item in no list say nothing.
+#[derive(Clone, Copy)]
+pub struct Neighbours {
+    pub before: u32,
+    pub after: u32,
+}
+
+/// Lists, each a ring with a head, so that an item goes out of one in constant time.
 #[derive(Drop)]
 pub struct Lists {
+    /// The head of each list. No item is in two lists, or twice in one.
     heads: Vec<Head>,
-    next: Vec<usize>,
+    /// What stands around each item. They are fewer than 2^32, so that an item and a count are
+    /// numbers of 32 bits.
+    items: Vec<Neighbours>,
 }
 
 impl Model for Lists {
-    ghost use Rattle.std.specs.Prelude.{ℕ, List, length};
+    ghost use Rattle.std.specs.Prelude.{length};
     ghost use Rattle.pesp_counts_arcs.specs.Shared as words;
 
     ghost Value = { words.Shared };
 
-    ghost use Rattle.pesp_counts_arcs.specs.Lists.{lists_of, AreShared};
+    ghost use Rattle.pesp_counts_arcs.specs.Lists.{AreRings, afters, lists_of};
 
-    ghost view = { λ a. record { items = length a.next.items; lists = lists_of a.next.items a.heads.items } };
+    ghost view = { λ a. record {
+      items = length a.items.items;
+      lists = lists_of (afters a.items.items) a.heads.items;
+    } };
 
-    ghost invariant = { λ a. AreShared (length a.next.items) (lists_of a.next.items a.heads.items) };
+    ghost invariant = { λ a.
+        AreRings a.items.items (lists_of (afters a.items.items) a.heads.items) };
 }
 
 /// The items of a list that are left, in their order.
 #[derive(Drop)]
 pub struct Walk<'a> {
-    next: &'a Vec<usize>,
-    item: usize,
-    left: usize,
+    /// What stands around each item, which leads from one to the next.
+    items: &'a Vec<Neighbours>,
+    /// The next item, where one is left.
+    item: u32,
+    /// How many are left. Each is an item.
+    left: u32,
 }
 
 impl<'a> Model for Walk<'a> {
     ghost use Rattle.std.specs.Prelude.{List, ℕ, ◌<◌, length};
     ghost use Rattle.std.specs.List.{Contains};
-    ghost use Rattle.pesp_counts_arcs.specs.Lists.{steps};
+    ghost use Rattle.pesp_counts_arcs.specs.Lists.{afters, steps};
 
     ghost Value = { List ℕ };
 
-    ghost view = { λ w. steps w.next.now.items w.item w.left };
+    ghost view = { λ w. steps (afters w.items.now.items) w.item w.left };
 
-    ghost invariant = { λ w. (k : ℕ) → Contains (steps w.next.now.items w.item w.left) k → k < length w.next.now.items };
+    ghost invariant = { λ w. (k : ℕ) →
+        Contains (steps (afters w.items.now.items) w.item w.left) k →
+        k < length w.items.now.items };
 }
 
 impl<'a> Iterator for Walk<'a> {
@@ -66,8 +87,8 @@ impl<'a> Iterator for Walk<'a> {
         if self.left == 0 {
             return None;
         }
-        let item = self.item;
-        self.item = self.next[item];
+        let item = self.item as usize;
+        self.item = self.items[item].after;
         self.left -= 1;
         Some(item)
     }
@@ -80,7 +101,7 @@ impl Lists {
     {
         Lists {
             heads: Vec::new(alloc),
-            next: Vec::new(alloc),
+            items: Vec::new(alloc),
         }
     }
 
@@ -100,13 +121,14 @@ impl Lists {
             None => (0, 0),
         };
         Walk {
-            next: &self.next,
+            items: &self.items,
             item,
             left,
         }
     }
 
-    /// Makes sure of room for so many items. Without the memory for it, nothing changes.
+    /// Makes sure of room for so many items. Without the memory for it, or
+    /// for 2^32 and more, nothing changes.
     pub fn grow_items(&mut self, items: usize) -> Result<(), AllocError>
         ensures items { OnOk result (items ≤ (self.new).items) }
         ensures small { (self.new).items < 2 ^ 63 }
@@ -115,13 +137,22 @@ impl Lists {
         ensures shared { AreShared (self.new).items (self.new).lists }
         ensures err { OnErr result (self.new ≡ self.old) }
     {
-        if self.next.len() < items {
-            self.next.resize(items, 0)?;
+        if items <= self.items.len() {
+            return Ok(());
         }
+        if items > u32::MAX as usize {
+            return Err(AllocError);
+        }
+        let none = Neighbours {
+            before: 0,
+            after: 0,
+        };
+        self.items.resize(items, none)?;
         Ok(())
     }
 
-    /// Makes sure of so many lists. Those that come are empty; without the memory for them, nothing changes.
+    /// Makes sure of so many lists. Those that come are empty; without the memory for them, nothing
+    /// changes.
     pub fn grow_lists(&mut self, lists: usize) -> Result<(), AllocError>
         ensures many { OnOk result (lists ≤ length (self.new).lists) }
         ensures small { length (self.new).lists < 2 ^ 63 }
@@ -143,11 +174,13 @@ impl Lists {
         requires item { item < (self.old).items }
         requires free { (p : ℕ) → Contains (items_at (self.old).lists p) item → ⊥ }
         ensures items { (self.new).items ≡ (self.old).items }
-        ensures lists { (self.new).lists ≡ slice_set (self.old).lists list (item ∷ items_at (self.old).lists list) }
+        ensures lists { (self.new).lists
+            ≡ slice_set (self.old).lists list (item ∷ items_at (self.old).lists list) }
         ensures shared { AreShared (self.new).items (self.new).lists }
     {
         let head = self.heads[list];
-        self.next[item] = head.first;
+        let item = item as u32;
+        put_in_front(&mut self.items, head, item);
         self.heads[list] = Head {
             first: item,
             count: head.count + 1,
@@ -158,37 +191,62 @@ impl Lists {
     pub fn remove(&mut self, list: usize, item: usize)
         requires { Contains (items_at (self.old).lists list) item }
         ensures items { (self.new).items ≡ (self.old).items }
-        ensures lists { (self.new).lists ≡ slice_set (self.old).lists list (filter (λ k. not (k == item)) (items_at (self.old).lists list)) }
+        ensures lists { (self.new).lists
+            ≡ slice_set (self.old).lists list
+            (filter (λ k. not (k == item)) (items_at (self.old).lists list)) }
         ensures shared { AreShared (self.new).items (self.new).lists }
     {
         let head = self.heads[list];
-        let after = self.next[item];
-        let count = head.count - 1;
-        if head.first == item {
-            let first = after;
-            self.heads[list] = Head { first, count };
-            return;
-        }
-        let before = item_before(&self.next, head, item);
-        self.next[before] = after;
-        let first = head.first;
-        self.heads[list] = Head { first, count };
+        let around = self.items[item];
+        join(&mut self.items, around.before, around.after);
+        let first = if head.first as usize == item {
+            around.after
+        } else {
+            head.first
+        };
+        self.heads[list] = Head {
+            first,
+            count: head.count - 1,
+        };
     }
 }
 
-/// The item before another one that is not the first of its list.
-fn item_before(next: &[usize], head: Head, item: usize) -> usize
-    requires within { (k : ℕ) → Contains (steps next.now head.first head.count) k → k < length next.now }
-    requires there { Contains (steps next.now head.first head.count) item }
-    requires later { head.first ≢ item }
-    ensures { IsBefore (steps next.now head.first head.count) result item }
+/// Lets an item stand between the last and the first one of a list, or alone in an empty one.
+fn put_in_front(items: &mut [Neighbours], head: Head, item: u32)
+    requires item { item < length items.old }
+    requires first { first_of head item < length items.old }
+    requires last { last_of (befores items.old) head item < length items.old }
+    ensures afters { let last = last_of (befores items.old) head item in
+        let first = first_of head item in
+        afters items.new ≡ slice_set (slice_set (afters items.old) last item) item first }
+    ensures befores { let last = last_of (befores items.old) head item in
+        let first = first_of head item in
+        befores items.new ≡ slice_set (slice_set (befores items.old) item last) first item }
 {
-    let mut before = head.first;
-    for _step in 0..head.count {
-        if next[before] == item {
-            return before;
-        }
-        before = next[before];
+    let (last, first) = ring_ends(items, head, item);
+    join(items, last, item);
+    join(items, item, first);
+}
+
+/// The last and the first item of a list. In an empty one the item that comes is both.
+fn ring_ends(items: &[Neighbours], head: Head, item: u32) -> (u32, u32)
+    requires { first_of head item < length items.now }
+    ensures last { result.0 ≡ last_of (befores items.now) head item }
+    ensures first { result.1 ≡ first_of head item }
+{
+    if head.count == 0 {
+        return (item, item);
     }
-    before
+    (items[head.first as usize].before, head.first)
+}
+
+/// Lets one item stand before the other.
+fn join(items: &mut [Neighbours], before: u32, after: u32)
+    requires before { before < length items.old }
+    requires after { after < length items.old }
+    ensures afters { afters items.new ≡ slice_set (afters items.old) before after }
+    ensures befores { befores items.new ≡ slice_set (befores items.old) after before }
+{
+    items[before as usize].after = after;
+    items[after as usize].before = before;
 }

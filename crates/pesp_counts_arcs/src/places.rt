@@ -11,7 +11,9 @@ use std::marker::Model;
 /// A place for each number that has one, which it keeps as long as it is there.
 #[derive(Drop)]
 pub struct Places {
+    /// The place of each number that has one.
     places: BTreeMap<u32, usize>,
+    /// The number at each place that is taken: the one that has this place.
     numbers: Slab<u32>,
 }
 
@@ -22,7 +24,8 @@ impl Model for Places {
 
     ghost view = { λ a. record { places = a.places.entries; numbers = a.numbers.slots } };
 
-    ghost invariant = { λ a. words.ArePlaces (record { places = a.places.entries; numbers = a.numbers.slots }) };
+    ghost invariant = { λ a.
+        words.ArePlaces (record { places = a.places.entries; numbers = a.numbers.slots }) };
 }
 
 impl Places {
@@ -56,7 +59,8 @@ impl Places {
     /// Gives a new number a place that no other has. Without the memory for it, nothing changes.
     pub fn insert(&mut self, number: u32) -> Result<usize, AllocError>
         requires absent { place_of self.old number ≡ None }
-        ensures places { IfOk result (λ p. (n : ℕ) → place_of self.new n ≡ (if n == number then Some p else place_of self.old n)) }
+        ensures places { IfOk result (λ p. (n : ℕ) →
+            place_of self.new n ≡ (if n == number then Some p else place_of self.old n)) }
         ensures free { IfOk result (λ p. number_at self.old p ≡ None) }
         ensures paired { ArePlaces self.new }
         ensures err { OnErr result (self.new ≡ self.old) }
@@ -70,7 +74,8 @@ impl Places {
 
     /// Takes the place of a number away.
     pub fn remove(&mut self, number: u32)
-        ensures places { (n : ℕ) → place_of self.new n ≡ (if n == number then None else place_of self.old n) }
+        ensures places { (n : ℕ) →
+            place_of self.new n ≡ (if n == number then None else place_of self.old n) }
         ensures paired { ArePlaces self.new }
     {
         if let Some(place) = self.places.remove(&number) {

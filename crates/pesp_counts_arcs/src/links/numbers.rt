@@ -49,7 +49,8 @@ impl Links {
 
     /// The number of an activity's end at its tail.
     pub fn tail(&self, id: ActivityId) -> Option<usize>
-        requires { (q : ℕ) → place_of (self.now).activities id ≡ Some q → 2 * q < length (self.now).ends }
+        requires { (q : ℕ) → place_of (self.now).activities id ≡ Some q →
+            2 * q < length (self.now).ends }
         ensures { result ≡ option_map (λ q. 2 * q) (place_of (self.now).activities id) }
     {
         let place = self.activities.place(id.get())?;

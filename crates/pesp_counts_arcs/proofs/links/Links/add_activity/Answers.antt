@@ -8,8 +8,9 @@ use Rattle.pesp_counts_arcs.specs.declared.end.End.{End}
 use Rattle.pesp_counts_arcs.specs.Ends.{end_at, ends_of}
 use Rattle.pesp_counts_arcs.specs.Links.{AreHoused, AreListedAt, IsChangedAt, IsEndFor, KeepOthers, Links, LookSame, StandFor}
 use Rattle.pesp_counts_arcs.specs.Places.{place_of}
-use Rattle.pesp_counts_arcs.proofs.StandAround.{items_written}
-use Rattle.pesp_counts_arcs.proofs.StandEdits.{always_err, came_and_went, came_for, look_itself, look_same, shared_ends, went_for}
+use Rattle.pesp_base.proofs.Tests.{always_err}
+use Rattle.pesp_counts_arcs.proofs.ListLaws.{items_written}
+use Rattle.pesp_counts_arcs.proofs.StandEdits.{came_and_went, came_for, look_itself, look_same, shared_ends, went_for}
 use Rattle.pesp_counts_arcs.proofs.StandMore.{activity_added, changed_more, housed_more, housed_room, unlisted_yet}
 use Rattle.pesp_counts_arcs.proofs.links.Links.add_activity.Goals as goal
 

@@ -4,8 +4,9 @@ use Rattle.std.proofs.lemmas.Bool.{cases_eq}
 use Rattle.pesp_instance.proofs.Effects.{on_ok}
 use Rattle.pesp_counts_arcs.specs.Links.{Links, LookSame, StandFor}
 use Rattle.pesp_counts_arcs.specs.Places.{Places, place_of}
+use Rattle.pesp_base.proofs.Tests.{always_err}
 use Rattle.pesp_counts_arcs.proofs.StandLaws.{some_same}
-use Rattle.pesp_counts_arcs.proofs.StandEdits.{always_err, came_and_went, came_for, came_here, came_other, event_added, housed_events, look_itself, look_same, went_for}
+use Rattle.pesp_counts_arcs.proofs.StandEdits.{came_and_went, came_for, came_here, came_other, event_added, housed_events, look_itself, look_same, went_for}
 use Rattle.pesp_counts_arcs.proofs.links.Links.add_event.Goals as goal
 
 -- the new event is in reach, and so are the others

@@ -1,16 +1,13 @@
 -- The ends stand where their mates look, and go with the place.
-use Rattle.std.proofs.Common.{◌≡◌, ◌+◌, ◌*◌, ℕ, IfSome, Option, Some, None, refl, sym, ap, subst, ◌∙◌}
+use Rattle.std.proofs.Common.{◌≡◌, ◌+◌, ◌*◌, ℕ, IfSome, Some, refl, sym, ap, subst, ◌∙◌}
 use Rattle.std.specs.List.{Contains}
 use Rattle.pesp_counts_arcs.specs.Ends.{end_at, ends_of}
 use Rattle.pesp_counts_arcs.specs.Links.{IsChangedAt, IsEndOfPlace, Links, StandFor}
 use Rattle.pesp_counts_arcs.specs.Places.{place_of}
+use Rattle.pesp_base.proofs.Tests.{for_some}
 use Rattle.pesp_counts_arcs.proofs.StandAround.{activity_dropped, head_listed, housed_less, tail_listed}
 use Rattle.pesp_counts_arcs.proofs.StandEdits.{shared_ends, went_for}
 use Rattle.pesp_counts_arcs.proofs.links.Links.drop_activity.Goals as goal
-
-for_some : (P : ℕ → Type 0) (o : Option ℕ) (x : ℕ) → o ≡ Some x → P x → IfSome o P
-for_some P None x is p = tt
-for_some P (Some y) x is p = let e : x ≡ y = cc in subst P e p
 
 pub unlist_ends-requires-clause-tail : goal.unlist_ends-requires-clause-tail
 unlist_ends-requires-clause-tail c =

@@ -1,11 +1,13 @@
 -- The ends go from where their mates look, and come to the events.
-use Rattle.std.proofs.Common.{◌≡◌, ◌+◌, ◌*◌, ℕ, IfSome, List, Option, Some, None, refl, sym, ap, subst, ◌∙◌, inl, inr}
+use Rattle.std.proofs.Common.{◌≡◌, ◌+◌, ◌*◌, ℕ, IfSome, List, Some, refl, sym, ap, subst, ◌∙◌, inl, inr}
 use Rattle.std.specs.List.{Contains}
 use Rattle.pesp_counts_arcs.specs.declared.end.End.{End}
 use Rattle.pesp_counts_arcs.specs.Ends.{end_at, ends_of}
 use Rattle.pesp_counts_arcs.specs.Links.{AreHoused, IsChangedAt, KeepOthers, Links, StandFor}
 use Rattle.pesp_counts_arcs.specs.Places.{place_of}
-use Rattle.pesp_counts_arcs.proofs.StandAround.{head_listed, items_written, tail_listed, written}
+use Rattle.pesp_base.proofs.Tests.{for_some}
+use Rattle.pesp_counts_arcs.proofs.ListLaws.{items_written}
+use Rattle.pesp_counts_arcs.proofs.StandAround.{head_listed, tail_listed, written}
 use Rattle.pesp_counts_arcs.proofs.StandEdits.{shared_ends}
 use Rattle.pesp_counts_arcs.proofs.StandMoved.{ends_moved, housed_moved}
 use Rattle.pesp_counts_arcs.proofs.links.Links.set_ends.Goals as goal
@@ -80,10 +82,6 @@ returns-in-Some-clause-listed c p k is =
     ]
     in
     subst (λ (L : Links). (x : ℕ) × Contains (ends_of L.lists x) k) c.self.view_is was
-
-for_some : (P : ℕ → Type 0) (o : Option ℕ) (x : ℕ) → o ≡ Some x → P x → IfSome o P
-for_some P None x is p = tt
-for_some P (Some y) x is p = let e : x ≡ y = cc in subst P e p
 
 pub returns-in-Some-clause-changed : goal.returns-in-Some-clause-changed
 returns-in-Some-clause-changed c =

@@ -1,25 +1,26 @@
 -- Heads that come have no item.
-use Rattle.std.proofs.Common.{length, ap, ◌∙◌, arith}
-use Rattle.pesp_counts_arcs.specs.Lists.{items_at, lists_of}
+use Rattle.std.proofs.Common.{ap, ◌∙◌, arith}
+use Rattle.pesp_counts_arcs.specs.Lists.{afters, items_at, lists_of}
 use Rattle.pesp_counts_arcs.specs.Shared.{Shared}
-use Rattle.pesp_counts_arcs.proofs.ListLaws.{items_of_more, shared_same}
+use Rattle.pesp_counts_arcs.proofs.ListLaws.{items_of_more}
+use Rattle.pesp_counts_arcs.proofs.RingEdits.{rings_same}
 use Rattle.pesp_counts_arcs.proofs.lists.Lists.grow_lists.Goals as goal
 
 pub invariant_of-self : goal.invariant_of-self
 invariant_of-self c =
-    let next = c.self.inside.next.items in
+    let next = afters c.self.inside.items.items in
     let heads = c.self.inside.heads.items in
-    shared_same (length next) (lists_of next heads) (lists_of next c.resize.new.self.items)
+    rings_same c.self.inside.items.items (lists_of next heads) (lists_of next c.resize.new.self.items)
     (λ p. ap (λ hs. items_at (lists_of next hs) p) c.in_ok-resize.ensures.items ∙ items_of_more next heads c.args.lists _ p c.self.inside.heads.ok.0 (omega arith))
     c.self.invariant
 
 pub returns-in_ok-resize-clause-lists : goal.returns-in_ok-resize-clause-lists
 returns-in_ok-resize-clause-lists c p =
-    let next = c.self.inside.next.items in
+    let next = afters c.self.inside.items.items in
     let heads = c.self.inside.heads.items in
     ap (λ hs. items_at (lists_of next hs) p) c.in_ok-resize.ensures.items
     ∙ items_of_more next heads c.args.lists _ p c.self.inside.heads.ok.0 (omega arith)
     ∙ ap (λ (s : Shared). items_at s.lists p) c.self.view_is
 
 pub returns-in_ok-resize-clause-shared : goal.returns-in_ok-resize-clause-shared
-returns-in_ok-resize-clause-shared c = invariant_of-self c
+returns-in_ok-resize-clause-shared c = let rings = invariant_of-self c in rings.shared

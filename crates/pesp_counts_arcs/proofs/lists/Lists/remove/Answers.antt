@@ -1,126 +1,137 @@
--- The item before it, or the head, leads to the one after it.
-use Rattle.std.proofs.Common.{◌≡◌, ◌<◌, ◌-◌, ℕ, List, length, slice_index_or, slice_set, refl, sym, ap, subst, ◌∙◌, arith}
+-- The items on both sides of it lead to each other.
+use Rattle.std.proofs.Common.{◌≡◌, ◌≢◌, ℕ, ◌-◌, ◌<◌, List, length, slice_index_or, slice_set, ap, subst, sym, ◌∙◌, inl, inr, ◌⊎◌, arith}
 use Rattle.std.specs.List.{Contains}
-use Rattle.std.proofs.lemmas.List.{get_or_default, length-set}
-use Rattle.std.proofs.lemmas.List.Elements.{Contains-get_or}
+use Rattle.std.proofs.lemmas.List.{get_or_default, get_or-map}
 use Rattle.pesp_counts_arcs.specs.declared.lists.Head.{Head}
-use Rattle.pesp_counts_arcs.specs.Lists.{AreShared, IsBefore, items_at, lists_of, steps}
+use Rattle.pesp_counts_arcs.specs.declared.lists.Neighbours.{Neighbours}
+use Rattle.pesp_counts_arcs.specs.Lists.{AreRings, afters, befores, items_at, lists_of}
 use Rattle.pesp_counts_arcs.specs.Shared.{Shared}
-use Rattle.pesp_counts_arcs.proofs.ListLaws.{list_within}
-use Rattle.pesp_counts_arcs.proofs.StandLists.{all_but, chain_within, gone_first, gone_later, in_chain, list_there, shared_less}
+use Rattle.pesp_counts_arcs.proofs.ListLaws.{items_written, list_within}
+use Rattle.pesp_counts_arcs.proofs.RingEdits.{lists_less, rings_less}
+use Rattle.pesp_counts_arcs.proofs.StandLists.{all_but, list_there}
 use Rattle.pesp_counts_arcs.proofs.lists.Lists.remove.Goals as goal
+use Rattle.pesp_counts_arcs.proofs.lists.Lists.remove.Goals.{else-head-item, then-head-item}
 
--- what is known of the store, the heads, the list, the item and the head of the list
-record Known (next : List ℕ) (heads : List Head) (list item : ℕ) (head : Head) (after : ℕ) : Type 0 where
-  there_is : Contains (items_at (lists_of next heads) list) item
+-- what is known of the store, the heads, the item that goes, the head of its list and what stands around it
+record Known (items : List Neighbours) (heads : List Head) (list item : ℕ) (head : Head) (around : Neighbours) : Type 0 where
+  rings : AreRings items (lists_of (afters items) heads)
+  there_is : Contains (items_at (lists_of (afters items) heads) list) item
   within : list < length heads
   is : (d : Head) → head ≡ slice_index_or heads list d
-  read : after ≡ slice_index_or next item 0
+  after : around.after ≡ slice_index_or (afters items) item 0
+  before : around.before ≡ slice_index_or (befores items) item 0
 
-known : (next : List ℕ) (heads : List Head) (now : Shared) (list item : ℕ) (head : Head) (after : ℕ) → record { items = length next; lists = lists_of next heads } ≡ now → AreShared (length next) (lists_of next heads)
-    → Contains (items_at now.lists list) item → head ≡ slice_index_or heads list head → after ≡ slice_index_or next item after → Known next heads list item head after
-known next heads now list item head after view shared there_is is read =
-    let there_is' : Contains (items_at (lists_of next heads) list) item = subst (λ (s : Shared). Contains (items_at s.lists list) item) (sym view) there_is in
-    let within = list_within next heads list (list_there (lists_of next heads) list item there_is') in
+stands : (items : List Neighbours) (heads : List Head) (now : Shared) (list item : ℕ) → record { items = length items; lists = lists_of (afters items) heads } ≡ now → Contains (items_at now.lists list) item → Contains (items_at (lists_of (afters items) heads) list) item
+stands items heads now list item view there_is = subst (λ (s : Shared). Contains (items_at s.lists list) item) (sym view) there_is
+
+known : (items : List Neighbours) (heads : List Head) (now : Shared) (list item : ℕ) (head : Head) (around : Neighbours) → record { items = length items; lists = lists_of (afters items) heads } ≡ now → AreRings items (lists_of (afters items) heads)
+    → Contains (items_at now.lists list) item → head ≡ slice_index_or heads list head → around ≡ slice_index_or items item around → Known items heads list item head around
+known items heads now list item head around view rings there_is read found =
+    let there_is' = stands items heads now list item view there_is in
+    let within = list_within (afters items) heads list (list_there (lists_of (afters items) heads) list item there_is') in
+    let low = rings.shared.within list item there_is' in
     record {
+      rings = rings;
       there_is = there_is';
       within = within;
-      is = λ d. is ∙ get_or_default heads list head d within;
-      read = read ∙ get_or_default next item after 0 (shared.within list item there_is');
+      is = λ d. read ∙ get_or_default heads list head d within;
+      after = ap (λ (n : Neighbours). n.after) found ∙ sym (get_or-map (λ (n : Neighbours). n.after) items item around 0 low);
+      before = ap (λ (n : Neighbours). n.before) found ∙ sym (get_or-map (λ (n : Neighbours). n.before) items item around 0 low);
     }
 
-first_lists : (next : List ℕ) (heads : List Head) (now : Shared) (list item : ℕ) (head : Head) (after : ℕ) → record { items = length next; lists = lists_of next heads } ≡ now → AreShared (length next) (lists_of next heads)
-    → Known next heads list item head after → head.first ≡ item → lists_of next (slice_set heads list (record { first = after; count = head.count - 1 })) ≡ slice_set now.lists list (all_but item (items_at now.lists list))
-first_lists next heads now list item head after view shared k first =
-    ap (λ j. lists_of next (slice_set heads list (record { first = j; count = head.count - 1 }))) k.read
-    ∙ gone_first next heads list item head k.within k.is k.there_is shared first
-    ∙ ap (λ (s : Shared). slice_set s.lists list (all_but item (items_at s.lists list))) view
+module _ (items : List Neighbours) (heads : List Head) (list item : ℕ) (head : Head) (around : Neighbours) (k : Known items heads list item head around) where
+  after_within : around.after < length items
+  after_within = subst (λ j. j < length items) (sym k.after) (k.rings.shared.within list _ (k.rings.forward.stays list item k.there_is))
 
-later_lists : (next : List ℕ) (heads : List Head) (now : Shared) (list item before : ℕ) (head : Head) (after : ℕ) → record { items = length next; lists = lists_of next heads } ≡ now → AreShared (length next) (lists_of next heads)
-    → Known next heads list item head after → IsBefore (steps next head.first head.count) before item
-    → lists_of (slice_set next before after) (slice_set heads list (record { first = head.first; count = head.count - 1 })) ≡ slice_set now.lists list (all_but item (items_at now.lists list))
-later_lists next heads now list item before head after view shared k w =
-    ap (λ j. lists_of (slice_set next before j) (slice_set heads list (record { first = head.first; count = head.count - 1 }))) k.read
-    ∙ gone_later next heads list item head k.within k.is k.there_is shared before w
-    ∙ ap (λ (s : Shared). slice_set s.lists list (all_but item (items_at s.lists list))) view
+  before_within : around.before < length items
+  before_within = subst (λ j. j < length items) (sym k.before) (k.rings.shared.within list _ (k.rings.backward.stays list item k.there_is))
 
-left_shared : (next : List ℕ) (heads : List Head) (now : Shared) (list item : ℕ) (head : Head) (after long : ℕ) (lists : List (List ℕ)) → record { items = length next; lists = lists_of next heads } ≡ now → AreShared (length next) (lists_of next heads)
-    → Known next heads list item head after → long ≡ length next → lists ≡ slice_set now.lists list (all_but item (items_at now.lists list)) → AreShared long lists
-left_shared next heads now list item head after long lists view shared k long_is lists_is =
-    let less = shared_less (lists_of next heads) list item (list_there (lists_of next heads) list item k.there_is) (length next) k.there_is shared in
-    subst (λ n. AreShared n lists) (sym long_is)
-    (subst (AreShared (length next)) (sym (lists_is ∙ ap (λ (s : Shared). slice_set s.lists list (all_but item (items_at s.lists list))) (sym view))) less)
+  module _ (joined after : List Neighbours) (first : ℕ) (was : joined ≡ items)
+      (ahead : afters after ≡ slice_set (afters joined) around.before around.after)
+      (behind : befores after ≡ slice_set (befores joined) around.after around.before)
+      (front : ((head.first ≡ item) × (first ≡ around.after)) ⊎ ((head.first ≢ item) × (first ≡ head.first))) where
+    ahead_is : afters after ≡ slice_set (afters items) (slice_index_or (befores items) item 0) (slice_index_or (afters items) item 0)
+    ahead_is =
+        ahead
+        ∙ ap (λ (xs : List Neighbours). slice_set (afters xs) around.before around.after) was
+        ∙ ap (λ j. slice_set (afters items) j around.after) k.before
+        ∙ ap (slice_set (afters items) (slice_index_or (befores items) item 0)) k.after
 
-pub index-after-requires : goal.index-after-requires
-index-after-requires c =
-    let next = c.self.inside.next.items in
+    behind_is : befores after ≡ slice_set (befores items) (slice_index_or (afters items) item 0) (slice_index_or (befores items) item 0)
+    behind_is =
+        behind
+        ∙ ap (λ (xs : List Neighbours). slice_set (befores xs) around.after around.before) was
+        ∙ ap (λ j. slice_set (befores items) j around.before) k.after
+        ∙ ap (slice_set (befores items) (slice_index_or (afters items) item 0)) k.before
+
+    front_is : ((head.first ≡ item) × (first ≡ slice_index_or (afters items) item 0)) ⊎ ((head.first ≢ item) × (first ≡ head.first))
+    front_is = elim front [ inl at ↦ inl (at.0, at.1 ∙ k.after) | inr apart ↦ inr apart ]
+
+    lists_left : lists_of (afters after) (slice_set heads list (record { first = first; count = head.count - 1 })) ≡ slice_set (lists_of (afters items) heads) list (all_but item (items_at (lists_of (afters items) heads) list))
+    lists_left = lists_less items after heads list item first head k.within k.is k.rings k.there_is ahead_is behind_is front_is
+
+    rings_left : length after ≡ length joined → AreRings after (lists_of (afters after) (slice_set heads list (record { first = first; count = head.count - 1 })))
+    rings_left many = rings_less items after heads list item first head k.within k.is k.rings k.there_is ahead_is behind_is front_is (many ∙ ap length was)
+
+pub index-around-requires : goal.index-around-requires
+index-around-requires c =
+    let items = c.self.inside.items.items in
     let heads = c.self.inside.heads.items in
-    let there_is : Contains (items_at (lists_of next heads) c.args.list) c.args.item = subst (λ (s : Shared). Contains (items_at s.lists c.args.list) c.args.item) (sym c.self.view_is) c.requires in
-    let low = c.self.invariant.within c.args.list c.args.item there_is in
-    omega (arith, low, c.self.inside.next.ok.0)
+    let low = c.self.invariant.shared.within c.args.list c.args.item (stands items heads c.args.self.now c.args.list c.args.item c.self.view_is c.requires) in
+    omega (arith, low, c.self.inside.items.ok.0)
 
-pub returns-then-head-item-clause-lists : goal.returns-then-head-item-clause-lists
-returns-then-head-item-clause-lists c =
-    let next = c.self.inside.next.items in
+pub join-requires-clause-before : goal.join-requires-clause-before
+join-requires-clause-before c =
+    let items = c.self.inside.items.items in
     let heads = c.self.inside.heads.items in
-    let k = known next heads c.args.self.now c.args.list c.args.item c.index-head.result.now c.index-after.result.now c.self.view_is c.self.invariant c.requires c.index-head.ensures c.index-after.ensures in
-    first_lists next heads c.args.self.now c.args.list c.args.item c.index-head.result.now c.index-after.result.now c.self.view_is c.self.invariant k c.if-head-item.true
+    let k = known items heads c.args.self.now c.args.list c.args.item c.index-head.result.now c.index-around.result.now c.self.view_is c.self.invariant c.requires c.index-head.ensures c.index-around.ensures in
+    subst (λ (xs : List Neighbours). c.index-around.result.now.before < length xs) (sym c.deref_mut.ensures.value)
+    (before_within items heads c.args.list c.args.item c.index-head.result.now c.index-around.result.now k)
+
+pub join-requires-clause-after : goal.join-requires-clause-after
+join-requires-clause-after c =
+    let items = c.self.inside.items.items in
+    let heads = c.self.inside.heads.items in
+    let k = known items heads c.args.self.now c.args.list c.args.item c.index-head.result.now c.index-around.result.now c.self.view_is c.self.invariant c.requires c.index-head.ensures c.index-around.ensures in
+    subst (λ (xs : List Neighbours). c.index-around.result.now.after < length xs) (sym c.deref_mut.ensures.value)
+    (after_within items heads c.args.list c.args.item c.index-head.result.now c.index-around.result.now k)
 
 pub invariant_of-self : goal.invariant_of-self
 invariant_of-self c =
-    let next = c.self.inside.next.items in
-    let heads = c.self.inside.heads.items in
-    let k = known next heads c.args.self.now c.args.list c.args.item c.index-head.result.now c.index-after.result.now c.self.view_is c.self.invariant c.requires c.index-head.ensures c.index-after.ensures in
-    left_shared next heads c.args.self.now c.args.list c.args.item c.index-head.result.now c.index-after.result.now _ _ c.self.view_is c.self.invariant k refl (returns-then-head-item-clause-lists c)
-
-pub returns-then-head-item-clause-shared : goal.returns-then-head-item-clause-shared
-returns-then-head-item-clause-shared c = invariant_of-self c
-
-pub item_before-before-requires-clause-within : goal.item_before-before-requires-clause-within
-item_before-before-requires-clause-within c =
-    let next = c.self.inside.next.items in
+    let items = c.self.inside.items.items in
     let heads = c.self.inside.heads.items in
     let head : Head = c.index-head.result.now in
-    let k = known next heads c.args.self.now c.args.list c.args.item head c.index-after.result.now c.self.view_is c.self.invariant c.requires c.index-head.ensures c.index-after.ensures in
-    subst (λ xs. (j : ℕ) → Contains (steps xs head.first head.count) j → j < length xs) (sym c.deref.ensures.value)
-    (chain_within next heads c.args.list c.args.item head k.within k.is k.there_is c.self.invariant)
-
-pub item_before-before-requires-clause-there : goal.item_before-before-requires-clause-there
-item_before-before-requires-clause-there c =
-    let next = c.self.inside.next.items in
-    let heads = c.self.inside.heads.items in
-    let head : Head = c.index-head.result.now in
-    let k = known next heads c.args.self.now c.args.list c.args.item head c.index-after.result.now c.self.view_is c.self.invariant c.requires c.index-head.ensures c.index-after.ensures in
-    subst (λ xs. Contains (steps xs head.first head.count) c.args.item) (sym c.deref.ensures.value)
-    (in_chain next heads c.args.list c.args.item head k.within k.is k.there_is c.self.invariant)
-
-pub index_mut-requires-2 : goal.index_mut-requires-2
-index_mut-requires-2 c =
-    let next = c.self.inside.next.items in
-    let heads = c.self.inside.heads.items in
-    let head : Head = c.index-head.result.now in
-    let k = known next heads c.args.self.now c.args.list c.args.item head c.index-after.result.now c.self.view_is c.self.invariant c.requires c.index-head.ensures c.index-after.ensures in
-    let w : IsBefore (steps next head.first head.count) c.item_before-before.result c.args.item = subst (λ xs. IsBefore (steps xs head.first head.count) c.item_before-before.result c.args.item) c.deref.ensures.value c.item_before-before.ensures in
-    let far = w.within in
-    let there_is : Contains (steps next head.first head.count) c.item_before-before.result = subst (Contains (steps next head.first head.count)) w.first (Contains-get_or (steps next head.first head.count) w.at 0 (omega (arith, far))) in
-    let low = chain_within next heads c.args.list c.args.item head k.within k.is k.there_is c.self.invariant c.item_before-before.result there_is in
-    omega (arith, low, c.self.inside.next.ok.0)
+    let around : Neighbours = c.index-around.result.now in
+    let after : List Neighbours = c.join.new.items in
+    let k = known items heads c.args.self.now c.args.list c.args.item head around c.self.view_is c.self.invariant c.requires c.index-head.ensures c.index-around.ensures in
+    let front : ((head.first ≡ c.args.item) × (c.if-head-item.first ≡ around.after)) ⊎ ((head.first ≢ c.args.item) × (c.if-head-item.first ≡ head.first)) =
+    elim c.if-head-item.branch [
+      | then-head-item w ↦ inl (w.if-head-item.true, w.first-is)
+      | else-head-item w ↦ inr (w.if-head-item.false, w.first-is)
+    ]
+    in
+    subst (λ (xs : List Neighbours). AreRings xs (lists_of (afters xs) (slice_set heads c.args.list (record { first = c.if-head-item.first; count = head.count - 1 }))))
+    (sym (items_written after items c.self.inside.items.len c.self.inside.items.ok.0 (c.join.auto.items ∙ ap length c.deref_mut.ensures.value)))
+    (rings_left items heads c.args.list c.args.item head around k c.deref_mut.result.now after c.if-head-item.first c.deref_mut.ensures.value c.join.ensures.afters c.join.ensures.befores front c.join.auto.items)
 
 pub returns-clause-lists : goal.returns-clause-lists
 returns-clause-lists c =
-    let next = c.self.inside.next.items in
+    let items = c.self.inside.items.items in
     let heads = c.self.inside.heads.items in
     let head : Head = c.index-head.result.now in
-    let k = known next heads c.args.self.now c.args.list c.args.item head c.index-after.result.now c.self.view_is c.self.invariant c.requires c.index-head.ensures c.index-after.ensures in
-    let w : IsBefore (steps next head.first head.count) c.item_before-before.result c.args.item = subst (λ xs. IsBefore (steps xs head.first head.count) c.item_before-before.result c.args.item) c.deref.ensures.value c.item_before-before.ensures in
-    later_lists next heads c.args.self.now c.args.list c.args.item c.item_before-before.result head c.index-after.result.now c.self.view_is c.self.invariant k w
-
-pub invariant_of-self-2 : goal.invariant_of-self-2
-invariant_of-self-2 c =
-    let next = c.self.inside.next.items in
-    let heads = c.self.inside.heads.items in
-    let k = known next heads c.args.self.now c.args.list c.args.item c.index-head.result.now c.index-after.result.now c.self.view_is c.self.invariant c.requires c.index-head.ensures c.index-after.ensures in
-    left_shared next heads c.args.self.now c.args.list c.args.item c.index-head.result.now c.index-after.result.now _ _ c.self.view_is c.self.invariant k (length-set next c.item_before-before.result c.index-after.result.now) (returns-clause-lists c)
+    let around : Neighbours = c.index-around.result.now in
+    let after : List Neighbours = c.join.new.items in
+    let k = known items heads c.args.self.now c.args.list c.args.item head around c.self.view_is c.self.invariant c.requires c.index-head.ensures c.index-around.ensures in
+    let front : ((head.first ≡ c.args.item) × (c.if-head-item.first ≡ around.after)) ⊎ ((head.first ≢ c.args.item) × (c.if-head-item.first ≡ head.first)) =
+    elim c.if-head-item.branch [
+      | then-head-item w ↦ inl (w.if-head-item.true, w.first-is)
+      | else-head-item w ↦ inr (w.if-head-item.false, w.first-is)
+    ]
+    in
+    ap (λ (xs : List Neighbours). lists_of (afters xs) (slice_set heads c.args.list (record { first = c.if-head-item.first; count = head.count - 1 })))
+    (items_written after items c.self.inside.items.len c.self.inside.items.ok.0 (c.join.auto.items ∙ ap length c.deref_mut.ensures.value))
+    ∙ lists_left items heads c.args.list c.args.item head around k c.deref_mut.result.now after c.if-head-item.first c.deref_mut.ensures.value c.join.ensures.afters c.join.ensures.befores front
+    ∙ ap (λ (s : Shared). slice_set s.lists c.args.list (all_but c.args.item (items_at s.lists c.args.list))) c.self.view_is
 
 pub returns-clause-shared : goal.returns-clause-shared
-returns-clause-shared c = invariant_of-self-2 c
+returns-clause-shared c = let rings = invariant_of-self c in rings.shared

@@ -1,37 +1,46 @@
--- The first item goes, and the one that stands at it is the next.
-use Rattle.std.proofs.Common.{◌-◌, ◌∷◌, length, slice_index_or, subst, sym, ap, ◌∙◌, arith}
+-- The first item goes, and the one that stands after it is the next.
+use Rattle.std.proofs.Common.{◌≡◌, ℕ, ◌-◌, ◌<◌, ◌∷◌, List, length, slice_index_or, subst, sym, ap, ◌∙◌, arith}
 use Rattle.std.specs.List.{Contains}
-use Rattle.std.proofs.lemmas.List.{get_or_default}
+use Rattle.std.proofs.lemmas.List.{get_or-map}
 use Rattle.pesp_domains.proofs.Families.{here, there}
-use Rattle.pesp_counts_arcs.specs.Lists.{steps}
+use Rattle.pesp_counts_arcs.specs.declared.lists.Neighbours.{Neighbours}
+use Rattle.pesp_counts_arcs.specs.Lists.{afters, steps}
 use Rattle.pesp_counts_arcs.proofs.ListLaws.{steps_more}
 use Rattle.pesp_counts_arcs.proofs.lists.WalkIterator.next.Goals as goal
 
+-- what is left begins with the item, which has a place
+begun : (items : List Neighbours) (item left : ℕ) → ((k : ℕ) → Contains (steps (afters items) item left) k → k < length items) → (left ≡ 0 → ⊥) → item < length items
+begun items item left within some =
+    let next = afters items in
+    within item (subst (λ xs. Contains xs item) (sym (steps_more next item left some)) (here item (steps next (slice_index_or next item 0) (left - 1))))
+
+after_is : (items : List Neighbours) (item : ℕ) (found : Neighbours) → item < length items → found ≡ slice_index_or items item found → found.after ≡ slice_index_or (afters items) item 0
+after_is items item found below is = ap (λ (n : Neighbours). n.after) is ∙ sym (get_or-map (λ (n : Neighbours). n.after) items item found 0 below)
+
 pub index-requires : goal.index-requires
 index-requires c =
-    let next = c.self.inside.next.now.items in
-    let more = steps_more next c.self.inside.item c.self.inside.left c.if-self-eq0.false in
-    let below = c.self.invariant c.self.inside.item (subst (λ xs. Contains xs c.self.inside.item) (sym more) (here c.self.inside.item (steps next (slice_index_or next c.self.inside.item 0) (c.self.inside.left - 1)))) in
+    let below = begun c.self.inside.items.now.items c.self.inside.item c.self.inside.left c.self.invariant c.if-self-eq0.false in
     omega (arith, below)
 
 pub invariant_of-self : goal.invariant_of-self
 invariant_of-self c k i =
-    let next = c.self.inside.next.now.items in
-    let more = steps_more next c.self.inside.item c.self.inside.left c.if-self-eq0.false in
-    let below = c.self.invariant c.self.inside.item (subst (λ xs. Contains xs c.self.inside.item) (sym more) (here c.self.inside.item (steps next (slice_index_or next c.self.inside.item 0) (c.self.inside.left - 1)))) in
-    let same = c.index.ensures ∙ get_or_default next c.self.inside.item c.index.result.now 0 below in
+    let items = c.self.inside.items.now.items in
+    let next = afters items in
+    let below = begun items c.self.inside.item c.self.inside.left c.self.invariant c.if-self-eq0.false in
+    let same = after_is items c.self.inside.item c.index.result.now below c.index.ensures in
     c.self.invariant k
-    (subst (λ xs. Contains xs k) (sym more)
+    (subst (λ xs. Contains xs k) (sym (steps_more next c.self.inside.item c.self.inside.left c.if-self-eq0.false))
     (there k c.self.inside.item (steps next (slice_index_or next c.self.inside.item 0) (c.self.inside.left - 1))
     (subst (λ j. Contains (steps next j (c.self.inside.left - 1)) k) same i)))
 
 pub returns-clause-steps : goal.returns-clause-steps
 returns-clause-steps c =
-    let next = c.self.inside.next.now.items in
-    let more = steps_more next c.self.inside.item c.self.inside.left c.if-self-eq0.false in
-    let below = c.self.invariant c.self.inside.item (subst (λ xs. Contains xs c.self.inside.item) (sym more) (here c.self.inside.item (steps next (slice_index_or next c.self.inside.item 0) (c.self.inside.left - 1)))) in
-    let same = c.index.ensures ∙ get_or_default next c.self.inside.item c.index.result.now 0 below in
-    sym c.self.view_is ∙ more ∙ ap (λ j. c.self.inside.item ∷ steps next j (c.self.inside.left - 1)) (sym same)
+    let items = c.self.inside.items.now.items in
+    let next = afters items in
+    let below = begun items c.self.inside.item c.self.inside.left c.self.invariant c.if-self-eq0.false in
+    let same = after_is items c.self.inside.item c.index.result.now below c.index.ensures in
+    sym c.self.view_is ∙ steps_more next c.self.inside.item c.self.inside.left c.if-self-eq0.false
+    ∙ ap (λ j. c.self.inside.item ∷ steps next j (c.self.inside.left - 1)) (sym same)
 
 pub returns-clause-goes : goal.returns-clause-goes
 returns-clause-goes c =
