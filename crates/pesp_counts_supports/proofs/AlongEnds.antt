@@ -1,6 +1,6 @@
 -- What one end after another brings.
 use Rattle.std.proofs.Common.{◌≡◌, ℕ, ◌+◌, ◌<◌, ◌≤◌, ◌==◌, ◌&&◌, ◌||◌, not, nat_le, nat_lt, Bool, true, false, Some, None, List, [], ◌∷◌, length, take, get_or, refl, sym, ap, ◌∙◌, inl, inr, arith, IsTrue}
-use Rattle.std.proofs.lemmas.Bool.{cases_Bool, cases_lt, false≢true}
+use Rattle.std.proofs.lemmas.Bool.{cases_Bool, cases_lt, false≢true, ltb-true, eqb-true}
 use Rattle.std.proofs.lemmas.List.{take_more}
 use Rattle.std.proofs.lemmas.List.Folds.{list_any-append}
 use Rattle.std.specs.List.{list_any}
@@ -20,8 +20,9 @@ use Rattle.pesp_counts_supports.specs.Put.{Back}
 use Rattle.pesp_counts_supports.specs.Restored.{IsBrought, in_ranges, of_admitted, of_end, of_range, of_start, of_ranges, of_starts}
 use Rattle.pesp_counts_supports.specs.Restoring.{admits_at}
 use Rattle.pesp_counts_supports.specs.Supports.{HaveSameShape, Supports, held}
+use Rattle.pesp_base.proofs.Tests.{or_alone}
 use Rattle.pesp_counts_supports.proofs.Ranges.{no_and, range_from_to}
-use Rattle.pesp_counts_supports.proofs.Taken.{eqb_is, shape_then}
+use Rattle.pesp_counts_supports.proofs.Taken.{shape_then}
 
 -- counts changed before pairs came
 pub brought_from : (may : Pairs) (first mid after : Supports) (back now : Back) → mid.rows ≡ first.rows → mid.counted ≡ first.counted → mid.trail ≡ first.trail → HaveSameShape first mid → IsBrought may mid after back now → IsBrought may first after back now
@@ -42,19 +43,12 @@ brought_from may first mid after back now rows counted trail shape h =
 
 -- ---- one end
 
-lt_from : (m n : ℕ) → IsTrue (nat_lt m n) → m < n
-lt_from m n h =
-    elim (cases_lt m n) [
-      | inl below ↦ below
-      | inr above ↦ let out : nat_lt m n ≡ false = grind (arith, above) in absurd (false≢true (sym out ∙ h))
-    ]
-
 -- what is admitted is below the period
 pub admits_below : (I : Network) (links : Links) (p r : ℕ) → IsTrue (admits_at I links p r) → r < I.period
 admits_below I links p r =
     elim (number_at links.events p) as (λ o. IsTrue (option_map_or (λ e. nat_lt r I.period && admits I e r) o false) → r < I.period) [
       | None ↦ λ h. absurd (false≢true h)
-      | Some e ↦ λ h. lt_from r I.period (and_left (nat_lt r I.period) (admits I e r) h)
+      | Some e ↦ λ h. ltb-true r I.period (and_left (nat_lt r I.period) (admits I e r) h)
     ]
 
 -- the window of an end has what it passes
@@ -77,7 +71,7 @@ ranges_end period I links residue end w same is p r =
 -- a full window brings nothing
 pub ranges_full : (period : ℕ) (I : Network) (links : Links) (residue : ℕ) (end : End) (w : Ranges) (rows : List (List Bool)) → period ≡ I.period → ((s : ℕ) → s < period → passes period end residue s ≡ in_ranges w s) → ((r : ℕ) → IsTrue (in_ranges w r) → IsTrue (has_at rows end.looks_at r)) → (p r : ℕ) → IsTrue (of_end period I links residue end p r) → IsTrue (has_at rows p r)
 ranges_full period I links residue end w rows same is full p r h =
-    let place = eqb_is p end.looks_at (and_left (p == end.looks_at) (passes period end residue r && admits_at I links end.looks_at r) h) in
+    let place = eqb-true p end.looks_at (and_left (p == end.looks_at) (passes period end residue r && admits_at I links end.looks_at r) h) in
     let rest = and_right (p == end.looks_at) (passes period end residue r && admits_at I links end.looks_at r) h in
     let pass = and_left (passes period end residue r) (admits_at I links end.looks_at r) rest in
     let below = admits_below I links end.looks_at r (and_right (passes period end residue r) (admits_at I links end.looks_at r) rest) in
@@ -130,10 +124,6 @@ pub starts_one : (I : Network) (links : Links) (starts : List ℕ) (i : ℕ) →
 starts_one I links starts i within p r =
     let test : ℕ → Bool = λ q. p == q && admits_at I links q r in
     let at : ℕ = get_or starts i 0 in
-    ap (λ b. of_starts I links (take i starts) p r || b) (alone (test at))
+    ap (λ b. of_starts I links (take i starts) p r || b) (or_alone (test at))
     ∙ sym (list_any-append test (take i starts) (at ∷ []))
     ∙ ap (list_any test) (sym (take_more starts i 0 within))
-  where
-    alone : (a : Bool) → a ≡ (a || false)
-    alone true = refl
-    alone false = refl

@@ -1,6 +1,6 @@
 -- Pairs come to the rows and into a list, one after another.
 use Rattle.std.proofs.Common.{◌≡◌, ℕ, ◌+◌, ◌*◌, ◌%◌, ◌<◌, ◌≤◌, pos, ◌-ℤ◌, mod-lt, ◌==◌, ◌&&◌, ◌||◌, not, nat_le, nat_lt, Bool, true, false, Some, None, [], ◌∷◌, ◌++◌, length, refl, sym, ap, subst, ◌∙◌, inl, inr, arith, IsTrue, IfSome, append_assoc}
-use Rattle.std.proofs.lemmas.Bool.{cases_Bool, cases_eq, cases_lt, eq-eqb, lt-ltb, ne_eqb, false≢true}
+use Rattle.std.proofs.lemmas.Bool.{cases_Bool, cases_eq, cases_lt, eq-eqb, lt-ltb, ne_eqb, false≢true, eqb-true}
 use Rattle.std.proofs.lemmas.List.{append-nil, length_push}
 use Rattle.std.proofs.lemmas.List.Folds.{list_any-append}
 use Rattle.std.specs.Option.{option_and_then}
@@ -10,6 +10,7 @@ use Rattle.pesp_base.specs.Windows.{Interval, IsWindow, is_held}
 use Rattle.pesp_base.proofs.ResidueLaws.{residue_after_rise}
 use Rattle.pesp_base.proofs.WindowLaws.{steps}
 use Rattle.std.proofs.Math.Nat.{mod-eq_of_lt}
+use Rattle.std.proofs.Math.Bool.{or_assoc, or-true}
 use Rattle.pesp_instance.specs.declared.event.Event.{Event}
 use Rattle.pesp_instance.specs.Network.{IsEvent, IsNetwork, Network, event_of, window_of}
 use Rattle.pesp_instance.proofs.Rising.{IfSome-with_number, number-with_number}
@@ -26,8 +27,9 @@ use Rattle.pesp_counts_arcs.specs.Ends.{is_from_to}
 use Rattle.pesp_counts_supports.specs.Restored.{HasRoom, IsBrought, admitted_by, in_ranges, of_admitted, of_pair, of_range, of_ranges}
 use Rattle.pesp_counts_supports.specs.Restoring.{admits_at}
 use Rattle.pesp_counts_supports.specs.Supports.{HaveSameShape, Supports, held, is_in, joined}
-use Rattle.pesp_counts_supports.proofs.Ranges.{no_and, range_in, range_out, range_same}
-use Rattle.pesp_counts_supports.proofs.Taken.{eqb_is, found_in, once_then, shape_none, shape_then}
+use Rattle.pesp_base.proofs.Orders.{eqb_turned}
+use Rattle.pesp_counts_supports.proofs.Ranges.{no_and, range_in, range_out, range_same, empty}
+use Rattle.pesp_counts_supports.proofs.Taken.{found_in, once_then, shape_none, shape_then}
 
 -- nothing comes
 pub brought_none : (may : Pairs) (s : Supports) (back : Back) → ((p r : ℕ) → IsTrue (may p r) → IsTrue (has_at s.rows p r)) → IsBrought may s s back back
@@ -78,13 +80,6 @@ brought_one before after back now place residue absent is rows counted trail sha
       held = omega (arith, long, more);
     }
   where
-    eqb_turned : (m n : ℕ) → (m == n) ≡ (n == m)
-    eqb_turned m n =
-        elim (cases_eq m n) [
-          | inl same ↦ eq-eqb m n same ∙ sym (eq-eqb n m (sym same))
-          | inr apart ↦ ne_eqb m n apart ∙ sym (ne_eqb n m (λ e. apart (sym e)))
-        ]
-
     turned : (p r : ℕ) → (place == p && residue == r) ≡ (p == place && r == residue)
     turned p r = rw (eqb_turned place p, eqb_turned residue r) refl
 
@@ -99,8 +94,8 @@ brought_one before after back now place residue absent is rows counted trail sha
         rw (eqb_turned place p, eqb_turned residue r)
         (by (p == place) (r == residue) (has_at before.rows p r)
         (λ both.
-        let at : p ≡ place = eqb_is p place (and_left (p == place) (r == residue) both) in
-        let also : r ≡ residue = eqb_is r residue (and_right (p == place) (r == residue) both) in
+        let at : p ≡ place = eqb-true p place (and_left (p == place) (r == residue) both) in
+        let also : r ≡ residue = eqb-true r residue (and_right (p == place) (r == residue) both) in
         rw (at, also) absent))
 
 -- what comes is said by another test
@@ -125,7 +120,7 @@ brought_then may other first second third back mid now h k =
     record {
       more = h.more ++ k.more;
       listed = k.listed ∙ ap (λ xs. xs ++ k.more) h.listed ∙ append_assoc back.pairs h.more k.more;
-      rows = λ p r. k.rows p r ∙ ap (λ b. b || other p r) (h.rows p r) ∙ or_or (has_at first.rows p r) (may p r) (other p r);
+      rows = λ p r. k.rows p r ∙ ap (λ b. b || other p r) (h.rows p r) ∙ or_assoc (has_at first.rows p r) (may p r) (other p r);
       just = λ p r.
           list_any-append (λ (x : Placed). x.place == p && x.residue == r) h.more k.more
           ∙ ap (λ b. b || is_in k.more p r) (h.just p r)
@@ -145,10 +140,6 @@ brought_then may other first second third back mid now h k =
       held = omega (arith, h.held, k.held);
     }
   where
-    or_or : (a b c : Bool) → ((a || b) || c) ≡ (a || (b || c))
-    or_or true b c = refl
-    or_or false b c = refl
-
     both : (a b c : Bool) → ((b && not a) || (c && not (a || b))) ≡ ((b || c) && not a)
     both true true true = refl
     both true true false = refl
@@ -192,14 +183,7 @@ range_step place low q p r le =
 
 -- no residue of a range
 pub range_none : (place low p r : ℕ) → IsTrue (of_range place low low p r) → ⊥
-range_none place low p r h = false≢true (sym (rw (range_out_any low r) (no_and (p == place))) ∙ h)
-  where
-    range_out_any : (low r : ℕ) → is_from_to low low r ≡ false
-    range_out_any low r =
-        elim (cases_lt r low) [
-          | inl below ↦ let out : nat_le low r ≡ false = grind (arith, below) in rw out refl
-          | inr above ↦ let out : nat_lt r low ≡ false = grind (arith, above) in rw out (no_and (nat_le low r))
-        ]
+range_none place low p r h = false≢true (sym (rw (empty low r) (no_and (p == place))) ∙ h)
 
 -- both ranges of a window
 pub ranges_any : (period place : ℕ) (w : Ranges) (p r : ℕ) → (of_range place w.start w.end p r || of_range place 0 w.wrapped p r) ≡ of_ranges period place w Any p r
@@ -212,7 +196,7 @@ ranges_any period place w p r = by (p == place) (is_from_to w.start w.end r) (is
     by false b c = refl
 
 -- a window of one residue more holds this one too
-held_more : (T first k r : ℕ) → 0 < T → k < T → is_held T (record { first = first; length = k + 1 }) r ≡ (is_held T (record { first = first; length = k }) r || r == (first + k) % T)
+pub held_more : (T first k r : ℕ) → 0 < T → k < T → is_held T (record { first = first; length = k + 1 }) r ≡ (is_held T (record { first = first; length = k }) r || r == (first + k) % T)
 held_more T first k r some few =
     let d : ℕ = residue T (pos r -ℤ pos first) in
     elim (cases_lt r T) [
@@ -223,7 +207,7 @@ held_more T first k r some few =
             | inl same ↦
                 let at : r ≡ (first + k) % T = sym (residue_after_rise T (pos first) k r below same) in
                 let now : nat_lt d (k + 1) ≡ true = lt-ltb d (k + 1) (omega (arith, same)) in
-                rw (now, eq-eqb r ((first + k) % T) at) (sym (or_true (nat_lt d k)))
+                rw (now, eq-eqb r ((first + k) % T) at) (sym (or-true (nat_lt d k)))
             | inr apart ↦
                 let not_at : (r == (first + k) % T) ≡ false = ne_eqb r ((first + k) % T) (λ at. apart (ap (λ s. residue T (pos s -ℤ pos first)) at ∙ steps T first k some ∙ mod-eq_of_lt few)) in
                 rw not_at (same_test d k apart)
@@ -234,10 +218,6 @@ held_more T first k r some few =
           rw (no, not_at) refl
     ]
   where
-    or_true : (b : Bool) → (b || true) ≡ true
-    or_true true = refl
-    or_true false = refl
-
     same_test : (d k : ℕ) → (d ≡ k → ⊥) → nat_lt d (k + 1) ≡ (nat_lt d k || false)
     same_test d k apart =
         elim (cases_lt d k) [

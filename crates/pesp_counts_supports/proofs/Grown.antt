@@ -8,7 +8,7 @@ use Rattle.std.proofs.lemmas.List.Sums.{sum_by-le, sum_by_push}
 use Rattle.pesp_domains.specs.Domains.{holds}
 use Rattle.pesp_counts_supports.specs.Counts.{has_at, held_in, supporters}
 use Rattle.pesp_counts_supports.specs.Supports.{ArePadded, held}
-use Rattle.pesp_counts_supports.proofs.Supporters.{one}
+use Rattle.pesp_counts_supports.proofs.Supporters.{one, one_le}
 
 -- ---- how many
 
@@ -19,10 +19,6 @@ supporters_le (suc n) S f =
     let few = supporters_le n S f in
     let at_most : one (S n && f n) ≤ 1 = one_le (S n && f n) in
     omega (arith, few, at_most)
-  where
-    one_le : (b : Bool) → one b ≤ 1
-    one_le true = omega arith
-    one_le false = omega arith
 
 -- an empty set has none
 supporters_empty : (n : ℕ) (S f : ℕ → Bool) → ((s : ℕ) → S s ≡ false) → supporters n S f ≡ 0

@@ -1,17 +1,23 @@
 mod Cases
 pub mod AlongEnds
+pub mod Blocked
 pub mod Brought
 pub mod Coming
 pub mod Grown
+pub mod Parted
 pub mod Looked
 pub mod Marks
+pub mod Meeting
 pub mod PutBack
 pub mod Raised
 pub mod Ranges
+pub mod Reached
 pub mod Rows
+pub mod Settled
 pub mod Sparing
 pub mod Spent
 pub mod Spread
+pub mod Sums
 pub mod Supporters
 pub mod Taken
 pub mod Waiting

@@ -1,7 +1,7 @@
 -- Probes are paid for by ends and by pairs that come.
 use Rattle.std.proofs.Common.{◌≡◌, ℕ, ◌+◌, ◌-◌, ◌*◌, ◌<◌, ◌≤◌, true, false, List, [], ◌∷◌, ◌++◌, length, get_or, take, sum_by, refl, sym, ap, ◌∙◌, arith, IsTrue}
 use Rattle.std.proofs.lemmas.Bool.{eq-eqb, false≢true}
-use Rattle.std.proofs.lemmas.List.{length-append, take-append-le}
+use Rattle.std.proofs.lemmas.List.{append-nil, length-append, take-append-le}
 use Rattle.std.proofs.lemmas.List.Sums.{sum_by_more}
 use Rattle.std.proofs.Math.Nat.{mul-le-mul_left}
 use Rattle.pesp_base.specs.Windows.{Interval}
@@ -71,3 +71,9 @@ ends_more links before more after next x is within at =
     ∙ ap (sum_by ends) (take-append-le (next + 1) before more (omega (arith, within)))
     ∙ sum_by_more ends before next x within
     ∙ ap (λ y. sum_by ends (take next before) + ends y) (sym at)
+
+-- a pair that is passed over costs nothing, and its ends are paid for all the same
+pub ends_passed : (T : ℕ) (links : Links) (back : List Placed) (next : ℕ) (x : Placed) → next < length back → x ≡ get_or back next x → (2 * T - 1) * ends_at links (take next back) ≤ (2 * T - 1) * ends_at links (take (next + 1) back)
+ends_passed T links back next x within at =
+    let more = ends_more links back [] back next x (sym (append-nil back)) within at in
+    mul-le-mul_left (2 * T - 1) (let le : ends_at links (take next back) ≤ ends_at links (take (next + 1) back) = omega (arith, more) in le)

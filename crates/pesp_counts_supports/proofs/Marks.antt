@@ -1,29 +1,20 @@
 -- The trail, and what the marks of pushes say of it.
-use Rattle.std.proofs.Common.{◌≡◌, ℕ, ◌+◌, ◌-◌, ◌<◌, ◌==◌, ◌&&◌, ◌||◌, Bool, true, false, List, [], length, get_or, All, refl, sym, ap, subst, ◌∙◌, inl, inr, arith, IsTrue}
+use Rattle.std.proofs.Common.{◌≡◌, ℕ, ◌+◌, ◌-◌, ◌<◌, ◌==◌, ◌&&◌, Bool, true, List, length, get_or, All, refl, sym, ap, subst, ◌∙◌, inl, inr, arith, IsTrue}
+use Rattle.std.proofs.Math.Bool.{or-true}
 use Rattle.std.specs.List.{Contains}
-use Rattle.std.proofs.lemmas.Bool.{cases_Bool, cases_lt, false≢true}
+use Rattle.std.proofs.lemmas.Bool.{cases_Bool, false≢true}
 use Rattle.std.proofs.lemmas.List.Elements.{All-append, Contains-get_or}
-use Rattle.std.proofs.lemmas.List.{get_or_past, get_or-append_right, length-append}
+use Rattle.std.proofs.lemmas.List.{get_or-append_right, length-append}
 use Rattle.std.proofs.lemmas.List.Folds.{list_any-append}
 use Rattle.pesp_domains.specs.Sweeps.{Of, Pairs, narrowed_to}
 use Rattle.pesp_counts_supports.specs.declared.trail.Placed.{Placed}
 use Rattle.pesp_counts_supports.specs.Counts.{ArePending, KeepsClosed, has_at}
 use Rattle.pesp_counts_supports.specs.Resting.{AreAtRest, AreLive, IsNarrowed}
 use Rattle.pesp_counts_arcs.specs.Links.{Links}
-use Rattle.pesp_counts_supports.specs.Supports.{AreExact, AreLevel, AreOut, Fit, HaveSameShape, IsTaken, Keeps, Supports, is_in}
+use Rattle.pesp_counts_supports.specs.Supports.{AreExact, AreLevel, AreOut, HaveSameShape, IsTaken, Keeps, Supports, is_in}
+use Rattle.pesp_base.proofs.Tests.{or_second}
 use Rattle.pesp_counts_supports.proofs.Taken.{found_in, kept_shape, level_after, once_then, shape_then, stands_in, taken_fewer, taken_then}
-
-or_true : (b : Bool) → (b || true) ≡ true
-or_true true = refl
-or_true false = refl
-
--- a row past the last one holds nothing
-pub row_within : (rows : List (List Bool)) (p r : ℕ) → Of (has_at rows) p r → p < length rows
-row_within rows p r h =
-    elim (cases_lt p (length rows)) [
-      | inl low ↦ low
-      | inr high ↦ absurd (false≢true (sym (ap (λ row. get_or row r false) (get_or_past rows p [] high)) ∙ h))
-    ]
+use Rattle.pesp_counts_supports.proofs.Rows.{within_rows}
 
 all_members : (P : Placed → Type 0) (xs : List Placed) → ((x : Placed) → Contains xs x → P x) → All P xs
 all_members P xs each k d l = each (get_or xs k d) (Contains-get_or xs k d l)
@@ -31,7 +22,7 @@ all_members P xs each k d l = each (get_or xs k d) (Contains-get_or xs k d l)
 -- taking pairs out keeps what is true of the trail
 pub out_more : (before after : Supports) → AreOut before before.trail → ((p r : ℕ) → Of (has_at before.rows) p r → r < before.period) → HaveSameShape before after → IsTaken before after → AreOut after after.trail
 out_more before after h below shape taken =
-    let was : (x : Placed) → Contains taken.more x → IsTrue (has_at before.rows x.place x.residue) = λ x i. taken.parted x.place x.residue ∙ rw (found_in taken.more x i) (or_true (has_at after.rows x.place x.residue)) in
+    let was : (x : Placed) → Contains taken.more x → IsTrue (has_at before.rows x.place x.residue) = λ x i. taken.parted x.place x.residue ∙ rw (found_in taken.more x i) (or-true (has_at after.rows x.place x.residue)) in
     rw taken.trail
     (record {
       out = λ p r i.
@@ -47,7 +38,7 @@ out_more before after h below shape taken =
           ];
       within = All-append (λ x. x.place < length after.rows) before.trail taken.more
           (λ i d l. let w = h.within i d l in omega (arith, w, shape.rows))
-          (all_members (λ x. x.place < length after.rows) taken.more (λ x i. let w = row_within before.rows x.place x.residue (was x i) in omega (arith, w, shape.rows)));
+          (all_members (λ x. x.place < length after.rows) taken.more (λ x i. let w = within_rows before.rows x.place x.residue (was x i) in omega (arith, w, shape.rows)));
       below = All-append (λ x. x.residue < after.period) before.trail taken.more
           (λ i d l. let w = h.below i d l in omega (arith, w, shape.period))
           (all_members (λ x. x.residue < after.period) taken.more (λ x i. let w = below x.place x.residue (was x i) in omega (arith, w, shape.period)));
@@ -55,18 +46,6 @@ out_more before after h below shape taken =
     })
 
 -- ---- counting out
-
-pub fit_same : (links : Links) (before after : Supports) → HaveSameShape before after → Fit links before → Fit links after
-fit_same links before after shape fit =
-    record {
-      rows = λ p k is. let l = fit.rows p k is in omega (arith, l, shape.rows);
-      counted = λ p k is. let l = fit.counted p k is in omega (arith, l, shape.counted);
-      counts = λ p k is. rw shape.period (let l = fit.counts p k is in omega (arith, l, shape.counts));
-    }
-
-or_none : (b c : Bool) → IsTrue (b || c) → b ≡ false → IsTrue c
-or_none true c h none = absurd (false≢true (sym none))
-or_none false c h none = h
 
 -- what was taken out of rows waits
 pub pending_from : (links : Links) (s m : Supports) → AreExact links s (has_at s.counted) → AreLevel s → AreLive links m → IsTaken s m → Keeps s m → ArePending m.period links.ends links.lists m.counts (has_at m.counted) (has_at m.rows) m.trail (length s.trail)
@@ -77,7 +56,7 @@ pending_from links s m exact level live taken keeps =
       within = λ p r here. ap (λ rows. has_at rows p r) keeps.counted ∙ level p r ∙ taken_fewer s m taken p r here;
       waiting = λ p r here gone.
           let was : IsTrue (has_at s.rows p r) = sym (level p r) ∙ ap (λ rows. has_at rows p r) (sym keeps.counted) ∙ here in
-          let i = stands_in taken.more p r (or_none (has_at m.rows p r) (is_in taken.more p r) (sym (taken.parted p r) ∙ was) gone) in
+          let i = stands_in taken.more p r (or_second (has_at m.rows p r) (is_in taken.more p r) (sym (taken.parted p r) ∙ was) gone) in
           let long = length-append s.trail taken.more in
           let trail = ap length taken.trail in (
             length s.trail + i.0,

@@ -2,14 +2,16 @@
 use Rattle.std.proofs.Common.{◌≡◌, ◌≢◌, ℕ, zero, suc, ◌+◌, ◌-◌, ◌*◌, ◌%◌, ◌<◌, ◌≤◌, ◌==◌, ◌&&◌, ◌||◌, nat_lt, Bool, true, false, List, get_or, refl, sym, ap, ◌∙◌, inl, inr, ◌⊎◌, ◌↔◌, arith}
 use Rattle.std.specs.Int.{from_bool}
 use Rattle.std.proofs.Math.Nat.{mod-add-mod, mod-lt}
-use Rattle.std.proofs.lemmas.Bool.{cases_eq, cases_lt, eq-eqb, ne_eqb}
+use Rattle.std.proofs.Math.Bool.{and-true as and_true, or-false as or_false, or-true as or_true}
+use Rattle.std.proofs.lemmas.Bool.{cases_eq, cases_lt, eq-eqb, ne_eqb, lt-ltb as test_true}
 use Rattle.pesp_counts_arcs.specs.declared.end.End.{End}
 use Rattle.pesp_domains.specs.Sweeps.{Pairs}
 use Rattle.pesp_counts_arcs.specs.Ends.{end_at, passes}
 use Rattle.pesp_counts_supports.specs.Counts.{IsExactAt, supporters}
 use Rattle.pesp_counts_supports.specs.Supports.{IsWide, around}
 use Rattle.pesp_counts_supports.proofs.Raised.{block_out}
-use Rattle.pesp_counts_supports.proofs.Supporters.{one, supporters_same}
+pub use Rattle.pesp_counts_supports.proofs.Supporters.{one_le}
+use Rattle.pesp_counts_supports.proofs.Supporters.{one, supporters_same, one_none as and_false}
 use Rattle.pesp_counts_arcs.proofs.EndRanges.{mod_above, mod_below}
 
 -- ---- a window that moves on
@@ -25,10 +27,6 @@ around_on period S first (suc width) =
     let turned : first + 1 + width ≡ first + suc width = omega arith in
     let last = ap (λ n. one (S (n % period))) turned in
     omega (arith, rest, last)
-
-pub one_le : (b : Bool) → one b ≤ 1
-one_le true = omega arith
-one_le false = omega arith
 
 -- a test as a number
 pub byte_is : (b : Bool) → from_bool b ≡ one b
@@ -95,22 +93,6 @@ supporters_more (suc n) S f g q more l out =
           let stays : g n ≡ f n = more n (omega arith) ∙ rw (ne_eqb q n (λ e. apart (sym e))) (or_false (f n)) in
           rw stays (omega (arith, rest))
     ]
-  where
-    or_true : (b : Bool) → (b || true) ≡ true
-    or_true true = refl
-    or_true false = refl
-
-    or_false : (b : Bool) → (b || false) ≡ b
-    or_false true = refl
-    or_false false = refl
-
-    and_true : (b : Bool) → (b && true) ≡ b
-    and_true true = refl
-    and_true false = refl
-
-    and_false : (b : Bool) → one (b && false) ≡ 0
-    and_false true = refl
-    and_false false = refl
 
 -- how far a residue is above one, and the residue that is so far above it
 module _ (T b s : ℕ) (bl : b < T) (sl : s < T) where
@@ -158,23 +140,16 @@ test_more T b w s bl wl sl =
           rw (ne_eqb ((b + w) % T) s apart) (lt_suc ((s + (T - b)) % T) w other ∙ sym (or_false (nat_lt ((s + (T - b)) % T) w)))
     ]
   where
-    or_true : (c : Bool) → (c || true) ≡ true
-    or_true true = refl
-    or_true false = refl
-
-    or_false : (c : Bool) → (c || false) ≡ c
-    or_false true = refl
-    or_false false = refl
-
-    test_true : (m n : ℕ) → m < n → nat_lt m n ≡ true
-    test_true m n l = grind (arith, l)
-
     lt_suc : (m n : ℕ) → m ≢ n → nat_lt m (suc n) ≡ nat_lt m n
     lt_suc m n apart =
         elim (cases_lt m n) [
           | inl low ↦ let x : nat_lt m (suc n) ≡ true = grind (arith, low) in let y : nat_lt m n ≡ true = grind (arith, low) in x ∙ sym y
           | inr high ↦ let x : nat_lt m (suc n) ≡ false = grind (arith, high, apart) in let y : nat_lt m n ≡ false = grind (arith, high) in x ∙ sym y
         ]
+
+-- none is below itself
+pub not_below : (m : ℕ) → nat_lt m m ≡ false
+not_below m = grind arith
 
 -- what passes the test of a window is counted along it
 around_is : (T : ℕ) (S : ℕ → Bool) (a w : ℕ) → 0 < T → w ≤ T → supporters T S (λ s. nat_lt ((s + (T - a % T)) % T) w) ≡ around T S a w
@@ -189,10 +164,6 @@ around_is T S a zero some le = none T
       where
         test_false : (m : ℕ) → nat_lt m 0 ≡ false
         test_false m = grind arith
-
-        and_false : (b : Bool) → one (b && false) ≡ 0
-        and_false true = refl
-        and_false false = refl
 around_is T S a (suc w) some le =
     let b : ℕ = a % T in
     let bl : b < T = mod-lt a some in
@@ -205,9 +176,6 @@ around_is T S a (suc w) some le =
     let more = supporters_more T S (λ s. nat_lt ((s + (T - b)) % T) w) (λ s. nat_lt ((s + (T - b)) % T) (suc w)) q (λ s sl. test_more T b w s bl wl sl) ql out in
     let last = ap (λ n. one (S n)) (mod-add-mod a T w) in
     omega (arith, more, rest, last)
-  where
-    not_below : (m : ℕ) → nat_lt m m ≡ false
-    not_below m = grind arith
 
 -- the partners of a residue are those of its window
 pub supporters_around : (period : ℕ) (S : ℕ → Bool) (end : End) (r : ℕ) → 0 < period → end.width ≤ period → supporters period S (passes period end r) ≡ around period S (r + end.first) end.width

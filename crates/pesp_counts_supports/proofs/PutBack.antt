@@ -1,7 +1,8 @@
 -- Pairs that were put back, of which some have no partner.
 use Rattle.std.proofs.Common.{◌≡◌, ℕ, ◌<◌, ◌==◌, ◌&&◌, ◌||◌, not, Bool, true, false, List, [], ◌∷◌, ◌++◌, ◌⊎◌, length, refl, sym, ap, subst, ◌∙◌, inl, inr, arith, IsTrue}
+use Rattle.std.proofs.Math.Bool.{or-false}
 use Rattle.std.specs.List.{Contains}
-use Rattle.std.proofs.lemmas.Bool.{and_from, and_parts, cases_Bool, cases_eq, eq-eqb, ne_eqb, false≢true}
+use Rattle.std.proofs.lemmas.Bool.{and_from, and_parts, cases_Bool, cases_eq, eq-eqb, ne_eqb, false≢true, or_right}
 use Rattle.std.proofs.lemmas.List.Folds.{list_any-append}
 use Rattle.pesp_domains.specs.Removals.{without}
 use Rattle.pesp_domains.specs.Sweeps.{Of}
@@ -12,18 +13,11 @@ use Rattle.pesp_counts_supports.specs.Counts.{ArePending, IsLiveAt, KeepsClosed,
 use Rattle.pesp_counts_supports.specs.Resting.{AreAtRest, AreLive, ArePendingBut}
 use Rattle.pesp_counts_arcs.specs.Links.{Links}
 use Rattle.pesp_counts_supports.specs.Supports.{AreExact, AreLevel, AreOut, HaveSameShape, IsTaken, Keeps, Supports, is_in, lacks_partner, without_those}
+use Rattle.pesp_base.proofs.Tests.{or_second}
 use Rattle.pesp_counts_supports.proofs.Marks.{out_more, pending_rest}
 use Rattle.pesp_counts_supports.proofs.Ranges.{all_and, no_and}
 use Rattle.pesp_counts_supports.proofs.Supporters.{supporters_from}
 use Rattle.pesp_counts_supports.proofs.Taken.{gone_at, kept_shape, shape_then, stands_in, still_at, taken_fewer, taken_then}
-
-or_none : (b c : Bool) → IsTrue (b || c) → b ≡ false → IsTrue c
-or_none true c h none = absurd (false≢true (sym none ∙ h))
-or_none false c h none = h
-
-or_else : (a b : Bool) → IsTrue b → IsTrue (a || b)
-or_else true b h = refl
-or_else false b h = h
 
 -- what was taken out of level rows waits
 pub pending_but : (links : Links) (s m : Supports) (back : List Placed) → AreExact links s (has_at s.counted) → AreLevel s → ((p k : ℕ) → Contains (ends_of links.lists p) k → IsLiveAt m.period m.counts (without_those (has_at m.rows) back) p k) → IsTaken s m → Keeps s m → ((p r : ℕ) → Of (has_at s.rows) p r → r < s.period) → AreOut s s.trail → ArePendingBut links m back
@@ -34,8 +28,8 @@ pending_but links s m back exact level live taken keeps below out =
       within = λ p r here. ap (λ rows. has_at rows p r) keeps.counted ∙ level p r ∙ taken_fewer s m taken p r here;
       waiting = λ p r here gone.
           let was : IsTrue (has_at s.rows p r) = sym (level p r) ∙ ap (λ rows. has_at rows p r) (sym keeps.counted) ∙ here in
-          let late : IsTrue (is_in taken.more p r) = or_none (has_at m.rows p r) (is_in taken.more p r) (sym (taken.parted p r) ∙ was) gone in
-          ap (λ xs. is_in xs p r) taken.trail ∙ list_any-append (λ (x : Placed). x.place == p && x.residue == r) s.trail taken.more ∙ or_else (is_in s.trail p r) _ late;
+          let late : IsTrue (is_in taken.more p r) = or_second (has_at m.rows p r) (is_in taken.more p r) (sym (taken.parted p r) ∙ was) gone in
+          ap (λ xs. is_in xs p r) taken.trail ∙ list_any-append (λ (x : Placed). x.place == p && x.residue == r) s.trail taken.more ∙ or_right (is_in s.trail p r) _ late;
       below = λ p r here. let l = below p r (taken_fewer s m taken p r here) in omega (arith, l, keeps.period);
       out = out_more s m out below (kept_shape s m keeps) taken;
     }
@@ -130,22 +124,14 @@ is_one x p r =
 
 module _ (links : Links) (s : Supports) (pairs : List Placed) (x : Placed) (now : List (List Bool)) (sifts : Sifts links s pairs now) where
   one_more : (p r : ℕ) → is_in (pairs ++ x ∷ []) p r ≡ (is_in pairs p r || (x.place == p && x.residue == r))
-  one_more p r = list_any-append (λ (y : Placed). y.place == p && y.residue == r) pairs (x ∷ []) ∙ ap (λ b. is_in pairs p r || b) (or_none_left (x.place == p && x.residue == r))
-    where
-      or_none_left : (b : Bool) → (b || false) ≡ b
-      or_none_left true = refl
-      or_none_left false = refl
+  one_more p r = list_any-append (λ (y : Placed). y.place == p && y.residue == r) pairs (x ∷ []) ∙ ap (λ b. is_in pairs p r || b) (or-false (x.place == p && x.residue == r))
 
   -- elsewhere nothing changes
   elsewhere : (p r : ℕ) → (x.place == p && x.residue == r) ≡ false → has_at now p r ≡ (has_at s.rows p r && not (is_in (pairs ++ x ∷ []) p r && lacks_partner links s p r))
-  elsewhere p r apart = sifts p r ∙ ap (λ b. has_at s.rows p r && not (b && lacks_partner links s p r)) (sym (one_more p r ∙ rw apart (or_nothing (is_in pairs p r))))
-    where
-      or_nothing : (b : Bool) → (b || false) ≡ b
-      or_nothing true = refl
-      or_nothing false = refl
+  elsewhere p r apart = sifts p r ∙ ap (λ b. has_at s.rows p r && not (b && lacks_partner links s p r)) (sym (one_more p r ∙ rw apart (or-false (is_in pairs p r))))
 
   in_now : is_in (pairs ++ x ∷ []) x.place x.residue ≡ true
-  in_now = one_more x.place x.residue ∙ rw (eq-eqb x.place x.place refl, eq-eqb x.residue x.residue refl) (or_else (is_in pairs x.place x.residue) true refl)
+  in_now = one_more x.place x.residue ∙ rw (eq-eqb x.place x.place refl, eq-eqb x.residue x.residue refl) (or_right (is_in pairs x.place x.residue) true refl)
 
   -- one without a partner goes
   pub sifts_taken : (after : List (List Bool)) → IsTrue (lacks_partner links s x.place x.residue) → ((p r : ℕ) → has_at after p r ≡ without (has_at now) x.place x.residue p r) → Sifts links s (pairs ++ x ∷ []) after

@@ -1,27 +1,28 @@
 -- A pair is counted in at one end after another, and the pairs of the trail come back.
-use Rattle.std.proofs.Common.{◌≡◌, ◌≢◌, ℕ, suc, ◌+◌, ◌*◌, ◌<◌, ◌≤◌, ◌==◌, ◌&&◌, ◌||◌, not, nat_le, nat_lt, Bool, true, false, if◌then◌else◌, List, [], ◌∷◌, ◌++◌, All, AllPairs, ◌⊎◌, Some, length, get_or, set, take, drop, refl, sym, ap, subst, ◌∙◌, inl, inr, arith, IsTrue, eqb→eq, T, append_assoc}
+use Rattle.std.proofs.Common.{◌≡◌, ◌≢◌, ℕ, suc, ◌+◌, ◌*◌, ◌<◌, ◌≤◌, ◌==◌, ◌&&◌, ◌||◌, not, nat_le, nat_lt, Bool, true, false, if◌then◌else◌, List, [], ◌∷◌, ◌++◌, All, AllPairs, ◌⊎◌, Some, length, get_or, set, take, drop, refl, sym, ap, subst, ◌∙◌, inl, inr, arith, IsTrue, append_assoc}
 use Rattle.std.specs.List.{Contains, list_any}
 use Rattle.std.proofs.Math.Nat.{mul-le-mul_right}
 use Rattle.std.proofs.Math.Seq.{drop-append_seam, get_or-append_seam, take-append_seam}
-use Rattle.std.proofs.lemmas.Bool.{and_parts, cases_Bool, cases_eq, cases_lt, eq-eqb, ne_eqb, false≢true}
+use Rattle.std.proofs.Math.Bool.{and-false, or-false as or_false, or-true as or_true}
+use Rattle.std.proofs.lemmas.Bool.{and_parts, cases_Bool, cases_eq, cases_lt, eq-eqb, ne_eqb, false≢true, eqb-true as eqb_is}
 use Rattle.std.proofs.lemmas.List.{drop-append-le, get_or-set_other, get_or-set_same, get_or_append_left, get_or_default, get_or_read, length_push}
 use Rattle.std.proofs.lemmas.List.Elements.{All-pop}
 use Rattle.std.proofs.lemmas.List.Folds.{list_any-append}
 use Rattle.std.proofs.lemmas.List.Sums.{sum_by-set}
 use Rattle.pesp_domains.specs.Domains.{holds}
 use Rattle.pesp_domains.specs.Sweeps.{Pairs}
-use Rattle.pesp_domains.proofs.Families.{here, none_passes, passing}
+use Rattle.pesp_domains.proofs.Families.{here, passing, found_equal}
 use Rattle.pesp_counts_arcs.specs.declared.end.End.{End}
 use Rattle.pesp_counts_supports.specs.declared.trail.Placed.{Placed}
 use Rattle.pesp_counts_arcs.specs.Ends.{AreLinked, end_at, ends_of, is_from_to, passes}
 use Rattle.pesp_counts_supports.specs.Counts.{IsExactAt, count_at, has_at, held_in, supporters}
 use Rattle.pesp_counts_arcs.specs.Links.{Links}
-use Rattle.pesp_counts_supports.specs.Supports.{AreExact, AreLevel, AreOut, AreSupports, Fit, HaveSameShape, Supports, held, is_in, joined}
+use Rattle.pesp_counts_supports.specs.Supports.{AreExact, AreLevel, AreOut, AreSupports, HaveSameShape, Supports, held, is_in, joined}
+use Rattle.pesp_base.proofs.Orders.{eqb_turned}
+use Rattle.pesp_base.proofs.Tests.{or_turned as turned_or}
 use Rattle.pesp_counts_supports.proofs.Grown.{supporters_le}
-use Rattle.pesp_counts_supports.proofs.Supporters.{one, supporters_same, supporters_without}
-
-eqb_is : (m n : ℕ) → (m == n) ≡ true → m ≡ n
-eqb_is m n e = eqb→eq m n (subst T (sym e) tt)
+use Rattle.pesp_counts_supports.proofs.Supporters.{one, supporters_same, supporters_without, one_none}
+use Rattle.pesp_counts_supports.proofs.Taken.{shape_then}
 
 -- ---- ranges of counts
 
@@ -53,12 +54,8 @@ rise_more from q before now after le within is rose i =
 pub now_is : (from q : ℕ) (before now : List ℕ) → ((i : ℕ) → get_or now i 0 ≡ get_or before i 0 + one (is_from_to from q i)) → get_or now q 0 ≡ get_or before q 0
 now_is from q before now rose =
     let over : nat_lt q q ≡ false = grind arith in
-    let none : one (is_from_to from q q) ≡ 0 = rw over (zero_of (nat_le from q)) in
+    let none : one (is_from_to from q q) ≡ 0 = rw over (one_none (nat_le from q)) in
     omega (arith, rose q, none)
-  where
-    zero_of : (b : Bool) → one (b && false) ≡ 0
-    zero_of true = refl
-    zero_of false = refl
 
 -- ---- one end
 
@@ -68,22 +65,14 @@ supporters_with n S S' f r comes l absent =
     let there : IsTrue (S' r) = comes r ∙ rw (eq-eqb r r refl) (or_true (S r)) in
     sym (supporters_without n S' S f r goes l there)
   where
-    or_true : (b : Bool) → (b || true) ≡ true
-    or_true true = refl
-    or_true false = refl
-
     stays : (b : Bool) → b ≡ ((b || false) && not false)
     stays true = refl
     stays false = refl
 
-    drops : (b : Bool) → (b && not true) ≡ false
-    drops true = refl
-    drops false = refl
-
     goes : (s : ℕ) → S s ≡ (S' s && not (s == r))
     goes s =
         elim (cases_eq s r) [
-          | inl same ↦ rw (eq-eqb s r same) (ap S same ∙ absent ∙ sym (drops (S' s)))
+          | inl same ↦ rw (eq-eqb s r same) (ap S same ∙ absent ∙ sym (and-false (S' s)))
           | inr apart ↦ rw (comes s, ne_eqb s r apart, ne_eqb r s (λ e. apart (sym e))) (stays (S s))
         ]
 
@@ -101,10 +90,6 @@ module _ (period : ℕ) (ends : List End) (S : Pairs) (p s : ℕ) (below : s < p
   joined_elsewhere k r looks =
       let at : ℕ = (end_at ends k).looks_at in
       supporters_same period (S at) (joined S p s at) _ _ (λ q ql. rw (ne_eqb p at (λ e. looks (sym e))) (or_false (S at q))) (λ q ql. refl)
-    where
-      or_false : (b : Bool) → (b || false) ≡ b
-      or_false true = refl
-      or_false false = refl
 
   -- a count that lacks a partner is below the period
   pub low_before : (counts : List ℕ) (k r : ℕ) → (end_at ends k).looks_at ≡ p → IsTrue (passes period (end_at ends k) r s) → r < period → IsExactAt period ends counts S k → count_at period counts k r < period
@@ -126,13 +111,6 @@ AreJoined period ends lists counts S p s rest =
     (q k : ℕ) → Contains (ends_of lists q) k → IsExactAt period ends counts (if is_to_come ends rest k then S else joined S p s) k
 
 module _ (period : ℕ) (ends : List End) (lists : List (List ℕ)) (linked : AreLinked period ends lists) (S : Pairs) (p s : ℕ) (below : s < period) (absent : S p s ≡ false) where
-  any_of : (m k : ℕ) (rest : List ℕ) → Contains rest k → m ≡ k → list_any (λ x. m == x) rest ≡ true
-  any_of m k rest is same =
-      elim (cases_Bool (list_any (λ x. m == x) rest)) [
-        | inl found ↦ found
-        | inr none ↦ absurd (none_passes (λ x. m == x) rest none k is (eq-eqb m k same))
-      ]
-
   -- an end whose mate is at the place looks at it
   looks_here : (q k : ℕ) → Contains (ends_of lists q) k → Contains (ends_of lists p) (end_at ends k).mate → (end_at ends k).looks_at ≡ p
   looks_here q k is mate =
@@ -149,7 +127,7 @@ module _ (period : ℕ) (ends : List End) (lists : List (List ℕ)) (linked : Ar
             let looks : (end_at ends k).looks_at ≢ p =
             λ same.
             let mate : Contains (ends_of lists p) (end_at ends k).mate = subst (λ e. Contains (ends_of lists e) (end_at ends k).mate) same (linked.each q k is).mate_there in
-            false≢true (sym done ∙ any_of (end_at ends k).mate (end_at ends k).mate (ends_of lists p) mate refl)
+            false≢true (sym done ∙ found_equal (end_at ends k).mate (end_at ends k).mate (ends_of lists p) mate refl)
             in
             exact q k is r rl ∙ sym (joined_elsewhere period ends S p s below absent k r looks)
       ] refl
@@ -159,7 +137,7 @@ module _ (period : ℕ) (ends : List End) (lists : List (List ℕ)) (linked : Ar
   exact_next counts m rest listed spread =
       let at = linked.each p m listed in
       let k : ℕ = (end_at ends m).mate in
-      let was : is_to_come ends (m ∷ rest) k ≡ true = any_of (end_at ends k).mate m (m ∷ rest) (here m rest) at.mate_back in
+      let was : is_to_come ends (m ∷ rest) k ≡ true = found_equal (end_at ends k).mate m (m ∷ rest) (here m rest) at.mate_back in
       subst (λ b. IsExactAt period ends counts (if b then S else joined S p s) k) was (spread (end_at ends m).looks_at k at.mate_there)
 
   -- one end more
@@ -256,21 +234,14 @@ next_once m rest once (x, l, e) = once 0 (suc x) m (omega arith) (omega (arith, 
 
 -- the same, with other counts
 abbrev pub with_counts : List ℕ → Supports → Supports
-with_counts counts s = record { period = s.period; counts = counts; counted = s.counted; rows = s.rows; trail = s.trail; room = s.room; probes = s.probes }
+with_counts counts s = record { period = s.period; counts = counts; counted = s.counted; rows = s.rows; trail = s.trail; room = s.room; sums = s.sums; probes = s.probes }
 
 -- and they are as sound
 pub supports_with : (counts : List ℕ) (s : Supports) (before now : ℕ) → s.period ≤ now → AreSupports s before → AreSupports (with_counts counts s) now
 supports_with counts s before now fits a =
-    record { period = a.period; rows = a.rows; counted = a.counted; even = a.even; few = a.few; room = a.room; all_room = a.all_room; fits = fits }
+    record { period = a.period; rows = a.rows; counted = a.counted; even = a.even; few = a.few; room = a.room; all_room = a.all_room; sums = a.sums; fits = fits }
 
 -- ---- a residue that is put into a row
-
-eqb_turned : (m n : ℕ) → (m == n) ≡ (n == m)
-eqb_turned m n =
-    elim (cases_eq m n) [
-      | inl same ↦ eq-eqb m n same ∙ sym (eq-eqb n m (sym same))
-      | inr apart ↦ ne_eqb m n apart ∙ sym (ne_eqb n m (λ e. apart (sym e)))
-    ]
 
 module _ (rows : List (List Bool)) (place residue : ℕ) (row item : List Bool) (within : place < length rows) (read : item ≡ get_or rows place item) (put : (r : ℕ) → holds row r ≡ (holds item r || r == residue)) where
   item_is : item ≡ get_or rows place []
@@ -285,10 +256,6 @@ module _ (rows : List (List Bool)) (place residue : ℕ) (row item : List Bool) 
             let there : get_or (set rows place row) place [] ≡ row = get_or-set_same rows place row [] within in
             rw (same, there, eq-eqb place place refl) (put r ∙ ap (λ b. holds item r || b) (eqb_turned r residue) ∙ ap (λ xs. holds xs r || residue == r) item_is)
       ]
-    where
-      or_false : (b : Bool) → (b || false) ≡ b
-      or_false true = refl
-      or_false false = refl
 
   pub held_put : length row ≡ length item → residue < length item → has_at rows place residue ≡ false → held (set rows place row) ≡ held rows + 1
   held_put long below absent =
@@ -313,9 +280,6 @@ pub record AreBack (links : Links) (mark : ℕ) (before now : Supports) : Type 0
   pub shape : HaveSameShape before now
   pub out : AreOut now (drop mark now.trail)
 
-shapes_on : (s t u : Supports) → HaveSameShape s t → HaveSameShape t u → HaveSameShape s u
-shapes_on s t u h k = record { period = k.period ∙ h.period; counts = k.counts ∙ h.counts; counted = k.counted ∙ h.counted; rows = k.rows ∙ h.rows; room = k.room ∙ h.room }
-
 same_pair : (x y : Placed) → x.place ≡ y.place → x.residue ≡ y.residue → x ≡ y
 same_pair x y place residue =
     let first : x ≡ record { place = y.place; residue = x.residue } = ap (λ n. record { place = n; residue = x.residue }) place in
@@ -332,10 +296,6 @@ module _ (links : Links) (mark : ℕ) (before now : Supports) (so_far : AreBack 
       ap (λ xs. is_in xs x.place x.residue) left
       ∙ list_any-append (λ y. y.place == x.place && y.residue == x.residue) (drop mark rest) (x ∷ [])
       ∙ rw itself (or_true (is_in (drop mark rest) x.place x.residue))
-    where
-      or_true : (b : Bool) → (b || true) ≡ true
-      or_true true = refl
-      or_true false = refl
 
   pub last_out : has_at now.rows x.place x.residue ≡ false
   last_out = so_far.out.out x.place x.residue last_is_in
@@ -357,7 +317,7 @@ module _ (links : Links) (mark : ℕ) (before now : Supports) (so_far : AreBack 
             now_is ∙ turned_or (has_at before.rows p r) (is_in so_far.back p r) (x.place == p && x.residue == r);
         exact = exact;
         level = level;
-        shape = shapes_on before now after so_far.shape shape;
+        shape = shape_then before now after so_far.shape shape;
         out = subst (λ xs. AreOut after (drop mark xs)) (sym trail)
             (record {
               out = λ p r h. rows p r ∙ rw (out_before p r h, other p r h) refl;
@@ -367,13 +327,6 @@ module _ (links : Links) (mark : ℕ) (before now : Supports) (so_far : AreBack 
             });
       }
     where
-      turned_or : (a b c : Bool) → ((a || b) || c) ≡ (a || (c || b))
-      turned_or true b c = refl
-      turned_or false true true = refl
-      turned_or false true false = refl
-      turned_or false false true = refl
-      turned_or false false false = refl
-
       rest_within : All (λ (y : Placed). y.place < length now.rows) (drop mark rest)
       rest_within = (All-pop (λ (y : Placed). y.place < length now.rows) (drop mark now.trail) (drop mark rest) (Some x) left so_far.out.within).0
 
@@ -419,12 +372,3 @@ back_end links mark before now over h =
     let front : take mark before.trail ≡ now.trail = ap (take mark) h.trail ∙ ap (λ n. take n (now.trail ++ h.back)) long ∙ take-append_seam now.trail h.back in
     let end : drop mark before.trail ≡ h.back = ap (drop mark) h.trail ∙ ap (λ n. drop n (now.trail ++ h.back)) long ∙ drop-append_seam now.trail h.back in
     (sym front, λ p r. h.rows p r ∙ ap (λ xs. has_at before.rows p r || is_in xs p r) (sym end))
-
--- what fits one fits another with as many rows and counts
-pub fit_same : (links : Links) (s t : Supports) → HaveSameShape s t → Fit links s → Fit links t
-fit_same links s t h fit =
-    record {
-      rows = λ p k i. rw h.rows (fit.rows p k i);
-      counted = λ p k i. rw h.counted (fit.counted p k i);
-      counts = λ p k i. rw (h.period, h.counts) (fit.counts p k i);
-    }

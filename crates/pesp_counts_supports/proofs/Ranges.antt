@@ -17,6 +17,14 @@ pub all_and : (b : Bool) → (b && true) ≡ b
 all_and true = refl
 all_and false = refl
 
+-- what is not to go, though its place is right, stays
+pub and_stays : (a b c d : Bool) → (a && d) ≡ false → (a && not (b && c && d)) ≡ a
+and_stays false b c d e = refl
+and_stays true b c true e = absurd (false≢true (sym e))
+and_stays true true true false e = refl
+and_stays true true false false e = refl
+and_stays true false c false e = refl
+
 -- ---- a range that grows by one
 
 pub empty : (low r : ℕ) → is_from_to low low r ≡ false
@@ -41,6 +49,9 @@ range_out low q = let b : nat_lt q q ≡ false = grind arith in rw b (no_and (na
 
 pub range_from_to : (low high q : ℕ) → low ≤ q → q < high → is_from_to low high q ≡ true
 range_from_to low high q le lt = let a : nat_le low q ≡ true = grind (arith, le) in let b : nat_lt q high ≡ true = grind (arith, lt) in rw (a, b) refl
+
+pub range_below : (low high q : ℕ) → q < low → is_from_to low high q ≡ false
+range_below low high q lt = let a : nat_le low q ≡ false = grind (arith, lt) in rw a refl
 
 -- ---- counts that fall
 
@@ -111,16 +122,9 @@ module _ (period place end low : ℕ) (before : List ℕ) where
                 | inl same ↦
                     rw (same, also)
                     (thins_here q now thins
-                    ∙ sym (by (has_at rows place q) (place == place) (is_from_to low (q + 1) q) (count_at period before end q == 1) stays))
+                    ∙ sym (and_stays (has_at rows place q) (place == place) (is_from_to low (q + 1) q) (count_at period before end q == 1) stays))
               ]
         ]
-      where
-        by : (a b c d : Bool) → (a && d) ≡ false → (a && not (b && c && d)) ≡ a
-        by false b c d e = refl
-        by true b c true e = absurd (false≢true (sym e))
-        by true true true false e = refl
-        by true true false false e = refl
-        by true false c false e = refl
 
 -- ---- two ranges, one after the other
 

@@ -8,18 +8,11 @@ use Rattle.pesp_domains.specs.Removals.{without}
 use Rattle.pesp_domains.specs.Sweeps.{Of}
 use Rattle.pesp_counts_supports.specs.Counts.{has_at, held_in, supporters}
 use Rattle.pesp_counts_supports.specs.Supports.{held}
+use Rattle.pesp_domains.proofs.RowLaws.{within_row}
 use Rattle.pesp_counts_supports.proofs.Supporters.{supporters_without}
-use Rattle.pesp_counts_supports.proofs.Ranges.{all_and, no_and}
+use Rattle.pesp_counts_supports.proofs.Ranges.{all_and, no_and, and_stays}
 
 -- ---- a row that loses a residue
-
--- a row that holds a residue has a test for it
-pub within_row : (row : List Bool) (r : ℕ) → IsTrue (holds row r) → r < length row
-within_row row r h =
-    elim (cases_lt r (length row)) [
-      | inl low ↦ low
-      | inr high ↦ absurd (false≢true (sym (get_or_past row r false high) ∙ h))
-    ]
 
 -- and there is a row where a pair is
 pub within_rows : (rows : List (List Bool)) (p r : ℕ) → Of (has_at rows) p r → p < length rows
@@ -67,18 +60,19 @@ abbrev pub Clears : ℕ → (ℕ → Bool) → ℕ → List (List Bool) → List
 Clears place f n before after =
     (p r : ℕ) → has_at after p r ≡ (has_at before p r && not (p == place && nat_lt r n && f r))
 
+-- one more below is the last one alone
+pub below_same : (n r : ℕ) → r ≢ n → nat_lt r (n + 1) ≡ nat_lt r n
+below_same n r apart =
+    elim (cases_Bool (nat_lt r n)) [
+      | inl low ↦ let more : nat_lt r (n + 1) ≡ true = grind (arith, low) in more ∙ sym low
+      | inr high ↦ let more : nat_lt r (n + 1) ≡ false = grind (arith, high, apart) in more ∙ sym high
+    ]
+
 module _ (place : ℕ) (f : ℕ → Bool) (before : List (List Bool)) where
   -- a residue that has not been looked at is in the row if it was
   clears_here : (n : ℕ) (now : List (List Bool)) → Clears place f n before now → has_at now place n ≡ has_at before place n
   clears_here n now clears =
       let none : nat_lt n n ≡ false = grind arith in clears place n ∙ rw (none, no_and (place == place)) (all_and (has_at before place n))
-
-  below_same : (n r : ℕ) → r ≢ n → nat_lt r (n + 1) ≡ nat_lt r n
-  below_same n r apart =
-      elim (cases_Bool (nat_lt r n)) [
-        | inl low ↦ let more : nat_lt r (n + 1) ≡ true = grind (arith, low) in more ∙ sym low
-        | inr high ↦ let more : nat_lt r (n + 1) ≡ false = grind (arith, high, apart) in more ∙ sym high
-      ]
 
   -- one that passes goes
   pub clears_taken : (n : ℕ) (now after : List (List Bool)) → f n ≡ true → ((p r : ℕ) → has_at after p r ≡ without (has_at now) place n p r) → Clears place f n before now → Clears place f (n + 1) before after
@@ -107,13 +101,6 @@ module _ (place : ℕ) (f : ℕ → Bool) (before : List (List Bool)) where
               | inl same ↦
                   rw (same, also)
                   (clears_here n now clears
-                  ∙ sym (by (has_at before place n) (place == place) (nat_lt n (n + 1)) (f n) (ap (λ b. b && f n) (sym (clears_here n now clears)) ∙ stays)))
+                  ∙ sym (and_stays (has_at before place n) (place == place) (nat_lt n (n + 1)) (f n) (ap (λ b. b && f n) (sym (clears_here n now clears)) ∙ stays)))
             ]
       ]
-    where
-      by : (a b c d : Bool) → (a && d) ≡ false → (a && not (b && c && d)) ≡ a
-      by false b c d e = refl
-      by true b c true e = absurd (false≢true (sym e))
-      by true true true false e = refl
-      by true true false false e = refl
-      by true false c false e = refl

@@ -1,7 +1,8 @@
 -- The ends but the spared ones are linked as all are, so a pair is counted in at them as at all.
 use Rattle.std.proofs.Common.{◌≡◌, ◌≢◌, ℕ, ◌+◌, ◌*◌, ◌<◌, ◌==◌, ◌&&◌, ◌||◌, not, Bool, true, false, Option, Some, None, List, [], ◌∷◌, ◌++◌, AllPairs, map, filter, refl, sym, ap, subst, ◌∙◌, inl, inr, arith, IsTrue}
 use Rattle.std.proofs.Math.ListN.{get_or-map}
-use Rattle.std.proofs.lemmas.Bool.{cases_eq, eq-eqb, false≢true, ne_eqb}
+use Rattle.std.proofs.Math.Bool.{or-false}
+use Rattle.std.proofs.lemmas.Bool.{cases_eq, eq-eqb, ne_eqb, not_from_false, not-true}
 use Rattle.std.proofs.lemmas.List.Folds.{list_any-append}
 use Rattle.std.proofs.lemmas.List.Kept.{AllPairs-filter}
 use Rattle.std.specs.List.{Contains}
@@ -31,22 +32,14 @@ kept spared lists = map (filter (is_kept spared)) lists
 pub kept_at : (spared : Option ℕ) (lists : List (List ℕ)) (p : ℕ) → ends_of (kept spared lists) p ≡ filter (is_kept spared) (ends_of lists p)
 kept_at spared lists p = get_or-map (filter (is_kept spared)) lists p []
 
-kept_is : (b : Bool) → b ≡ false → not b ≡ true
-kept_is false e = refl
-kept_is true e = absurd (false≢true (sym e))
-
-kept_was : (b : Bool) → not b ≡ true → b ≡ false
-kept_was false e = refl
-kept_was true e = absurd (false≢true e)
-
 pub kept_in : (spared : Option ℕ) (lists : List (List ℕ)) (p k : ℕ) → Contains (ends_of lists p) k → is_spared spared k ≡ false → Contains (ends_of (kept spared lists) p) k
 kept_in spared lists p k is free =
-    subst (λ xs. Contains xs k) (sym (kept_at spared lists p)) (in_filter (is_kept spared) (ends_of lists p) k is (kept_is (is_spared spared k) free))
+    subst (λ xs. Contains xs k) (sym (kept_at spared lists p)) (in_filter (is_kept spared) (ends_of lists p) k is (not_from_false (is_spared spared k) free))
 
 pub kept_of : (spared : Option ℕ) (lists : List (List ℕ)) (p k : ℕ) → Contains (ends_of (kept spared lists) p) k → Contains (ends_of lists p) k × (is_spared spared k ≡ false)
 kept_of spared lists p k is =
     let w = of_filter (is_kept spared) (ends_of lists p) k (subst (λ xs. Contains xs k) (kept_at spared lists p) is) in
-    (w.0, kept_was (is_spared spared k) w.1)
+    (w.0, not-true (is_spared spared k) w.1)
 
 -- they are linked
 pub kept_linked : (T : ℕ) (ends : List End) (lists : List (List ℕ)) (spared : Option ℕ) → AreLinked T ends lists → ((p k : ℕ) → Contains (ends_of lists p) k → is_spared spared (end_at ends k).mate ≡ is_spared spared k) → AreLinked T ends (kept spared lists)
@@ -81,22 +74,14 @@ pub ends_one : (T : ℕ) (I : Network) (links : Links) (spared : Option ℕ) (s 
 ends_one T I links spared s done m free p r =
     let test : ℕ → Bool = λ k. not (is_spared spared k) && of_end T I links s (end_at links.ends k) p r in
     let last : test m ≡ of_end T I links s (end_at links.ends m) p r = rw free refl in
-    sym (list_any-append test done (m ∷ []) ∙ ap (λ b. of_ends T I links spared s done p r || (b || false)) last ∙ ap (λ b. of_ends T I links spared s done p r || b) (or_false (of_end T I links s (end_at links.ends m) p r)))
-  where
-    or_false : (b : Bool) → (b || false) ≡ b
-    or_false true = refl
-    or_false false = refl
+    sym (list_any-append test done (m ∷ []) ∙ ap (λ b. of_ends T I links spared s done p r || (b || false)) last ∙ ap (λ b. of_ends T I links spared s done p r || b) (or-false (of_end T I links s (end_at links.ends m) p r)))
 
 -- a spared one brings nothing
 pub ends_none : (T : ℕ) (I : Network) (links : Links) (spared : Option ℕ) (s : ℕ) (done : List ℕ) (m : ℕ) → is_spared spared m ≡ true → (p r : ℕ) → of_ends T I links spared s done p r ≡ of_ends T I links spared s (done ++ m ∷ []) p r
 ends_none T I links spared s done m out p r =
     let test : ℕ → Bool = λ k. not (is_spared spared k) && of_end T I links s (end_at links.ends k) p r in
     let last : test m ≡ false = rw out refl in
-    sym (list_any-append test done (m ∷ []) ∙ ap (λ b. of_ends T I links spared s done p r || (b || false)) last ∙ or_false (of_ends T I links spared s done p r))
-  where
-    or_false : (b : Bool) → (b || false) ≡ b
-    or_false true = refl
-    or_false false = refl
+    sym (list_any-append test done (m ∷ []) ∙ ap (λ b. of_ends T I links spared s done p r || (b || false)) last ∙ or-false (of_ends T I links spared s done p r))
 
 -- ---- the pair is counted in at one end after another, but for the spared ones
 

@@ -1,8 +1,9 @@
 -- The probes that pairs of a trail cost, by the ends at their places.
-use Rattle.std.proofs.Common.{◌≡◌, ℕ, ◌+◌, ◌*◌, ◌<◌, ◌≤◌, List, ◌∷◌, length, get_or, drop, min, ap, ◌∙◌, arith}
+use Rattle.std.proofs.Common.{◌≡◌, ℕ, ◌+◌, ◌*◌, ◌≤◌, List, ◌∷◌, length, drop, min, sym, ap, ◌∙◌, arith}
 use Rattle.std.proofs.Math.Nat.{mul-add}
+use Rattle.std.proofs.Math.Seq.{drop-append_seam}
 use Rattle.std.proofs.lemmas.List.{drop-append-le}
-use Rattle.std.proofs.lemmas.List.Sums.{sum_by-append, sum_by-drop_more}
+use Rattle.std.proofs.lemmas.List.Sums.{sum_by-append}
 use Rattle.pesp_counts_supports.specs.declared.trail.Placed.{Placed}
 use Rattle.pesp_counts_arcs.specs.Ends.{ends_of}
 use Rattle.pesp_counts_supports.specs.Counts.{has_at}
@@ -29,17 +30,11 @@ ends_grown links before after n taken within =
     ∙ ap (ends_at links) (drop-append-le n before.trail taken.more within)
     ∙ sum_by-append (λ (x : Placed). length (ends_of links.lists x.place)) (drop n before.trail) taken.more
 
--- a pair more is counted out
-pub pair_behind : (links : Links) (now after : Supports) (period bound first next : ℕ) (d : Placed) → IsTaken now after → first ≤ next → next < length now.trail → now.probes + period * ends_at links (drop next now.trail) ≤ bound + period * ends_at links (drop first now.trail) → after.probes ≤ now.probes + period * length (ends_of links.lists (get_or now.trail next d).place) → after.probes + period * ends_at links (drop (next + 1) after.trail) ≤ bound + period * ends_at links (drop first after.trail)
-pair_behind links now after period bound first next d taken order within so_far step =
-    rw (ends_grown links now after (next + 1) taken (omega (arith, within)), ends_grown links now after first taken (omega (arith, order, within)))
-    (by (ends_at links (drop next now.trail)) (ends_at links (drop (next + 1) now.trail)) (ends_at links (drop first now.trail)) (length (ends_of links.lists (get_or now.trail next d).place)) (ends_at links taken.more)
-    (sum_by-drop_more (λ (x : Placed). length (ends_of links.lists x.place)) now.trail next d within) so_far step)
-  where
-    by : (all rest first here more : ℕ) → all ≡ here + rest → now.probes + period * all ≤ bound + period * first → after.probes ≤ now.probes + period * here → after.probes + period * (rest + more) ≤ bound + period * (first + more)
-    by all rest first here more is so_far step =
-        let parts : period * all ≡ period * here + period * rest = ap (λ n. period * n) is ∙ mul-add period here rest in
-        omega (arith, parts, so_far, step, mul-add period rest more, mul-add period first more)
+-- what came to the end of the trail
+pub ends_after : (links : Links) (before after : Supports) (n : ℕ) (taken : IsTaken before after) → n ≤ length before.trail → ends_at links (drop n after.trail) ≡ ends_at links (drop n before.trail) + ends_at links (drop (length before.trail) after.trail)
+ends_after links before after n taken within =
+    ends_grown links before after n taken within
+    ∙ ap (λ xs. ends_at links (drop n before.trail) + ends_at links xs) (sym (ap (drop (length before.trail)) taken.trail ∙ drop-append_seam before.trail taken.more))
 
 -- a look at a residue takes no pair
 pub looked_taken : (before after : Supports) → after ≡ record before { probes = after.probes } → IsTaken before after
@@ -54,4 +49,5 @@ looked_keeps before after is =
       counted = ap (λ (s : Supports). s.counted) is;
       many = ap (λ (s : Supports). length s.rows) is;
       room = ap (λ (s : Supports). s.room) is;
+      sums = ap (λ (s : Supports). s.sums) is;
     }

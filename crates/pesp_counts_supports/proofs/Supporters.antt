@@ -1,10 +1,19 @@
 -- How many residues of a set pass a test, and how that changes as one goes.
-use Rattle.std.proofs.Common.{◌≡◌, ℕ, ◌+◌, ◌<◌, ◌==◌, Bool, true, false, ◌&&◌, not, cond, zero, suc, refl, ◌∙◌, ap, inl, inr, arith, IsTrue}
+use Rattle.std.proofs.Common.{◌≡◌, ℕ, ◌+◌, ◌<◌, ◌≤◌, ◌==◌, Bool, true, false, ◌&&◌, not, cond, zero, suc, refl, ◌∙◌, ap, inl, inr, arith, IsTrue}
+use Rattle.std.proofs.Math.Bool.{and-false, and-true}
 use Rattle.std.proofs.lemmas.Bool.{cases_eq, cases_Bool, and_parts, and_from, eq-eqb, ne_eqb}
 use Rattle.pesp_counts_supports.specs.Counts.{supporters}
 
 abbrev pub one : Bool → ℕ
 one b = cond b 1 0
+
+pub one_le : (b : Bool) → one b ≤ 1
+one_le true = omega arith
+one_le false = omega arith
+
+pub one_none : (b : Bool) → one (b && false) ≡ 0
+one_none true = refl
+one_none false = refl
 
 -- sets that agree below n have the same
 pub supporters_same : (n : ℕ) (S S' f g : ℕ → Bool) → ((s : ℕ) → s < n → S' s ≡ S s) → ((s : ℕ) → s < n → g s ≡ f s) → supporters n S' g ≡ supporters n S f
@@ -19,26 +28,18 @@ supporters_without zero S S' f r goes l here = absurd (omega (arith, l))
 supporters_without (suc n) S S' f r goes l here =
     elim (cases_eq n r) [
       | inl same ↦
-          let gone : S' n ≡ false = goes n ∙ rw (eq-eqb n r same) (and_none (S n)) in
+          let gone : S' n ≡ false = goes n ∙ rw (eq-eqb n r same) (and-false (S n)) in
           let was : S n ≡ true = ap S same ∙ here in
-          let rest = supporters_same n S S' f f (λ s m. goes s ∙ rw (ne_eqb s r (omega (arith, same, m))) (and_all (S s))) (λ s m. refl) in
+          let rest = supporters_same n S S' f f (λ s m. goes s ∙ rw (ne_eqb s r (omega (arith, same, m))) (and-true (S s))) (λ s m. refl) in
           let value : Bool → ℕ = λ b. cond b 1 0 in
           let before : value (S n && f n) ≡ value (f r) = rw was (ap (λ q. value (f q)) same) in
           let after : value (S' n && f n) ≡ 0 = rw gone refl in
           omega (arith, before, after, rest)
       | inr apart ↦
           let rest = supporters_without n S S' f r goes (omega (arith, l, apart)) here in
-          let stays : S' n ≡ S n = goes n ∙ rw (ne_eqb n r apart) (and_all (S n)) in
+          let stays : S' n ≡ S n = goes n ∙ rw (ne_eqb n r apart) (and-true (S n)) in
           rw stays (omega (arith, rest))
     ]
-  where
-    and_none : (b : Bool) → (b && not true) ≡ false
-    and_none true = refl
-    and_none false = refl
-
-    and_all : (b : Bool) → (b && not false) ≡ b
-    and_all true = refl
-    and_all false = refl
 
 -- a count that is not 0 has a partner, and one that is 0 has none
 pub supporters_some : (n : ℕ) (S f : ℕ → Bool) → 0 < supporters n S f → (s : ℕ) × (s < n) × IsTrue (S s) × IsTrue (f s)

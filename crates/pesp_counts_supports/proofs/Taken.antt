@@ -1,7 +1,8 @@
 -- What taking pairs out does, one pair after another.
-use Rattle.std.proofs.Common.{◌≡◌, ◌≢◌, ℕ, ◌+◌, ◌-◌, ◌<◌, ◌≤◌, ◌==◌, ◌&&◌, ◌||◌, not, Bool, true, false, List, [], ◌∷◌, ◌++◌, length, get_or, refl, sym, ap, subst, ◌∙◌, inl, inr, arith, IsTrue, AllPairs, append_assoc, eqb→eq, T}
+use Rattle.std.proofs.Common.{◌≡◌, ◌≢◌, ℕ, ◌+◌, ◌-◌, ◌<◌, ◌≤◌, ◌==◌, ◌&&◌, ◌||◌, not, Bool, true, false, List, [], ◌∷◌, ◌++◌, length, get_or, refl, sym, ap, subst, ◌∙◌, inl, inr, arith, IsTrue, AllPairs, append_assoc}
+use Rattle.std.proofs.Math.Bool.{or-false as or_none, or-true as or_true}
 use Rattle.std.specs.List.{Contains}
-use Rattle.std.proofs.lemmas.Bool.{cases_Bool, cases_eq, cases_lt, eq-eqb, ne_eqb, false≢true}
+use Rattle.std.proofs.lemmas.Bool.{cases_Bool, cases_eq, cases_lt, eq-eqb, ne_eqb, false≢true, eqb-true as eqb_is}
 use Rattle.std.proofs.lemmas.List.{append-nil, get_or_append_left, get_or-append-add, get_or-append_right, length-append}
 use Rattle.std.proofs.lemmas.List.Elements.{Contains-get_or}
 use Rattle.std.proofs.lemmas.List.Folds.{list_any-append}
@@ -13,10 +14,8 @@ use Rattle.pesp_counts_supports.specs.declared.trail.Placed.{Placed}
 use Rattle.pesp_counts_supports.specs.Counts.{ArePending, KeepsClosed, has_at}
 use Rattle.pesp_counts_arcs.specs.Links.{Links}
 use Rattle.pesp_counts_supports.specs.Supports.{Fit, HaveSameShape, IsTaken, Keeps, Supports, is_in}
+use Rattle.pesp_base.proofs.Tests.{or_turned as turned}
 use Rattle.pesp_counts_supports.proofs.Ranges.{no_and}
-
-pub eqb_is : (m n : ℕ) → (m == n) ≡ true → m ≡ n
-eqb_is m n e = eqb→eq m n (subst T (sym e) tt)
 
 -- ---- members of a trail
 
@@ -72,10 +71,6 @@ taken_same before after trail rows =
       out = λ p r h. absurd (false≢true h);
       once = λ i j d lt within. absurd (omega (arith, within));
     }
-  where
-    or_none : (b : Bool) → (b || false) ≡ b
-    or_none true = refl
-    or_none false = refl
 
 pub taken_none : (s : Supports) → IsTaken s s
 taken_none s = taken_same s s refl (λ p r. refl)
@@ -182,20 +177,6 @@ taken_then first second third h k =
     both : (p r : ℕ) → is_in (h.more ++ k.more) p r ≡ (is_in h.more p r || is_in k.more p r)
     both p r = list_any-append (λ (x : Placed). x.place == p && x.residue == r) h.more k.more
 
-    turned : (a b c : Bool) → ((a || b) || c) ≡ (a || (c || b))
-    turned true b c = refl
-    turned false true true = refl
-    turned false true false = refl
-    turned false false c = nothing c
-      where
-        nothing : (c : Bool) → c ≡ (c || false)
-        nothing true = refl
-        nothing false = refl
-
-    or_true : (b : Bool) → (b || true) ≡ true
-    or_true true = refl
-    or_true false = refl
-
 -- ---- what else stays
 
 pub keeps_none : (period : ℕ) (ends : List End) (lists : List (List ℕ)) (S : Pairs) → KeepsClosed period ends lists S S
@@ -231,7 +212,7 @@ fit_then links first second h fit =
     }
 
 pub kept_none : (s : Supports) → Keeps s s
-kept_none s = record { period = refl; counts = refl; counted = refl; many = refl; room = refl }
+kept_none s = record { period = refl; counts = refl; counted = refl; many = refl; room = refl; sums = refl }
 
 pub kept_then : (first second third : Supports) → Keeps first second → Keeps second third → Keeps first third
 kept_then first second third h k =
@@ -241,6 +222,7 @@ kept_then first second third h k =
       counted = k.counted ∙ h.counted;
       many = k.many ∙ h.many;
       room = k.room ∙ h.room;
+      sums = k.sums ∙ h.sums;
     }
 
 pub kept_shape : (first second : Supports) → Keeps first second → HaveSameShape first second

@@ -9,7 +9,7 @@ use Rattle.pesp_counts_arcs.specs.Ends.{end_at, ends_of}
 use Rattle.pesp_counts_supports.specs.Counts.{IsExactAt, count_at, has_at, held_in}
 use Rattle.pesp_counts_arcs.specs.Links.{Links}
 
--- the counts by end and then residue, the rows by place as the counts have seen them and as they are, the pairs that were taken out, for how many of these there is room, and how many probes were made
+-- the counts by end and then residue, the rows by place as the counts have seen them and as they are, the pairs that were taken out, for how many of these there is room, the sums of the block that moves, and how many probes were made
 pub record Supports : Type 0 where
   pub period : ℕ
   pub counts : List ℕ
@@ -17,6 +17,7 @@ pub record Supports : Type 0 where
   pub rows : List (List Bool)
   pub trail : List Placed
   pub room : ℕ
+  pub sums : List ℕ
   pub probes : ℕ
 
 -- how many places there are at most
@@ -27,7 +28,7 @@ most_places = 4294967295
 abbrev pub held : List (List Bool) → ℕ
 held rows = sum_by held_in rows
 
--- there are as many rows of either kind, and no more than numbers of 32 bits, each row has a test for each residue, the trail has room for each pair that the rows hold, and for all that they may hold, and a count can be as great as the period
+-- there are as many rows of either kind, and no more than numbers of 32 bits, each row has a test for each residue, the trail has room for each pair that the rows hold, and for all that they may hold, where there is a row there are sums for three periods, and a count can be as great as the period
 pub record AreSupports (s : Supports) (most : ℕ) : Type 0 where
   pub period : 2 * s.period < 65536
   pub rows : All (λ row. length row ≡ s.period) s.rows
@@ -36,6 +37,7 @@ pub record AreSupports (s : Supports) (most : ℕ) : Type 0 where
   pub few : length s.rows ≤ most_places
   pub room : length s.trail + held s.rows ≤ s.room
   pub all_room : length s.rows * s.period ≤ s.room
+  pub sums : 0 < length s.rows → 3 * s.period < length s.sums
   pub fits : s.period ≤ most
 
 -- there are rows where ends are listed, and counts for each listed end
@@ -71,6 +73,7 @@ pub record Keeps (before after : Supports) : Type 0 where
   pub counted : after.counted ≡ before.counted
   pub many : length after.rows ≡ length before.rows
   pub room : after.room ≡ before.room
+  pub sums : after.sums ≡ before.sums
 
 -- as many counts and rows as before, and as much room
 pub record HaveSameShape (before after : Supports) : Type 0 where

@@ -9,6 +9,7 @@ use std::marker::Model;
 /// Pairs that a pass put back, in the order in which they came.
 #[derive(Drop)]
 pub struct Back {
+    // Room for each was made by `reserve`.
     pairs: Vec<Placed>,
 }
 
@@ -75,7 +76,10 @@ impl Back {
     /// Adds a pair, for which there is room.
     pub fn push(&mut self, pair: Placed)
         requires { length (self.old).pairs < (self.old).room }
-        ensures { self.new ≡ record { pairs = (self.old).pairs ++ pair ∷ []; room = (self.old).room } }
+        ensures { self.new ≡ record {
+          pairs = (self.old).pairs ++ pair ∷ [];
+          room = (self.old).room;
+        } }
     {
         self.pairs.push_reserved(pair);
     }

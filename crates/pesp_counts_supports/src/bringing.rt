@@ -25,9 +25,11 @@ pub(crate) enum Admitted {
 }
 
 /// What is admitted at a place. Where no event has the place, nothing is.
-fn admitted_at(instance: &Instance, links: &Links, place: usize) -> Admitted
-    ensures admitted { (r : ℕ) → r < (instance.now).period → admitted_by (instance.now).period result r ≡ admits_at instance.now links.now place r }
-    ensures within { (window : Interval) → result ≡ leaves.Within window → (window.first < (instance.now).period) × (window.length < (instance.now).period) }
+pub(crate) fn admitted_at(instance: &Instance, links: &Links, place: usize) -> Admitted
+    ensures admitted { (r : ℕ) → r < (instance.now).period
+        → admitted_by (instance.now).period result r ≡ admits_at instance.now links.now place r }
+    ensures within { (window : Interval) → result ≡ leaves.Within window
+        → (window.first < (instance.now).period) × (window.length < (instance.now).period) }
     ensures period { 2 ≤ (instance.now).period }
 {
     let period = instance.period();
@@ -48,7 +50,7 @@ fn admitted_at(instance: &Instance, links: &Links, place: usize) -> Admitted
 }
 
 /// The residue so many steps up from the first one of an event's window.
-fn residue_after(period: Period, window: Window, step: u16) -> u16
+pub(crate) fn residue_after(period: Period, window: Window, step: u16) -> u16
     requires { (window.first < period) × (step < period) }
     ensures value { result ≡ (window.first + step) % period }
     ensures below { result < period }
@@ -65,12 +67,13 @@ fn is_in_ranges(ranges: Ranges, residue: u16) -> bool
 
 impl Supports {
     /// Puts a pair that the rows do not hold into them, and at the end of the list.
-    fn bring(&mut self, place: usize, residue: u16, back: &mut Back)
+    pub(crate) fn bring(&mut self, place: usize, residue: u16, back: &mut Back)
         requires place { place < length (self.old).rows }
         requires residue { residue < (self.old).period }
         requires trail { (self.old).trail ≡ [] }
         requires room { HasRoom self.old back.old }
         ensures counts { (self.new).counts ≡ (self.old).counts }
+        ensures sums { (self.new).sums ≡ (self.old).sums }
         ensures brought { IsBrought (of_pair place residue) self.old self.new back.old back.new }
         ensures probes { (self.new).probes ≡ (self.old).probes }
     {
@@ -91,7 +94,8 @@ impl Supports {
         requires trail { (self.old).trail ≡ [] }
         requires room { HasRoom self.old back.old }
         ensures counts { (self.new).counts ≡ (self.old).counts }
-        ensures brought { IsBrought (of_range place residues.start residues.end) self.old self.new back.old back.new }
+        ensures brought { IsBrought (of_range place residues.start residues.end) self.old self.new
+            back.old back.new }
         ensures probes { (self.new).probes ≡ (self.old).probes }
     {
         for residue in residues {
@@ -130,7 +134,8 @@ impl Supports {
         requires trail { (self.old).trail ≡ [] }
         requires room { HasRoom self.old back.old }
         ensures counts { (self.new).counts ≡ (self.old).counts }
-        ensures brought { IsBrought (of_ranges (self.old).period place ranges (leaves.Within window)) self.old self.new back.old back.new }
+        ensures brought { IsBrought (of_ranges (self.old).period place ranges
+            (leaves.Within window)) self.old self.new back.old back.new }
         ensures probes { (self.new).probes ≡ (self.old).probes }
     {
         let period = self.period;
@@ -150,7 +155,8 @@ impl Supports {
         requires trail { (self.old).trail ≡ [] }
         requires room { HasRoom self.old back.old }
         ensures counts { (self.new).counts ≡ (self.old).counts }
-        ensures brought { IsBrought (of_ranges (self.old).period place ranges (leaves.Within window)) self.old self.new back.old back.new }
+        ensures brought { IsBrought (of_ranges (self.old).period place ranges
+            (leaves.Within window)) self.old self.new back.old back.new }
         ensures probes { (self.new).probes ≤ (self.old).probes + window.length }
     {
         let steps = self.probes.over(0, window.length());
@@ -163,11 +169,13 @@ impl Supports {
         requires order { ranges.start ≤ ranges.end }
         requires end { ranges.end ≤ (self.old).period }
         requires wrapped { ranges.wrapped ≤ ranges.start }
-        requires within { (window : Interval) → admitted ≡ leaves.Within window → (window.first < (self.old).period) × (window.length < (self.old).period) }
+        requires within { (window : Interval) → admitted ≡ leaves.Within window
+            → (window.first < (self.old).period) × (window.length < (self.old).period) }
         requires trail { (self.old).trail ≡ [] }
         requires room { HasRoom self.old back.old }
         ensures counts { (self.new).counts ≡ (self.old).counts }
-        ensures brought { IsBrought (of_ranges (self.old).period place ranges admitted) self.old self.new back.old back.new }
+        ensures brought { IsBrought (of_ranges (self.old).period place ranges admitted) self.old
+            self.new back.old back.new }
         ensures probes { (self.new).probes ≤ (self.old).probes + looked admitted ranges }
     {
         match admitted {
@@ -195,12 +203,16 @@ impl Supports {
         requires order { ranges.start ≤ ranges.end }
         requires end { ranges.end ≤ (self.old).period }
         requires wrapped { ranges.wrapped ≤ ranges.start }
-        requires lacks { (r : ℕ) × IsTrue (in_ranges ranges r) × (has_at (self.old).rows place r ≡ false) }
+        requires lacks { (r : ℕ) × IsTrue (in_ranges ranges r)
+            × (has_at (self.old).rows place r ≡ false) }
         requires trail { (self.old).trail ≡ [] }
         requires room { HasRoom self.old back.old }
         ensures counts { (self.new).counts ≡ (self.old).counts }
-        ensures brought { IsBrought (of_admitted instance.now links.now place ranges) self.old self.new back.old back.new }
-        ensures probes { (self.new).probes + (self.old).period * length back.old.pairs ≤ (self.old).probes + ((self.old).period - 1) + (self.old).period * length back.new.pairs }
+        ensures brought { IsBrought (of_admitted instance.now links.now place ranges) self.old
+            self.new back.old back.new }
+        ensures probes { (self.new).probes + (self.old).period * length back.old.pairs
+            ≤ (self.old).probes + ((self.old).period - 1) + (self.old).period
+            * length back.new.pairs }
     {
         let admitted = admitted_at(instance, links, place);
         self.bring_ranges(place, ranges, admitted, back);
@@ -219,7 +231,8 @@ impl Supports {
         requires trail { (self.old).trail ≡ [] }
         requires room { HasRoom self.old back.old }
         ensures counts { (self.new).counts ≡ (self.old).counts }
-        ensures brought { IsBrought (of_start instance.now links.now place) self.old self.new back.old back.new }
+        ensures brought { IsBrought (of_start instance.now links.now place) self.old self.new
+            back.old back.new }
         ensures probes { (self.new).probes ≡ (self.old).probes }
     {
         match admitted_at(instance, links, place) {

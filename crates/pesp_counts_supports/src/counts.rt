@@ -3,7 +3,10 @@
 ghost use Rattle.std.specs.Prelude.{◌≡◌, ◌↔◌, ◌+◌, ◌*◌, ◌-◌, ◌<◌, ◌≤◌, ◌⊎◌, ℕ, [], cond, IsTrue, length, slice_index_or, slice_set, OnOk, OnErr};
 ghost use Rattle.pesp_counts_arcs.specs.Ends.{is_from_to};
 
-use crate::widths::{fill_bytes, fill_words, raise_bytes, raise_words};
+use crate::widths::{
+    fill_bytes, fill_words, lower_bytes_by, lower_words_by, raise_bytes, raise_bytes_by,
+    raise_words, raise_words_by,
+};
 use pesp_base::Period;
 use std::alloc::{AllocError, Global};
 use std::marker::Model;
@@ -19,6 +22,7 @@ enum Values {
 /// and else two.
 #[derive(Drop)]
 pub(crate) struct Counts {
+    // Narrow exactly where the period fits in a byte.
     values: Values,
 }
 
@@ -75,7 +79,8 @@ impl Counts {
         requires within { at < length (self.old).values }
         requires some { 0 < slice_index_or (self.old).values at 0 }
         ensures most { (self.new).most ≡ (self.old).most }
-        ensures count { (self.new).values ≡ slice_set (self.old).values at (slice_index_or (self.old).values at 0 - 1) }
+        ensures count { (self.new).values
+            ≡ slice_set (self.old).values at (slice_index_or (self.old).values at 0 - 1) }
         ensures none { IsTrue result ↔ (slice_index_or (self.old).values at 0 ≡ 1) }
     {
         match &mut self.values {
@@ -96,14 +101,62 @@ impl Counts {
     pub(crate) fn raise_range(&mut self, from: usize, to: usize)
         requires order { from ≤ to }
         requires within { to ≤ length (self.old).values }
-        requires low { (i : ℕ) → from ≤ i → i < to → slice_index_or (self.old).values i 0 < (self.old).most }
+        requires low { (i : ℕ) → from ≤ i → i < to
+            → slice_index_or (self.old).values i 0 < (self.old).most }
         ensures most { (self.new).most ≡ (self.old).most }
         ensures long { length (self.new).values ≡ length (self.old).values }
-        ensures counts { (i : ℕ) → slice_index_or (self.new).values i 0 ≡ slice_index_or (self.old).values i 0 + cond (is_from_to from to i) 1 0 }
+        ensures counts { (i : ℕ) → slice_index_or (self.new).values i 0
+            ≡ slice_index_or (self.old).values i 0 + cond (is_from_to from to i) 1 0 }
     {
         match &mut self.values {
             Values::Narrow(bytes) => raise_bytes(bytes, from, to),
             Values::Wide(words) => raise_words(words, from, to),
+        }
+    }
+
+    /// Makes each count of a block, which begins at `base`, less by the difference of two sums.
+    pub(crate) fn lower_block(&mut self, base: usize, low: &[u16], high: &[u16])
+        requires within { base + length low.now ≤ length (self.old).values }
+        requires even { length high.now ≡ length low.now }
+        requires order { (i : ℕ) → i < length low.now
+            → slice_index_or low.now i 0 ≤ slice_index_or high.now i 0 }
+        requires some { (i : ℕ) → i < length low.now
+            → slice_index_or high.now i 0
+            ≤ slice_index_or low.now i 0 + slice_index_or (self.old).values (base + i) 0 }
+        ensures most { (self.new).most ≡ (self.old).most }
+        ensures long { length (self.new).values ≡ length (self.old).values }
+        ensures here { (i : ℕ) → i < length low.now
+            → slice_index_or (self.new).values (base + i) 0 + slice_index_or high.now i 0
+            ≡ slice_index_or (self.old).values (base + i) 0 + slice_index_or low.now i 0 }
+        ensures elsewhere { (i : ℕ) → i < base ⊎ base + length low.now ≤ i
+            → slice_index_or (self.new).values i 0 ≡ slice_index_or (self.old).values i 0 }
+    {
+        match &mut self.values {
+            Values::Narrow(bytes) => lower_bytes_by(bytes, base, low, high),
+            Values::Wide(words) => lower_words_by(words, base, low, high),
+        }
+    }
+
+    /// Makes each count of a block, which begins at `base`, more by the difference of two sums.
+    pub(crate) fn raise_block(&mut self, base: usize, low: &[u16], high: &[u16])
+        requires within { base + length low.now ≤ length (self.old).values }
+        requires even { length high.now ≡ length low.now }
+        requires order { (i : ℕ) → i < length low.now
+            → slice_index_or low.now i 0 ≤ slice_index_or high.now i 0 }
+        requires low { (i : ℕ) → i < length low.now
+            → slice_index_or (self.old).values (base + i) 0 + slice_index_or high.now i 0
+            ≤ slice_index_or low.now i 0 + (self.old).most }
+        ensures most { (self.new).most ≡ (self.old).most }
+        ensures long { length (self.new).values ≡ length (self.old).values }
+        ensures here { (i : ℕ) → i < length low.now
+            → slice_index_or (self.new).values (base + i) 0 + slice_index_or low.now i 0
+            ≡ slice_index_or (self.old).values (base + i) 0 + slice_index_or high.now i 0 }
+        ensures elsewhere { (i : ℕ) → i < base ⊎ base + length low.now ≤ i
+            → slice_index_or (self.new).values i 0 ≡ slice_index_or (self.old).values i 0 }
+    {
+        match &mut self.values {
+            Values::Narrow(bytes) => raise_bytes_by(bytes, base, low, high),
+            Values::Wide(words) => raise_words_by(words, base, low, high),
         }
     }
 
@@ -128,7 +181,8 @@ impl Counts {
         ensures most { (self.new).most ≡ (self.old).most }
         ensures long { length (self.new).values ≡ length (self.old).values }
         ensures here { (i : ℕ) → from ≤ i → i < to → slice_index_or (self.new).values i 0 ≡ count }
-        ensures elsewhere { (i : ℕ) → i < from ⊎ to ≤ i → slice_index_or (self.new).values i 0 ≡ slice_index_or (self.old).values i 0 }
+        ensures elsewhere { (i : ℕ) → i < from ⊎ to ≤ i
+            → slice_index_or (self.new).values i 0 ≡ slice_index_or (self.old).values i 0 }
     {
         match &mut self.values {
             Values::Narrow(bytes) => fill_bytes(bytes, from, to, count as u8),
@@ -141,7 +195,8 @@ impl Counts {
         ensures most { (self.new).most ≡ (self.old).most }
         ensures long { OnOk result (long ≤ length (self.new).values) }
         ensures longer { length (self.old).values ≤ length (self.new).values }
-        ensures same { (i : ℕ) → slice_index_or (self.new).values i 0 ≡ slice_index_or (self.old).values i 0 }
+        ensures same { (i : ℕ) → slice_index_or (self.new).values i 0
+            ≡ slice_index_or (self.old).values i 0 }
         ensures err { OnErr result (self.new ≡ self.old) }
     {
         match &mut self.values {

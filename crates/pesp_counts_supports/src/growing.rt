@@ -38,8 +38,10 @@ fn add_row(
     requires counted { All (λ row. length row ≡ period) counted.old.items }
     ensures rows { ArePadded period rows.old.items rows.new.items }
     ensures counted { ArePadded period counted.old.items counted.new.items }
-    ensures ok { OnOk result ((length rows.new.items ≡ length rows.old.items + 1) × (length counted.new.items ≡ length counted.old.items + 1)) }
-    ensures err { OnErr result ((length rows.new.items ≡ length rows.old.items) × (length counted.new.items ≡ length counted.old.items)) }
+    ensures ok { OnOk result ((length rows.new.items ≡ length rows.old.items + 1)
+        × (length counted.new.items ≡ length counted.old.items + 1)) }
+    ensures err { OnErr result ((length rows.new.items ≡ length rows.old.items)
+        × (length counted.new.items ≡ length counted.old.items)) }
 {
     let row = empty_row(alloc, period)?;
     let other = empty_row(alloc, period)?;
@@ -74,6 +76,18 @@ fn add_rows(
     Ok(())
 }
 
+/// Makes sure of sums for three periods. Without the memory for them, nothing changes.
+fn make_sums(sums: &mut Vec<u16>, period: Period) -> Result<(), AllocError>
+    ensures ok { OnOk result (3 * period < length sums.new.items) }
+    ensures more { length sums.old.items ≤ length sums.new.items }
+{
+    let long = 3 * period.get() as usize + 1;
+    if sums.len() < long {
+        sums.resize(long, 0)?;
+    }
+    Ok(())
+}
+
 impl Supports {
     /// Makes sure of rows for so many places, and of room for each pair of them, in the trail and in the lists of what is put back.
     /// Rows that come are empty, so nothing is seen of them; nor is of those that came before memory was wanting. For more places
@@ -85,10 +99,12 @@ impl Supports {
         back: &mut Back,
         restored: &mut Vec<Pair>,
     ) -> Result<(), AllocError>
-        ensures ok { OnOk result ((places ≤ length (self.new).rows) × (places ≤ length (self.new).counted)) }
+        ensures ok { OnOk result ((places ≤ length (self.new).rows)
+            × (places ≤ length (self.new).counted)) }
         ensures grown { IsRoomier self.old self.new }
         ensures even { length (self.new).counted ≡ length (self.new).rows }
-        ensures room { HaveRoom self.old back.old.room (vec_capacity restored.old) → HaveRoom self.new back.new.room (vec_capacity restored.new) }
+        ensures room { HaveRoom self.old back.old.room (vec_capacity restored.old)
+            → HaveRoom self.new back.new.room (vec_capacity restored.new) }
         ensures back { back.new.pairs ≡ back.old.pairs }
         ensures restored { restored.new.items ≡ restored.old.items }
     {
@@ -100,6 +116,7 @@ impl Supports {
         self.trail.reserve(room)?;
         back.reserve(room)?;
         restored.reserve(room)?;
+        make_sums(&mut self.sums, self.period)?;
         add_rows(
             alloc,
             self.period,
@@ -127,8 +144,10 @@ impl Supports {
         requires rows { place < length (self.old).rows }
         requires counted { place < length (self.old).counted }
         requires trail { (self.old).trail ≡ [] }
-        ensures rows { (p r : ℕ) → has_at (self.new).rows p r ≡ (has_at (self.old).rows p r || (p == place && nat_lt r (self.old).period)) }
-        ensures counted { (p r : ℕ) → has_at (self.new).counted p r ≡ (has_at (self.old).counted p r || (p == place && nat_lt r (self.old).period)) }
+        ensures rows { (p r : ℕ) → has_at (self.new).rows p r
+            ≡ (has_at (self.old).rows p r || (p == place && nat_lt r (self.old).period)) }
+        ensures counted { (p r : ℕ) → has_at (self.new).counted p r
+            ≡ (has_at (self.old).counted p r || (p == place && nat_lt r (self.old).period)) }
         ensures counts { (self.new).counts ≡ (self.old).counts }
         ensures trail { (self.new).trail ≡ [] }
         ensures shape { HaveSameShape self.old self.new }

@@ -2,10 +2,13 @@
 #![tactic(auto)]
 
 mod back;
+mod blocks;
 mod bringing;
 mod counting;
 mod counts;
 mod growing;
+mod joining;
+mod leaving;
 mod probes;
 mod raising;
 mod restoring;

@@ -9,6 +9,7 @@ use std::ops::Range;
 /// How many probes were made. A probe is a look at one residue along one activity.
 #[derive(Drop)]
 pub(crate) struct Probes {
+    // It stays at the greatest number.
     count: u64,
 }
 

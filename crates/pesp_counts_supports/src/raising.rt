@@ -19,11 +19,15 @@ fn raise_ranges(counts: &mut Counts, period: u16, base: usize, end: End, residue
     requires width { end.width ≤ period }
     requires within { base + period ≤ length (counts.old).values }
     requires small { base + period < 18446744073709551616 }
-    requires low { (r : ℕ) → r < period → IsTrue (passes period end residue r) → slice_index_or (counts.old).values (base + r) 0 < (counts.old).most }
+    requires low { (r : ℕ) → r < period → IsTrue (passes period end residue r)
+        → slice_index_or (counts.old).values (base + r) 0 < (counts.old).most }
     ensures most { (counts.new).most ≡ (counts.old).most }
     ensures long { length (counts.new).values ≡ length (counts.old).values }
-    ensures here { (r : ℕ) → r < period → slice_index_or (counts.new).values (base + r) 0 ≡ slice_index_or (counts.old).values (base + r) 0 + cond (passes period end residue r) 1 0 }
-    ensures elsewhere { (i : ℕ) → i < base ⊎ base + period ≤ i → slice_index_or (counts.new).values i 0 ≡ slice_index_or (counts.old).values i 0 }
+    ensures here { (r : ℕ) → r < period
+        → slice_index_or (counts.new).values (base + r) 0
+        ≡ slice_index_or (counts.old).values (base + r) 0 + cond (passes period end residue r) 1 0 }
+    ensures elsewhere { (i : ℕ) → i < base ⊎ base + period ≤ i
+        → slice_index_or (counts.new).values i 0 ≡ slice_index_or (counts.old).values i 0 }
 {
     let ranges = end.ranges(period, residue);
     counts.raise_range(base + ranges.start as usize, base + ranges.end as usize);
@@ -39,7 +43,8 @@ impl Supports {
         requires level { AreLevel self.old }
         requires mark { mark ≤ length (self.old).trail }
         requires out { AreOut self.old (drop mark (self.old).trail) }
-        ensures rows { (p r : ℕ) → has_at (self.new).rows p r ≡ (has_at (self.old).rows p r || is_in (drop mark (self.old).trail) p r) }
+        ensures rows { (p r : ℕ) → has_at (self.new).rows p r
+            ≡ (has_at (self.old).rows p r || is_in (drop mark (self.old).trail) p r) }
         ensures exact { AreExact links.now self.new (has_at (self.new).counted) }
         ensures level { AreLevel self.new }
         ensures trail { (self.new).trail ≡ take mark (self.old).trail }
@@ -62,7 +67,8 @@ impl Supports {
         requires residue { pair.residue < (self.old).period }
         requires absent { has_at (self.old).rows pair.place pair.residue ≡ false }
         requires room { length (self.old).trail + held (self.old).rows < (self.old).room }
-        ensures rows { (p r : ℕ) → has_at (self.new).rows p r ≡ joined (has_at (self.old).rows) pair.place pair.residue p r }
+        ensures rows { (p r : ℕ) → has_at (self.new).rows p r
+            ≡ joined (has_at (self.old).rows) pair.place pair.residue p r }
         ensures exact { AreExact links.now self.new (has_at (self.new).counted) }
         ensures level { AreLevel self.new }
         ensures trail { (self.new).trail ≡ (self.old).trail }
@@ -81,7 +87,8 @@ impl Supports {
         requires exact { AreExact links.now self.old (has_at (self.old).counted) }
         requires residue { pair.residue < (self.old).period }
         requires absent { has_at (self.old).counted pair.place pair.residue ≡ false }
-        ensures exact { AreExact links.now self.new (joined (has_at (self.old).counted) pair.place pair.residue) }
+        ensures exact { AreExact links.now self.new
+            (joined (has_at (self.old).counted) pair.place pair.residue) }
         ensures rows { (self.new).rows ≡ (self.old).rows }
         ensures counted { (self.new).counted ≡ (self.old).counted }
         ensures trail { (self.new).trail ≡ (self.old).trail }

@@ -31,12 +31,17 @@ fn raise_beside(
     requires order { low ≤ high }
     requires within { base + high ≤ length (counts.old).values }
     requires small { base + high < 18446744073709551616 }
-    requires low { (i : ℕ) → IsTrue (is_from_to (base + low) (base + high) i) → slice_index_or (counts.old).values i 0 < (counts.old).most }
+    requires low { (i : ℕ) → IsTrue (is_from_to (base + low) (base + high) i)
+        → slice_index_or (counts.old).values i 0 < (counts.old).most }
     ensures most { (counts.new).most ≡ (counts.old).most }
     ensures long { length (counts.new).values ≡ length (counts.old).values }
-    ensures counts { (i : ℕ) → slice_index_or (counts.new).values i 0 ≡ slice_index_or (counts.old).values i 0 + cond (is_from_to (base + low) (base + high) i) 1 0 }
-    ensures full { IsTrue result → (r : ℕ) → IsTrue (is_from_to low high r) → IsTrue (holds row.now r) }
-    ensures lacks { result ≡ false → (r : ℕ) × IsTrue (is_from_to low high r) × (holds row.now r ≡ false) }
+    ensures counts { (i : ℕ) → slice_index_or (counts.new).values i 0
+        ≡ slice_index_or (counts.old).values i 0
+        + cond (is_from_to (base + low) (base + high) i) 1 0 }
+    ensures full { IsTrue result → (r : ℕ) → IsTrue (is_from_to low high r)
+        → IsTrue (holds row.now r) }
+    ensures lacks { result ≡ false → (r : ℕ) × IsTrue (is_from_to low high r)
+        × (holds row.now r ≡ false) }
     ensures probes { probes.new + low ≤ probes.old + high }
 {
     let mut full = true;
@@ -59,13 +64,18 @@ fn raise_ranges_beside(
     requires wrapped { ranges.wrapped ≤ ranges.start }
     requires within { base + ranges.end ≤ length (counts.old).values }
     requires small { base + ranges.end < 18446744073709551616 }
-    requires low { (r : ℕ) → IsTrue (in_ranges ranges r) → slice_index_or (counts.old).values (base + r) 0 < (counts.old).most }
+    requires low { (r : ℕ) → IsTrue (in_ranges ranges r)
+        → slice_index_or (counts.old).values (base + r) 0 < (counts.old).most }
     ensures most { (counts.new).most ≡ (counts.old).most }
     ensures long { length (counts.new).values ≡ length (counts.old).values }
-    ensures here { (r : ℕ) → slice_index_or (counts.new).values (base + r) 0 ≡ slice_index_or (counts.old).values (base + r) 0 + cond (in_ranges ranges r) 1 0 }
-    ensures elsewhere { (i : ℕ) → i < base ⊎ base + ranges.end ≤ i → slice_index_or (counts.new).values i 0 ≡ slice_index_or (counts.old).values i 0 }
-    ensures full { IsTrue result → (r : ℕ) → IsTrue (in_ranges ranges r) → IsTrue (holds row.now r) }
-    ensures lacks { result ≡ false → (r : ℕ) × IsTrue (in_ranges ranges r) × (holds row.now r ≡ false) }
+    ensures here { (r : ℕ) → slice_index_or (counts.new).values (base + r) 0
+        ≡ slice_index_or (counts.old).values (base + r) 0 + cond (in_ranges ranges r) 1 0 }
+    ensures elsewhere { (i : ℕ) → i < base ⊎ base + ranges.end ≤ i
+        → slice_index_or (counts.new).values i 0 ≡ slice_index_or (counts.old).values i 0 }
+    ensures full { IsTrue result → (r : ℕ) → IsTrue (in_ranges ranges r)
+        → IsTrue (holds row.now r) }
+    ensures lacks { result ≡ false → (r : ℕ) × IsTrue (in_ranges ranges r)
+        × (holds row.now r ≡ false) }
     ensures probes { probes.new ≤ probes.old + ranges.end }
 {
     let first = raise_beside(counts, base, row, ranges.start, ranges.end, probes);
@@ -74,13 +84,22 @@ fn raise_ranges_beside(
 }
 
 /// Whether the end is one of those of the activity at a place.
-fn is_spared_end(spared: Option<usize>, end: usize) -> bool
+pub(crate) fn is_spared_end(spared: Option<usize>, end: usize) -> bool
     ensures { result ≡ is_spared spared end }
 {
     match spared {
         None => false,
         Some(place) => end / 2 == place,
     }
+}
+
+/// Whether so many pairs from one on are likely of one place that they are better counted as a block. A block costs a look at each
+/// residue of the period, and a pair one at each residue of a window, so it takes a sixteenth of the period.
+fn begins_block(back: &Back, next: usize, period: u16) -> bool
+    requires { next < length (back.now).pairs }
+{
+    let ahead = usize::from(period / 16);
+    ahead < back.len() - next && back.get(next + ahead).place == back.get(next).place
 }
 
 impl Supports {
@@ -91,14 +110,25 @@ impl Supports {
         requires first { end.first < (self.old).period }
         requires width { end.width ≤ (self.old).period }
         requires looks { end.looks_at < length (self.old).rows }
-        requires block { end.mate * (self.old).period + (self.old).period ≤ length (self.old).counts }
-        requires low { (r : ℕ) → r < (self.old).period → IsTrue (passes (self.old).period end residue r) → count_at (self.old).period (self.old).counts end.mate r < (self.old).period }
+        requires block { end.mate * (self.old).period + (self.old).period
+            ≤ length (self.old).counts }
+        requires low { (r : ℕ) → r < (self.old).period
+            → IsTrue (passes (self.old).period end residue r)
+            → count_at (self.old).period (self.old).counts end.mate r < (self.old).period }
         requires trail { (self.old).trail ≡ [] }
         requires room { HasRoom self.old back.old }
-        ensures counts { (r : ℕ) → r < (self.old).period → count_at (self.old).period (self.new).counts end.mate r ≡ count_at (self.old).period (self.old).counts end.mate r + cond (passes (self.old).period end residue r) 1 0 }
-        ensures elsewhere { (k r : ℕ) → k ≢ end.mate → r < (self.old).period → count_at (self.old).period (self.new).counts k r ≡ count_at (self.old).period (self.old).counts k r }
-        ensures brought { IsBrought (of_end (self.old).period instance.now links.now residue end) self.old self.new back.old back.new }
-        ensures probes { (self.new).probes + (self.old).period * length back.old.pairs ≤ (self.old).probes + (2 * (self.old).period - 1) + (self.old).period * length back.new.pairs }
+        ensures counts { (r : ℕ) → r < (self.old).period
+            → count_at (self.old).period (self.new).counts end.mate r
+            ≡ count_at (self.old).period (self.old).counts end.mate r
+            + cond (passes (self.old).period end residue r) 1 0 }
+        ensures elsewhere { (k r : ℕ) → k ≢ end.mate → r < (self.old).period
+            → count_at (self.old).period (self.new).counts k r
+            ≡ count_at (self.old).period (self.old).counts k r }
+        ensures brought { IsBrought (of_end (self.old).period instance.now links.now residue end)
+            self.old self.new back.old back.new }
+        ensures probes { (self.new).probes + (self.old).period * length back.old.pairs
+            ≤ (self.old).probes + (2 * (self.old).period - 1) + (self.old).period
+            * length back.new.pairs }
     {
         let period = self.period.get();
         let ranges = end.ranges(period, residue);
@@ -128,9 +158,15 @@ impl Supports {
         requires absent { has_at (self.old).counted pair.place pair.residue ≡ false }
         requires trail { (self.old).trail ≡ [] }
         requires room { HasRoom self.old back.old }
-        ensures exact { AreExactBut links.now spared self.new (joined (has_at (self.old).counted) pair.place pair.residue) }
-        ensures brought { IsBrought (of_ends (self.old).period instance.now links.now spared pair.residue (ends_of (links.now).lists pair.place)) self.old self.new back.old back.new }
-        ensures probes { (self.new).probes + (self.old).period * length back.old.pairs ≤ (self.old).probes + (2 * (self.old).period - 1) * length (ends_of (links.now).lists pair.place) + (self.old).period * length back.new.pairs }
+        ensures exact { AreExactBut links.now spared self.new
+            (joined (has_at (self.old).counted) pair.place pair.residue) }
+        ensures brought { IsBrought (of_ends (self.old).period instance.now links.now spared
+            pair.residue (ends_of (links.now).lists pair.place)) self.old self.new back.old
+            back.new }
+        ensures probes { (self.new).probes + (self.old).period * length back.old.pairs
+            ≤ (self.old).probes + (2 * (self.old).period - 1)
+            * length (ends_of (links.now).lists pair.place) + (self.old).period
+            * length back.new.pairs }
     {
         for number in links.at(pair.place as usize) {
             if !is_spared_end(spared, number) {
@@ -141,17 +177,19 @@ impl Supports {
     }
 
     /// Puts a pair into what is counted.
-    fn count_pair(&mut self, pair: Placed)
-        requires place { pair.place < length (self.old).rows }
-        requires residue { pair.residue < (self.old).period }
-        ensures counted { (p r : ℕ) → has_at (self.new).counted p r ≡ joined (has_at (self.old).counted) pair.place pair.residue p r }
+    pub(crate) fn count_pair(&mut self, place: usize, residue: u16)
+        requires place { place < length (self.old).rows }
+        requires residue { residue < (self.old).period }
+        ensures counted { (p r : ℕ) → has_at (self.new).counted p r
+            ≡ joined (has_at (self.old).counted) place residue p r }
         ensures rows { (self.new).rows ≡ (self.old).rows }
         ensures counts { (self.new).counts ≡ (self.old).counts }
         ensures trail { (self.new).trail ≡ (self.old).trail }
+        ensures sums { (self.new).sums ≡ (self.old).sums }
         ensures shape { HaveSameShape self.old self.new }
         ensures probes { (self.new).probes ≡ (self.old).probes }
     {
-        self.counted[pair.place as usize].put_in(pair.residue);
+        self.counted[place].put_in(residue);
     }
 
     /// Brings all that is admitted at these places.
@@ -167,7 +205,8 @@ impl Supports {
         requires trail { (self.old).trail ≡ [] }
         requires room { HasRoom self.old back.old }
         ensures counts { (self.new).counts ≡ (self.old).counts }
-        ensures brought { IsBrought (of_starts instance.now links.now starts.now) self.old self.new back.old back.new }
+        ensures brought { IsBrought (of_starts instance.now links.now starts.now) self.old self.new
+            back.old back.new }
         ensures probes { (self.new).probes ≡ (self.old).probes }
     {
         for place in starts {
@@ -195,19 +234,32 @@ impl Supports {
         requires trail { (self.old).trail ≡ [] }
         requires empty { back.old.pairs ≡ [] }
         requires room { length (self.old).rows * (self.old).period ≤ back.old.room }
-        ensures restored { IsRestored instance.now links.now starts.now spared self.old self.new back.new.pairs }
+        ensures restored { IsRestored instance.now links.now starts.now spared self.old self.new
+            back.new.pairs }
         ensures room { back.new.room ≡ back.old.room }
         ensures period { 1 ≤ (self.old).period }
-        ensures probes { (self.new).probes ≤ (self.old).probes + (2 * (self.old).period - 1) * ends_at links.now back.new.pairs + (self.old).period * length back.new.pairs }
+        ensures probes { (self.new).probes
+            ≤ (self.old).probes + (2 * (self.old).period - 1) * ends_at links.now back.new.pairs
+            + (self.old).period * length back.new.pairs }
     {
         let _period = instance.period();
         self.bring_starts(instance, links, starts, back);
         let mut next = 0;
         while next < back.len() {
             let pair = back.get(next);
-            self.reach_around(instance, links, spared, pair, back);
-            self.count_pair(pair);
+            let place = pair.place as usize;
+            let at_once = begins_block(back, next, self.period.get());
             next += 1;
+            if !self.has_counted(place, pair.residue) {
+                if at_once {
+                    self.sum_come(place);
+                    self.reach_block_around(instance, links, spared, place, back);
+                    self.count_block(place);
+                } else {
+                    self.reach_around(instance, links, spared, pair, back);
+                    self.count_pair(place, pair.residue);
+                }
+            }
         }
     }
 }

@@ -21,11 +21,19 @@ use std::marker::Model;
 /// the trail, and waits there until it is counted out. With nothing waiting both hold the same pairs.
 #[derive(Drop)]
 pub struct Supports {
+    // Each row has a test for each residue below it.
     pub(crate) period: Period,
+    // By end, then residue: those of `counted`.
     pub(crate) counts: Counts,
+    // By place, as many as `rows`; a pair that waits to be counted out is still here.
     pub(crate) counted: Vec<Row>,
+    // By place; no more than a pair of 32 bits can name.
     pub(crate) rows: Vec<Row>,
+    // What was taken out, the oldest first; there is room for every pair of the rows.
     pub(crate) trail: Vec<Placed>,
+    // Those of the block that moves, or of one that moved before. Where there is a row, there is one for each residue of three
+    // periods, and one more.
+    pub(crate) sums: Vec<u16>,
     // Those made since the trail was forgotten.
     pub(crate) probes: Probes,
 }
@@ -36,15 +44,24 @@ impl Model for Supports {
 
     ghost Value = { words.Supports };
 
-    ghost view = { λ a. record { period = a.period; counts = a.counts.values; counted = a.counted.items; rows = a.rows.items; trail = a.trail.items; room = vec_capacity a.trail; probes = a.probes } };
+    ghost view = { λ a. record { period = a.period; counts = a.counts.values; counted = a.counted.items; rows = a.rows.items; trail = a.trail.items; room = vec_capacity a.trail; sums = a.sums.items; probes = a.probes } };
 
-    ghost invariant = { λ a. words.AreSupports (record { period = a.period; counts = a.counts.values; counted = a.counted.items; rows = a.rows.items; trail = a.trail.items; room = vec_capacity a.trail; probes = a.probes }) a.counts.most };
+    ghost invariant = { λ a. words.AreSupports (record { period = a.period; counts = a.counts.values; counted = a.counted.items; rows = a.rows.items; trail = a.trail.items; room = vec_capacity a.trail; sums = a.sums.items; probes = a.probes }) a.counts.most };
 }
 
 impl Supports {
     /// No row and no count.
     pub fn new(alloc: Global, period: Period) -> Supports
-        ensures { result ≡ record { period = period; counts = []; counted = []; rows = []; trail = []; room = 0; probes = 0 } }
+        ensures { result ≡ record {
+          period = period;
+          counts = [];
+          counted = [];
+          rows = [];
+          trail = [];
+          room = 0;
+          sums = [];
+          probes = 0;
+        } }
     {
         Supports {
             period,
@@ -52,6 +69,7 @@ impl Supports {
             counted: Vec::new(alloc),
             rows: Vec::new(alloc),
             trail: Vec::new(alloc),
+            sums: Vec::new(alloc),
             probes: Probes::none(),
         }
     }

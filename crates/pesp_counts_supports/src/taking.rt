@@ -8,6 +8,7 @@ ghost use Rattle.pesp_domains.specs.Removals.{without};
 ghost use Rattle.pesp_counts_arcs.specs.Ends.{AreLinked, end_at, ends_of, is_from_to, passes};
 ghost use Rattle.pesp_counts_supports.specs.Counts.{ArePending, IsLiveAt, KeepsClosed, count_at, has_at};
 ghost use Rattle.pesp_counts_supports.specs.Ranges.{Fall, Thins};
+ghost use Rattle.pesp_counts_supports.specs.Leaving.{owed};
 ghost use Rattle.pesp_counts_supports.specs.Resting.{AreAtRest, ArePendingBut};
 ghost use Rattle.pesp_counts_supports.specs.Supports.{AreExact, Fit, HaveSameShape, IsTaken, Keeps, is_in, lacks_partner};
 ghost use Rattle.pesp_counts_supports.specs.Spent.{ends_at};
@@ -23,12 +24,19 @@ impl Supports {
     pub fn settle(&mut self, links: &Links, next: usize)
         requires linked { AreLinked (self.old).period (links.now).ends (links.now).lists }
         requires fit { Fit links.now self.old }
-        requires pending { ArePending (self.old).period (links.now).ends (links.now).lists (self.old).counts (has_at (self.old).counted) (has_at (self.old).rows) (self.old).trail next }
-        ensures pending { ArePending (self.old).period (links.now).ends (links.now).lists (self.new).counts (has_at (self.new).counted) (has_at (self.new).rows) (self.new).trail (length (self.new).trail) }
-        ensures keeps { KeepsClosed (self.old).period (links.now).ends (links.now).lists (has_at (self.old).rows) (has_at (self.new).rows) }
+        requires pending { ArePending (self.old).period (links.now).ends (links.now).lists
+            (self.old).counts (has_at (self.old).counted) (has_at (self.old).rows) (self.old).trail
+            next }
+        ensures pending { ArePending (self.old).period (links.now).ends (links.now).lists
+            (self.new).counts (has_at (self.new).counted) (has_at (self.new).rows) (self.new).trail
+            (length (self.new).trail) }
+        ensures keeps { KeepsClosed (self.old).period (links.now).ends (links.now).lists
+            (has_at (self.old).rows) (has_at (self.new).rows) }
         ensures taken { IsTaken self.old self.new }
         ensures shape { HaveSameShape self.old self.new }
-        ensures probes { (self.new).probes ≤ (self.old).probes + (self.old).period * ends_at links.now (drop next (self.new).trail) }
+        ensures probes { (self.new).probes
+            ≤ (self.old).probes + (self.old).period
+            * ends_at links.now (drop next (self.new).trail) }
     {
         let mut next = next;
         while next < self.trail.len() {
@@ -37,68 +45,64 @@ impl Supports {
         }
     }
 
-    /// Counts one pair of the trail out, if it still counts.
+    /// Counts one pair of the trail out, if it still counts, alone or with others of its place that wait.
     fn settle_one(&mut self, links: &Links, next: usize)
         requires linked { AreLinked (self.old).period (links.now).ends (links.now).lists }
         requires fit { Fit links.now self.old }
-        requires pending { ArePending (self.old).period (links.now).ends (links.now).lists (self.old).counts (has_at (self.old).counted) (has_at (self.old).rows) (self.old).trail next }
+        requires pending { ArePending (self.old).period (links.now).ends (links.now).lists
+            (self.old).counts (has_at (self.old).counted) (has_at (self.old).rows) (self.old).trail
+            next }
         requires next { next < length (self.old).trail }
-        ensures pending { ArePending (self.old).period (links.now).ends (links.now).lists (self.new).counts (has_at (self.new).counted) (has_at (self.new).rows) (self.new).trail (next + 1) }
-        ensures keeps { KeepsClosed (self.old).period (links.now).ends (links.now).lists (has_at (self.old).rows) (has_at (self.new).rows) }
+        ensures pending { ArePending (self.old).period (links.now).ends (links.now).lists
+            (self.new).counts (has_at (self.new).counted) (has_at (self.new).rows) (self.new).trail
+            (next + 1) }
+        ensures keeps { KeepsClosed (self.old).period (links.now).ends (links.now).lists
+            (has_at (self.old).rows) (has_at (self.new).rows) }
         ensures taken { IsTaken self.old self.new }
         ensures shape { HaveSameShape self.old self.new }
-        ensures probes { (self.new).probes ≤ (self.old).probes + (self.old).period * length (ends_of (links.now).lists (slice_index_or (self.old).trail next (record { place = 0; residue = 0 })).place) }
+        ensures probes { let before = owed links.now (has_at (self.old).counted)
+            (drop next (self.old).trail) in
+            let after = owed links.now (has_at (self.new).counted) (drop (next + 1) (self.new).trail) in
+            let came = ends_at links.now (drop (length (self.old).trail) (self.new).trail) in
+            (self.new).probes + (self.old).period * after
+            ≤ (self.old).probes + (self.old).period * (before + came) }
     {
         let pair = self.trail[next];
         let place = pair.place as usize;
         if self.has_counted(place, pair.residue) && !self.holds(place, pair.residue) {
-            self.spread(links, place, pair.residue);
-            self.counted[place].take_out(pair.residue);
+            let leaving = self.leaving_with(next, pair);
+            self.spread(links, place, leaving);
+            self.uncount(place, leaving);
         }
     }
 
     /// Whether the pair is one that the counts have seen.
-    fn has_counted(&self, place: usize, residue: u16) -> bool
+    pub(crate) fn has_counted(&self, place: usize, residue: u16) -> bool
         ensures { result ≡ has_at (self.now).counted place residue }
     {
         place < self.counted.len() && self.counted[place].holds(residue)
     }
 
-    /// Counts a pair out at all ends of its place, one after another.
-    fn spread(&mut self, links: &Links, place: usize, residue: u16)
-        requires linked { AreLinked (self.old).period (links.now).ends (links.now).lists }
-        requires fit { Fit links.now self.old }
-        requires residue { residue < (self.old).period }
-        requires below { (p r : ℕ) → Of (has_at (self.old).rows) p r → r < (self.old).period }
-        requires here { Of (has_at (self.old).counted) place residue }
-        requires gone { has_at (self.old).rows place residue ≡ false }
-        requires exact { AreExact links.now self.old (has_at (self.old).counted) }
-        requires live { (p k : ℕ) → Contains (ends_of (links.now).lists p) k → IsLiveAt (self.old).period (self.old).counts (has_at (self.old).rows) p k }
-        requires within { (p r : ℕ) → Of (has_at (self.old).rows) p r → Of (has_at (self.old).counted) p r }
-        ensures exact { AreExact links.now self.new (without (has_at (self.old).counted) place residue) }
-        ensures live { (p k : ℕ) → Contains (ends_of (links.now).lists p) k → IsLiveAt (self.new).period (self.new).counts (has_at (self.new).rows) p k }
-        ensures counted { (self.new).counted ≡ (self.old).counted }
-        ensures keeps { KeepsClosed (self.old).period (links.now).ends (links.now).lists (has_at (self.old).rows) (has_at (self.new).rows) }
-        ensures taken { IsTaken self.old self.new }
-        ensures shape { HaveSameShape self.old self.new }
-        ensures probes { (self.new).probes ≤ (self.old).probes + (self.old).period * length (ends_of (links.now).lists place) }
-    {
-        for number in links.at(place) {
-            let end = links.end(number);
-            self.count_out(end, residue);
-        }
-    }
-
     /// Counts a residue out along an activity, at whose near end it stood, and takes the pairs at the far one out that have no
     /// partner left.
-    fn count_out(&mut self, end: End, residue: u16)
+    pub(crate) fn count_out(&mut self, end: End, residue: u16)
         requires residue { residue < (self.old).period }
         requires first { end.first < (self.old).period }
         requires width { end.width ≤ (self.old).period }
-        requires block { end.mate * (self.old).period + (self.old).period ≤ length (self.old).counts }
-        requires some { (r : ℕ) → r < (self.old).period → IsTrue (passes (self.old).period end residue r) → 0 < count_at (self.old).period (self.old).counts end.mate r }
-        ensures counts { (k r : ℕ) → r < (self.old).period → count_at (self.old).period (self.new).counts k r + cond (k == end.mate && passes (self.old).period end residue r) 1 0 ≡ count_at (self.old).period (self.old).counts k r }
-        ensures rows { (p r : ℕ) → r < (self.old).period → has_at (self.new).rows p r ≡ (has_at (self.old).rows p r && not (p == end.looks_at && passes (self.old).period end residue r && (count_at (self.old).period (self.new).counts end.mate r == 0))) }
+        requires block { end.mate * (self.old).period + (self.old).period
+            ≤ length (self.old).counts }
+        requires some { (r : ℕ) → r < (self.old).period
+            → IsTrue (passes (self.old).period end residue r)
+            → 0 < count_at (self.old).period (self.old).counts end.mate r }
+        ensures counts { (k r : ℕ) → r < (self.old).period
+            → count_at (self.old).period (self.new).counts k r
+            + cond (k == end.mate && passes (self.old).period end residue r) 1 0
+            ≡ count_at (self.old).period (self.old).counts k r }
+        ensures rows { (p r : ℕ) → r < (self.old).period
+            → has_at (self.new).rows p r
+            ≡ (has_at (self.old).rows p r
+            && not (p == end.looks_at && passes (self.old).period end residue r
+            && (count_at (self.old).period (self.new).counts end.mate r == 0))) }
         ensures counted { (self.new).counted ≡ (self.old).counted }
         ensures taken { IsTaken self.old self.new }
         ensures shape { HaveSameShape self.old self.new }
@@ -116,9 +120,11 @@ impl Supports {
         requires order { low ≤ high }
         requires high { high ≤ (self.old).period }
         requires block { end * (self.old).period + (self.old).period ≤ length (self.old).counts }
-        requires some { (r : ℕ) → IsTrue (is_from_to low high r) → 0 < count_at (self.old).period (self.old).counts end r }
+        requires some { (r : ℕ) → IsTrue (is_from_to low high r)
+            → 0 < count_at (self.old).period (self.old).counts end r }
         ensures counts { Fall (self.old).period end low high (self.old).counts (self.new).counts }
-        ensures rows { Thins (self.old).period place end low high (self.old).counts (self.old).rows (self.new).rows }
+        ensures rows { Thins (self.old).period place end low high (self.old).counts (self.old).rows
+            (self.new).rows }
         ensures counted { (self.new).counted ≡ (self.old).counted }
         ensures taken { IsTaken self.old self.new }
         ensures shape { HaveSameShape self.old self.new }
@@ -136,7 +142,8 @@ impl Supports {
     /// Takes all residues at a place but one out.
     pub fn limit(&mut self, place: usize, residue: u16)
         requires { place < length (self.old).rows }
-        ensures rows { (p r : ℕ) → has_at (self.new).rows p r ≡ limited (has_at (self.old).rows) place residue p r }
+        ensures rows { (p r : ℕ) → has_at (self.new).rows p r
+            ≡ limited (has_at (self.old).rows) place residue p r }
         ensures taken { IsTaken self.old self.new }
         ensures keeps { Keeps self.old self.new }
         ensures probes { (self.new).probes ≡ (self.old).probes }
@@ -151,7 +158,8 @@ impl Supports {
     /// Takes the residues at a place out that are not in a window.
     pub fn limit_to(&mut self, place: usize, window: Window)
         requires { place < length (self.old).rows }
-        ensures rows { (p r : ℕ) → has_at (self.new).rows p r ≡ narrowed_to (has_at (self.old).rows) place (is_held (self.old).period window) p r }
+        ensures rows { (p r : ℕ) → has_at (self.new).rows p r
+            ≡ narrowed_to (has_at (self.old).rows) place (is_held (self.old).period window) p r }
         ensures taken { IsTaken self.old self.new }
         ensures keeps { Keeps self.old self.new }
         ensures probes { (self.new).probes ≡ (self.old).probes }
@@ -168,7 +176,9 @@ impl Supports {
     pub fn sift(&mut self, place: usize, end: usize)
         requires place { place < length (self.old).rows }
         requires end { end * (self.old).period + (self.old).period ≤ length (self.old).counts }
-        ensures rows { (p r : ℕ) → has_at (self.new).rows p r ≡ (has_at (self.old).rows p r && not (p == place && (count_at (self.old).period (self.old).counts end r == 0))) }
+        ensures rows { (p r : ℕ) → has_at (self.new).rows p r
+            ≡ (has_at (self.old).rows p r
+            && not (p == place && (count_at (self.old).period (self.old).counts end r == 0))) }
         ensures taken { IsTaken self.old self.new }
         ensures keeps { Keeps self.old self.new }
         ensures probes { (self.new).probes ≤ (self.old).probes + (self.old).period }
@@ -186,10 +196,13 @@ impl Supports {
         requires fit { Fit links.now self.old }
         requires pending { ArePendingBut links.now self.old back.now }
         ensures rest { AreAtRest links.now self.new }
-        ensures keeps { KeepsClosed (self.old).period (links.now).ends (links.now).lists (has_at (self.old).rows) (has_at (self.new).rows) }
+        ensures keeps { KeepsClosed (self.old).period (links.now).ends (links.now).lists
+            (has_at (self.old).rows) (has_at (self.new).rows) }
         ensures taken { IsTaken self.old self.new }
         ensures shape { HaveSameShape self.old self.new }
-        ensures probes { (self.new).probes ≤ (self.old).probes + ends_at links.now back.now + (self.old).period * ends_at links.now (self.new).trail }
+        ensures probes { (self.new).probes
+            ≤ (self.old).probes + ends_at links.now back.now + (self.old).period
+            * ends_at links.now (self.new).trail }
     {
         self.sift_back(links, back);
         self.settle(links, 0);
@@ -199,7 +212,9 @@ impl Supports {
     fn sift_back(&mut self, links: &Links, back: &[Placed])
         requires fit { Fit links.now self.old }
         requires below { (p r : ℕ) → Of (has_at (self.old).rows) p r → r < (self.old).period }
-        ensures rows { (p r : ℕ) → has_at (self.new).rows p r ≡ (has_at (self.old).rows p r && not (is_in back.now p r && lacks_partner links.now self.old p r)) }
+        ensures rows { (p r : ℕ) → has_at (self.new).rows p r
+            ≡ (has_at (self.old).rows p r
+            && not (is_in back.now p r && lacks_partner links.now self.old p r)) }
         ensures taken { IsTaken self.old self.new }
         ensures keeps { Keeps self.old self.new }
         ensures probes { (self.new).probes ≤ (self.old).probes + ends_at links.now back.now }
@@ -218,7 +233,8 @@ impl Supports {
         requires residue { pair.residue < (self.old).period }
         ensures lacks { result ≡ lacks_partner links.now self.old pair.place pair.residue }
         ensures same { self.new ≡ record self.old { probes = (self.new).probes } }
-        ensures probes { (self.new).probes ≤ (self.old).probes + length (ends_of (links.now).lists pair.place) }
+        ensures probes { (self.new).probes
+            ≤ (self.old).probes + length (ends_of (links.now).lists pair.place) }
     {
         for end in links.at(pair.place as usize) {
             let residue = self.probes.at(pair.residue);
@@ -235,7 +251,8 @@ impl Supports {
     #[inline(never)]
     fn take_out(&mut self, place: usize, residue: u16)
         requires { Of (has_at (self.old).rows) place residue }
-        ensures rows { (p r : ℕ) → has_at (self.new).rows p r ≡ without (has_at (self.old).rows) place residue p r }
+        ensures rows { (p r : ℕ) → has_at (self.new).rows p r
+            ≡ without (has_at (self.old).rows) place residue p r }
         ensures taken { IsTaken self.old self.new }
         ensures keeps { Keeps self.old self.new }
         ensures probes { (self.new).probes ≡ (self.old).probes }

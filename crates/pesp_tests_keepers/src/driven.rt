@@ -14,7 +14,9 @@ use std::marker::Model;
 /// A keeper, with the pairs that it was pushed.
 #[derive(Drop)]
 pub(crate) struct Driven<K: Keeper> {
+    // Its pushes are those below.
     keeper: K,
+    // The last one at the end.
     pushed: Vec<Pair>,
 }
 

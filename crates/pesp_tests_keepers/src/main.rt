@@ -1,4 +1,4 @@
-//! Drives both keepers by the lines of standard input, and tells what they keep behind each line.
+//! Drives both keepers by the lines of standard input, and tells what they keep after each line.
 #![tactic(auto)]
 
 mod counts;
@@ -19,7 +19,9 @@ use std::rt::Env;
 /// Both keepers of one instance.
 #[derive(Drop)]
 struct Both {
+    // Both follow the same lines,
     plain: Driven<PlainKeeper>,
+    // so their rows have to be the same.
     counted: Driven<CountKeeper>,
 }
 

@@ -46,6 +46,7 @@ invariant_of-self c =
       few = rw (length-set rows place c.put_in.new.self) v.few;
       room = omega (arith, few, area, none, v.all_room);
       all_room = omega (arith, area, v.all_room);
+      sums = rw (length-set rows place c.put_in.new.self) v.sums;
       fits = v.fits;
     }
 

@@ -25,7 +25,7 @@ record Lowered (start mid : Supports) (place end low q : ℕ) : Type 0 where
 
 -- the supports with a count that falls by one
 abbrev fallen : Supports → ℕ → Supports
-fallen s i = record { period = s.period; counts = set s.counts i (get_or s.counts i 0 - 1); counted = s.counted; rows = s.rows; trail = s.trail; room = s.room; probes = s.probes }
+fallen s i = record { period = s.period; counts = set s.counts i (get_or s.counts i 0 - 1); counted = s.counted; rows = s.rows; trail = s.trail; room = s.room; sums = s.sums; probes = s.probes }
 
 module _ (start now : Supports) (place end low q : ℕ) (order : low ≤ q) (below : q < start.period) (counts : Fall start.period end low q start.counts now.counts) where
   -- the count is still what it was
@@ -59,8 +59,8 @@ loop-residue-init c =
     let low = c.args.low in
     let view = c.self.view_is in
     let inside = c.self.inside in
-    let mid : Supports = record { period = inside.period; counts = inside.counts.values; counted = inside.counted.items; rows = inside.rows.items; trail = inside.trail.items; room = vec_capacity inside.trail; probes = c.over-residue-items.new.self } in
-    let same : mid ≡ record start { probes = mid.probes } = ap (λ (s : Supports). record { period = s.period; counts = s.counts; counted = s.counted; rows = s.rows; trail = s.trail; room = s.room; probes = c.over-residue-items.new.self }) view in
+    let mid : Supports = record { period = inside.period; counts = inside.counts.values; counted = inside.counted.items; rows = inside.rows.items; trail = inside.trail.items; room = vec_capacity inside.trail; sums = inside.sums.items; probes = c.over-residue-items.new.self } in
+    let same : mid ≡ record start { probes = mid.probes } = ap (λ (s : Supports). record { period = s.period; counts = s.counts; counted = s.counted; rows = s.rows; trail = s.trail; room = s.room; sums = s.sums; probes = c.over-residue-items.new.self }) view in
     let probes : inside.probes ≡ start.probes = ap (λ (s : Supports). s.probes) view in
     let few : c.over-residue-items.new.self ≤ inside.probes + (c.args.high - low) = at_most inside.probes (c.args.high - low) most_probes c.over-residue-items.new.self c.over-residue-items.ensures.counted in
     let counts : Fall T c.args.end low low start.counts inside.counts.values =
@@ -98,14 +98,14 @@ loop-residue-preserved-then-holds c =
     let steps = c.in-Some.ensures.steps in
     let q = c.loop-residue.residue-iterator.start in
     let T = start.period in
-    let before : Supports = record { period = inside.period; counts = inside.counts.values; counted = inside.counted.items; rows = inside.rows.items; trail = inside.trail.items; room = vec_capacity inside.trail; probes = inside.probes } in
+    let before : Supports = record { period = inside.period; counts = inside.counts.values; counted = inside.counted.items; rows = inside.rows.items; trail = inside.trail.items; room = vec_capacity inside.trail; sums = inside.sums.items; probes = inside.probes } in
     let mid : Supports = record before { counts = c.lower-none_left.new.self.values } in
     let high : q < c.args.high = omega (arith, steps.1.0, inv.end) in
     let below : q < T = omega (arith, high, c.requires.high) in
     let base : c.base-base.result ≡ c.args.end * T = c.base-base.ensures.base ∙ ap (λ n. c.args.end * n) (c.get.ensures.value ∙ ap (λ (s : Supports). s.period) c.self.view_is) in
     let at : c.base-base.result + c.in-Some.residue ≡ c.args.end * T + q = ap (λ n. c.base-base.result + n) steps.1.1 ∙ ap (λ n. n + q) base in
     let value = at_hand start now c.args.place c.args.end c.args.low q inv.low below inv.counts before (c.base-base.result + c.in-Some.residue) view at in
-    let falls : mid ≡ fallen before (c.base-base.result + c.in-Some.residue) = ap (λ xs. record { period = inside.period; counts = xs; counted = inside.counted.items; rows = inside.rows.items; trail = inside.trail.items; room = vec_capacity inside.trail; probes = inside.probes }) c.lower-none_left.ensures.count in
+    let falls : mid ≡ fallen before (c.base-base.result + c.in-Some.residue) = ap (λ xs. record { period = inside.period; counts = xs; counted = inside.counted.items; rows = inside.rows.items; trail = inside.trail.items; room = vec_capacity inside.trail; sums = inside.sums.items; probes = inside.probes }) c.lower-none_left.ensures.count in
     let some = c.requires.some q (range_from_to c.args.low c.args.high q inv.low high) in
     let less = lowered start now c.args.place c.args.end c.args.low q inv.low below inv.counts before mid (c.base-base.result + c.in-Some.residue) view at falls c.requires.block some inv.rows inv.counted inv.taken inv.shape in
     let probes : mid.probes ≡ now.probes = ap (λ (s : Supports). s.probes) view in
@@ -137,14 +137,14 @@ loop-residue-preserved c =
     let steps = c.in-Some.ensures.steps in
     let q = c.loop-residue.residue-iterator.start in
     let T = start.period in
-    let before : Supports = record { period = inside.period; counts = inside.counts.values; counted = inside.counted.items; rows = inside.rows.items; trail = inside.trail.items; room = vec_capacity inside.trail; probes = inside.probes } in
+    let before : Supports = record { period = inside.period; counts = inside.counts.values; counted = inside.counted.items; rows = inside.rows.items; trail = inside.trail.items; room = vec_capacity inside.trail; sums = inside.sums.items; probes = inside.probes } in
     let mid : Supports = record before { counts = c.lower-none_left.new.self.values } in
     let high : q < c.args.high = omega (arith, steps.1.0, inv.end) in
     let below : q < T = omega (arith, high, c.requires.high) in
     let base : c.base-base.result ≡ c.args.end * T = c.base-base.ensures.base ∙ ap (λ n. c.args.end * n) (c.get.ensures.value ∙ ap (λ (s : Supports). s.period) c.self.view_is) in
     let at : c.base-base.result + c.in-Some.residue ≡ c.args.end * T + q = ap (λ n. c.base-base.result + n) steps.1.1 ∙ ap (λ n. n + q) base in
     let value = at_hand start now c.args.place c.args.end c.args.low q inv.low below inv.counts before (c.base-base.result + c.in-Some.residue) view at in
-    let falls : mid ≡ fallen before (c.base-base.result + c.in-Some.residue) = ap (λ xs. record { period = inside.period; counts = xs; counted = inside.counted.items; rows = inside.rows.items; trail = inside.trail.items; room = vec_capacity inside.trail; probes = inside.probes }) c.lower-none_left.ensures.count in
+    let falls : mid ≡ fallen before (c.base-base.result + c.in-Some.residue) = ap (λ xs. record { period = inside.period; counts = xs; counted = inside.counted.items; rows = inside.rows.items; trail = inside.trail.items; room = vec_capacity inside.trail; sums = inside.sums.items; probes = inside.probes }) c.lower-none_left.ensures.count in
     let some = c.requires.some q (range_from_to c.args.low c.args.high q inv.low high) in
     let less = lowered start now c.args.place c.args.end c.args.low q inv.low below inv.counts before mid (c.base-base.result + c.in-Some.residue) view at falls c.requires.block some inv.rows inv.counted inv.taken inv.shape in
     let probes : mid.probes ≡ now.probes = ap (λ (s : Supports). s.probes) view in

@@ -18,6 +18,7 @@ invariant_of-self-2 c =
       few = omega (arith, a.few, v.few, c.if-places-gt-MOST_PLACES.false);
       room = omega (arith, v.room, a.rows.held, c.reserve.ensures.len, c.reserve.ensures.capacity);
       all_room = room_for (length c.add_rows.new.rows.items) (length c.self.inside.rows.items) c.args.places c.self.inside.period (vec_capacity c.reserve.new.self) a.few (omega (arith, v.all_room, c.reserve.ensures.capacity)) (omega (arith, room, product));
+      sums = λ some. c.in_ok-make_sums.ensures.ok;
       fits = v.fits;
     }
 

@@ -27,6 +27,7 @@ invariant_of-self c =
       few = rw many v.few;
       room = omega (arith, few, area, v.all_room, none);
       all_room = omega (arith, area, v.all_room);
+      sums = rw many v.sums;
       fits = v.fits;
     }
 

@@ -1,14 +1,15 @@
 -- The last pair of the trail comes back.
 use Rattle.std.proofs.Common.{◌≤◌, length, subst, sym, ap, ◌∙◌, arith}
 use Rattle.pesp_counts_supports.specs.Supports.{Supports}
-use Rattle.pesp_counts_supports.proofs.Raised.{AreBack, back_end, back_more, fit_same, last_below, last_out, last_row}
+use Rattle.pesp_counts_supports.proofs.Raised.{AreBack, back_end, back_more, last_below, last_out, last_row}
 use Rattle.pesp_counts_supports.proofs.supports.Supports.put_back.Goals as goal
+use Rattle.pesp_counts_supports.proofs.Taken.{fit_then}
 
 pub put_in-requires-clause-fit : goal.put_in-requires-clause-fit
 put_in-requires-clause-fit c =
     let so_far = subst (AreBack c.args.links.now c.args.mark c.args.self.now) (sym c.self.view_is) c.loop-self.invariant in
     let h = so_far.shape in
-    fit_same c.args.links.now c.args.self.now _ (record { period = h.period; counts = h.counts; counted = h.counted; rows = h.rows; room = c.take_last-pair.ensures.capacity ∙ h.room }) c.requires.fit
+    fit_then c.args.links.now c.args.self.now _ (record { period = h.period; counts = h.counts; counted = h.counted; rows = h.rows; room = c.take_last-pair.ensures.capacity ∙ h.room }) c.requires.fit
 
 pub put_in-requires-clause-exact : goal.put_in-requires-clause-exact
 put_in-requires-clause-exact c =

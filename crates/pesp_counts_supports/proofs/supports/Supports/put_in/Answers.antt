@@ -38,6 +38,7 @@ invariant_of-self c =
       few = rw (length-set rows place c.put_in-2.new.self) v.few;
       room = omega (arith, more, trail_is, held_is, room_is, c.requires.room);
       all_room = omega (arith, area, v.all_room);
+      sums = rw (length-set rows place c.put_in-2.new.self) v.sums;
       fits = v.fits;
     }
 

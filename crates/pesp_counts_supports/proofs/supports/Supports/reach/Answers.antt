@@ -139,6 +139,7 @@ invariant_of-self c =
       few = v.few;
       room = v.room;
       all_room = v.all_room;
+      sums = v.sums;
       fits = omega (arith, v.fits, c.raise_ranges_beside-full.ensures.most);
     }
 
@@ -153,6 +154,7 @@ invariant_of-self-else-not-full c =
       few = v.few;
       room = v.room;
       all_room = v.all_room;
+      sums = v.sums;
       fits = omega (arith, v.fits, c.raise_ranges_beside-full.ensures.most);
     }
 

@@ -33,6 +33,7 @@ invariant_of-self c =
       few = rw c.fill.ensures.many v.few;
       room = omega (arith, few, area, none, v.all_room, c.clear.ensures.capacity);
       all_room = omega (arith, area, v.all_room, c.clear.ensures.capacity);
+      sums = rw c.fill.ensures.many v.sums;
       fits = omega (arith, v.fits, c.widen_all.ensures.most);
     }
 

@@ -1,6 +1,7 @@
--- The pairs of the trail before the next one are counted out.
+-- The pairs of the trail before the next one are counted out, and what the others owe is kept.
 use Rattle.std.proofs.Common.{◌+◌, ◌-◌, ◌*◌, ◌≤◌, drop}
 use Rattle.pesp_counts_supports.specs.Counts.{ArePending, KeepsClosed, has_at}
+use Rattle.pesp_counts_supports.specs.Leaving.{owed}
 use Rattle.pesp_counts_supports.specs.Supports.{HaveSameShape, IsTaken}
 use Rattle.pesp_counts_supports.specs.Spent.{ends_at}
 use Rattle.pesp_counts_supports.proofs.supports.Supports.settle.Given as goal
@@ -12,7 +13,7 @@ invariant-loop-next l = record {
   taken : IsTaken l.fn.self l.self;
   shape : HaveSameShape l.fn.self l.self;
   onward : l.fn.next ≤ l.next;
-  probes : l.self.probes + l.fn.self.period * ends_at l.links (drop l.next l.self.trail) ≤ l.fn.self.probes + l.fn.self.period * ends_at l.links (drop l.fn.next l.self.trail);
+  probes : l.self.probes + l.fn.self.period * owed l.links (has_at l.self.counted) (drop l.next l.self.trail) ≤ l.fn.self.probes + l.fn.self.period * ends_at l.links (drop l.fn.next l.self.trail);
 }
 
 abbrev pub decreases-loop-next : goal.decreases-loop-next

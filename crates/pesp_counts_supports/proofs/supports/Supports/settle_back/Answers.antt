@@ -2,13 +2,12 @@
 use Rattle.std.proofs.Common.{◌+◌, ◌*◌, ◌≤◌, subst, arith}
 use Rattle.pesp_counts_supports.specs.Counts.{KeepsClosed, has_at}
 use Rattle.pesp_counts_supports.specs.Spent.{ends_at}
-use Rattle.pesp_counts_supports.proofs.Marks.{fit_same}
 use Rattle.pesp_counts_supports.proofs.PutBack.{back_keeps, back_pending, back_rest}
-use Rattle.pesp_counts_supports.proofs.Taken.{keeps_then, kept_shape, taken_then}
+use Rattle.pesp_counts_supports.proofs.Taken.{keeps_then, kept_shape, taken_then, fit_then}
 use Rattle.pesp_counts_supports.proofs.supports.Supports.settle_back.Goals as goal
 
 pub settle-requires-clause-fit : goal.settle-requires-clause-fit
-settle-requires-clause-fit c = fit_same c.args.links.now c.args.self.now c.sift_back.new.self (kept_shape c.args.self.now c.sift_back.new.self c.sift_back.ensures.keeps) c.requires.fit
+settle-requires-clause-fit c = fit_then c.args.links.now c.args.self.now c.sift_back.new.self (kept_shape c.args.self.now c.sift_back.new.self c.sift_back.ensures.keeps) c.requires.fit
 
 pub settle-requires-clause-pending : goal.settle-requires-clause-pending
 settle-requires-clause-pending c = back_pending c.args.links.now c.args.self.now c.sift_back.new.self c.args.back.now c.requires.pending c.sift_back.ensures.rows c.sift_back.ensures.taken c.sift_back.ensures.keeps

@@ -1,62 +1,24 @@
--- The pair that waited longest goes from what is counted.
-use Rattle.std.proofs.Common.{◌≡◌, ◌+◌, ◌*◌, ◌<◌, ◌≤◌, ◌==◌, ◌&&◌, not, ◌≢◌, ℕ, List, Bool, [], All, false, length, get_or, set, sym, ap, subst, ◌∙◌, arith}
-use Rattle.std.specs.List.{Contains}
+-- The pair that waited longest goes from what is counted, alone or with others.
+use Rattle.std.proofs.Common.{◌≡◌, ◌+◌, ◌*◌, ◌<◌, ◌≤◌, ◌≢◌, ℕ, List, Bool, [], All, false, length, get_or, drop, sym, ap, subst, ◌∙◌, arith}
 use Rattle.std.proofs.lemmas.Bool.{false≢true}
-use Rattle.std.proofs.lemmas.List.{get_or_default, length-set}
+use Rattle.std.proofs.lemmas.List.{get_or_default}
 use Rattle.std.proofs.lemmas.List.Elements.{All-get_or}
-use Rattle.pesp_domains.specs.Domains.{holds}
-use Rattle.pesp_domains.specs.Removals.{without}
 use Rattle.pesp_domains.specs.Sweeps.{Of}
+use Rattle.pesp_counts_supports.specs.declared.leaving.Leaving.TheVariants.{Block}
 use Rattle.pesp_counts_supports.specs.declared.trail.Placed.{Placed}
 use Rattle.pesp_counts_arcs.specs.declared.end.End.{End}
-use Rattle.pesp_counts_arcs.specs.Ends.{ends_of}
-use Rattle.pesp_counts_supports.specs.Counts.{ArePending, KeepsClosed, IsExactAt, IsLiveAt, has_at}
-use Rattle.pesp_counts_supports.specs.Supports.{HaveSameShape, IsTaken, Supports}
-use Rattle.pesp_counts_supports.proofs.Grown.{long_set}
-use Rattle.pesp_counts_supports.proofs.Rows.{rows_without, within_row, within_rows}
-use Rattle.pesp_counts_supports.proofs.Taken.{keeps_none, shape_none, taken_none}
-use Rattle.pesp_counts_supports.proofs.Waiting.{pending_then}
+use Rattle.pesp_counts_supports.specs.Blocks.{gone_at, sum_below}
+use Rattle.pesp_counts_supports.specs.Counts.{ArePending, has_at}
+use Rattle.pesp_counts_supports.specs.Leaving.{IsLeaving, leaves_of, owed}
+use Rattle.pesp_counts_supports.specs.Spent.{ends_at}
+use Rattle.pesp_counts_supports.specs.Supports.{AreExact, HaveSameShape, IsTaken, Supports}
+use Rattle.pesp_counts_supports.proofs.Parted.{paid}
+use Rattle.pesp_domains.proofs.RowLaws.{within_row}
+use Rattle.pesp_counts_supports.proofs.Rows.{within_rows}
+use Rattle.pesp_counts_supports.proofs.Settled.{step_paid, step_pending}
+use Rattle.pesp_counts_supports.proofs.Taken.{fit_then, keeps_none, shape_none, taken_none, taken_same, taken_then}
 use Rattle.pesp_counts_supports.proofs.supports.Supports.settle_one.Goals as goal
-use Rattle.pesp_counts_supports.proofs.supports.Supports.settle_one.Goals.{else-has_counted-via-then-has_counted+else-not-holds, else-has_counted-via-else-has_counted}
-
-pub returns-then-not-holds-clause-pending : goal.returns-then-not-holds-clause-pending
-returns-then-not-holds-clause-pending c =
-    let start = c.args.self.now in
-    let links = c.args.links.now in
-    let pair = c.index-pair.result.now in
-    let view = c.self-then-not-holds.view_is in
-    let now = c.self-then-not-holds.inside in
-    let counted = now.counted.items in
-    let seen : counted ≡ start.counted = ap (λ (s : Supports). s.counted) view ∙ c.spread.ensures.counted in
-    let here : Of (has_at counted) pair.place pair.residue =
-    ap (λ rows. has_at rows pair.place pair.residue) seen ∙ sym c.has_counted.ensures ∙ c.if-has_counted.true
-    in
-    let same = c.index_mut.ensures.value ∙ get_or_default counted pair.place c.index_mut.result.now [] (within_rows counted pair.place pair.residue here) in
-    let takes = rows_without counted pair.place pair.residue c.take_out.new.self here (c.take_out.ensures.long ∙ ap length same) (λ r. c.take_out.ensures.holds r ∙ ap (λ row. holds row r && not (r == pair.residue)) same) in
-    let at : (d : Placed) → get_or start.trail c.args.next d ≡ pair =
-    λ d. ap (λ (s : Supports). get_or s.trail c.args.next d) (sym c.self.view_is) ∙ get_or_default c.self.inside.trail.items c.args.next d pair (subst (λ (s : Supports). c.args.next < length s.trail) (sym c.self.view_is) c.requires.next) ∙ sym c.index-pair.ensures
-    in
-    let gone : has_at start.rows pair.place pair.residue ≡ false =
-    sym c.holds.ensures ∙ c.if-not-holds.true
-    in
-    let goes : (q r : ℕ) → has_at (set counted pair.place c.take_out.new.self) q r ≡ without (has_at start.counted) pair.place pair.residue q r =
-    λ q r. takes q r ∙ ap (λ rows. without (has_at rows) pair.place pair.residue q r) seen
-    in
-    subst (λ (s : Supports). ArePending start.period links.ends links.lists s.counts (has_at (set counted pair.place c.take_out.new.self)) (has_at s.rows) s.trail (c.args.next + 1)) (sym view)
-    (pending_then start.period links.ends links.lists start c.spread.new.self (has_at (set counted pair.place c.take_out.new.self)) c.args.next pair.place pair.residue c.requires.next at gone goes c.spread.ensures.taken c.requires.pending
-    (subst (λ n. (q k : ℕ) → Contains (ends_of links.lists q) k → IsExactAt n links.ends c.spread.new.self.counts (without (has_at start.counted) pair.place pair.residue) k) c.spread.ensures.shape.period c.spread.ensures.exact)
-    (subst (λ n. (q k : ℕ) → Contains (ends_of links.lists q) k → IsLiveAt n c.spread.new.self.counts (has_at c.spread.new.self.rows) q k) c.spread.ensures.shape.period c.spread.ensures.live))
-
-pub returns-then-not-holds-clause-probes : goal.returns-then-not-holds-clause-probes
-returns-then-not-holds-clause-probes c =
-    let start = c.args.self.now in
-    let links = c.args.links.now in
-    let none : Placed = record { place = 0; residue = 0 } in
-    let pair = c.index-pair.result.now in
-    let at : get_or start.trail c.args.next none ≡ pair =
-    ap (λ (s : Supports). get_or s.trail c.args.next none) (sym c.self.view_is) ∙ get_or_default c.self.inside.trail.items c.args.next none pair (subst (λ (s : Supports). c.args.next < length s.trail) (sym c.self.view_is) c.requires.next) ∙ sym c.index-pair.ensures
-    in
-    rw at (subst (λ (s : Supports). s.probes ≤ start.probes + start.period * length (ends_of links.lists pair.place)) (sym c.self-then-not-holds.view_is) c.spread.ensures.probes)
+use Rattle.pesp_counts_supports.proofs.supports.Supports.settle_one.Goals.{After-uncount, else-has_counted-via-then-has_counted+else-not-holds, else-has_counted-via-else-has_counted}
 
 -- a residue of a row is below the period
 below_long : (rows : List (List Bool)) (n p r : ℕ) → All (λ row. length row ≡ n) rows → Of (has_at rows) p r → r < n
@@ -80,74 +42,92 @@ passed T ends lists start next pair at never pending =
           (w.0, omega (arith, w.1, other), w.2, w.3);
     }
 
--- The others are found by search, and named so that they are found at once.
-pub spread-requires-clause-residue : goal.spread-requires-clause-residue
-spread-requires-clause-residue c =
+-- ---- sums are made, and nothing else changes
+
+module _ (start mid : Supports) (same : mid ≡ record start { sums = mid.sums }) where
+  sums_shape : HaveSameShape start mid
+  sums_shape =
+      record {
+        period = ap (λ (s : Supports). s.period) same;
+        counts = ap (λ (s : Supports). length s.counts) same;
+        counted = ap (λ (s : Supports). length s.counted) same;
+        rows = ap (λ (s : Supports). length s.rows) same;
+        room = ap (λ (s : Supports). s.room) same;
+      }
+
+  sums_taken : IsTaken start mid
+  sums_taken = taken_same start mid (ap (λ (s : Supports). s.trail) same) (λ p r. ap (λ (s : Supports). has_at s.rows p r) same)
+
+-- ---- what leaves
+
+pub leaving_with-leaving-requires-clause-residue : goal.leaving_with-leaving-requires-clause-residue
+leaving_with-leaving-requires-clause-residue c =
     let start = c.args.self.now in
     let pair = c.index-pair.result.now in
     let long = subst (λ (s : Supports). All (λ row. length row ≡ s.period) s.counted) c.self.view_is c.self.invariant.counted in
     below_long start.counted start.period pair.place pair.residue long (sym c.has_counted.ensures ∙ c.if-has_counted.true)
 
-pub spread-requires-clause-below : goal.spread-requires-clause-below
-spread-requires-clause-below c p r h =
+pub spread-requires-clause-fit : goal.spread-requires-clause-fit
+spread-requires-clause-fit c =
     let start = c.args.self.now in
-    below_long start.rows start.period p r (subst (λ (s : Supports). All (λ row. length row ≡ s.period) s.rows) c.self.view_is c.self.invariant.rows) h
+    let mid = c.leaving_with-leaving.new.self in
+    fit_then c.args.links.now start mid (sums_shape start mid c.leaving_with-leaving.ensures.same) c.requires.fit
 
 pub spread-requires-clause-exact : goal.spread-requires-clause-exact
-spread-requires-clause-exact c = c.requires.pending.exact
+spread-requires-clause-exact c = subst (λ (s : Supports). AreExact c.args.links.now s (has_at s.counted)) (sym c.leaving_with-leaving.ensures.same) c.requires.pending.exact
 
-pub spread-requires-clause-live : goal.spread-requires-clause-live
-spread-requires-clause-live c = c.requires.pending.live
-
-pub spread-requires-clause-within : goal.spread-requires-clause-within
-spread-requires-clause-within c = c.requires.pending.within
-
-pub invariant_of-self : goal.invariant_of-self
-invariant_of-self c =
-    let v = c.self-then-not-holds.invariant in
-    let n = c.self-then-not-holds.inside.period in
-    let pair = c.index-pair.result.now in
-    let counted = c.self-then-not-holds.inside.counted.items in
-    let seen : counted ≡ c.args.self.now.counted = ap (λ (s : Supports). s.counted) c.self-then-not-holds.view_is ∙ c.spread.ensures.counted in
-    let within = within_rows counted pair.place pair.residue (ap (λ rows. has_at rows pair.place pair.residue) seen ∙ sym c.has_counted.ensures ∙ c.if-has_counted.true) in
-    record {
-      period = v.period;
-      rows = v.rows;
-      counted = long_set n pair.place counted c.take_out.new.self c.index_mut.result.now within v.counted c.index_mut.ensures.value c.take_out.ensures.long;
-      even = length-set counted pair.place c.take_out.new.self ∙ v.even;
-      few = v.few;
-      room = v.room;
-      all_room = v.all_room;
-      fits = v.fits;
-    }
-
-pub returns-then-not-holds-clause-keeps : goal.returns-then-not-holds-clause-keeps
-returns-then-not-holds-clause-keeps c =
-    let start = c.args.self.now in
+-- The others wait still, and those that left paid for the looks.
+step : (c : After-uncount) → ArePending c.args.self.now.period c.args.links.now.ends c.args.links.now.lists c.uncount.new.self.counts (has_at c.uncount.new.self.counted) (has_at c.uncount.new.self.rows) c.uncount.new.self.trail (c.args.next + 1)
+    × (c.uncount.new.self.probes + c.args.self.now.period * owed c.args.links.now (has_at c.uncount.new.self.counted) (drop (c.args.next + 1) c.uncount.new.self.trail)
+    ≤ c.args.self.now.probes + c.args.self.now.period * (owed c.args.links.now (has_at c.args.self.now.counted) (drop c.args.next c.args.self.now.trail) + ends_at c.args.links.now (drop (length c.args.self.now.trail) c.uncount.new.self.trail)))
+step c =
     let links = c.args.links.now in
-    subst (λ (s : Supports). KeepsClosed start.period links.ends links.lists (has_at start.rows) (has_at s.rows)) (sym c.self-then-not-holds.view_is) c.spread.ensures.keeps
+    let pair = c.index-pair.result.now in
+    let next = c.args.next in
+    let mid = c.leaving_with-leaving.new.self in
+    let l = c.leaving_with-leaving.result in
+    let made = c.leaving_with-leaving.ensures in
+    let now = c.spread.new.self in
+    let spread = c.spread.ensures in
+    let last = c.uncount.new.self in
+    let D : ℕ → Bool = leaves_of mid pair.place l in
+    let pending = subst (λ (s : Supports). ArePending s.period links.ends links.lists s.counts (has_at s.counted) (has_at s.rows) s.trail next) (sym made.same) c.requires.pending in
+    let at : (d : Placed) → get_or mid.trail next d ≡ pair =
+    λ d. ap (λ (s : Supports). get_or s.trail next d) (made.same ∙ ap (λ (s : Supports). record s { sums = mid.sums }) (sym c.self.view_is))
+    ∙ get_or_default c.self.inside.trail.items next d pair (subst (λ (s : Supports). next < length s.trail) (sym c.self.view_is) c.requires.next)
+    ∙ sym c.index-pair.ensures
+    in
+    let here : Of (has_at mid.counted) pair.place pair.residue = ap (λ (s : Supports). has_at s.counted pair.place pair.residue) made.same ∙ sym c.has_counted.ensures ∙ c.if-has_counted.true in
+    let out : has_at mid.rows pair.place pair.residue ≡ false = ap (λ (s : Supports). has_at s.rows pair.place pair.residue) made.same ∙ sym c.holds.ensures ∙ c.if-not-holds.true in
+    let within : next < length mid.trail = subst (λ (s : Supports). next < length s.trail) (sym made.same) c.requires.next in
+    let goes = c.uncount.ensures.counted D (subst (λ n. IsLeaving n l now.sums D) (sym spread.shape.period) spread.leaving) in
+    let many = λ (e : l ≡ Block). subst (λ (s : Supports). 2 ≤ sum_below s.period (gone_at s pair.place) s.period) (sym made.same) (made.many e) in (
+      subst (λ n. ArePending n links.ends links.lists last.counts (has_at last.counted) (has_at last.rows) last.trail (next + 1)) (ap (λ (s : Supports). s.period) made.same)
+          (step_pending links next pair l mid now last pending within at here out made.alone spread.counted spread.taken spread.shape goes c.uncount.ensures.same spread.exact spread.live),
+      subst (λ (s : Supports). last.probes + s.period * owed links (has_at last.counted) (drop (next + 1) last.trail) ≤ s.probes + s.period * (owed links (has_at s.counted) (drop next s.trail) + ends_at links (drop (length s.trail) last.trail))) made.same
+          (step_paid links next pair l mid now last pending within at here out made.alone spread.counted spread.taken spread.shape goes c.uncount.ensures.same many spread.probes),
+    )
+
+pub returns-then-not-holds-clause-pending : goal.returns-then-not-holds-clause-pending
+returns-then-not-holds-clause-pending c = (step (goal.at.returns-then-not-holds-clause-pending c).After-uncount).0
+
+pub returns-then-not-holds-clause-probes : goal.returns-then-not-holds-clause-probes
+returns-then-not-holds-clause-probes c = (step (goal.at.returns-then-not-holds-clause-probes c).After-uncount).1
 
 pub returns-then-not-holds-clause-taken : goal.returns-then-not-holds-clause-taken
 returns-then-not-holds-clause-taken c =
-    let taken = subst (λ (s : Supports). IsTaken c.args.self.now s) (sym c.self-then-not-holds.view_is) c.spread.ensures.taken in
-    record {
-      more = taken.more;
-      trail = taken.trail;
-      parted = taken.parted;
-      out = taken.out;
-      once = taken.once;
-    }
+    let start = c.args.self.now in
+    let mid = c.leaving_with-leaving.new.self in
+    let now = c.spread.new.self in
+    let last = c.uncount.new.self in
+    let kept = c.uncount.ensures.same in
+    taken_then start mid last (sums_taken start mid c.leaving_with-leaving.ensures.same)
+    (taken_then mid now last c.spread.ensures.taken (taken_same now last (ap (λ (s : Supports). s.trail) kept) (λ p r. ap (λ (s : Supports). has_at s.rows p r) kept)))
 
-pub returns-then-not-holds-clause-shape : goal.returns-then-not-holds-clause-shape
-returns-then-not-holds-clause-shape c =
-    let shape = subst (λ (s : Supports). HaveSameShape c.args.self.now s) (sym c.self-then-not-holds.view_is) c.spread.ensures.shape in
-    record {
-      period = shape.period;
-      counts = shape.counts;
-      counted = length-set c.self-then-not-holds.inside.counted.items c.index-pair.result.now.place c.take_out.new.self ∙ shape.counted;
-      rows = shape.rows;
-      room = shape.room;
-    }
+pub returns-else-has_counted-clause-probes : goal.returns-else-has_counted-clause-probes
+returns-else-has_counted-clause-probes c =
+    let start = c.args.self.now in
+    paid c.args.links.now start start start.period c.args.next 0 (has_at start.counted) (has_at start.counted) (taken_none start) c.requires.next (omega arith) (omega arith)
 
 pub returns-else-has_counted-clause-pending : goal.returns-else-has_counted-clause-pending
 returns-else-has_counted-clause-pending c =

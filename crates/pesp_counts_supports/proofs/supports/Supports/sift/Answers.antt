@@ -21,8 +21,8 @@ loop-residue-init c =
     let view = c.self.view_is in
     let inside = c.self.inside in
     let f : ℕ → Bool = λ r. count_at start.period start.counts c.args.end r == 0 in
-    let mid : Supports = record { period = inside.period; counts = inside.counts.values; counted = inside.counted.items; rows = inside.rows.items; trail = inside.trail.items; room = vec_capacity inside.trail; probes = c.over-residue-items.new.self } in
-    let same : mid ≡ record start { probes = mid.probes } = ap (λ (s : Supports). record { period = s.period; counts = s.counts; counted = s.counted; rows = s.rows; trail = s.trail; room = s.room; probes = c.over-residue-items.new.self }) view in
+    let mid : Supports = record { period = inside.period; counts = inside.counts.values; counted = inside.counted.items; rows = inside.rows.items; trail = inside.trail.items; room = vec_capacity inside.trail; sums = inside.sums.items; probes = c.over-residue-items.new.self } in
+    let same : mid ≡ record start { probes = mid.probes } = ap (λ (s : Supports). record { period = s.period; counts = s.counts; counted = s.counted; rows = s.rows; trail = s.trail; room = s.room; sums = s.sums; probes = c.over-residue-items.new.self }) view in
     let period : c.get.result ≡ start.period = c.get.ensures.value ∙ ap (λ (s : Supports). s.period) view in
     let probes : inside.probes ≡ start.probes = ap (λ (s : Supports). s.probes) view in
     let few : c.over-residue-items.new.self ≤ inside.probes + (c.get.result - 0) = at_most inside.probes (c.get.result - 0) most_probes c.over-residue-items.new.self c.over-residue-items.ensures.counted in

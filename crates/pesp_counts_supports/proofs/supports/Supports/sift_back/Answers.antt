@@ -8,16 +8,15 @@ use Rattle.pesp_counts_supports.specs.declared.trail.Placed.{Placed}
 use Rattle.pesp_counts_arcs.specs.Ends.{ends_of}
 use Rattle.pesp_counts_supports.specs.Counts.{count_at, has_at}
 use Rattle.pesp_counts_supports.specs.Supports.{Supports, lacks_partner}
-use Rattle.pesp_counts_supports.proofs.Marks.{fit_same}
 use Rattle.pesp_counts_supports.proofs.PutBack.{Sifts, sifts_passed, sifts_taken}
 use Rattle.pesp_counts_supports.proofs.Ranges.{no_and}
 use Rattle.pesp_counts_supports.proofs.Spent.{looked_keeps, looked_taken}
-use Rattle.pesp_counts_supports.proofs.Taken.{kept_shape, kept_then, taken_then}
+use Rattle.pesp_counts_supports.proofs.Taken.{kept_shape, kept_then, taken_then, fit_then}
 use Rattle.pesp_counts_supports.proofs.supports.Supports.sift_back.Goals as goal
 use Rattle.pesp_counts_supports.proofs.supports.Supports.sift_back.Goals.{then-holds+then-lacks_partner, else-holds, else-holds-via-then-holds+else-lacks_partner, else-holds-via-else-holds}
 
 pub lacks_partner-requires-clause-fit : goal.lacks_partner-requires-clause-fit
-lacks_partner-requires-clause-fit c = fit_same c.args.links.now c.args.self.now c.loop-pair.self (kept_shape c.args.self.now c.loop-pair.self c.loop-pair.invariant.keeps) c.requires.fit
+lacks_partner-requires-clause-fit c = fit_then c.args.links.now c.args.self.now c.loop-pair.self (kept_shape c.args.self.now c.loop-pair.self c.loop-pair.invariant.keeps) c.requires.fit
 
 pub loop-pair-preserved : goal.loop-pair-preserved
 loop-pair-preserved c =

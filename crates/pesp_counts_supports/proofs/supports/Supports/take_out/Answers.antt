@@ -36,6 +36,7 @@ invariant_of-self c =
       few = rw (length-set rows c.args.place c.take_out.new.self) c.self.invariant.few;
       room = omega (arith, fewer, more, c.push_reserved.ensures.capacity, c.self.invariant.room);
       all_room = rw (length-set rows c.args.place c.take_out.new.self, c.push_reserved.ensures.capacity) c.self.invariant.all_room;
+      sums = rw (length-set rows c.args.place c.take_out.new.self) c.self.invariant.sums;
       fits = c.self.invariant.fits;
     }
 

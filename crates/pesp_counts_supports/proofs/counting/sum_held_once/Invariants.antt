@@ -1,0 +1,13 @@
+-- The sums so far are those of the residues so far.
+use Rattle.std.proofs.Common.{◌≡◌, ℕ, ◌<◌, length, slice_index_or}
+use Rattle.pesp_domains.specs.Domains.{holds}
+use Rattle.pesp_counts_supports.specs.Blocks.{sum_below}
+use Rattle.pesp_counts_supports.proofs.counting.sum_held_once.Given as goal
+
+abbrev pub invariant-loop-residue : goal.invariant-loop-residue
+invariant-loop-residue l =
+    record {
+      long : length l.sums ≡ length l.fn.sums;
+      sums : (i : ℕ) → i < l.residue → slice_index_or l.sums i 0 ≡ sum_below l.period (holds l.row) i;
+      many : l.many ≡ sum_below l.period (holds l.row) l.residue;
+    }

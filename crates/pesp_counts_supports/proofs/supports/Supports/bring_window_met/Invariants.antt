@@ -1,0 +1,14 @@
+-- The residues of the steps before the next one were brought, where the block meets them.
+use Rattle.std.proofs.Common.{◌≡◌, ◌+◌, ◌≤◌}
+use Rattle.pesp_counts_supports.specs.Blocks.{of_met, of_window}
+use Rattle.pesp_counts_supports.specs.Restored.{IsBrought}
+use Rattle.pesp_counts_supports.proofs.supports.Supports.bring_window_met.Given as goal
+
+abbrev pub invariant-loop-step : goal.invariant-loop-step
+invariant-loop-step l =
+    record {
+      counts : l.self.counts ≡ l.fn.self.counts;
+      sums : l.self.sums ≡ l.fn.self.sums;
+      brought : IsBrought (of_met l.fn.self.sums l.end (of_window l.fn.self.period l.place (record { first = l.window.first; length = l.step }))) l.fn.self l.self l.fn.back l.back;
+      probes : l.self.probes ≤ l.fn.self.probes + l.step;
+    }
