@@ -1,17 +1,12 @@
 -- A residue is so many steps from the first one of a window exactly where it is fewer steps up from there than there are residues.
-use Rattle.std.proofs.Common.{◌≡◌, ℕ, ◌+◌, ◌%◌, ◌<◌, ◌↔◌, IsTrue, Bool, true, false, ◌==◌, ◌&&◌, nat_lt, pos, ◌+ℤ◌, ◌-ℤ◌, inl, inr, refl, sym, ap, subst, ◌∙◌, arith, mod-lt}
-use Rattle.std.proofs.lemmas.Bool.{cases_eq, eq-eqb, ne_eqb, lt-ltb, ltb-true}
+use Rattle.std.proofs.Common.{◌≡◌, ℕ, ◌+◌, ◌%◌, ◌<◌, ◌↔◌, IsTrue, Bool, true, false, ◌==◌, nat_lt, pos, ◌+ℤ◌, ◌-ℤ◌, inl, inr, refl, sym, ap, subst, ◌∙◌, arith, mod-lt}
+use Rattle.std.proofs.lemmas.Bool.{cases_eq, eq-eqb, ne_eqb, lt-ltb, ltb-true, and_parts}
 use Rattle.std.proofs.lemmas.Int.{ints}
 use Rattle.std.proofs.Math.Nat.{mod-le, mod-eq_of_lt}
 use Rattle.pesp_base.specs.Tensions.{residue}
 use Rattle.pesp_base.specs.Windows.{Interval, IsHeld, is_held, at_time}
 use Rattle.pesp_base.proofs.Laws.{residue_below}
 use Rattle.pesp_base.proofs.ResidueLaws.{residue-residue_sub, residue_after_rise}
-
-both_true : (b c : Bool) → (b && c) ≡ true → (b ≡ true) × (c ≡ true)
-both_true true true is = (refl, refl)
-both_true true false is = absurd (cc)
-both_true false c is = absurd (cc)
 
 -- the residue that is k steps from the first one is as many steps up from it as k is behind whole periods
 pub steps : (T first k : ℕ) → 0 < T → residue T (pos ((first + k) % T) -ℤ pos first) ≡ k % T
@@ -28,7 +23,7 @@ module _ (T : ℕ) (w : Interval) (r : ℕ) (some : 0 < T) where
 
   from_held : is_held T w r ≡ true → IsHeld T w r
   from_held h =
-      let both = both_true (nat_lt r T) _ h in
+      let both = and_parts (nat_lt r T) _ h in
       let k : ℕ = residue T (pos r -ℤ pos w.first) in
       let up : residue T (pos w.first +ℤ pos k) ≡ r = residue_after_rise T (pos w.first) k r (ltb-true r T both.0) refl in
       (k, ltb-true k w.length both.1, up)
@@ -39,8 +34,8 @@ module _ (T : ℕ) (w : Interval) (r : ℕ) (some : 0 < T) where
 -- ---- windows of one residue, and of all
 
 -- the first residue, after no step
-at_first : (T t : ℕ) → t < T → (t + 0) % T ≡ t
-at_first T t below =
+pub after_no_step : (T t : ℕ) → t < T → (t + 0) % T ≡ t
+after_no_step T t below =
     let none : t + 0 ≡ t = omega arith in
     rw none (mod-eq_of_lt below)
 
@@ -53,14 +48,14 @@ pub held-at_time : (T t r : ℕ) → t < T → is_held T (at_time t) r ≡ (t ==
 held-at_time T t r below =
     let some : 0 < T = omega (arith, below) in
     elim (cases_eq t r) [
-      | inl same ↦ rw (eq-eqb t r same) (held_from T (at_time t) r some (0, omega arith, at_first T t below ∙ same))
+      | inl same ↦ rw (eq-eqb t r same) (held_from T (at_time t) r some (0, omega arith, after_no_step T t below ∙ same))
       | inr apart ↦ rw (ne_eqb t r apart) (only_true (is_held T (at_time t) r) (λ h. apart (reached (from_held T (at_time t) r some h))))
     ]
   where
     reached : IsHeld T (at_time t) r → t ≡ r
     reached (k, few, is) =
         let none : k ≡ 0 = omega (arith, few) in
-        sym (at_first T t below) ∙ ap (λ n. (t + n) % T) (sym none) ∙ is
+        sym (after_no_step T t below) ∙ ap (λ n. (t + n) % T) (sym none) ∙ is
 
 -- a window as long as the period holds each residue
 pub held-full : (T : ℕ) (w : Interval) (r : ℕ) → w.length ≡ T → r < T → is_held T w r ≡ true

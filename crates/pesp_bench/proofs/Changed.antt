@@ -2,21 +2,19 @@
 use Rattle.std.proofs.Common.{◌≡◌, ℕ, ◌+◌, ◌<◌, ◌≤◌, ◌==◌, ◌&&◌, Bool, true, false, not, cond, nat_lt, is_some, List, [], ◌∷◌, ◌++◌, length, map, filter, get_or, None, Some, refl, sym, ap, subst, ◌∙◌, inl, inr, arith, All, sum_by}
 use Rattle.std.specs.List.{list_any, range_with_len}
 use Rattle.std.specs.Option.{option_map_or}
-use Rattle.std.proofs.lemmas.Bool.{cases_lt, eq-eqb, eqb-true, false≢true, le-ltb, lt-ltb, ltb-true, ne_eqb}
-use Rattle.std.proofs.lemmas.List.Elements.{All-append, All-cons, All-filter, All-head, All-nil, All-tail, filter-append}
+use Rattle.std.proofs.lemmas.Bool.{cases_lt, eq-eqb, eqb-true, false≢true, le-ltb, lt-ltb, ne_eqb}
+use Rattle.std.proofs.lemmas.List.Elements.{All-append, All-cons, All-filter, All-head, All-nil, All-tail}
 use Rattle.std.proofs.lemmas.List.Folds.{list_any_at, list_any_none}
 use Rattle.std.proofs.lemmas.List.FromFn.{get_or-range_with_len, length-range_with_len}
 use Rattle.std.proofs.lemmas.List.Sums.{sum_by-append, sum_by-cons}
-use Rattle.pesp_base.specs.Numbered.{change_in, put_in, take_out, with_number}
+use Rattle.std.proofs.lemmas.Option.{same_Some}
+use Rattle.pesp_base.specs.Numbered.{change_in, put_in, with_number}
 use Rattle.pesp_instance.proofs.Rising.{All-found, IfSome-with_number, Rises, filter_above-above, filter_below-above, number-with_number}
 
 -- the member in the middle of a list
 middle : {X : Type 0} (P : X → Type 0) (v : X) (xs ys : List X) → All P (xs ++ v ∷ ys) → P v
 middle P v [] ys all = All-head P v ys all
 middle P v (x ∷ xs) ys all = middle P v xs ys (All-tail P x (xs ++ v ∷ ys) all)
-
-some_same : {X : Type 0} (x y : X) → Some x ≡ Some y → x ≡ y
-some_same x y same = cc
 
 module _ {X : Type 0} (number : X → ℕ) where
   -- the members of smaller numbers and those of greater ones are all, where there is none of the number
@@ -35,27 +33,6 @@ module _ {X : Type 0} (number : X → ℕ) where
     where
       found : (n : ℕ) (x : X) (xs : List X) → n ≡ number x → is_some (with_number number n (x ∷ xs)) ≡ true
       found n x xs same = rw (eq-eqb (number x) n (sym same)) refl
-
-  others_stay : (n : ℕ) (keep : X → Bool) (xs : List X) → ((x : X) → keep x ≡ true → number x ≡ n → ⊥) → take_out number n (filter keep xs) ≡ filter keep xs
-  others_stay n keep [] apart = refl
-  others_stay n keep (x ∷ xs) apart =
-      elim (keep x) as (λ b. keep x ≡ b → take_out number n (cond b (x ∷ filter keep xs) (filter keep xs)) ≡ cond b (x ∷ filter keep xs) (filter keep xs)) [
-        | true ↦ λ is. rw (ne_eqb (number x) n (apart x is)) (ap (λ list. x ∷ list) (others_stay n keep xs apart))
-        | false ↦ λ _. others_stay n keep xs apart
-      ] refl
-
-  -- one that is put in and taken out again leaves what was there
-  pub taken_out_again : (v : X) (xs : List X) → Rises number xs → with_number number (number v) xs ≡ None → take_out number (number v) (put_in number v xs) ≡ xs
-  taken_out_again v xs rises none =
-      let low : X → Bool = λ x. nat_lt (number x) (number v) in
-      let high : X → Bool = λ x. nat_lt (number v) (number x) in
-      filter-append (λ x. not (number x == number v)) (filter low xs) (v ∷ filter high xs)
-      ∙ rw (
-        eq-eqb (number v) (number v) refl,
-        others_stay (number v) low xs (λ x is same. let below = ltb-true (number x) (number v) is in omega (arith, below, same)),
-        others_stay (number v) high xs (λ x is same. let above = ltb-true (number v) (number x) is in omega (arith, above, same)),
-      )
-      (both_sides (number v) xs rises none)
 
   -- what holds of each member after one is changed held before, where it did of that one
   pub All-before_change : (P : X → Type 0) (n : ℕ) (change : X → X) (xs : List X) → All (λ x. number x ≡ n → P (change x) → P x) xs → All P (change_in number n change xs) → All P xs
@@ -161,7 +138,7 @@ module _ {X : Type 0} (number : X → ℕ) where
   pub All-by_number : (P : X → Type 0) (n : ℕ) (xs : List X) (x : X) → Rises number xs → with_number number n xs ≡ Some x → P x → All (λ y. number y ≡ n → P y) xs
   All-by_number P n xs x rises found here = λ k d l same.
       let there : Some (get_or xs k d) ≡ Some x = sym (ap (λ i. with_number number i xs) (sym same) ∙ All-found number xs rises k d l) ∙ found in
-      subst P (sym (some_same (get_or xs k d) x there)) here
+      subst P (sym (same_Some (get_or xs k d) x there)) here
 
   pub of_All-by_number : (P : X → Type 0) (n : ℕ) (xs : List X) (x : X) → All (λ y. number y ≡ n → P y) xs → with_number number n xs ≡ Some x → P x
   of_All-by_number P n xs x all found = IfSome-with_number number (λ y. number y ≡ n → P y) n xs x all found (number-with_number number n xs x found)
@@ -191,13 +168,6 @@ pub then_old : (new old : Bool) → (new && not old) ≡ false → new ≡ true 
 then_old true true none is = refl
 then_old true false none is = absurd (false≢true (sym none))
 then_old false old none is = absurd (false≢true is)
-
--- one number below n passes the test
-pub some_below : (test : ℕ → Bool) (n d : ℕ) → d < n → test d ≡ true → list_any test (range_with_len 0 n) ≡ true
-some_below test n d l is =
-    let long : length (range_with_len 0 n) ≡ n = length-range_with_len 0 n in
-    let here : get_or (range_with_len 0 n) d 0 ≡ d = omega (arith, get_or-range_with_len 0 n d 0 l) in
-    list_any_at test (range_with_len 0 n) d 0 (omega (arith, l, long)) (ap test here ∙ is)
 
 -- each of them fails it
 pub all_below_fail : (test : ℕ → Bool) (n : ℕ) → ((d : ℕ) → d < n → test d ≡ false) → list_any test (range_with_len 0 n) ≡ false

@@ -22,7 +22,7 @@ use Rattle.pesp_base.specs.Windows.{Interval, at_time}
 use Rattle.pesp_instance.specs.Edited.{edited, effect, rewindowed}
 use Rattle.pesp_instance.specs.Network.{HasEnds, IsNetwork, Network, activity_of, admits, agrees_with, window_of, has_event, new_event}
 use Rattle.pesp_instance.proofs.Numbers.{activity_number as id_of, event_number as number}
-use Rattle.pesp_instance.proofs.Rising.{All-found, Rises, Rises-from_increasing, Rises-put_in, take_out-above, with_number-change_in}
+use Rattle.pesp_instance.proofs.Rising.{All-found, Rises, Rises-from_increasing, Rises-put_in, take_out-above, with_number-change_in, take_out-put_in}
 use Rattle.pesp_instance.proofs.Tables.{same_test}
 use Rattle.pesp_domains.proofs.Edits.{effect_is}
 use Rattle.pesp_search.specs.declared.answer.Answer.{Answer}
@@ -33,7 +33,8 @@ use Rattle.pesp_tension.specs.Timetables.{Times, without_time}
 use Rattle.pesp_bench.specs.Kept.{Keeps, cheapens, opens}
 use Rattle.pesp_domains.specs.Loosening.{admits_anew, admits_more, is_looser}
 use Rattle.pesp_bench.specs.Loosening.{is_lighter, is_moved}
-use Rattle.pesp_bench.proofs.Changed.{All-before_change, none_below, numbers_stay, of_number, sum_by-change, sum_by-filter, taken_out_again, then_old}
+use Rattle.pesp_base.proofs.Tests.{none_from}
+use Rattle.pesp_bench.proofs.Changed.{All-before_change, none_below, numbers_stay, of_number, sum_by-change, sum_by-filter, then_old}
 
 -- each member of the second instance is one of the first, which costs no more there
 record Tightens (I J : Network) : Type 0 where
@@ -60,10 +61,6 @@ pub not_refused : {X : Type 0} (b : Bool) (refusal : Refusal) (rest : List (Opti
 not_refused true refusal rest x y ok = absurd (false≢true (ap is_ok ok))
 not_refused false refusal rest x y ok = refl
 
-pub nothing_of : {X : Type 0} (o : Option X) → is_some o ≡ false → o ≡ None
-nothing_of None is = refl
-nothing_of (Some x) is = absurd (false≢true (sym is))
-
 -- ---- one more activity
 
 added_activity : (I J : Network) (a : Activity) → IsNetwork I → edited I (AddActivity a) ≡ Ok J → Tightens I (effect I (AddActivity a))
@@ -82,7 +79,7 @@ added_activity I J a ok is = record {
     cost_among m list = cost_of (record I { activities = list }) m
 
     before : take_out id_of a.id (put_in id_of a I.activities) ≡ I.activities
-    before = taken_out_again id_of a I.activities (activities_rise I ok) (nothing_of (activity_of I a.id) (not_refused (is_some (activity_of I a.id)) _ _ (effect I (AddActivity a)) J is))
+    before = take_out-put_in id_of a I.activities (activities_rise I ok) (none_from (activity_of I a.id) (not_refused (is_some (activity_of I a.id)) _ _ (effect I (AddActivity a)) J is))
 
 -- ---- another weight
 
@@ -291,10 +288,10 @@ added_event I J e m ok is member = record {
     v = new_event e
 
     absent : with_number number e I.events ≡ None
-    absent = nothing_of (with_number number e I.events) (not_refused (has_event I e) _ _ (effect I (AddEvent e)) J is)
+    absent = none_from (with_number number e I.events) (not_refused (has_event I e) _ _ (effect I (AddEvent e)) J is)
 
     before : take_out number e (put_in number v I.events) ≡ I.events
-    before = taken_out_again number v I.events (events_rise I ok) absent
+    before = take_out-put_in number v I.events (events_rise I ok) absent
 
     other : (q : ℕ) → IsTrue (is_some (with_number number q I.events)) → q ≡ e → ⊥
     other q has same = false≢true (sym (ap is_some absent) ∙ ap (λ i. is_some (with_number number i I.events)) (sym same) ∙ has)

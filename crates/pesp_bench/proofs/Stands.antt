@@ -1,7 +1,7 @@
 -- Whether an optimum's timetable stays is told by what was edited alone: an activity's test and its share of the cost, or the time of an event.
 use Rattle.std.proofs.Common.{◌≡◌, ℕ, ◌+◌, ◌*◌, ◌≤◌, ◌==◌, ◌||◌, ◌<◌, ◌↔◌, Bool, true, false, not, nat_lt, nat_le, is_some, is_none, IfSome, List, [], ◌∷◌, inl, inr, length, get_or, Option, Some, None, unwrap_or, Ok, IsTrue, refl, sym, ap, subst, ◌∙◌, arith, All, mul-le-mul_right}
 use Rattle.std.specs.Result.{is_ok}
-use Rattle.std.proofs.lemmas.Bool.{cases_Bool, eq-eqb, eqb-true, false≢true, or_parts}
+use Rattle.std.proofs.lemmas.Bool.{cases_Bool, eq-eqb, eqb-true, false≢true, or_parts, not-true, not_from_false}
 use Rattle.pesp_base.specs.declared.activity.Activity.{Activity}
 use Rattle.pesp_base.specs.declared.refusal.Refusal.{Refusal}
 use Rattle.pesp_base.specs.declared.refusal.Refusal.TheVariants as no
@@ -26,8 +26,9 @@ use Rattle.pesp_bench.specs.Kept.{IsKeptBy, Keeps, Stays, TellsStay, cheapens, o
 use Rattle.pesp_search.specs.declared.answer.Answer.{Answer}
 use Rattle.pesp_search.specs.declared.answer.Answer.TheVariants.{Optimal, Infeasible}
 use Rattle.pesp_instance.specs.declared.edit.Edit.{Edit}
+use Rattle.pesp_base.proofs.Tests.{none_from}
 use Rattle.pesp_bench.proofs.Changed.{All-after_change, All-by_number, All-of_change, All-of_put_in, All-put_in, numbers_stay, of_All-by_number, of_number, share-stays, sum_by-change_same, sum_by-put_in}
-use Rattle.pesp_bench.proofs.KeptAnswers.{activities_rise, kept_bounds, not_lighter, not_refused, nothing_of, rewindow}
+use Rattle.pesp_bench.proofs.KeptAnswers.{activities_rise, kept_bounds, not_lighter, not_refused, rewindow}
 
 -- a refusal whose condition holds is answered
 refused_so : {X : Type 0} (b : Bool) (refusal : Refusal) (rest : List (Option Refusal)) (x y : X) → b ≡ true → unless_refused (when b refusal ∷ rest) x ≡ Ok y → ⊥
@@ -58,7 +59,7 @@ added_tells I a m b told untold K cost ok is none member costs = (
 )
   where
     absent : with_number id_of a.id I.activities ≡ None
-    absent = nothing_of (activity_of I a.id) (not_refused (is_some (activity_of I a.id)) _ _ (effect I (AddActivity a)) K is)
+    absent = none_from (activity_of I a.id) (not_refused (is_some (activity_of I a.id)) _ _ (effect I (AddActivity a)) K is)
 
     sum : cost_of (effect I (AddActivity a)) m ≡ cost_of I m + cost_in m a
     sum = sum_by-put_in id_of (cost_in m) a I.activities (activities_rise I ok) absent
@@ -216,19 +217,11 @@ window_told I e first length m b told K cost ok is none member costs =
 
 -- ---- what is kept
 
-not_so : (b : Bool) → not b ≡ true → b ≡ false
-not_so true is = absurd (false≢true is)
-not_so false is = refl
-
-so_not : (b : Bool) → b ≡ false → not b ≡ true
-so_not true is = absurd (false≢true (sym is))
-so_not false is = refl
-
 -- that nothing meets everything
 pub keeps_infeasible : (I : Network) (edit : Edit) (b opened : Bool) → b ≡ not opened → opened ≡ opens I edit → IsTrue b ↔ Keeps I edit Infeasible
 keeps_infeasible I edit b opened told is = (
-  λ now. record { nothing_new = sym is ∙ not_so opened (sym told ∙ now); stays = tt },
-  λ keeps. told ∙ so_not opened (is ∙ keeps.nothing_new),
+  λ now. record { nothing_new = sym is ∙ not-true opened (sym told ∙ now); stays = tt },
+  λ keeps. told ∙ not_from_false opened (is ∙ keeps.nothing_new),
 )
 
 -- an optimum, where the edit cheapens something, and where it does not

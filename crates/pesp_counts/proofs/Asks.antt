@@ -1,9 +1,9 @@
 -- Each accepted edit asks again what was asked before, but where chains begin.
-use Rattle.std.proofs.Common.{◌≡◌, ◌≢◌, ℕ, ◌<◌, ◌==◌, cond, if◌then◌else◌, Bool, true, false, List, [], ◌∷◌, Option, Some, None, is_some, option_map, Ok, refl, sym, ap, subst, ◌∙◌, inl, inr, ◌⊎◌, arith, IsTrue, eqb→eq, T}
+use Rattle.std.proofs.Common.{◌≡◌, ◌≢◌, ℕ, ◌<◌, ◌==◌, cond, if◌then◌else◌, Bool, true, false, List, [], ◌∷◌, Option, Some, None, is_some, option_map, Ok, refl, sym, ap, subst, ◌∙◌, inl, inr, ◌⊎◌, arith, IsTrue}
 use Rattle.std.specs.List.{Contains}
 use Rattle.std.specs.Option.{option_and_then, option_map_or}
 use Rattle.std.specs.Result.{is_ok}
-use Rattle.std.proofs.lemmas.Bool.{cases_Bool, cases_eq, eq-eqb, ne_eqb, false≢true}
+use Rattle.std.proofs.lemmas.Bool.{cases_Bool, cases_eq, eq-eqb, ne_eqb, false≢true, eqb-true}
 use Rattle.std.proofs.lemmas.List.Elements.{All-contains, All-contains_itself}
 use Rattle.pesp_base.specs.declared.activity.Activity.{Activity}
 use Rattle.pesp_base.specs.declared.refusal.Refusal.{Refusal}
@@ -32,9 +32,6 @@ id_of a = a.id
 
 abbrev number : Event → ℕ
 number e = e.id
-
-eqb_is : (m n : ℕ) → (m == n) ≡ true → m ≡ n
-eqb_is m n e = eqb→eq m n (subst T (sym e) tt)
 
 -- ---- members and numbers
 
@@ -75,7 +72,7 @@ one_changes I n change keeps a network is same =
 
 at_start : (I : Network) (n : ℕ) (side : Side) (a : Activity) → IsNetwork I → Contains I.activities a → (a.id == n) ≡ true → Contains (ends_of (activity_of I n)) (own side a)
 at_start I n side a network is same =
-    subst (λ o. Contains (ends_of o) (own side a)) (sym (activity_found I a network is) ∙ ap (activity_of I) (eqb_is a.id n same)) (own_of_ends side a)
+    subst (λ o. Contains (ends_of o) (own side a)) (sym (activity_found I a network is) ∙ ap (activity_of I) (eqb-true a.id n same)) (own_of_ends side a)
 
 -- ---- spans
 
@@ -209,7 +206,7 @@ asks_again I J (SetSpan n span) network ok =
           elim (cases_Bool (a.id == n)) [
             | inr apart ↦ inr (itself I (SetSpan n span) side a (others_stay I n set (λ b. refl) a network is apart) apart)
             | inl same ↦
-                let found : activity_of I n ≡ Some a = ap (activity_of I) (sym (eqb_is a.id n same)) ∙ activity_found I a network is in
+                let found : activity_of I n ≡ Some a = ap (activity_of I) (sym (eqb-true a.id n same)) ∙ activity_found I a network is in
                 elim (is_looser I n span) as (λ b. is_looser I n span ≡ b → Contains (if b then ends_of (activity_of I n) else []) (own side a) ⊎ HasHeir I (SetSpan n span) side a) [
                   | true ↦ λ _. inl (at_start I n side a network is same)
                   | false ↦ λ tight.

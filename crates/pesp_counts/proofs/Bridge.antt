@@ -1,55 +1,27 @@
 -- What the counts settle by place, the domains settle by number.
 use Rattle.std.proofs.Common.{◌≡◌, ℕ, ◌<◌, ◌==◌, ◌&&◌, Bool, true, false, List, Option, Some, None, is_some, refl, sym, ap, subst, ◌∙◌, arith, IsTrue}
 use Rattle.std.specs.List.{Contains, list_any}
-use Rattle.std.specs.Option.{option_map_or, unwrap_or}
+use Rattle.std.specs.Option.{option_map_or}
 use Rattle.std.proofs.lemmas.Bool.{false≢true}
 use Rattle.pesp_base.specs.declared.activity.Activity.{Activity}
 use Rattle.pesp_instance.specs.Network.{Network, has_event}
 use Rattle.pesp_domains.specs.declared.pair.Pair.{Pair}
 use Rattle.pesp_domains.specs.declared.side.Side.{Side}
-use Rattle.pesp_domains.specs.declared.side.Side.TheVariants.{Tail, Head}
-use Rattle.pesp_domains.specs.Domains.{InDomains, Joins, other, own}
+use Rattle.pesp_domains.specs.Domains.{InDomains, other, own}
 use Rattle.pesp_domains.specs.Sweeps.{AreDomains, Covers, IsSettledAt, Of, Pairs, Settles}
 use Rattle.pesp_domains.proofs.Laws.{InDomains-admitted, InDomains-stands, settled_domains}
 use Rattle.pesp_domains.proofs.Sweeps.{left, swept, swept_at_last}
-use Rattle.pesp_counts_arcs.specs.Ends.{AreLinked, IsEndAt, end_at, ends_of, passes}
+use Rattle.pesp_counts_arcs.specs.Ends.{end_at, passes}
 use Rattle.pesp_counts_supports.specs.Counts.{IsClosed, KeepsClosed, has_at}
 use Rattle.pesp_counts.specs.Keeping.{rows_of}
 use Rattle.pesp_counts_supports.specs.Resting.{AreAtRest, AreLive}
 use Rattle.pesp_counts_arcs.specs.Links.{IsEndOf, Links, StandFor, end_number, opposite}
 use Rattle.pesp_counts_arcs.specs.Places.{Places, number_at, numbered, place_of}
 use Rattle.pesp_counts_supports.specs.Supports.{AreExact, AreLevel, Supports}
+use Rattle.pesp_base.proofs.Tests.{same_value}
 use Rattle.pesp_counts_supports.proofs.Supporters.{supporters_from, supporters_some}
 
 -- ---- both ends of an activity
-
-own_opposite : (side : Side) (a : Activity) → own (opposite side) a ≡ other side a
-own_opposite Tail a = refl
-own_opposite Head a = refl
-
-other_opposite : (side : Side) (a : Activity) → other (opposite side) a ≡ own side a
-other_opposite Tail a = refl
-other_opposite Head a = refl
-
-opposite_twice : (side : Side) → opposite (opposite side) ≡ side
-opposite_twice Tail = refl
-opposite_twice Head = refl
-
-joins_back : (side : Side) (period : ℕ) (a : Activity) (r s : ℕ) → Joins side period a r s → Joins (opposite side) period a s r
-joins_back Tail period a r s h = h
-joins_back Head period a r s h = h
-
-joins_there : (side : Side) (period : ℕ) (a : Activity) (r s : ℕ) → Joins (opposite side) period a s r → Joins side period a r s
-joins_there Tail period a r s h = h
-joins_there Head period a r s h = h
-
-same_test : (a b : Bool) → (IsTrue a → IsTrue b) → (IsTrue b → IsTrue a) → a ≡ b
-same_test true b there back = sym (there refl)
-same_test false true there back = back refl
-same_test false false there back = refl
-
-pub the_same : {X : Type 0} (o : Option X) (x y : X) → o ≡ Some x → o ≡ Some y → x ≡ y
-the_same o x y a b = ap (λ p. unwrap_or p x) (sym a ∙ b)
 
 pub some_of : {X : Type 0} (o : Option X) → is_some o ≡ true → (x : X) × (o ≡ Some x)
 some_of None h = absurd (false≢true h)
@@ -81,40 +53,8 @@ module _ (I : Network) (links : Links) (stand : StandFor I links) where
   pub other_end : (side : Side) (a : Activity) (p q : ℕ) → Contains I.activities a → IsEndOf I.period links side a p q → (p' : ℕ) × IsEndOf I.period links (opposite side) a p' q
   other_end side a p q is end =
       let w = stand.all (opposite side) a is in
-      let same : w.1 ≡ q = the_same (place_of links.activities a.id) w.1 q w.2.numbered end.numbered in
+      let same : w.1 ≡ q = same_value (place_of links.activities a.id) w.1 q w.2.numbered end.numbered in
       (w.0, subst (λ k. IsEndOf I.period links (opposite side) a w.0 k) same w.2)
-
-  end_is : (side : Side) (a : Activity) (p q : ℕ) → Contains I.activities a → IsEndOf I.period links side a p q → IsEndAt I.period links.ends links.lists p (end_number side q)
-  end_is side a p q is end =
-      let o = other_end side a p q is end in
-      let looks : o.0 ≡ (end_at links.ends (end_number side q)).looks_at =
-      the_same (place_of links.events (other side a)) o.0 _ (ap (place_of links.events) (sym (own_opposite side a)) ∙ o.1.at) end.looks
-      in
-      record {
-        within = stand.shared.within p (end_number side q) end.listed;
-        mate_there = subst (λ n. Contains (ends_of links.lists n) (end_at links.ends (end_number side q)).mate) looks
-            (subst (Contains (ends_of links.lists o.0)) (sym end.mate) o.1.listed);
-        mate_looks = ap (λ k. (end_at links.ends k).looks_at) end.mate
-            ∙ the_same (place_of links.events (own side a)) _ p (ap (place_of links.events) (sym (other_opposite side a)) ∙ o.1.looks) end.at;
-        mate_back = ap (λ k. (end_at links.ends k).mate) end.mate ∙ o.1.mate ∙ ap (λ s. end_number s q) (opposite_twice side);
-        first = end.first;
-        some = end.some;
-        width = end.width;
-        both_ways = λ r s rl sl.
-            same_test _ _
-            (λ h. subst (λ k. IsTrue (passes I.period (end_at links.ends k) s r)) (sym end.mate) ((o.1.joins s r sl rl).1 (joins_back side I.period a r s ((end.joins r s rl sl).0 h))))
-            (λ h. (end.joins r s rl sl).1 (joins_there side I.period a r s ((o.1.joins s r sl rl).0 (subst (λ k. IsTrue (passes I.period (end_at links.ends k) s r)) end.mate h))));
-      }
-
-  -- ends that stand for an instance are linked
-  pub stand_linked : AreLinked I.period links.ends links.lists
-  stand_linked =
-      record {
-        each = λ p k is.
-            let l = stand.only p k is in
-            subst (λ j. IsEndAt I.period links.ends links.lists p j) (sym l.number) (end_is l.side l.activity p l.place l.there l.is_end);
-        once = stand.shared.once;
-      }
 
   pub place_is : (e : ℕ) → IsTrue (has_event I e) → (p : ℕ) × (place_of links.events e ≡ Some p)
   place_is e is = some_of (place_of links.events e) (stand.of_events e ∙ is)
@@ -126,7 +66,7 @@ module _ (I : Network) (links : Links) (stand : StandFor I links) where
         each = λ p r k h is.
             let e = test_of (λ e. D e r) (number_at links.events p) h in
             let l = stand.only p k is in
-            let same : e.0 ≡ own l.side l.activity = the_same (number_at links.events p) e.0 _ e.1 ((stand.events.paired (own l.side l.activity) p).0 l.is_end.at) in
+            let same : e.0 ≡ own l.side l.activity = same_value (number_at links.events p) e.0 _ e.1 ((stand.events.paired (own l.side l.activity) p).0 l.is_end.at) in
             let q = (InDomains-stands I pushes e.0 r (into e.0 r e.2)).partner l.side l.activity l.there (sym same) in
             let below = (InDomains-admitted I pushes e.0 r (into e.0 r e.2)).below in
             let low = (InDomains-admitted I pushes _ q.0 q.1).below in

@@ -1,5 +1,5 @@
 -- What is so of links, counts and rows as the links follow an edit.
-use Rattle.std.proofs.Common.{◌≡◌, ◌≢◌, ℕ, ◌+◌, ◌*◌, ◌<◌, IsTrue, true, false, List, [], Option, Some, None, is_some, is_none, Ok, IfSome, length, refl, sym, ap, subst, ◌∙◌, inl, inr, arith}
+use Rattle.std.proofs.Common.{◌≡◌, ◌≢◌, ℕ, ◌+◌, ◌*◌, ◌<◌, IsTrue, false, List, [], Option, Some, None, is_some, Ok, IfSome, length, refl, sym, ap, subst, ◌∙◌, inl, inr, arith}
 use Rattle.std.specs.List.{Contains}
 use Rattle.std.proofs.lemmas.Bool.{eq-eqb, false≢true}
 use Rattle.pesp_instance.specs.declared.edit.Edit.{Edit}
@@ -21,8 +21,9 @@ use Rattle.pesp_counts_arcs.specs.Places.{place_of}
 use Rattle.pesp_counts_supports.specs.Supports.{AreLevel, IsRoomier, Supports}
 use Rattle.pesp_domains.proofs.Families.{and_left}
 use Rattle.pesp_counts_supports.specs.declared.trail.Placed.{Placed}
+use Rattle.pesp_base.proofs.Tests.{same_value, some_from}
 use Rattle.pesp_counts.proofs.Asks.{asks_again, first_fails, found_in}
-use Rattle.pesp_counts.proofs.Bridge.{some_of, the_same}
+use Rattle.pesp_counts.proofs.Bridge.{some_of}
 use Rattle.pesp_counts_arcs.proofs.StandLaws.{stands_fix, stands_unfix, stands_weight, stands_window}
 use Rattle.pesp_counts_supports.proofs.Supporters.{supporters_same}
 
@@ -30,19 +31,15 @@ pub if_some : {X : Type 0} (P : X → Type 0) (o : Option X) (x : X) → o ≡ S
 if_some P None x is h = absurd (false≢true (ap is_some is))
 if_some P (Some y) x is h = let e : y ≡ x = cc in subst P e h
 
-is_there : {X : Type 0} (o : Option X) → is_none o ≡ false → is_some o ≡ true
-is_there None e = absurd (false≢true (sym e))
-is_there (Some x) e = refl
-
 pub same_period : (I J : Network) (edit : Edit) → IsNetwork I → edited I edit ≡ Ok J → J.period ≡ I.period
 same_period I J edit network made = ap (λ (K : Network). K.period) (effect_is I J edit made) ∙ (asks_again I J edit network made).period
 
 -- an activity that is dropped or changed has a place
 pub place_dropped : (I J : Network) (links : Links) (n : ℕ) → StandFor I links → edited I (DropActivity n) ≡ Ok J → (q : ℕ) × (place_of links.activities n ≡ Some q)
-place_dropped I J links n stand made = some_of (place_of links.activities n) (stand.of_activities n ∙ is_there (activity_of I n) (first_fails _ _ _ _ J made))
+place_dropped I J links n stand made = some_of (place_of links.activities n) (stand.of_activities n ∙ some_from (activity_of I n) (first_fails _ _ _ _ J made))
 
 pub place_changed : (I J : Network) (links : Links) (n : ℕ) (span : _) → StandFor I links → edited I (SetSpan n span) ≡ Ok J → (q : ℕ) × (place_of links.activities n ≡ Some q)
-place_changed I J links n span stand made = some_of (place_of links.activities n) (stand.of_activities n ∙ is_there (activity_of I n) (first_fails _ _ _ _ J made))
+place_changed I J links n span stand made = some_of (place_of links.activities n) (stand.of_activities n ∙ some_from (activity_of I n) (first_fails _ _ _ _ J made))
 
 -- links that stand for the instance after an edit, and list no new end, have rows and counts
 pub for_relinked : (I J : Network) (links links' : Links) (s : Supports) → AreFor I links s → J.period ≡ I.period → StandFor J links' → ((p k : ℕ) → Contains (ends_of links'.lists p) k → (q : ℕ) × Contains (ends_of links.lists q) k) → ((e p : ℕ) → place_of links'.events e ≡ Some p → place_of links.events e ≡ Some p) → AreFor J links' s
@@ -96,7 +93,7 @@ tail_listed I links n q stand at =
     let there = found_in (λ (b : Activity). b.id) n I.activities a.0 a.1 in
     let id : a.0.id ≡ n = number-with_number (λ (b : Activity). b.id) n I.activities a.0 a.1 in
     let w = stand.all Tail a.0 there in
-    let same : w.1 ≡ q = the_same (place_of links.activities n) w.1 q (ap (place_of links.activities) (sym id) ∙ w.2.numbered) at in
+    let same : w.1 ≡ q = same_value (place_of links.activities n) w.1 q (ap (place_of links.activities) (sym id) ∙ w.2.numbered) at in
     (w.0, subst (λ k. Contains (ends_of links.lists w.0) (2 * k)) same w.2.listed)
 
 pub tail_low : (I : Network) (links : Links) (n q : ℕ) → StandFor I links → place_of links.activities n ≡ Some q → 2 * q < length links.ends

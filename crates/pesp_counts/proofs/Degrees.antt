@@ -19,7 +19,7 @@ use Rattle.pesp_counts_arcs.specs.Ends.{ends_of}
 use Rattle.pesp_counts_arcs.specs.Links.{Links, StandFor, end_number}
 use Rattle.pesp_counts_arcs.specs.Places.{number_at, place_of}
 use Rattle.pesp_counts.specs.Works.{degree}
-use Rattle.pesp_counts.proofs.Bridge.{the_same}
+use Rattle.pesp_base.proofs.Tests.{same_value}
 use Rattle.pesp_counts_arcs.proofs.StandMembers.{in_map}
 
 -- different numbers that all stand in another list are no more than it is long
@@ -71,7 +71,7 @@ ends_le_degree J links stand e p at =
     (λ k is.
     let w = stand.only p k is in
     let event : own w.side w.activity ≡ e =
-    the_same (number_at links.events p) (own w.side w.activity) e ((stand.events.paired (own w.side w.activity) p).0 w.is_end.at) ((stand.events.paired e p).0 at)
+    same_value (number_at links.events p) (own w.side w.activity) e ((stand.events.paired (own w.side w.activity) p).0 w.is_end.at) ((stand.events.paired e p).0 at)
     in
     let number : number_of J links e w.side w.activity ≡ k = ap (λ o. end_number w.side (unwrap_or o 0)) w.is_end.numbered ∙ sym w.number in
     subst (Contains (tails J links e ++ heads J links e)) number (among J links e w.side w.activity w.there event))

@@ -1,5 +1,6 @@
 -- Where chains begin, and which ends a pass leaves out, for each edit that brings pairs back.
-use Rattle.std.proofs.Common.{◌≡◌, ◌≢◌, ℕ, ◌*◌, ◌+◌, ◌==◌, ◌||◌, nat_lt, if◌then◌else◌, Bool, true, false, not, List, [], ◌∷◌, length, Option, Some, None, Ok, refl, sym, ap, subst, ◌∙◌, inl, inr, arith, IsTrue}
+use Rattle.std.proofs.Common.{◌≡◌, ◌≢◌, ℕ, ◌*◌, ◌+◌, ◌==◌, nat_lt, if◌then◌else◌, Bool, true, false, not, List, [], ◌∷◌, length, Option, Some, None, Ok, refl, sym, ap, subst, ◌∙◌, inl, inr, arith, IsTrue}
+use Rattle.std.proofs.Math.Bool.{or-true}
 use Rattle.std.specs.List.{Contains}
 use Rattle.std.specs.Result.{is_ok}
 use Rattle.std.proofs.lemmas.Bool.{eq-eqb, false≢true, ne_eqb}
@@ -23,7 +24,7 @@ use Rattle.pesp_counts_arcs.specs.Places.{ArePlaces, place_of}
 use Rattle.pesp_domains.specs.Loosening.{admits_anew, is_looser}
 use Rattle.pesp_counts.specs.Reached.{IsOfWindow, ends_of, is_edited, starts}
 use Rattle.pesp_counts_supports.specs.Restoring.{is_spared}
-use Rattle.pesp_counts.proofs.Bridge.{the_same}
+use Rattle.pesp_base.proofs.Tests.{same_value}
 use Rattle.pesp_counts_arcs.proofs.StandAround.{apart_places}
 use Rattle.pesp_counts_arcs.proofs.StandMembers.{in_change_other, in_take_out, of_change, of_take_out}
 
@@ -64,7 +65,7 @@ one_start I edit links e p is at =
     record {
       each = λ f q i at'.
           elim (here_or_there f e [] (subst (λ xs. Contains xs f) is i)) [
-            | inl same ↦ subst (Contains (p ∷ [])) (the_same (place_of links.events e) p q at (ap (place_of links.events) same ∙ at')) (here p [])
+            | inl same ↦ subst (Contains (p ∷ [])) (same_value (place_of links.events e) p q at (ap (place_of links.events) same ∙ at')) (here p [])
             | inr later ↦ absurd (not_in_none f later)
           ];
       only = λ q i.
@@ -79,10 +80,10 @@ two_starts I edit links e f p q is at at' =
     record {
       each = λ g r i at''.
           elim (here_or_there g e (f ∷ []) (subst (λ xs. Contains xs g) is i)) [
-            | inl same ↦ subst (Contains (p ∷ q ∷ [])) (the_same (place_of links.events e) p r at (ap (place_of links.events) same ∙ at'')) (here p (q ∷ []))
+            | inl same ↦ subst (Contains (p ∷ q ∷ [])) (same_value (place_of links.events e) p r at (ap (place_of links.events) same ∙ at'')) (here p (q ∷ []))
             | inr later ↦
                 elim (here_or_there g f [] later) [
-                  | inl same ↦ subst (Contains (p ∷ q ∷ [])) (the_same (place_of links.events f) q r at' (ap (place_of links.events) same ∙ at'')) (there q p (q ∷ []) (here q []))
+                  | inl same ↦ subst (Contains (p ∷ q ∷ [])) (same_value (place_of links.events f) q r at' (ap (place_of links.events) same ∙ at'')) (there q p (q ∷ []) (here q []))
                   | inr none ↦ absurd (not_in_none g none)
                 ]
           ];
@@ -140,11 +141,7 @@ other_ends Head q r apart = let a : 2 * r + 1 ≢ 2 * q = λ e. absurd (omega (a
 
 pub its_ends : (side : Side) (q : ℕ) → is_spared (Some q) (end_number side q) ≡ true
 its_ends Tail q = rw (eq-eqb (2 * q) (2 * q) refl) refl
-its_ends Head q = rw (eq-eqb (2 * q + 1) (2 * q + 1) refl) (or_true (2 * q + 1 == 2 * q))
-  where
-    or_true : (b : Bool) → (b || true) ≡ true
-    or_true true = refl
-    or_true false = refl
+its_ends Head q = rw (eq-eqb (2 * q + 1) (2 * q + 1) refl) (or-true (2 * q + 1 == 2 * q))
 
 -- those of the activity that is changed
 pub spared_changed : (I J : Network) (edit : Edit) (links : Links) (n q : ℕ) (change : Activity → Activity) → ((a : Activity) → (change a).id ≡ a.id) → ((a : Activity) → is_edited edit a ≡ (a.id == n)) → J.activities ≡ change_in id_of n change I.activities → ArePlaces links.activities → place_of links.activities n ≡ Some q → AreSpared I J edit links (Some q)
@@ -158,7 +155,7 @@ spared_changed I J edit links n q change keeps which is_J paired at =
             | inr stays ↦ (subst (Contains I.activities) stays.1 w.1, which a ∙ ne_eqb a.id n (λ same. stays.0 (ap id_of stays.1 ∙ same)))
             | inl goes ↦
                 let id : a.id ≡ n = ap id_of (sym goes.1) ∙ keeps w.0 ∙ goes.0 in
-                let same : r ≡ q = the_same (place_of links.activities n) r q (ap (place_of links.activities) (sym id) ∙ at') at in
+                let same : r ≡ q = same_value (place_of links.activities n) r q (ap (place_of links.activities) (sym id) ∙ at') at in
                 absurd (false≢true (sym unspared ∙ ap (λ k. is_spared (Some q) (end_number side k)) same ∙ its_ends side q))
           ];
     }

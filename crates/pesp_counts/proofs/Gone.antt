@@ -1,7 +1,7 @@
 -- The pairs that an edit took out, and the probes that it made.
 use Rattle.std.proofs.Common.{◌-◌, ◌≡◌, ℕ, ◌+◌, ◌*◌, ◌≤◌, ◌⊎◌, ◌==◌, ◌&&◌, ◌||◌, Bool, true, false, List, [], ◌∷◌, ◌++◌, Some, length, refl, sym, ap, subst, ◌∙◌, inl, inr, arith, IsTrue}
 use Rattle.std.specs.List.{Contains}
-use Rattle.std.proofs.lemmas.Bool.{and_from, and_parts, cases_eq, eq-eqb, false≢true, ne_eqb}
+use Rattle.std.proofs.lemmas.Bool.{and_from, and_parts, cases_eq, eq-eqb, false≢true, ne_eqb, eqb-true, or_cases}
 use Rattle.std.proofs.Math.Nat.{add-mul}
 use Rattle.pesp_instance.specs.Network.{Network}
 use Rattle.pesp_domains.specs.Domains.{own}
@@ -15,7 +15,7 @@ use Rattle.pesp_counts_arcs.specs.Places.{place_of}
 use Rattle.pesp_counts_supports.specs.Supports.{IsTaken, Supports, is_in}
 use Rattle.pesp_counts.specs.Works.{IsWorked, KeepPlaces}
 use Rattle.pesp_counts_supports.specs.Spent.{ends_at}
-use Rattle.pesp_counts_supports.proofs.Taken.{eqb_is}
+use Rattle.pesp_base.proofs.Tests.{or_alone}
 
 -- ---- only pairs at places of events go
 
@@ -28,7 +28,7 @@ none_asked : (links : Links) (period place : ℕ) (S : Pairs) → ends_of links.
 none_asked links period place S none =
     record {
       each = λ p r k h is.
-          let same = eqb_is p place (and_parts (p == place) (S p r) h).0 in
+          let same = eqb-true p place (and_parts (p == place) (S p r) h).0 in
           let listed : Contains [] k = subst (λ xs. Contains xs k) none (subst (λ q. Contains (ends_of links.lists q) k) same is) in
           absurd (let l = listed.1 in omega (arith, l));
     }
@@ -55,18 +55,10 @@ narrowed_placed I links period event place test before left after stand at is ke
 
 -- ---- the trail of an edit
 
-or_false : (b : Bool) → b ≡ (b || false)
-or_false true = refl
-or_false false = refl
-
 either : (a b : Bool) → IsTrue a ⊎ IsTrue b → IsTrue (a || b)
 either true b h = refl
 either false b (inl a) = absurd (false≢true a)
 either false b (inr h) = h
-
-one_of : (a b : Bool) → IsTrue (a || b) → IsTrue a ⊎ IsTrue b
-one_of true b h = inl refl
-one_of false b h = inr h
 
 -- what was taken out of the rows, after a list of pairs came to them
 module _ (links : Links) (s m n : Supports) (back : List Placed) (empty : s.trail ≡ []) (trail : m.trail ≡ s.trail) (rows : (p r : ℕ) → has_at m.rows p r ≡ (has_at s.rows p r || is_in back p r)) (taken : IsTaken m n) where
@@ -90,7 +82,7 @@ module _ (links : Links) (s m n : Supports) (back : List Placed) (empty : s.trai
   worked_is placed probes =
       record {
         gone = worked_gone;
-        only = λ p r i. one_of (has_at s.rows p r) (is_in back p r) (sym (rows p r) ∙ (worked_in p r i).0);
+        only = λ p r i. or_cases (has_at s.rows p r) (is_in back p r) (sym (rows p r) ∙ (worked_in p r i).0);
         placed = λ p r i. placed p r (worked_in p r i).0 (worked_in p r i).1;
         probes = probes;
       }
@@ -101,7 +93,7 @@ module _ (links : Links) (s n : Supports) (empty : s.trail ≡ []) (taken : IsTa
       → n.probes ≤ s.probes + 8 * s.period + s.period * ends_at links n.trail
       → IsWorked links s n []
   worked_tight placed probes =
-      worked_is links s s n [] empty refl (λ p r. or_false (has_at s.rows p r)) taken placed
+      worked_is links s s n [] empty refl (λ p r. or_alone (has_at s.rows p r)) taken placed
       (let none = no_times (2 * s.period) in let nothing = no_times s.period in omega (arith, probes, none, nothing))
     where
       no_times : (n : ℕ) → n * 0 ≡ 0

@@ -1,18 +1,17 @@
 -- Events and activities that are given places, and those that are taken back.
-use Rattle.std.proofs.Common.{◌≡◌, ◌≢◌, ℕ, ◌+◌, ◌*◌, ◌<◌, ◌≤◌, ◌==◌, ◌&&◌, ◌||◌, not, nat_lt, cond, Bool, true, false, List, [], ◌∷◌, ◌++◌, filter, Option, Some, None, is_some, Result, Ok, Err, OnOk, OnErr, IfErr, length, refl, sym, ap, subst, ◌∙◌, inl, inr, arith, IsTrue, ltb→lt, T}
+use Rattle.std.proofs.Common.{◌≡◌, ◌≢◌, ℕ, ◌+◌, ◌*◌, ◌<◌, ◌≤◌, ◌==◌, ◌&&◌, ◌||◌, nat_lt, Bool, true, false, List, [], Some, None, is_some, Result, Ok, Err, OnOk, IfErr, length, refl, sym, ap, subst, ◌∙◌, inl, inr, arith, IsTrue}
+use Rattle.std.proofs.Math.Bool.{and-false, or-false, or-true}
 use Rattle.std.specs.List.{Contains}
 use Rattle.std.specs.Option.{option_and_then, option_map_or}
 use Rattle.std.specs.Result.{is_ok, result_unwrap_or}
 use Rattle.std.proofs.lemmas.Bool.{cases_eq, cases_lt, eq-eqb, le-ltb, lt-ltb, ne_eqb, false≢true}
-use Rattle.std.proofs.lemmas.List.Elements.{filter-append}
 use Rattle.pesp_base.specs.declared.activity.Activity.{Activity}
 use Rattle.pesp_base.specs.declared.refusal.Refusal.{Refusal}
-use Rattle.pesp_base.specs.Numbered.{put_in, take_out, with_number}
 use Rattle.pesp_instance.specs.declared.edit.Edit.TheVariants.{AddEvent, DropEvent, AddActivity, DropActivity}
 use Rattle.pesp_instance.specs.declared.event.Event.{Event}
 use Rattle.pesp_instance.specs.Edited.{IsRefusal, edited, effect}
 use Rattle.pesp_instance.specs.Network.{IsNetwork, Network, activity_of, admits, agrees_with, event_of, window_of, has_event, new_event}
-use Rattle.pesp_instance.proofs.Rising.{Rises, Rises-from_increasing, filter_above-above, filter_below-above, with_number-put_in}
+use Rattle.pesp_instance.proofs.Rising.{Rises-from_increasing, with_number-put_in, take_out-put_in}
 use Rattle.pesp_domains.specs.declared.pair.Pair.{Pair}
 use Rattle.pesp_domains.proofs.Edits.{effect_is, undone}
 use Rattle.pesp_domains.proofs.Families.{not_in_none}
@@ -24,6 +23,7 @@ use Rattle.pesp_counts_supports.specs.Resting.{AreAtRest}
 use Rattle.pesp_counts_arcs.specs.Links.{IsChangedAt, IsEndOfPlace, Links, LookSame, StandFor}
 use Rattle.pesp_counts_arcs.specs.Places.{place_of}
 use Rattle.pesp_counts_supports.specs.Supports.{HaveSameShape, IsRoomier, Supports}
+use Rattle.pesp_base.proofs.Tests.{none_from}
 use Rattle.pesp_counts.proofs.Asks.{first_fails}
 use Rattle.pesp_counts.proofs.Bridge.{counts_settle, numbered_at, test_of}
 use Rattle.pesp_counts.proofs.Carried.{rest_same, same_period}
@@ -33,14 +33,6 @@ use Rattle.pesp_counts.proofs.Remade.{out_none}
 use Rattle.pesp_counts_supports.proofs.Spread.{block_below}
 use Rattle.pesp_counts_supports.proofs.Supporters.{supporters_same}
 use Rattle.pesp_counts_supports.proofs.Taken.{keeps_none}
-
-pub to_err : {X E P : Type 0} (r : Result X E) → P → OnErr r P
-to_err (Ok x) p = tt
-to_err (Err e) p = p
-
-pub to_ok : {X E P : Type 0} (r : Result X E) → P → OnOk r P
-to_ok (Ok x) p = p
-to_ok (Err e) p = tt
 
 -- ---- nothing is seen of what was tried
 
@@ -112,15 +104,7 @@ for_housed I J links links' s s' event p h stand period at more even low low' =
     the_place e q same is = let w : Some p ≡ Some q = sym at.place ∙ ap (place_of links'.events) (sym same) ∙ is in cc
 
 or_none : (b c : Bool) → c ≡ false → (b || c) ≡ b
-or_none b c none = rw none (by b)
-  where
-    by : (b : Bool) → (b || false) ≡ b
-    by true = refl
-    by false = refl
-
-or_true : (b : Bool) → (b || true) ≡ true
-or_true true = refl
-or_true false = refl
+or_none b c none = rw none (or-false b)
 
 either : (a b : Bool) → IsTrue (a || b) → (IsTrue a → ⊥) → IsTrue b
 either true b h none = absurd (none refl)
@@ -164,16 +148,12 @@ module _ (I J : Network) (links links' : Links) (s m n : Supports) (event p : �
               | inl low ↦ low
               | inr high ↦
                   let over : nat_lt r m.period ≡ false = le-ltb r m.period (omega (arith, high, shape.period)) in
-                  let none : (q == p && nat_lt r m.period) ≡ false = rw over (no_and (q == p)) in
+                  let none : (q == p && nat_lt r m.period) ≡ false = rw over (and-false (q == p)) in
                   let l = middle.below q r (sym (or_none (has_at m.rows q r) _ none) ∙ sym (rows q r) ∙ i) in
                   absurd (omega (arith, l, high, shape.period))
             ];
         out = out_none n trail;
       }
-    where
-      no_and : (b : Bool) → (b && false) ≡ false
-      no_and true = refl
-      no_and false = refl
 
   other_event : (e : ℕ) → e ≢ event → event_of J e ≡ event_of I e
   other_event e apart = ap (λ (K : Network). event_of K e) (effect_is I J (AddEvent event) made) ∙ with_number-put_in (λ x. x.id) e (new_event event) I.events ∙ rw (ne_eqb event e (λ same. apart (sym same))) refl
@@ -218,7 +198,7 @@ module _ (I J : Network) (links links' : Links) (s m n : Supports) (event p : �
             elim (cases_eq e event) [
               | inl same ↦
                   let low : nat_lt r m.period ≡ true = lt-ltb r m.period (let l = a.below in omega (arith, l, fits.period)) in
-                  numbered_at links'.events (has_at n.rows) e p r (ap (place_of links'.events) same ∙ at.place) ∙ rows p r ∙ rw (eq-eqb p p refl, low) (or_true (has_at m.rows p r))
+                  numbered_at links'.events (has_at n.rows) e p r (ap (place_of links'.events) same ∙ at.place) ∙ rows p r ∙ rw (eq-eqb p p refl, low) (or-true (has_at m.rows p r))
               | inr apart ↦
                   let b = old (ap is_some (sym (other_event e apart)) ∙ a.of_event) in
                   let q = test_of (λ q. has_at s.rows q r) (place_of links.events e) b in
@@ -239,10 +219,6 @@ dropped_event_again I J e network made = by (edited J (DropEvent e)) refl
         let n : I.period + 1 ≡ I.period = ap (λ (K : Network). K.period) w in
         absurd (omega (arith, n))
 
-none_of : {X : Type 0} (o : Option X) → is_some o ≡ false → o ≡ None
-none_of None e = refl
-none_of (Some x) e = absurd (false≢true (sym e))
-
 pub new_event_of : (I J : Network) (e : ℕ) → edited I (AddEvent e) ≡ Ok J → has_event I e ≡ false
 new_event_of I J e made = first_fails _ _ _ _ J made
 
@@ -253,7 +229,7 @@ dropped_seen I links links' links'' event p none stand absent at others ends lis
       events = λ e.
           elim (cases_eq e event) [
             | inl same ↦
-                let gone : place_of links''.events event ≡ None = none_of (place_of links''.events event) (stand.of_events event ∙ none) in
+                let gone : place_of links''.events event ≡ None = none_from (place_of links''.events event) (stand.of_events event ∙ none) in
                 ap (place_of links''.events) same ∙ gone ∙ sym absent ∙ ap (place_of links.events) (sym same)
             | inr apart ↦ others e apart ∙ at.others e apart
           ];
@@ -296,50 +272,12 @@ unlinked_seen links links' links'' q made dropped gone =
 
 -- ---- an activity is taken away again
 
-module _ {X : Type 0} (number : X → ℕ) where
-  both_sides : (n : ℕ) (xs : List X) → Rises number xs → with_number number n xs ≡ None → filter (λ x. nat_lt (number x) n) xs ++ filter (λ x. nat_lt n (number x)) xs ≡ xs
-  both_sides n [] rises none = refl
-  both_sides n (x ∷ xs) rises none =
-      elim (cases_lt (number x) n) [
-        | inl low ↦
-            let rest : with_number number n xs ≡ None = rw (ne_eqb (number x) n (λ same. absurd (omega (arith, low, same)))) at none in
-            rw (lt-ltb (number x) n low, le-ltb n (number x) (omega (arith, low))) (ap (λ list. x ∷ list) (both_sides n xs rises.1 rest))
-        | inr high ↦
-            let apart : n ≡ number x → ⊥ = λ same. false≢true (sym (ap is_some none) ∙ found n x xs same) in
-            let above : n < number x = omega (arith, high, apart) in
-            rw (le-ltb (number x) n (omega (arith, above)), lt-ltb n (number x) above, filter_below-above number n (number x) xs (omega (arith, above)) rises.0, filter_above-above number n (number x) xs (omega (arith, above)) rises.0) refl
-      ]
-    where
-      found : (n : ℕ) (x : X) (xs : List X) → n ≡ number x → is_some (with_number number n (x ∷ xs)) ≡ true
-      found n x xs same = rw (eq-eqb (number x) n (sym same)) refl
-
-  others_stay : (n : ℕ) (keep : X → Bool) (xs : List X) → ((x : X) → keep x ≡ true → number x ≡ n → ⊥) → take_out number n (filter keep xs) ≡ filter keep xs
-  others_stay n keep [] apart = refl
-  others_stay n keep (x ∷ xs) apart =
-      elim (keep x) as (λ b. keep x ≡ b → take_out number n (cond b (x ∷ filter keep xs) (filter keep xs)) ≡ cond b (x ∷ filter keep xs) (filter keep xs)) [
-        | true ↦ λ is. rw (ne_eqb (number x) n (apart x is)) (ap (λ list. x ∷ list) (others_stay n keep xs apart))
-        | false ↦ λ _. others_stay n keep xs apart
-      ] refl
-
-  pub taken_out : (v : X) (xs : List X) → Rises number xs → with_number number (number v) xs ≡ None → take_out number (number v) (put_in number v xs) ≡ xs
-  taken_out v xs rises none =
-      let n : ℕ = number v in
-      let low : X → Bool = λ x. nat_lt (number x) n in
-      let high : X → Bool = λ x. nat_lt n (number x) in
-      filter-append (λ x. not (number x == n)) (filter low xs) (v ∷ filter high xs)
-      ∙ rw (
-        eq-eqb (number v) (number v) refl,
-        others_stay n low xs (λ x is same. let below : number x < n = ltb→lt (number x) n (subst T (sym is) tt) in omega (arith, below, same)),
-        others_stay n high xs (λ x is same. let above : n < number x = ltb→lt n (number x) (subst T (sym is) tt) in omega (arith, above, same)),
-      )
-      (both_sides n xs rises none)
-
 pub dropped_activity_again : (I J : Network) (a : Activity) → IsNetwork I → edited I (AddActivity a) ≡ Ok J → edited J (DropActivity a.id) ≡ Ok I
 dropped_activity_again I J a network made =
-    let none : activity_of I a.id ≡ None = none_of (activity_of I a.id) (first_fails _ _ _ _ J made) in
+    let none : activity_of I a.id ≡ None = none_from (activity_of I a.id) (first_fails _ _ _ _ J made) in
     let there_is : activity_of (effect I (AddActivity a)) a.id ≡ Some a = with_number-put_in (λ (b : Activity). b.id) a.id a I.activities ∙ rw (eq-eqb a.id a.id refl) refl in
     let back : edited (effect I (AddActivity a)) (DropActivity a.id) ≡ Ok I =
-    rw there_is (ap (λ xs. Ok (record I { activities = xs })) (taken_out (λ (b : Activity). b.id) a I.activities (Rises-from_increasing (λ (b : Activity). b.id) I.activities network.activities_rise) none))
+    rw there_is (ap (λ xs. Ok (record I { activities = xs })) (take_out-put_in (λ (b : Activity). b.id) a I.activities (Rises-from_increasing (λ (b : Activity). b.id) I.activities network.activities_rise) none))
     in
     ap (λ (K : Network). edited K (DropActivity a.id)) (effect_is I J (AddActivity a) made) ∙ back
 

@@ -1,12 +1,13 @@
 -- What the keeper keeps, as pairs are pushed and popped.
-use Rattle.std.proofs.Common.{◌≡◌, ◌≢◌, ℕ, ◌+◌, ◌<◌, ◌≤◌, ◌==◌, ◌&&◌, ◌||◌, not, Bool, true, false, List, [], ◌∷◌, ◌++◌, Option, Some, None, length, get_or, take, drop, AllPairs, refl, sym, ap, subst, ◌∙◌, inl, inr, ◌⊎◌, arith, IsTrue}
+use Rattle.std.proofs.Common.{◌≡◌, ◌≢◌, ℕ, ◌+◌, ◌<◌, ◌≤◌, ◌==◌, ◌&&◌, ◌||◌, not, Bool, true, false, List, [], ◌∷◌, ◌++◌, Option, Some, None, length, get_or, take, drop, AllPairs, refl, sym, ap, subst, ◌∙◌, inl, inr, arith, IsTrue}
 use Rattle.std.specs.List.{Contains}
 use Rattle.std.specs.Option.{option_map_or}
-use Rattle.std.proofs.lemmas.Bool.{cases_Bool, cases_eq, cases_lt, eq-eqb, ne_eqb, false≢true}
+use Rattle.std.proofs.lemmas.Bool.{cases_Bool, cases_eq, cases_lt, eq-eqb, ne_eqb, false≢true, or_cases}
 use Rattle.std.proofs.lemmas.List.{drop-append-le, get_or-drop, get_or-take, get_or_append_left, get_or_push, length-append, length-drop, length-take-le, length_push, take-append-drop, take-append-le, take_all}
 use Rattle.std.proofs.lemmas.List.Elements.{All-contains, All-drop, All-take}
 use Rattle.std.proofs.lemmas.List.Folds.{list_any-append}
 use Rattle.std.proofs.Math.Seq.{drop-append_seam}
+use Rattle.std.proofs.Math.Bool.{or-true}
 use Rattle.pesp_instance.specs.Network.{Network, has_event}
 use Rattle.pesp_domains.specs.declared.pair.Pair.{Pair}
 use Rattle.pesp_domains.specs.Domains.{In, InDomains, IsDomain}
@@ -21,9 +22,11 @@ use Rattle.pesp_counts_supports.specs.Resting.{HaveRoom, IsNarrowed}
 use Rattle.pesp_counts_arcs.specs.Links.{Links}
 use Rattle.pesp_counts_arcs.specs.Places.{ArePlaces, Places, number_at, numbered, place_of}
 use Rattle.pesp_counts_supports.specs.Supports.{AreExact, AreLevel, AreOut, HaveSameShape, IsTaken, Supports, is_in}
-use Rattle.pesp_counts.proofs.Bridge.{counts_settle, domains_live, numbered_at, numbered_same, stand_linked, the_same}
-use Rattle.pesp_counts_supports.proofs.Marks.{fit_same, keeps_like}
-use Rattle.pesp_counts_supports.proofs.Taken.{stands_in}
+use Rattle.pesp_base.proofs.Tests.{same_value, or_turned}
+use Rattle.pesp_counts_arcs.proofs.StandLaws.{linked_from}
+use Rattle.pesp_counts.proofs.Bridge.{counts_settle, domains_live, numbered_at, numbered_same}
+use Rattle.pesp_counts_supports.proofs.Marks.{keeps_like}
+use Rattle.pesp_counts_supports.proofs.Taken.{stands_in, fit_then}
 
 pub domains_same : (I : Network) (pushes : List Pair) (S S' : Pairs) → ((e r : ℕ) → S' e r ≡ S e r) → AreDomains I pushes S → AreDomains I pushes S'
 domains_same I pushes S S' same domains =
@@ -34,7 +37,7 @@ for_same I links before after shape h =
     record {
       period = shape.period ∙ h.period;
       stand = h.stand;
-      fit = fit_same links before after shape h.fit;
+      fit = fit_then links before after shape h.fit;
       housed = λ e p at. let l = h.housed e p at in omega (arith, l, shape.rows);
       counted = λ e p at. let l = h.counted e p at in omega (arith, l, shape.counted);
       even = shape.counted ∙ h.even ∙ sym shape.rows;
@@ -42,7 +45,7 @@ for_same I links before after shape h =
 
 -- the ends are linked, by the period of the counts
 pub for_linked : (I : Network) (links : Links) (s : Supports) → AreFor I links s → AreLinked s.period links.ends links.lists
-for_linked I links s h = rw h.period (stand_linked I links h.stand)
+for_linked I links s h = rw h.period (linked_from I links h.stand)
 
 pub room_same : (s n : Supports) (for_back for_restored : ℕ) → HaveSameShape s n → HaveRoom s for_back for_restored → HaveRoom n for_back for_restored
 room_same s n for_back for_restored shape room = record { back = rw (shape.rows, shape.period) room.back; restored = rw (shape.rows, shape.period) room.restored }
@@ -60,10 +63,10 @@ narrowed_numbered places S event p test paired at e r =
     by (Some q) is =
         elim (cases_eq e event) [
           | inl same ↦
-              let here : q ≡ p = the_same (place_of places event) q p (ap (place_of places) (sym same) ∙ is) at in
+              let here : q ≡ p = same_value (place_of places event) q p (ap (place_of places) (sym same) ∙ is) at in
               rw (eq-eqb e event same, eq-eqb q p here) refl
           | inr apart ↦
-              let there : q ≢ p = λ here. apart (the_same (number_at places p) e event (ap (number_at places) (sym here) ∙ (paired.paired e q).0 is) ((paired.paired event p).0 at)) in
+              let there : q ≢ p = λ here. apart (same_value (number_at places p) e event (ap (number_at places) (sym here) ∙ (paired.paired e q).0 is) ((paired.paired event p).0 at)) in
               rw (ne_eqb e event apart, ne_eqb q p there) refl
         ]
 
@@ -165,21 +168,6 @@ keeping_push I pushes x links s n marks p a b for_back for_restored h event free
 
 -- ---- what was taken out is put back
 
-or_true : (b : Bool) → (b || true) ≡ true
-or_true true = refl
-or_true false = refl
-
-or_assoc : (a b c : Bool) → ((a || b) || c) ≡ (a || (b || c))
-or_assoc true b c = refl
-or_assoc false b c = refl
-
-or_turn : (a b c : Bool) → ((a || b) || c) ≡ (a || (c || b))
-or_turn true b c = refl
-or_turn false true true = refl
-or_turn false true false = refl
-or_turn false false true = refl
-or_turn false false false = refl
-
 in_parts : (m : ℕ) (xs : List Placed) (p r : ℕ) → is_in xs p r ≡ (is_in (take m xs) p r || is_in (drop m xs) p r)
 in_parts m xs p r = ap (λ ys. is_in ys p r) (sym (take-append-drop m xs)) ∙ in_both (take m xs) (drop m xs) p r
 
@@ -187,7 +175,7 @@ in_parts m xs p r = ap (λ ys. is_in ys p r) (sym (take-append-drop m xs)) ∙ i
 pub out_late : (s : Supports) (m : ℕ) → AreOut s s.trail → AreOut s (drop m s.trail)
 out_late s m h =
     record {
-      out = λ p r i. h.out p r (in_parts m s.trail p r ∙ ap (λ b. is_in (take m s.trail) p r || b) i ∙ or_true (is_in (take m s.trail) p r));
+      out = λ p r i. h.out p r (in_parts m s.trail p r ∙ ap (λ b. is_in (take m s.trail) p r || b) i ∙ or-true (is_in (take m s.trail) p r));
       within = All-drop (λ x. x.place < length s.rows) m s.trail h.within;
       below = All-drop (λ x. x.residue < s.period) m s.trail h.below;
       once = λ i j d lt within.
@@ -208,10 +196,6 @@ apart_at m xs x once i j =
           once i.0 (m + j.0) x (omega (arith, i.1, long)) (omega (arith, j.1, late))
           (sym (get_or-take m xs i.0 x (omega (arith, i.1, long))) ∙ i.2 ∙ sym j.2 ∙ get_or-drop m xs j.0 x)
     ]
-
-or_cases : (a b : Bool) → IsTrue (a || b) → IsTrue a ⊎ IsTrue b
-or_cases true b h = inl refl
-or_cases false b h = inr h
 
 -- the earlier part of a trail, once the later one was put back
 pub out_early : (s n : Supports) (m : ℕ) → AreOut s s.trail → HaveSameShape s n → ((p r : ℕ) → has_at n.rows p r ≡ (has_at s.rows p r || is_in (drop m s.trail) p r)) → AreOut n (take m s.trail)
@@ -245,7 +229,7 @@ with_back s n m i back trail low le p r =
     let parts : drop i s.trail ≡ drop i (take m s.trail) ++ drop m s.trail = ap (drop i) (sym (take-append-drop m s.trail)) ∙ drop-append-le i (take m s.trail) (drop m s.trail) (omega (arith, le, long)) in
     ap (λ xs. has_at n.rows p r || is_in (drop i xs) p r) trail
     ∙ ap (λ b. b || is_in (drop i (take m s.trail)) p r) (back p r)
-    ∙ or_turn (has_at s.rows p r) (is_in (drop m s.trail) p r) (is_in (drop i (take m s.trail)) p r)
+    ∙ or_turned (has_at s.rows p r) (is_in (drop m s.trail) p r) (is_in (drop i (take m s.trail)) p r)
     ∙ ap (λ b. has_at s.rows p r || b) (sym (in_both (drop i (take m s.trail)) (drop m s.trail) p r))
     ∙ ap (λ xs. has_at s.rows p r || is_in xs p r) (sym parts)
 

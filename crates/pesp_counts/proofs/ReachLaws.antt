@@ -1,8 +1,8 @@
 -- What a pass puts back by place is what the edit reaches.
-use Rattle.std.proofs.Common.{◌≡◌, ℕ, ◌<◌, ◌&&◌, ◌||◌, nat_lt, Bool, true, false, List, [], Option, Some, is_some, Ok, refl, sym, ap, subst, ◌∙◌, inl, inr, arith, IsTrue}
+use Rattle.std.proofs.Common.{◌≡◌, ℕ, ◌<◌, ◌&&◌, nat_lt, false, List, [], Option, Some, is_some, Ok, sym, ap, subst, ◌∙◌, inl, inr, arith, IsTrue}
 use Rattle.std.specs.List.{Contains}
 use Rattle.std.specs.Option.{option_map_or}
-use Rattle.std.proofs.lemmas.Bool.{and_from, and_parts, cases_Bool, cases_lt, false≢true, le-ltb, lt-ltb}
+use Rattle.std.proofs.lemmas.Bool.{and_from, and_parts, cases_Bool, false≢true, lt-ltb, ltb-true, or_left, or_right}
 use Rattle.pesp_instance.specs.declared.edit.Edit.{Edit}
 use Rattle.pesp_instance.specs.Edited.{edited}
 use Rattle.pesp_instance.specs.Network.{Network, admits}
@@ -23,27 +23,9 @@ use Rattle.pesp_counts.specs.Reached.Reached.{begins, follows}
 use Rattle.pesp_counts_supports.specs.Restoring.{IsRestored, ReachedAt, admits_at, is_spared}
 use Rattle.pesp_counts_supports.specs.Restoring.ReachedAt.{begins as begins_at, follows as follows_at}
 use Rattle.pesp_counts_supports.specs.Supports.{Supports, is_in}
-use Rattle.pesp_counts.proofs.Bridge.{numbered_at, place_is, test_of, the_same}
+use Rattle.pesp_base.proofs.Tests.{same_value, or_second}
+use Rattle.pesp_counts.proofs.Bridge.{numbered_at, place_is, test_of}
 use Rattle.pesp_counts.proofs.Carried.{same_period}
-
-below_of : (a n : ℕ) → IsTrue (nat_lt a n) → a < n
-below_of a n h =
-    elim (cases_lt a n) [
-      | inl low ↦ low
-      | inr high ↦ absurd (false≢true (sym (le-ltb a n high) ∙ h))
-    ]
-
-or_else : (a b : Bool) → IsTrue b → IsTrue (a || b)
-or_else true b h = refl
-or_else false b h = h
-
-or_right : (a b : Bool) → IsTrue (a || b) → a ≡ false → IsTrue b
-or_right true b h none = absurd (false≢true (sym none))
-or_right false b h none = h
-
-either : (a b : Bool) → IsTrue a → IsTrue (a || b)
-either true b h = refl
-either false b h = absurd (false≢true h)
 
 pub outside_of : (I : Network) (edit : Edit) (e r : ℕ) → Reached I edit e r → IsOutside I edit e r
 outside_of I edit _ _ (begins e r start out) = out
@@ -84,7 +66,7 @@ module _ (I J : Network) (edit : Edit) (links links' : Links) (s : Supports) (st
       let both = and_parts _ _ (sym (admits_is e p r at) ∙ admitted) in
       let after : IsAdmitted J [] e r = record {
         of_event = sym (stand.of_events e) ∙ ap is_some at;
-        below = below_of r J.period both.0;
+        below = ltb-true r J.period both.0;
         window = both.1;
         pushed = λ t i. absurd (not_in_none _ i);
       } in
@@ -98,7 +80,7 @@ module _ (I J : Network) (edit : Edit) (links links' : Links) (s : Supports) (st
   reached_there _ p _ at (begins e r starts_here out) = begins_at p r (start.each e p starts_here at) (out_there e p r at out) (admitted_there e p r at out)
   reached_there _ p _ at (follows side a r t before is unedited joins out) =
       let w = stand.all side a (others.stays a is unedited) in
-      let same : w.0 ≡ p = the_same (place_of links'.events (own side a)) w.0 p w.2.at at in
+      let same : w.0 ≡ p = same_value (place_of links'.events (own side a)) w.0 p w.2.at at in
       let k : ℕ = end_number side w.1 in
       let rl : r < s.period = (let l = (admitted_after (own side a) r out).below in omega (arith, l, periods)) in
       let tl : t < s.period = below (other side a) t before in
@@ -118,7 +100,7 @@ module _ (I J : Network) (edit : Edit) (links links' : Links) (s : Supports) (st
       let o = others.was l.side l.activity l.place l.there l.is_end.numbered (subst (λ j. is_spared spared j ≡ false) l.number unspared) in
       let w = reached_back (end_at links'.ends k).looks_at t before in
       let looks : place_of links'.events (other l.side l.activity) ≡ Some (end_at links'.ends k).looks_at = l.is_end.looks ∙ ap (λ j. Some (end_at links'.ends j).looks_at) (sym l.number) in
-      let same : w.0 ≡ other l.side l.activity = the_same (number_at links'.events (end_at links'.ends k).looks_at) w.0 (other l.side l.activity) ((stand.events.paired w.0 _).0 w.1) ((stand.events.paired (other l.side l.activity) _).0 looks) in
+      let same : w.0 ≡ other l.side l.activity = same_value (number_at links'.events (end_at links'.ends k).looks_at) w.0 (other l.side l.activity) ((stand.events.paired w.0 _).0 w.1) ((stand.events.paired (other l.side l.activity) _).0 looks) in
       let goes' : IsTrue (passes J.period (end_at links'.ends (end_number l.side l.place)) r t) = subst (λ n. IsTrue (passes n (end_at links'.ends (end_number l.side l.place)) r t)) periods (subst (λ j. IsTrue (passes s.period (end_at links'.ends j) r t)) l.number goes) in
       let joined = (l.is_end.joins r t (omega (arith, rl, periods)) (omega (arith, tl, periods))).0 goes' in (
         own l.side l.activity,
@@ -143,15 +125,15 @@ module _ (I J : Network) (edit : Edit) (links links' : Links) (s : Supports) (st
         record {
           more = λ e r i.
               let p = test_of (λ p. has_at s.rows p r) (place_of links.events e) i in
-              numbered_at links'.events (has_at s'.rows) e p.0 r (events e ∙ p.1) ∙ restored.rows p.0 r ∙ either _ _ p.2;
+              numbered_at links'.events (has_at s'.rows) e p.0 r (events e ∙ p.1) ∙ restored.rows p.0 r ∙ or_left _ _ p.2;
           all = λ e r reached.
               let p = place_is J links' stand e (admitted_after e r (outside_of I edit e r reached)).of_event in
-              numbered_at links'.events (has_at s'.rows) e p.0 r p.1 ∙ restored.rows p.0 r ∙ or_else (has_at s.rows p.0 r) _ (restored.all p.0 r (reached_there e p.0 r p.1 reached));
+              numbered_at links'.events (has_at s'.rows) e p.0 r p.1 ∙ restored.rows p.0 r ∙ or_right (has_at s.rows p.0 r) _ (restored.all p.0 r (reached_there e p.0 r p.1 reached));
           only = λ e r i none.
               let p = test_of (λ p. has_at s'.rows p r) (place_of links'.events e) i in
               let out : has_at s.rows p.0 r ≡ false = sym (before_at e p.0 r p.1) ∙ none in
-              let there = or_right (has_at s.rows p.0 r) (is_in back p.0 r) (sym (restored.rows p.0 r) ∙ p.2) out in
+              let there = or_second (has_at s.rows p.0 r) (is_in back p.0 r) (sym (restored.rows p.0 r) ∙ p.2) out in
               let w = reached_back p.0 r (restored.only p.0 r there) in
-              let same : w.0 ≡ e = the_same (number_at links'.events p.0) w.0 e ((stand.events.paired w.0 p.0).0 w.1) ((stand.events.paired e p.0).0 p.1) in
+              let same : w.0 ≡ e = same_value (number_at links'.events p.0) w.0 e ((stand.events.paired w.0 p.0).0 w.1) ((stand.events.paired e p.0).0 p.1) in
               subst (λ f. Reached I edit f r) same w.2;
         }

@@ -2,7 +2,7 @@
 use Rattle.std.proofs.Common.{◌≡◌, ◌≢◌, ℕ, ◌+◌, ◌-◌, ◌%◌, ◌<◌, ◌==◌, ◌&&◌, ◌||◌, not, nat_lt, Bool, true, false, List, [], ◌∷◌, Option, Some, None, is_some, length, refl, sym, ap, subst, ◌∙◌, inl, inr, arith, IsTrue, if◌then◌else◌}
 use Rattle.std.specs.List.{Contains}
 use Rattle.std.specs.Option.{option_and_then, option_map_or}
-use Rattle.std.proofs.lemmas.Bool.{and_from, and_parts, cases_eq, cases_lt, eq-eqb, le-ltb, lt-ltb, ne_eqb, false≢true}
+use Rattle.std.proofs.lemmas.Bool.{and_from, and_parts, cases_eq, eq-eqb, lt-ltb, ne_eqb, false≢true, ltb-true}
 use Rattle.std.proofs.lemmas.List.Elements.{All-contains}
 use Rattle.pesp_base.specs.Numbered.{with_number}
 use Rattle.pesp_instance.specs.declared.event.Event.{Event}
@@ -29,13 +29,6 @@ use Rattle.pesp_counts_arcs.proofs.EndRanges.{mod_above}
 
 abbrev is_full : List (List Bool) → ℕ → Pairs
 is_full rows period p r = nat_lt p (length rows) && nat_lt r period
-
-below_of : (a n : ℕ) → IsTrue (nat_lt a n) → a < n
-below_of a n h =
-    elim (cases_lt a n) [
-      | inl low ↦ low
-      | inr high ↦ absurd (false≢true (sym (le-ltb a n high) ∙ h))
-    ]
 
 pub out_none : (s : Supports) → s.trail ≡ [] → AreOut s s.trail
 out_none s none =
@@ -73,7 +66,7 @@ full_rest I links s fits exact counted rows trail =
       exact = exact;
       level = λ p r. counted p r ∙ ap (λ n. nat_lt p n && nat_lt r s.period) fits.even ∙ sym (rows p r);
       live = full_live I links s fits exact counted;
-      below = λ p r i. below_of r s.period (and_parts _ _ (sym (rows p r) ∙ i)).1;
+      below = λ p r i. ltb-true r s.period (and_parts _ _ (sym (rows p r) ∙ i)).1;
       out = out_none s trail;
     }
 

@@ -1,7 +1,8 @@
 -- Rows to which a pass put pairs back: those that were there before still have their counts above 0.
 use Rattle.std.proofs.Common.{◌≡◌, ◌≢◌, ℕ, ◌+◌, ◌*◌, ◌<◌, ◌==◌, ◌&&◌, ◌||◌, nat_lt, not, Bool, true, false, List, [], Option, Some, None, refl, sym, ap, subst, ◌∙◌, inl, inr, arith, IsTrue}
+use Rattle.std.proofs.Math.Bool.{or-true}
 use Rattle.std.specs.List.{Contains}
-use Rattle.std.proofs.lemmas.Bool.{and_from, and_parts, cases_Bool, cases_eq, cases_lt, eq-eqb, le-ltb, ne_eqb, false≢true}
+use Rattle.std.proofs.lemmas.Bool.{and_from, and_parts, cases_Bool, cases_eq, eq-eqb, ne_eqb, false≢true, ltb-true, not-true, or_left}
 use Rattle.pesp_instance.specs.Network.{Network, admits}
 use Rattle.pesp_domains.specs.declared.side.Side.{Side}
 use Rattle.pesp_domains.specs.Sweeps.{Of, Pairs}
@@ -16,6 +17,7 @@ use Rattle.pesp_counts_supports.specs.Restored.{AreExactBut, AreSparedTogether}
 use Rattle.pesp_counts_supports.specs.Restoring.{IsRestored, ReachedAt, admits_at, is_spared}
 use Rattle.pesp_counts_supports.specs.Restoring.ReachedAt.{begins, follows}
 use Rattle.pesp_counts_supports.specs.Supports.{AreLevel, IsTaken, Keeps, Supports, is_in, without_those}
+use Rattle.pesp_base.proofs.Tests.{or_second}
 use Rattle.pesp_counts.proofs.Bridge.{test_of}
 use Rattle.pesp_counts.proofs.Carried.{tail_mate}
 use Rattle.pesp_counts_supports.proofs.PutBack.{pending_but}
@@ -23,17 +25,6 @@ use Rattle.pesp_counts.proofs.Remade.{out_none}
 use Rattle.pesp_counts.proofs.EditStarts.{its_ends, other_ends}
 use Rattle.pesp_counts_supports.proofs.Supporters.{supporters_from, supporters_some}
 use Rattle.pesp_counts_supports.proofs.Taken.{taken_fewer}
-
-below_of : (a n : ℕ) → IsTrue (nat_lt a n) → a < n
-below_of a n h =
-    elim (cases_lt a n) [
-      | inl low ↦ low
-      | inr high ↦ absurd (false≢true (sym (le-ltb a n high) ∙ h))
-    ]
-
-either : (a b : Bool) → IsTrue a → IsTrue (a || b)
-either true b h = refl
-either false b h = absurd (false≢true h)
 
 or_first : (a b : Bool) → IsTrue (a || b) → b ≡ false → IsTrue a
 or_first true b h none = refl
@@ -43,7 +34,7 @@ or_first false b h none = absurd (false≢true (sym none ∙ h))
 admitted_below : (I : Network) (links : Links) (p r : ℕ) → Of (admits_at I links) p r → r < I.period
 admitted_below I links p r h =
     let e = test_of (λ e. nat_lt r I.period && admits I e r) (number_at links.events p) h in
-    below_of r I.period (and_parts _ _ e.2).0
+    ltb-true r I.period (and_parts _ _ e.2).0
 
 reached_below : (period : ℕ) (I : Network) (links : Links) (starts : List ℕ) (spared : Option ℕ) (rows : Pairs) (p r : ℕ) → ReachedAt period links starts spared (admits_at I links) rows p r → r < I.period
 reached_below period I links starts spared rows _ _ (begins p r start out admitted) = admitted_below I links p r admitted
@@ -55,18 +46,14 @@ module _ (I : Network) (links : Links) (starts : List ℕ) (spared : Option ℕ)
   live_after p k is unspared r rl i =
       let both = and_parts (has_at m.rows p r) (not (is_in back p r)) i in
       let low : r < s.period = omega (arith, rl, restored.shape.period) in
-      let was : IsTrue (has_at s.rows p r) = or_first (has_at s.rows p r) (is_in back p r) (sym (restored.rows p r) ∙ both.0) (untrue (is_in back p r) both.1) in
+      let was : IsTrue (has_at s.rows p r) = or_first (has_at s.rows p r) (is_in back p r) (sym (restored.rows p r) ∙ both.0) (not-true (is_in back p r) both.1) in
       let looks = (end_at links.ends k).looks_at in
       let some = live p k is unspared r low was in
       let x = supporters_some s.period (has_at s.counted looks) (passes s.period (end_at links.ends k) r) (subst (λ n. 0 < n) (exact p k is unspared r low) some) in
-      let there : IsTrue (has_at m.counted looks x.0) = restored.level looks x.0 ∙ restored.rows looks x.0 ∙ either _ _ (sym (level looks x.0) ∙ x.2) in
+      let there : IsTrue (has_at m.counted looks x.0) = restored.level looks x.0 ∙ restored.rows looks x.0 ∙ or_left _ _ (sym (level looks x.0) ∙ x.2) in
       let xl : x.0 < m.period = (let l = x.1 in omega (arith, l, restored.shape.period)) in
       let goes : IsTrue (passes m.period (end_at links.ends k) r x.0) = subst (λ n. IsTrue (passes n (end_at links.ends k) r x.0)) (sym restored.shape.period) x.3 in
       subst (λ n. 0 < n) (sym (restored.exact p k is unspared r rl)) (supporters_from m.period (has_at m.counted looks) (passes m.period (end_at links.ends k) r) x.0 xl there goes)
-    where
-      untrue : (b : Bool) → IsTrue (not b) → b ≡ false
-      untrue true h = absurd (false≢true h)
-      untrue false h = refl
 
   pub below_after : (p r : ℕ) → Of (has_at m.rows) p r → r < m.period
   below_after p r here =
@@ -77,10 +64,6 @@ module _ (I : Network) (links : Links) (starts : List ℕ) (spared : Option ℕ)
             let l = reached_below s.period I links starts spared (has_at s.rows) p r reached in
             omega (arith, l, period, restored.shape.period)
       ]
-    where
-      or_second : (a b : Bool) → IsTrue (a || b) → a ≡ false → IsTrue b
-      or_second true b h none = absurd (false≢true (sym none))
-      or_second false b h none = h
 
 -- no end was left out: what has no partner is among the pairs that came
 pub reopened_pending : (I : Network) (links : Links) (starts : List ℕ) (s m n : Supports) (back : List Placed) → IsRestored I links starts None s m back → s.period ≡ I.period → AreAtRest links s → s.trail ≡ [] → IsTaken m n → Keeps m n → ArePendingBut links n back
@@ -95,12 +78,8 @@ reopened_pending I links starts s m n back restored period rest trail taken keep
 pub spared_apart : (q k : ℕ) → is_spared (Some q) k ≡ false → (k ≢ 2 * q) × (k ≢ 2 * q + 1)
 spared_apart q k unspared = (
   λ same. false≢true (sym unspared ∙ rw (eq-eqb k (2 * q) same) refl),
-  λ same. false≢true (sym unspared ∙ rw (eq-eqb k (2 * q + 1) same) (or_true (k == 2 * q))),
+  λ same. false≢true (sym unspared ∙ rw (eq-eqb k (2 * q + 1) same) (or-true (k == 2 * q))),
 )
-  where
-    or_true : (b : Bool) → (b || true) ≡ true
-    or_true true = refl
-    or_true false = refl
 
 pub unspared_from : (q k : ℕ) → k ≢ 2 * q → k ≢ 2 * q + 1 → is_spared (Some q) k ≡ false
 unspared_from q k a b = rw (ne_eqb k (2 * q) a, ne_eqb k (2 * q + 1) b) refl

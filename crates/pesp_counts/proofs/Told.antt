@@ -1,7 +1,7 @@
 -- The pairs that an edit puts back, by number.
-use Rattle.std.proofs.Common.{◌≡◌, ◌≢◌, ℕ, ◌+◌, ◌*◌, ◌<◌, ◌≤◌, ◌==◌, ◌&&◌, ◌||◌, eqb, not, Bool, true, false, List, [], Some, Ok, get_or, is_some, length, map, unwrap_or, All, AllPairs, refl, sym, ap, subst, ◌∙◌, inl, inr, arith, IsTrue, eqb→eq, T}
+use Rattle.std.proofs.Common.{◌≡◌, ◌≢◌, ℕ, ◌+◌, ◌*◌, ◌<◌, ◌≤◌, ◌==◌, ◌&&◌, ◌||◌, eqb, not, true, List, [], Some, Ok, get_or, is_some, length, map, unwrap_or, All, AllPairs, refl, sym, ap, subst, ◌∙◌, inl, inr, arith, IsTrue, eqb→eq, T}
 use Rattle.std.specs.List.{Contains, list_any}
-use Rattle.std.proofs.lemmas.Bool.{cases_Bool, cases_eq, eq-eqb, false≢true, ne_eqb}
+use Rattle.std.proofs.lemmas.Bool.{cases_Bool, cases_eq, eq-eqb, false≢true, ne_eqb, or_left, or_right}
 use Rattle.std.proofs.lemmas.List.{get_or-map, length-map}
 use Rattle.std.proofs.lemmas.List.Elements.{Contains-get_or}
 use Rattle.std.proofs.lemmas.Map.Keys.{IsDistinct-from_apart}
@@ -26,8 +26,9 @@ use Rattle.pesp_counts_arcs.specs.Places.{number_at, place_of}
 use Rattle.pesp_counts.specs.Reached.{Reached, starts}
 use Rattle.pesp_counts.specs.Restores.{IsEventPlace, Restores, StaysWithin, numbered_pair}
 use Rattle.pesp_counts_supports.specs.Supports.{Supports}
+use Rattle.pesp_base.proofs.Tests.{same_value, or_second}
 use Rattle.pesp_counts.proofs.Asks.{asks_again}
-use Rattle.pesp_counts.proofs.Bridge.{place_is, some_of, the_same}
+use Rattle.pesp_counts.proofs.Bridge.{place_is, some_of}
 use Rattle.pesp_counts.proofs.ReachLaws.{outside_of}
 use Rattle.pesp_counts_supports.proofs.Spread.{block_below, blocks_apart}
 use Rattle.pesp_counts_arcs.proofs.StandMembers.{in_map, of_map}
@@ -139,7 +140,7 @@ module _ (I J : Network) (edit : Edit) (links : Links) (back : List Placed) (rea
       alike : (x y : Placed) → Contains back x → Contains back y → numbered_pair links x ≡ numbered_pair links y → x ≡ y
       alike x y i j same =
           let events : (its_event x i).0 ≡ (its_event y j).0 = sym (numbers_it x i) ∙ ap (λ (p : Pair). p.event) same ∙ numbers_it y j in
-          let places : x.place ≡ y.place = the_same (place_of links.events (its_event y j).0) x.place y.place (ap (place_of links.events) (sym events) ∙ (its_event x i).1) (its_event y j).1 in
+          let places : x.place ≡ y.place = same_value (place_of links.events (its_event y j).0) x.place y.place (ap (place_of links.events) (sym events) ∙ (its_event x i).1) (its_event y j).1 in
           ap (λ (q : ℕ). record { place = q; residue = x.residue }) places ∙ ap (λ (q : ℕ). record { place = y.place; residue = q }) (ap (λ (p : Pair). p.residue) same)
 
 -- ---- the domains after the edit
@@ -162,18 +163,6 @@ test_to pairs e r h =
     let b : x.residue ≡ r = eqb→eq x.residue r (subst T (sym (and_right (x.event == e) (x.residue == r) w.2)) tt) in
     subst (λ k. Contains pairs (record { event = e; residue = k })) b (subst (λ k. Contains pairs (record { event = k; residue = x.residue })) a w.1)
 
-either : (a b : Bool) → IsTrue a → IsTrue (a || b)
-either true b h = refl
-either false b h = absurd (false≢true h)
-
-or_else : (a b : Bool) → IsTrue b → IsTrue (a || b)
-or_else true b h = refl
-or_else false b h = h
-
-or_right : (a b : Bool) → IsTrue (a || b) → a ≡ false → IsTrue b
-or_right true b h none = absurd (false≢true (sym none))
-or_right false b h none = h
-
 -- they lie within those before and the restored pairs, but for an added event
 pub within_told : (I J : Network) (edit : Edit) (restored : List Pair) → IsNetwork I → edited I edit ≡ Ok J → Restores I edit restored → StaysWithin I edit restored
 within_told I J edit restored network made told e r i =
@@ -186,15 +175,15 @@ within_told I J edit restored network made told e r i =
       | inl event ↦
           let there = reach_covers I edit before reached network (asks_again I J edit network made) domains
           (record {
-            more = λ f s h. either (before f s) (in_test restored f s) h;
-            all = λ f s h. or_else (before f s) (in_test restored f s) (test_from restored f s ((told.exact f s).1 h));
-            only = λ f s h none. (told.exact f s).0 (test_to restored f s (or_right (before f s) (in_test restored f s) h none));
+            more = λ f s h. or_left (before f s) (in_test restored f s) h;
+            all = λ f s h. or_right (before f s) (in_test restored f s) (test_from restored f s ((told.exact f s).1 h));
+            only = λ f s h none. (told.exact f s).0 (test_to restored f s (or_second (before f s) (in_test restored f s) h none));
           })
           e r event i
           in
           elim (cases_Bool (before e r)) [
             | inl was ↦ inl ((domains.exact e r).0 was)
-            | inr new ↦ inr (inl (test_to restored e r (or_right (before e r) (in_test restored e r) there new)))
+            | inr new ↦ inr (inl (test_to restored e r (or_second (before e r) (in_test restored e r) there new)))
           ]
     ]
 

@@ -1,7 +1,7 @@
 -- The domains after an edit lie within those before it and the reached pairs.
-use Rattle.std.proofs.Common.{◌≡◌, ℕ, ◌<◌, ◌==◌, ◌&&◌, ◌||◌, not, Bool, true, false, [], refl, sym, ap, subst, ◌∙◌, inl, inr, ◌⊎◌, IsTrue}
+use Rattle.std.proofs.Common.{◌≡◌, ℕ, ◌<◌, ◌==◌, ◌&&◌, ◌||◌, not, false, [], sym, ap, subst, ◌∙◌, inl, inr, ◌⊎◌, IsTrue}
 use Rattle.std.specs.List.{Contains, list_any}
-use Rattle.std.proofs.lemmas.Bool.{and_from, and_parts, cases_Bool, false≢true}
+use Rattle.std.proofs.lemmas.Bool.{and_from, and_parts, cases_Bool, false≢true, not-true, or_cases, or_left, or_right}
 use Rattle.pesp_base.specs.declared.activity.Activity.{Activity}
 use Rattle.pesp_instance.specs.declared.edit.Edit.{Edit}
 use Rattle.pesp_instance.specs.Edited.{effect}
@@ -26,22 +26,6 @@ reached_nowhere I edit _ _ none (follows side a r s before is unedited joins out
 other_is_event : (I : Network) (side : Side) (a : Activity) → IsNetwork I → Contains I.activities a → IsTrue (has_event I (other side a))
 other_is_event I Tail a network is = own_is_event I Head a network is
 other_is_event I Head a network is = own_is_event I Tail a network is
-
-either : (a b : Bool) → IsTrue a → IsTrue (a || b)
-either true b h = refl
-either false b h = absurd (false≢true h)
-
-or_else : (a b : Bool) → IsTrue b → IsTrue (a || b)
-or_else true b h = refl
-or_else false b h = h
-
-which : (a b : Bool) → IsTrue (a || b) → IsTrue a ⊎ IsTrue b
-which true b h = inl refl
-which false b h = inr h
-
-untrue : (b : Bool) → IsTrue (not b) → b ≡ false
-untrue true h = absurd (false≢true h)
-untrue false h = refl
 
 module _ (I : Network) (edit : Edit) (network : IsNetwork I) (asks : AsksAgain I edit) (before reached : Pairs) (domains : AreDomains I [] before) (reach : IsReach I edit before reached) (D : Pairs) (sound : (e r : ℕ) → Of D e r → InDomains (effect I edit) [] e r) (complete : (e r : ℕ) → InDomains (effect I edit) [] e r → Of D e r) where
   abbrev J : Network
@@ -78,11 +62,11 @@ module _ (I : Network) (edit : Edit) (network : IsNetwork I) (asks : AsksAgain I
     partner_there side a s is at unedited there joins =
         elim (cases_Bool (reached (other side a) s)) [
           | inr apart ↦
-              or_else (before (other side a) s) _
+              or_right (before (other side a) s) _
               (and_from _ _ (complete (other side a) s there) (and_from _ _ (ap not apart) (other_is_event I side a network is)))
           | inl arrived ↦
               elim (cases_Bool (before (other side a) s)) [
-                | inl was ↦ either _ _ was
+                | inl was ↦ or_left _ _ was
                 | inr was_not ↦
                     let reached_there = reach.only (other side a) s arrived was_not in
                     let here : Reached I edit e r =
@@ -116,14 +100,14 @@ module _ (I : Network) (edit : Edit) (network : IsNetwork I) (asks : AsksAgain I
   -- each pair of the union stands in the instance before the edit
   union_stands : (e r : ℕ) → Of union e r → Stands I [] (Of union) e r
   union_stands e r h =
-      elim (which (before e r) _ h) [
+      elim (or_cases (before e r) _ h) [
         | inl was ↦
-            Stands-more I [] (InDomains I []) (Of union) (λ f s i. either _ _ ((domains.exact f s).1 i)) e r
+            Stands-more I [] (InDomains I []) (Of union) (λ f s i. or_left _ _ ((domains.exact f s).1 i)) e r
             (InDomains-stands I [] e r ((domains.exact e r).0 was))
         | inr new ↦
             let w = and_parts _ _ new in
             let v = and_parts _ _ w.1 in
-            stands_before e r (sound e r w.0) v.1 (untrue (reached e r) v.0)
+            stands_before e r (sound e r w.0) v.1 (not-true (reached e r) v.0)
       ]
 
   within_reach : (e r : ℕ) → IsTrue (has_event I e) → InDomains J [] e r → Of reached e r
@@ -131,7 +115,7 @@ module _ (I : Network) (edit : Edit) (network : IsNetwork I) (asks : AsksAgain I
       elim (cases_Bool (reached e r)) [
         | inl there ↦ there
         | inr far ↦
-            let i = standing_within I [] union union_stands e r (or_else (before e r) _ (and_from _ _ (complete e r new) (and_from _ _ (ap not far) event))) in
+            let i = standing_within I [] union union_stands e r (or_right (before e r) _ (and_from _ _ (complete e r new) (and_from _ _ (ap not far) event))) in
             reach.more e r ((domains.exact e r).1 i)
       ]
 

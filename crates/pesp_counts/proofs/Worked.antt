@@ -27,7 +27,8 @@ use Rattle.pesp_counts.specs.Restores.{AreThePairs, numbered_pair}
 use Rattle.pesp_counts_supports.specs.Supports.{Supports, is_in}
 use Rattle.pesp_counts.specs.Works.{IsRemoved, IsWork, IsWorked, KeepPlaces, degree, probe_bound, weight_of}
 use Rattle.pesp_counts_supports.specs.Spent.{ends_at}
-use Rattle.pesp_counts.proofs.Bridge.{numbered_at, test_of, the_same}
+use Rattle.pesp_base.proofs.Tests.{same_value}
+use Rattle.pesp_counts.proofs.Bridge.{numbered_at, test_of}
 use Rattle.pesp_counts.proofs.Degrees.{ends_le_degree}
 use Rattle.pesp_counts_arcs.proofs.StandMembers.{in_map, of_map}
 use Rattle.pesp_counts_supports.proofs.Taken.{found_in, stands_in}
@@ -45,7 +46,7 @@ module _ (links : Links) (events : ArePlaces links.events) (xs : List Placed) (h
   alike : (x y : Placed) → Contains xs x → Contains xs y → numbered_pair links x ≡ numbered_pair links y → x ≡ y
   alike x y i j same =
       let numbers : (housed x i).0 ≡ (housed y j).0 = sym (numbers_it x i) ∙ ap (λ (p : Pair). p.event) same ∙ numbers_it y j in
-      let places : x.place ≡ y.place = the_same (place_of links.events (housed y j).0) x.place y.place (ap (place_of links.events) (sym numbers) ∙ (housed x i).1) (housed y j).1 in
+      let places : x.place ≡ y.place = same_value (place_of links.events (housed y j).0) x.place y.place (ap (place_of links.events) (sym numbers) ∙ (housed x i).1) (housed y j).1 in
       ap (λ (q : ℕ). record { place = q; residue = x.residue }) places ∙ ap (λ (q : ℕ). record { place = y.place; residue = q }) (ap (λ (p : Pair). p.residue) same)
 
   -- different pairs have different numbers or residues
@@ -125,7 +126,7 @@ module _ (I J : Network) (edit : Edit) (links0 links1 : Links) (s0 s1 : Supports
       let w = of_numbered links1 stand.events s1.trail trail_housed e r i in
       let v = stayed w.0 r w.2 in
       let place1 = kept.places v.0 w.0 v.1 v.2 in
-      let same : v.0 ≡ e = the_same _ v.0 e ((stand.events.paired v.0 w.0).0 place1) ((stand.events.paired e w.0).0 w.1) in
+      let same : v.0 ≡ e = same_value _ v.0 e ((stand.events.paired v.0 w.0).0 place1) ((stand.events.paired e w.0).0 w.1) in
       let is_event : IsTrue (has_event J e) = subst (λ f. IsTrue (has_event J f)) same v.2 in
       let place0 : place_of links0.events e ≡ Some w.0 = ap (place_of links0.events) (sym same) ∙ v.1 in
       let was : InDomains I [] e r ⊎ In restored e r =

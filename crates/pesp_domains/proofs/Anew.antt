@@ -1,9 +1,10 @@
 -- Residues that an event admits with another window, or with none, and did not admit before.
 use Rattle.std.proofs.Common.{◌≡◌, ℕ, ◌<◌, ◌==◌, ◌&&◌, not, cond, Bool, true, false, List, [], ◌∷◌, Option, Some, None, option_map, refl, sym, ap, ◌∙◌, inl, inr, arith, zero, suc, ◌+◌, All, ◌≤◌}
+use Rattle.std.proofs.Math.Bool.{and-false}
 use Rattle.std.specs.List.{list_any, range_with_len}
 use Rattle.std.specs.Option.{option_and_then}
 use Rattle.std.proofs.lemmas.List.Elements.{All-cons, All-head, All-nil, All-tail}
-use Rattle.std.proofs.lemmas.Bool.{and_from, cases_Bool, cases_eq, eq-eqb, eqb-true, ne_eqb}
+use Rattle.std.proofs.lemmas.Bool.{and_from, cases_eq, eq-eqb, eqb-true, ne_eqb}
 use Rattle.pesp_base.specs.Windows.{Interval, at_time}
 use Rattle.pesp_instance.specs.declared.edit.Edit.TheVariants.{Fix, Unfix}
 use Rattle.pesp_instance.specs.declared.event.Event.{Event}
@@ -11,8 +12,8 @@ use Rattle.pesp_instance.specs.Edited.{effect, rewindowed}
 use Rattle.pesp_instance.specs.Network.{Network, admits, agrees_with, event_of, window_of}
 use Rattle.pesp_base.proofs.WindowLaws.{held-at_time, held-full}
 use Rattle.pesp_instance.proofs.Rising.{number-with_number, with_number-change_in}
-use Rattle.pesp_domains.proofs.Families.{in_range, none_passes}
 use Rattle.pesp_domains.specs.Loosening.{admits_anew}
+use Rattle.pesp_base.proofs.Ranges.{some_below}
 
 abbrev number : Event → ℕ
 number e = e.id
@@ -20,14 +21,6 @@ number e = e.id
 -- whether a residue is in the second window and not in the first one
 abbrev pub agrees_anew : ℕ → Option Interval → Option Interval → ℕ → Bool
 agrees_anew period old new r = agrees_with period new r && not (agrees_with period old r)
-
--- one number below that passes
-pub some_below : (test : ℕ → Bool) (n r : ℕ) → r < n → test r ≡ true → list_any test (range_with_len 0 n) ≡ true
-some_below test n r below is =
-    elim (cases_Bool (list_any test (range_with_len 0 n))) [
-      | inl some ↦ some
-      | inr none ↦ absurd (none_passes test (range_with_len 0 n) none r (in_range 0 n r (omega arith) (omega (arith, below))) is)
-    ]
 
 none_of : (test : ℕ → Bool) (rs : List ℕ) → ((r : ℕ) → test r ≡ false) → list_any test rs ≡ false
 none_of test [] each = refl
@@ -37,10 +30,6 @@ none_of test (r ∷ rs) each = rw (each r) (none_of test rs each)
 pub anew_at : (I J : Network) (e r : ℕ) → r < I.period → admits J e r ≡ true → admits I e r ≡ false → admits_anew I J e ≡ true
 anew_at I J e r below new old = some_below (λ s. admits J e s && not (admits I e s)) I.period r below (and_from _ _ new (ap not old))
 
-never : (b : Bool) → (b && not true) ≡ false
-never true = refl
-never false = refl
-
 -- it depends on the two windows alone
 pub anew_is : (I : Network) (e : ℕ) (window : Option Interval) → admits_anew I (rewindowed I e window) e ≡ list_any (agrees_anew I.period (window_of I e) window) (range_with_len 0 I.period)
 anew_is I e window = by (event_of I e) refl
@@ -48,8 +37,8 @@ anew_is I e window = by (event_of I e) refl
     by : (o : Option Event) → event_of I e ≡ o → admits_anew I (rewindowed I e window) e ≡ list_any (agrees_anew I.period (window_of I e) window) (range_with_len 0 I.period)
     by None none =
         let before : window_of I e ≡ None = ap (option_and_then (λ x. x.window)) none in
-        none_of _ (range_with_len 0 I.period) (λ r. rw before (never (agrees_with I.period (window_of (rewindowed I e window) e) r)))
-        ∙ sym (none_of _ (range_with_len 0 I.period) (λ r. rw before (never (agrees_with I.period window r))))
+        none_of _ (range_with_len 0 I.period) (λ r. rw before (and-false (agrees_with I.period (window_of (rewindowed I e window) e) r)))
+        ∙ sym (none_of _ (range_with_len 0 I.period) (λ r. rw before (and-false (agrees_with I.period window r))))
     by (Some x) found =
         let same : x.id ≡ e = number-with_number number e I.events x found in
         let after : window_of (rewindowed I e window) e ≡ window =

@@ -1,7 +1,7 @@
 -- Members of lists of pairs.
-use Rattle.std.proofs.Common.{◌≡◌, ℕ, zero, suc, ◌+◌, ◌<◌, ◌≤◌, ◌==◌, ◌&&◌, ◌||◌, Bool, true, false, cond, List, [], ◌∷◌, ◌++◌, map, filter, flat_map, Some, is_some, refl, sym, ap, subst, ◌∙◌, inl, inr, ◌⊎◌, arith, IsTrue, T, eqb→eq}
+use Rattle.std.proofs.Common.{◌≡◌, ℕ, zero, suc, ◌+◌, ◌<◌, ◌≤◌, ◌==◌, ◌&&◌, ◌||◌, Bool, true, false, cond, List, [], ◌∷◌, ◌++◌, map, filter, flat_map, Some, is_some, refl, sym, ap, subst, ◌∙◌, inl, inr, ◌⊎◌, arith, IsTrue}
 use Rattle.std.specs.List.{Contains, count_by, list_any, range_with_len}
-use Rattle.std.proofs.lemmas.Bool.{cases_eq, false≢true}
+use Rattle.std.proofs.lemmas.Bool.{cases_eq, false≢true, eqb-true, cases_Bool, eq-eqb}
 use Rattle.std.proofs.lemmas.List.Elements.{Contains-append_left, Contains-append_right}
 use Rattle.std.proofs.lemmas.List.Sums.{sum_by-cons}
 use Rattle.pesp_base.specs.Numbered.{with_number}
@@ -10,9 +10,6 @@ use Rattle.pesp_instance.specs.Network.{Network, has_event}
 use Rattle.pesp_domains.specs.declared.pair.Pair.{Pair}
 use Rattle.pesp_domains.specs.Domains.{In}
 use Rattle.pesp_domains.specs.Sweeps.{all_pairs}
-
-eqb_is : (m n : ℕ) → (m == n) ≡ true → m ≡ n
-eqb_is m n e = eqb→eq m n (subst T (sym e) tt)
 
 pub and_left : (a b : Bool) → IsTrue (a && b) → IsTrue a
 and_left true b h = refl
@@ -128,7 +125,7 @@ in_blocks period e r [] below is = absurd (false≢true is)
 in_blocks period e r (x ∷ xs) below is =
     let rest = flat_map (block period) (map (λ y. y.id) xs) in
     elim (x.id == e) as (λ b. (x.id == e) ≡ b → IsTrue (is_some (cond b (Some x) (with_number (λ y. y.id) e xs))) → In (block period x.id ++ rest) e r) [
-      | true ↦ λ same _. Contains-append_left (block period x.id) rest _ (subst (λ f. In (block period f) e r) (sym (eqb_is x.id e same)) (in_block e r (range_with_len 0 period) (in_range 0 period r (omega arith) (omega (arith, below)))))
+      | true ↦ λ same _. Contains-append_left (block period x.id) rest _ (subst (λ f. In (block period f) e r) (sym (eqb-true x.id e same)) (in_block e r (range_with_len 0 period) (in_range 0 period r (omega arith) (omega (arith, below)))))
       | false ↦ λ _ later. Contains-append_right (block period x.id) rest _ (in_blocks period e r xs below later)
     ] refl is
 
@@ -163,3 +160,11 @@ none_passes p (y ∷ xs) e x i h =
     right : (a b : Bool) → (a || b) ≡ false → b ≡ false
     right true b h = absurd (false≢true (sym h))
     right false b h = h
+
+-- a member that is equal to a number is found
+pub found_equal : (m n : ℕ) (xs : List ℕ) → Contains xs n → m ≡ n → list_any (λ x. m == x) xs ≡ true
+found_equal m n xs is same =
+    elim (cases_Bool (list_any (λ x. m == x) xs)) [
+      | inl found ↦ found
+      | inr none ↦ absurd (none_passes (λ x. m == x) xs none n is (eq-eqb m n same))
+    ]

@@ -7,6 +7,6 @@ pub mod Opened
 pub mod Passes
 pub mod Pushes
 pub mod Removals
-mod RowLaws
+pub mod RowLaws
 pub mod Sweeps
 pub mod Wider

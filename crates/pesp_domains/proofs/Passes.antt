@@ -1,5 +1,6 @@
 -- Passes over activities: nothing yet, one pair more, and one pass after another.
-use Rattle.std.proofs.Common.{◌≡◌, ℕ, ◌<◌, ◌≤◌, ◌==◌, Bool, true, false, ◌&&◌, ◌||◌, not, List, ◌∷◌, refl, sym, ◌∙◌, ap, subst, inl, inr, ◌⊎◌, IsTrue, arith}
+use Rattle.std.proofs.Common.{◌≡◌, ℕ, ◌<◌, ◌≤◌, ◌==◌, Bool, true, false, ◌&&◌, ◌||◌, List, ◌∷◌, refl, sym, ◌∙◌, ap, subst, inl, inr, ◌⊎◌, IsTrue, arith}
+use Rattle.std.proofs.Math.Bool.{and-false, and-true}
 use Rattle.std.proofs.lemmas.Bool.{false≢true, cases_eq, eq-eqb, ne_eqb}
 use Rattle.std.proofs.lemmas.List.Elements.{All-contains}
 use Rattle.std.specs.List.{Contains, count_by}
@@ -54,26 +55,18 @@ pass_then I S S' S'' c c' h k =
 
 -- ---- a pair goes
 
-and_same : (a : Bool) → (a && not false) ≡ a
-and_same true = refl
-and_same false = refl
-
 same_pair : (e r : ℕ) → (e == e && r == r) ≡ true
 same_pair e r = rw (eq-eqb e e refl, eq-eqb r r refl) refl
 
 pub without_other : (S : Pairs) (event residue e r : ℕ) → (e ≡ event → r ≡ residue → ⊥) → without S event residue e r ≡ S e r
 without_other S event residue e r apart =
     elim (cases_eq e event) [
-      | inr other ↦ rw (ne_eqb e event other) (and_same (S e r))
-      | inl same ↦ rw (eq-eqb e event same, ne_eqb r residue (apart same)) (and_same (S e r))
+      | inr other ↦ rw (ne_eqb e event other) (and-true (S e r))
+      | inl same ↦ rw (eq-eqb e event same, ne_eqb r residue (apart same)) (and-true (S e r))
     ]
 
 pub without_pair : (S : Pairs) (event residue : ℕ) → without S event residue event residue ≡ false
-without_pair S event residue = rw (same_pair event residue) (and_false (S event residue))
-  where
-    and_false : (b : Bool) → (b && not true) ≡ false
-    and_false true = refl
-    and_false false = refl
+without_pair S event residue = rw (same_pair event residue) (and-false (S event residue))
 
 -- a pair without a partner goes
 pub pass_one : (I : Network) (S S' : Pairs) (side : Side) (a : Activity) (r : ℕ)

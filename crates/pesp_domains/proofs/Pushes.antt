@@ -1,6 +1,6 @@
 -- Pushed pairs: rows that are opened, and rows that are limited to one pair more.
-use Rattle.std.proofs.Common.{◌≡◌, ℕ, ◌<◌, ◌≤◌, ◌==◌, eqb, length, get_or, map, All, is_some, Bool, true, false, ◌&&◌, ◌||◌, not, List, [], ◌∷◌, ◌++◌, refl, sym, ◌∙◌, ap, subst, inl, inr, IsTrue, arith}
-use Rattle.std.proofs.lemmas.Bool.{false≢true, cases_eq, cases_lt, eq-eqb, ne_eqb}
+use Rattle.std.proofs.Common.{◌≡◌, ℕ, ◌<◌, ◌≤◌, ◌==◌, eqb, length, get_or, map, All, is_some, Bool, true, ◌||◌, not, List, [], ◌∷◌, ◌++◌, refl, sym, ◌∙◌, ap, subst, inl, inr, IsTrue, arith}
+use Rattle.std.proofs.lemmas.Bool.{false≢true, cases_eq, cases_lt, eq-eqb, ne_eqb, and_from}
 use Rattle.std.proofs.lemmas.List.{length-map, get_or-map, get_or_append_left, get_or_push, length_push}
 use Rattle.std.proofs.lemmas.List.Elements.{All-head, All-push, All-tail, Contains-append_left, Contains-get_or, Contains-push, Contains-push_cases}
 use Rattle.std.proofs.lemmas.Map.Keys.{IsDistinct-from_apart}
@@ -18,10 +18,6 @@ use Rattle.pesp_domains.specs.Sweeps.{AreDomains, AreOpen, Pairs, Settles, limit
 use Rattle.pesp_domains.proofs.Families.{and_left, and_right}
 use Rattle.pesp_domains.proofs.Laws.{InDomains-admitted, InDomains-fewer}
 
-both_true : (a b : Bool) → IsTrue a → IsTrue b → IsTrue (a && b)
-both_true true b p q = q
-both_true false b p q = absurd (false≢true p)
-
 -- what is left agrees
 pub limited_agrees : (S : Pairs) (event residue e r : ℕ) → IsTrue (limited S event residue e r) → e ≡ event → r ≡ residue
 limited_agrees S event residue e r h same =
@@ -35,7 +31,7 @@ limited_agrees S event residue e r h same =
 -- and what agrees is left
 pub limited_keeps : (S : Pairs) (event residue e r : ℕ) → IsTrue (S e r) → (e ≡ event → r ≡ residue) → IsTrue (limited S event residue e r)
 limited_keeps S event residue e r h agrees =
-    both_true (S e r) (not (e == event) || r == residue) h
+    and_from (S e r) (not (e == event) || r == residue) h
     (elim (cases_eq e event) [
       | inl same ↦ rw (eq-eqb e event same, eq-eqb r residue (agrees same)) refl
       | inr apart ↦ rw (ne_eqb e event apart) refl
@@ -47,7 +43,7 @@ narrowed_passes S event test e r h same = rw (eq-eqb e event same) at (and_right
 
 pub narrowed_keeps : (S : Pairs) (event : ℕ) (test : ℕ → Bool) (e r : ℕ) → IsTrue (S e r) → (e ≡ event → IsTrue (test r)) → IsTrue (narrowed_to S event test e r)
 narrowed_keeps S event test e r h passes =
-    both_true (S e r) (not (e == event) || test r) h
+    and_from (S e r) (not (e == event) || test r) h
     (elim (cases_eq e event) [
       | inl same ↦ rw (eq-eqb e event same) (passes same)
       | inr apart ↦ rw (ne_eqb e event apart) refl

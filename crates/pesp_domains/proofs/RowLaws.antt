@@ -1,7 +1,17 @@
--- The residues of a row, as a list.
-use Rattle.std.proofs.Common.{◌≡◌, ℕ, zero, suc, ◌+◌, ◌-◌, ◌≤◌, Bool, true, false, cond, nat_le, ◌∷◌, filter, find, Some, refl, inl, inr, arith}
+-- How long a row is, and its residues as a list.
+use Rattle.std.proofs.Common.{◌≡◌, ℕ, zero, suc, ◌+◌, ◌-◌, ◌<◌, ◌≤◌, Bool, true, false, cond, nat_le, IsTrue, List, ◌∷◌, length, filter, find, Some, refl, sym, ◌∙◌, inl, inr, arith}
 use Rattle.std.specs.List.{range_with_len}
-use Rattle.std.proofs.lemmas.Bool.{cases_eq}
+use Rattle.std.proofs.lemmas.Bool.{cases_eq, cases_lt, false≢true}
+use Rattle.std.proofs.lemmas.List.{get_or_past}
+use Rattle.pesp_domains.specs.Domains.{holds}
+
+-- a row that holds a residue has a test for it
+pub within_row : (row : List Bool) (r : ℕ) → IsTrue (holds row r) → r < length row
+within_row row r h =
+    elim (cases_lt r (length row)) [
+      | inl low ↦ low
+      | inr high ↦ absurd (false≢true (sym (get_or_past row r false high) ∙ h))
+    ]
 
 module _ (test : ℕ → Bool) where
   -- from a number that is not above any of a range, the first residue that passes is the range's first

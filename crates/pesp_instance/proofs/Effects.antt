@@ -126,21 +126,9 @@ pub on_err : {E P : Type 0} (r : Result (Unit {0}) E) → true ≡ is_err r → 
 on_err (Ok x) is err = absurd (cc)
 on_err (Err e) is err = err
 
-pub when_err : {A E P : Type 0} (r : Result A E) → P → OnErr r P
-when_err (Ok x) p = tt
-when_err (Err e) p = p
-
-pub none_from : {X : Type 0} (o : Option X) → is_some o ≡ false → o ≡ None
-none_from None is = refl
-none_from (Some x) is = absurd (cc)
-
 pub none_is : {X : Type 0} (o : Option X) → is_none o ≡ true → o ≡ None
 none_is None is = refl
 none_is (Some x) is = absurd (cc)
-
-pub some_is : {X : Type 0} (o : Option X) → is_none o ≡ false → is_some o ≡ true
-some_is None is = absurd (cc)
-some_is (Some x) is = refl
 
 pub is_none-from : {X : Type 0} (o : Option X) (b : Bool) → is_some o ≡ b → is_none o ≡ not b
 is_none-from None b is = ap not is

@@ -3,6 +3,7 @@ pub mod Effects
 pub mod Links
 pub mod Listed
 pub mod Numbers
+pub mod PutLast
 pub mod Refused
 pub mod Relisted
 pub mod Rising

@@ -10,6 +10,7 @@ use Rattle.std.specs.Ordering.{nat_cmp}
 use Rattle.slab.specs.Slab.{Slab, get, Updates}
 use Rattle.slab.proofs.SlabLemmas.{Updates-set, ContainsKey-within}
 use Rattle.pesp_instance.specs.Table.{resolved, IsFree, IsLinked}
+use Rattle.pesp_base.proofs.Tests.{value_of}
 
 -- a number's slot is not one that no number has
 slot_differs : (es : List (ℕ × ℕ)) (test : ℕ → Bool) (slot free : ℕ) → IsFree free es → lookup test es ≡ Some slot → slot ≢ free
@@ -38,18 +39,14 @@ IsFree-remove test (e ∷ es) free apart =
     ]
 
 module _ {V : Type 0} where
-  pub value_at : (o : Option V) → IsSome o → (value : V) × (o ≡ Some value)
-  value_at None is = absurd (cc)
-  value_at (Some value) is = (value, refl)
-
   pub length-resolved : (slots : List (Option V)) (es : List (ℕ × ℕ)) → IsLinked slots es → length (resolved slots es) ≡ length es
   length-resolved slots [] linked = refl
-  length-resolved slots (e ∷ es) linked = rw (value_at _ linked.0).1 (omega (arith, length-resolved slots es linked.2))
+  length-resolved slots (e ∷ es) linked = rw (value_of _ linked.0).1 (omega (arith, length-resolved slots es linked.2))
 
   pub lookup-resolved : (slots : List (Option V)) (es : List (ℕ × ℕ)) (test : ℕ → Bool) (slot : ℕ) → IsLinked slots es → lookup test es ≡ Some slot → slice_index_or slots slot None ≡ lookup test (resolved slots es)
   lookup-resolved slots [] test slot linked is = absurd (cc)
   lookup-resolved slots (e ∷ es) test slot linked is =
-      let v = value_at (slice_index_or slots e.1 None) linked.0 in
+      let v = value_of (slice_index_or slots e.1 None) linked.0 in
       rw v.1 (elim (test e.0) as (λ b. cond b (Some e.1) (lookup test es) ≡ Some slot → slice_index_or slots slot None ≡ cond b (Some v.0) (lookup test (resolved slots es))) [
         | true ↦ λ same. let eq : slot ≡ e.1 = cc in rw eq v.1
         | false ↦ λ later. lookup-resolved slots es test slot linked.2 later
@@ -58,7 +55,7 @@ module _ {V : Type 0} where
   pub lookup-resolved-none : (slots : List (Option V)) (es : List (ℕ × ℕ)) (test : ℕ → Bool) → IsLinked slots es → lookup test es ≡ None → lookup test (resolved slots es) ≡ None
   lookup-resolved-none slots [] test linked is = refl
   lookup-resolved-none slots (e ∷ es) test linked is =
-      let v = value_at (slice_index_or slots e.1 None) linked.0 in
+      let v = value_of (slice_index_or slots e.1 None) linked.0 in
       rw v.1 (elim (test e.0) as (λ b. cond b (Some e.1) (lookup test es) ≡ None → cond b (Some v.0) (lookup test (resolved slots es)) ≡ None) [
         | true ↦ λ same. absurd (cc)
         | false ↦ λ later. lookup-resolved-none slots es test linked.2 later
@@ -77,7 +74,7 @@ module _ {V : Type 0} where
   pub vacant_is_free : (slots : List (Option V)) (es : List (ℕ × ℕ)) (free : ℕ) → IsLinked slots es → slice_index_or slots free None ≡ None → IsFree free es
   vacant_is_free slots [] free linked vacant = tt
   vacant_is_free slots (e ∷ es) free linked vacant = (
-    λ same. let v = value_at (slice_index_or slots e.1 None) linked.0 in absurd (cc),
+    λ same. let v = value_of (slice_index_or slots e.1 None) linked.0 in absurd (cc),
     vacant_is_free slots es free linked.2 vacant,
   )
 
@@ -95,7 +92,7 @@ module _ {V : Type 0} where
       pub resolved-insert : (es : List (ℕ × ℕ)) → IsFree slot es → IsLinked old es → resolved new (insert_entry cmp es number slot) ≡ insert_entry cmp (resolved old es) number value
       resolved-insert [] apart linked = rw changed refl
       resolved-insert (e ∷ es) apart linked =
-          let v = value_at (slice_index_or old e.1 None) linked.0 in
+          let v = value_of (slice_index_or old e.1 None) linked.0 in
           let w : slice_index_or new e.1 None ≡ Some v.0 = others e.1 apart.0 ∙ v.1 in
           let kept = resolved_kept es apart.1 in
           rw v.1 (elim (cmp number e.0) as (λ r. resolved new (match_ordering r ((number, slot) ∷ e ∷ es) ((e.0, slot) ∷ es) (e ∷ insert_entry cmp es number slot)) ≡ match_ordering r ((number, value) ∷ (e.0, v.0) ∷ resolved old es) ((e.0, value) ∷ resolved old es) ((e.0, v.0) ∷ insert_entry cmp (resolved old es) number value)) [
@@ -118,7 +115,7 @@ module _ {V : Type 0} where
       pub resolved-set : (value : V) → slice_index_or new slot None ≡ Some value → (es : List (ℕ × ℕ)) → IsLinked old es → lookup test es ≡ Some slot → resolved new es ≡ set_value test (resolved old es) value
       resolved-set value changed [] linked is = refl
       resolved-set value changed (e ∷ es) linked is =
-          let v = value_at (slice_index_or old e.1 None) linked.0 in
+          let v = value_of (slice_index_or old e.1 None) linked.0 in
           rw v.1 (elim (test e.0) as (λ b. cond b (Some e.1) (lookup test es) ≡ Some slot → resolved new (e ∷ es) ≡ cond b ((e.0, value) ∷ resolved old es) ((e.0, v.0) ∷ set_value test (resolved old es) value)) [
             | true ↦ λ same. let eq : e.1 ≡ slot = cc in let w : slice_index_or new e.1 None ≡ Some value = ap (λ i. slice_index_or new i None) eq ∙ changed in rw (w, resolved_kept es (rw eq at linked.1)) refl
             | false ↦ λ later. let w : slice_index_or new e.1 None ≡ Some v.0 = others e.1 (λ same. slot_differs es test slot e.1 linked.1 later (sym same)) ∙ v.1 in rw (w, resolved-set value changed es linked.2 later) refl
@@ -138,7 +135,7 @@ module _ {V : Type 0} where
       pub resolved-remove : (es : List (ℕ × ℕ)) → IsLinked old es → lookup test es ≡ Some slot → resolved new (remove_entry test es) ≡ remove_entry test (resolved old es)
       resolved-remove [] linked is = refl
       resolved-remove (e ∷ es) linked is =
-          let v = value_at (slice_index_or old e.1 None) linked.0 in
+          let v = value_of (slice_index_or old e.1 None) linked.0 in
           rw v.1 (elim (test e.0) as (λ b. cond b (Some e.1) (lookup test es) ≡ Some slot → resolved new (cond b es (e ∷ remove_entry test es)) ≡ cond b (resolved old es) ((e.0, v.0) ∷ remove_entry test (resolved old es))) [
             | true ↦ λ same. let eq : e.1 ≡ slot = cc in resolved_kept es (rw eq at linked.1)
             | false ↦ λ later. let w : slice_index_or new e.1 None ≡ Some v.0 = others e.1 (λ same. slot_differs es test slot e.1 linked.1 later (sym same)) ∙ v.1 in rw (w, resolved-remove es linked.2 later) refl

@@ -6,16 +6,13 @@ use Rattle.pesp_base.specs.Numbered.{with_number, put_in, take_out, change_in}
 use Rattle.pesp_instance.specs.declared.vertex.Vertex.{Vertex}
 use Rattle.pesp_instance.specs.Ends.{vertex_number, lists_at, lists, is_end_in, AreListed, ListTheSame}
 use Rattle.pesp_instance.specs.Network.{is_end_of}
+use Rattle.pesp_base.proofs.Tests.{or_elsewhere}
 use Rattle.pesp_instance.proofs.Numbers.{activity_number as id_of}
 use Rattle.pesp_instance.proofs.Rising.{with_number-put_in, with_number-take_out, with_number-change_in, number-with_number}
 
 joined_here : (b : Bool) → ((b && true) || false) ≡ b
 joined_here true = refl
 joined_here false = refl
-
-joined_elsewhere : (b l : Bool) → ((b && false) || l) ≡ l
-joined_elsewhere true l = refl
-joined_elsewhere false l = refl
 
 parted_here : (b : Bool) → (not (b && true) && b) ≡ false
 parted_here true = refl
@@ -60,7 +57,7 @@ module _ (activities : List Activity) where
   AreListed-put_in old new a listed absent linked e n =
       rw (with_number-put_in id_of n a activities) (linked e n ∙ elim (cases_eq a.id n) [
         | inl same ↦ rw (eq-eqb a.id n same, none_listed old e a.id n listed absent same) (joined_here (is_end_of e a))
-        | inr apart ↦ rw (ne_eqb a.id n apart) (joined_elsewhere (is_end_of e a) (lists old e n) ∙ listed e n)
+        | inr apart ↦ rw (ne_eqb a.id n apart) (or_elsewhere (is_end_of e a) (lists old e n) ∙ listed e n)
       ])
 
   pub AreListed-take_out : (old new : List Vertex) (m : ℕ) (a : Activity) → AreListed old activities → stored m ≡ Some a → ((e n : ℕ) → lists new e n ≡ (not (is_end_of e a && a.id == n) && lists old e n)) → AreListed new (take_out id_of m activities)

@@ -12,7 +12,8 @@ use Rattle.std.specs.Ordering.{nat_cmp}
 use Rattle.pesp_base.specs.Numbered.{with_number, put_in, take_out, change_in}
 use Rattle.slab.specs.Slab.{Slab, get, Updates}
 use Rattle.pesp_instance.specs.Table.{AreNumbered, IsLinked, IsTable, resolved, values_in}
-use Rattle.pesp_instance.proofs.Links.{value_at, slot_is_used, length-resolved, lookup-resolved, lookup-resolved-none, inserted, written, removed, remove_absent}
+use Rattle.pesp_base.proofs.Tests.{value_of}
+use Rattle.pesp_instance.proofs.Links.{slot_is_used, length-resolved, lookup-resolved, lookup-resolved-none, inserted, written, removed, remove_absent}
 use Rattle.pesp_instance.proofs.Rising.{Rises, Rises-from_sorted, filter_below-above, filter_above-above, take_out-above, change_in-above}
 
 -- a look-up by comparison tests for the number itself
@@ -135,7 +136,7 @@ written_back n slot other (e ∷ es) sorted is =
 
 keys-resolved : {V : Type 0} (slots : List (Option V)) (es : List (ℕ × ℕ)) → IsLinked slots es → keys_of (resolved slots es) ≡ keys_of es
 keys-resolved slots [] linked = refl
-keys-resolved slots (e ∷ es) linked = rw (value_at _ linked.0).1 (ap (λ ks. e.0 ∷ ks) (keys-resolved slots es linked.2))
+keys-resolved slots (e ∷ es) linked = rw (value_of _ linked.0).1 (ap (λ ks. e.0 ∷ ks) (keys-resolved slots es linked.2))
 
 length-values_of : {V : Type 0} (ps : List (ℕ × V)) → length (values_of ps) ≡ length ps
 length-values_of [] = refl
@@ -175,7 +176,7 @@ module _ {V : Type 0} (number : V → ℕ) (slots : List (Option V)) (es : List 
   same_presence n =
       elim (lookup (is_at (nat_cmp n)) es) as (λ o. lookup (is_at (nat_cmp n)) es ≡ o → is_some o ≡ is_some (with_number number n (values_in slots es))) [
         | None ↦ λ is. sym (ap is_some (missing n is))
-        | Some slot ↦ λ is. let v = value_at _ (slot_is_used slots es (is_at (nat_cmp n)) slot table.linked is) in sym (ap is_some (sym (found n slot is) ∙ v.1))
+        | Some slot ↦ λ is. let v = value_of _ (slot_is_used slots es (is_at (nat_cmp n)) slot table.linked is) in sym (ap is_some (sym (found n slot is) ∙ v.1))
       ] refl
 
   pub absent : (n : ℕ) → with_number number n (values_in slots es) ≡ None → lookup (is_at (nat_cmp n)) (resolved slots es) ≡ None

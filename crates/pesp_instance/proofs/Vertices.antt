@@ -13,6 +13,8 @@ use Rattle.pesp_instance.specs.declared.vertex.Vertex.{Vertex}
 use Rattle.pesp_instance.specs.Ends.{vertex_number, events_of, with_window, has_key, lists_at, lists, ListTheSame, ListsMore, ListsLess, is_pair_of}
 use Rattle.pesp_instance.specs.Network.{Event}
 use Rattle.pesp_instance.specs.Table.{IsTable, values_in}
+use Rattle.pesp_base.proofs.Orders.{eqb_turned}
+use Rattle.pesp_base.proofs.Tests.{or_elsewhere}
 use Rattle.pesp_instance.proofs.Numbers.{event_number}
 use Rattle.pesp_instance.proofs.Rising.{number-with_number, change_in-with_number, with_number-replaced, with_number-others}
 use Rattle.pesp_instance.proofs.Tables.{same_test, rising, found, written_in}
@@ -81,13 +83,6 @@ events-rewindow e window (x ∷ xs) =
 
 -- ---- what one set has after a change
 
-flip : (a b : ℕ) → (a == b) ≡ (b == a)
-flip a b =
-    elim (cases_eq a b) [
-      | inl same ↦ rw (eq-eqb a b same, eq-eqb b a (sym same)) refl
-      | inr apart ↦ rw (ne_eqb a b apart, ne_eqb b a (λ same. apart (sym same))) refl
-    ]
-
 either : (b c : Bool) → cond b true c ≡ (b || c)
 either true c = refl
 either false c = refl
@@ -98,10 +93,10 @@ neither false c = refl
 
 module _ (old new : List ℕ) (number : ℕ) where
   pub one_more : ((q : ℕ) → has_key new q ≡ cond (is_at (nat_cmp number) q) true (has_key old q)) → (n : ℕ) → has_key new n ≡ (number == n || has_key old n)
-  one_more updates n = updates n ∙ either (is_at (nat_cmp number) n) (has_key old n) ∙ rw (same_test number n, flip n number) refl
+  one_more updates n = updates n ∙ either (is_at (nat_cmp number) n) (has_key old n) ∙ rw (same_test number n, eqb_turned n number) refl
 
   pub one_less : ((q : ℕ) → has_key new q ≡ cond (is_at (nat_cmp number) q) false (has_key old q)) → (n : ℕ) → has_key new n ≡ (not (number == n) && has_key old n)
-  one_less updates n = updates n ∙ neither (is_at (nat_cmp number) n) (has_key old n) ∙ rw (same_test number n, flip n number) refl
+  one_less updates n = updates n ∙ neither (is_at (nat_cmp number) n) (has_key old n) ∙ rw (same_test number n, eqb_turned n number) refl
 
 -- ---- a vertex in the place of another one of its number
 
@@ -199,14 +194,10 @@ module _ (old mid : List Vertex) (event number : ℕ) (more : ListsMore (λ e n.
       more e n ∙ elim (cases_eq event e) [
         | inl same ↦ elim (cases_eq number n) [
           | inl same' ↦ rw (← same, ← same', eq-eqb event event refl, eq-eqb number number refl) (sym there)
-          | inr apart ↦ rw (ne_eqb number n apart) (elsewhere_in (event == e) (lists old e n))
+          | inr apart ↦ rw (ne_eqb number n apart) (or_elsewhere (event == e) (lists old e n))
         ]
         | inr apart ↦ rw (ne_eqb event e apart) refl
       ]
-    where
-      elsewhere_in : (b l : Bool) → ((b && false) || l) ≡ l
-      elsewhere_in true l = refl
-      elsewhere_in false l = refl
 
   -- a new pair that is taken away again is no change
   pub unlisted_again : (new : List Vertex) → lists old event number ≡ false → ListsLess (λ e n. event == e && number == n) mid new → ListTheSame old new

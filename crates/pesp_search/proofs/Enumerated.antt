@@ -2,7 +2,7 @@
 use Rattle.std.proofs.Common.{◌≡◌, ℕ, zero, suc, ◌<◌, ◌==◌, nat_le, nat_lt, Bool, true, false, ◌&&◌, ◌||◌, not, List, [], ◌∷◌, length, refl, sym, subst, ◌∙◌, ap, inl, inr, arith, All}
 use Rattle.std.specs.List.{list_all, range_with_len}
 use Rattle.std.specs.Map.{values_of}
-use Rattle.std.proofs.lemmas.Bool.{and_parts, eq-eqb, eqb-true, false≢true, leb-true, lt-ltb, ltb-true}
+use Rattle.std.proofs.lemmas.Bool.{and_parts, eq-eqb, eqb-true, false≢true, leb-true, lt-ltb, ltb-true, and_from, or_right}
 use Rattle.std.proofs.lemmas.List.Elements.{All-contains, All-head, All-tail}
 use Rattle.std.proofs.lemmas.List.Sums.{AllPass-from_list_all, list_all-from_AllPass}
 use Rattle.pesp_instance.specs.Network.{Network, event_ids}
@@ -39,14 +39,11 @@ every_passes test period (suc n) every (t ∷ times) long below =
 abbrev pub is_member : Network → Times → Bool
 is_member I m = list_all (λ t. nat_lt t I.period) (values_of m.entries) && (list_all (meets m) I.activities && list_all (agrees m) I.events)
 
-both : (x y : Bool) → x ≡ true → y ≡ true → (x && y) ≡ true
-both x y p q = rw (p, q) refl
-
 member_passes : (I : Network) (m : Times) → IsMember I m → is_member I m ≡ true
 member_passes I m member =
-    both _ _
+    and_from _ _
     (list_all-from_AllPass (λ t. nat_lt t I.period) (values_of m.entries) (λ k d l. lt-ltb _ _ (member.below k d l)))
-    (both _ _ (list_all-from_AllPass (meets m) I.activities member.met) (list_all-from_AllPass (agrees m) I.events member.window))
+    (and_from _ _ (list_all-from_AllPass (meets m) I.activities member.met) (list_all-from_AllPass (agrees m) I.events member.window))
 
 member_from : (I : Network) (times : List ℕ) → length times ≡ length (event_ids I) → is_member I (timetable_of I times) ≡ true → IsMember I (timetable_of I times)
 member_from I times long is =
@@ -75,15 +72,11 @@ precedes [] ys = false
 precedes (x ∷ xs) [] = false
 precedes (x ∷ xs) (y ∷ ys) = nat_lt x.1 y.1 || (x.1 == y.1 && precedes xs ys)
 
-either : (x y : Bool) → y ≡ true → (x || y) ≡ true
-either true y q = refl
-either false y q = q
-
 precedes_passes : (xs ys : List (ℕ × ℕ)) → Precedes xs ys → precedes xs ys ≡ true
 precedes_passes [] ys h = absurd h
 precedes_passes (x ∷ xs) [] h = absurd h
 precedes_passes (x ∷ xs) (y ∷ ys) (inl less) = rw (lt-ltb x.1 y.1 less) refl
-precedes_passes (x ∷ xs) (y ∷ ys) (inr (same, later)) = either (nat_lt x.1 y.1) _ (both _ _ (eq-eqb x.1 y.1 same) (precedes_passes xs ys later))
+precedes_passes (x ∷ xs) (y ∷ ys) (inr (same, later)) = or_right (nat_lt x.1 y.1) _ (and_from _ _ (eq-eqb x.1 y.1 same) (precedes_passes xs ys later))
 
 -- one thing, where another holds
 then : (x y : Bool) → (not x || y) ≡ true → x ≡ true → y ≡ true

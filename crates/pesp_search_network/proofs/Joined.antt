@@ -1,23 +1,18 @@
 -- Maps that are made of one of a piece and one of the rest.
-use Rattle.std.proofs.Common.{◌≡◌, ℕ, zero, suc, ◌+◌, ◌-◌, ◌%◌, ◌<◌, ◌≤◌, ◌⊎◌, inl, inr, Bool, true, false, cond, not, ◌||◌, IsTrue, All, Option, Some, None, List, [], ◌∷◌, ◌++◌, filter, get_or, length, slice_index, refl, sym, subst, ap, ◌∙◌, arith}
+use Rattle.std.proofs.Common.{◌≡◌, ℕ, zero, suc, ◌+◌, ◌-◌, ◌%◌, ◌<◌, inl, inr, Bool, true, false, cond, not, ◌||◌, IsTrue, All, Option, Some, None, List, [], ◌∷◌, ◌++◌, filter, get_or, length, slice_index, refl, sym, subst, ap, ◌∙◌, arith}
 use Rattle.std.proofs.Math.Nat.{mod-eq_of_lt, mod-lt, add-mod_right, add-mod-mod}
-use Rattle.std.proofs.lemmas.Bool.{false≢true}
+use Rattle.std.proofs.lemmas.Bool.{false≢true, cases_lt}
 use Rattle.std.proofs.lemmas.List.{get_or_append_left, get_or_push, length_push}
 use Rattle.std.proofs.lemmas.List.Elements.{All-cons, All-filter, All-head, All-nil, All-tail, filter_passes}
 use Rattle.pesp_search_tables.specs.Differences.{difference}
 use Rattle.pesp_search_network.specs.Arcs.{Arcs, IsPlaced, has}
 use Rattle.pesp_search_network.specs.Pieces.{IsEnd, IsJoined, IsPiece, MayTurn, is_inner, is_of, touches, turn_of}
 use Rattle.pesp_search_network.specs.declared.arc.Arc.{Arc}
+use Rattle.pesp_base.proofs.WindowLaws.{after_no_step}
+use Rattle.pesp_search_tables.proofs.Differences.{difference_is}
 use Rattle.pesp_search_network.proofs.Turned.{IsTurned}
-use Rattle.pesp_search_network.proofs.Ways.{difference_is}
 
 -- ---- turns
-
--- no turn
-pub unturned : (T r : ℕ) → r < T → (r + 0) % T ≡ r
-unturned T r h =
-    let plain : r + 0 ≡ r = omega arith in
-    ap (λ n. n % T) plain ∙ mod-eq_of_lt h
 
 -- turned as far as another residue is ahead, it is that one
 turned_there : (T r s : ℕ) → r < T → s < T → (r + difference T r s) % T ≡ s
@@ -47,9 +42,6 @@ pub record IsBuilt (A : ℕ → ℕ → Type 0) (n : ℕ) : Type 0 where
   pub long : length map ≡ n
   pub each : (v : ℕ) → v < n → A v (slice_index map v)
 
-apart : (m n : ℕ) → (n ≤ m) ⊎ (m < n)
-apart m n = grind arith
-
 pub build : (A : ℕ → ℕ → Type 0) (n : ℕ) → ((v : ℕ) → v < n → (q : ℕ) × A v q) → IsBuilt A n
 build A zero choice = record {
   map = [];
@@ -62,11 +54,11 @@ build A (suc n) choice =
     record {
       map = before.map ++ last.0 ∷ [];
       long = length_push before.map last.0 ∙ (let more : length before.map + 1 ≡ suc n = omega (arith, before.long) in more);
-      each = λ v h. elim (apart v n) [
-        | inr less ↦
+      each = λ v h. elim (cases_lt v n) [
+        | inl less ↦
             (let there : v < length before.map = omega (arith, less, before.long) in
             subst (A v) (sym (get_or_append_left before.map (last.0 ∷ []) 0 v there)) (before.each v less))
-        | inl most ↦
+        | inr most ↦
             (let same : v ≡ n = omega (arith, h, most) in
             subst (λ w. A w (slice_index (before.map ++ last.0 ∷ []) w)) (sym same)
             (subst (A n) (sym (get_or_push before.map last.0 0 n before.long)) last.1))
@@ -104,7 +96,7 @@ outer_ends inner a none = neither (is_inner inner a.from) (is_inner inner a.to) 
 row_turned : (N : Arcs) (inner : List Bool) (joint : Option ℕ) (inside outside : List ℕ) → MayTurn N inner joint → IsPlaced N inside → (v : ℕ) → v < N.events → IsTrue (is_inner inner v)
     → IsTrue (has N v ((slice_index inside v + turn_of N.period joint inside outside) % N.period))
 row_turned N inner None inside outside turns placed v h is =
-    subst (λ r. IsTrue (has N v r)) (sym (unturned N.period (slice_index inside v) (placed.below v h))) (placed.rows v h)
+    subst (λ r. IsTrue (has N v r)) (sym (after_no_step N.period (slice_index inside v) (placed.below v h))) (placed.rows v h)
 row_turned N inner (Some c) inside outside turns placed v h is =
     let some : 0 < N.period = omega (arith, placed.below v h) in
     turns.free v h is ((slice_index inside v + difference N.period (slice_index inside c) (slice_index outside c)) % N.period) (mod-lt (slice_index inside v + difference N.period (slice_index inside c) (slice_index outside c)) some)
@@ -116,7 +108,7 @@ end_turned : (N : Arcs) (inner : List Bool) (joint : Option ℕ) (inside outside
 end_turned N inner None inside outside map turns pi po pm joined v h (inl is) = joined.turned v (omega (arith, h, po.long)) is
 end_turned N inner None inside outside map turns pi po pm joined v h (inr only) =
     only.1.only (slice_index map v) (pm.below v h) (pm.rows v h) ∙ sym (only.1.only (slice_index inside v) (pi.below v h) (pi.rows v h))
-    ∙ sym (unturned N.period (slice_index inside v) (pi.below v h))
+    ∙ sym (after_no_step N.period (slice_index inside v) (pi.below v h))
 end_turned N inner (Some c) inside outside map turns pi po pm joined v h (inl is) = joined.turned v (omega (arith, h, po.long)) is
 end_turned N inner (Some c) inside outside map turns pi po pm joined v h (inr same) =
     let turn : ℕ = difference N.period (slice_index inside c) (slice_index outside c) in
@@ -137,8 +129,8 @@ outside_same N inner joint old new piece placed stay =
     let to = placed.below a.to ends.between.to in
     record {
       some = omega (arith, from);
-      from = stay a.from ends.between.from out.0 ∙ sym (unturned N.period (slice_index old a.from) from);
-      to = stay a.to ends.between.to out.1 ∙ sym (unturned N.period (slice_index old a.to) to);
+      from = stay a.from ends.between.from out.0 ∙ sym (after_no_step N.period (slice_index old a.from) from);
+      to = stay a.to ends.between.to out.1 ∙ sym (after_no_step N.period (slice_index old a.to) to);
     }))
 
 module _ (N : Arcs) (inner : List Bool) (joint : Option ℕ) (inside outside map : List ℕ) (piece : IsPiece N inner joint) (pi : IsPlaced N inside) (po : IsPlaced N outside)

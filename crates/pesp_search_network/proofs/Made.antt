@@ -12,18 +12,16 @@ use Rattle.pesp_search_network.specs.Ways.{IsTable, IsWay, ahead, cost_at}
 use Rattle.pesp_search_network.specs.declared.arc.Arc.{Arc}
 use Rattle.pesp_search_network.specs.declared.scale.Scale.{Scale}
 use Rattle.pesp_search_network.specs.declared.way.Way.{Way}
+use Rattle.pesp_base.proofs.Tests.{same_value}
+use Rattle.pesp_search_tables.proofs.Places.{difference_below}
 use Rattle.pesp_search_network.proofs.ArcCosts.{cost_met-met, cost_more}
 use Rattle.pesp_search_network.proofs.Scaled.{scaled-add, scaled-more, scaled-zero}
-use Rattle.pesp_search_network.proofs.Ways.{difference_below, difference_from_zero, origin_zero, placed}
+use Rattle.pesp_search_network.proofs.Ways.{difference_from_zero, origin_zero, placed}
 
 -- the value that there is
 pub some_value : {A : Type 0} (o : Option A) (P : A → Type 0) → IsSomeAnd o P → (v : A) × (o ≡ Some v) × P v
 some_value None P h = absurd h
 some_value (Some v) P h = (v, refl, h)
-
--- two values of one option are one
-pub same_value : {A : Type 0} (o : Option A) (v w : A) → o ≡ Some v → o ≡ Some w → v ≡ w
-same_value o v w e f = cc
 
 -- ---- pairs and triples more
 

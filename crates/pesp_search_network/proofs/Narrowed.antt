@@ -3,6 +3,7 @@ use Rattle.std.proofs.Common.{◌≡◌, ◌≢◌, ℕ, ◌+◌, ◌*◌, ◌/�
 use Rattle.std.proofs.Math.ListN.{set}
 use Rattle.std.proofs.lemmas.List.{get_or-set_same, get_or-set_other, get_or_past, length-set}
 use Rattle.std.proofs.lemmas.Nat.{div-mul-add}
+use Rattle.std.proofs.lemmas.Bool.{cases_eq, cases_lt}
 use Rattle.pesp_search_least.specs.Order.{BelowResidue, IsHeld}
 use Rattle.pesp_search_least.specs.Sums.{IsLowerBound, IsWithin}
 use Rattle.pesp_search_network.specs.Arcs.{Arcs, IsCosted, IsMet, cost_in, has, meets}
@@ -10,29 +11,17 @@ use Rattle.pesp_search_network.specs.Narrow.{IsNarrowed}
 use Rattle.pesp_search_network.specs.declared.arc.Arc.{Arc}
 use Rattle.pesp_search_network.proofs.Ways.{placed}
 
-apart : (m n : ℕ) → (n ≤ m) ⊎ (m < n)
-apart m n = grind arith
-
-same_or_not : (a b : ℕ) → (a ≡ b) ⊎ (a ≢ b)
-same_or_not a b = elim (apart a b) [
-  | inr less ↦ inr (λ e. omega (arith, less, e))
-  | inl most ↦ elim (apart b a) [
-    | inr more ↦ inr (λ e. omega (arith, more, e))
-    | inl least ↦ inl (omega (arith, most, least))
-  ]
-]
-
 -- ---- one residue
 
 unset_there : (rows : List Bool) (k : ℕ) → get_or (set rows k false) k false ≡ false
-unset_there rows k = elim (apart k (length rows)) [
-  | inl past ↦ get_or_past (set rows k false) k false (omega (arith, past, length-set rows k false))
-  | inr within ↦ get_or-set_same rows k false false within
+unset_there rows k = elim (cases_lt k (length rows)) [
+  | inr past ↦ get_or_past (set rows k false) k false (omega (arith, past, length-set rows k false))
+  | inl within ↦ get_or-set_same rows k false false within
 ]
 
 -- a test that fails goes on to fail
 unset : (rows : List Bool) (k j : ℕ) → get_or rows j false ≡ false → get_or (set rows k false) j false ≡ false
-unset rows k j e = elim (same_or_not j k) [
+unset rows k j e = elim (cases_eq j k) [
   | inl same ↦ subst (λ i. get_or (set rows k false) i false ≡ false) (sym same) (unset_there rows k)
   | inr other ↦ get_or-set_other rows k j false false other ∙ e
 ]
@@ -64,9 +53,9 @@ narrowed_more event low r N M from below before =
       period = before.period;
       events = before.events;
       arcs = before.arcs;
-      gone = λ q h less. elim (apart q r) [
-        | inr lesser ↦ unset M.rows place (event * M.period + q) (before.gone q h lesser)
-        | inl most ↦
+      gone = λ q h less. elim (cases_lt q r) [
+        | inl lesser ↦ unset M.rows place (event * M.period + q) (before.gone q h lesser)
+        | inr most ↦
             (let same : q ≡ r = omega (arith, most, less) in
             subst (λ p. get_or (set M.rows place false) (event * M.period + p) false ≡ false) (sym same) (unset_there M.rows place))
       ];
@@ -80,13 +69,13 @@ narrowed_more event low r N M from below before =
 -- ---- maps
 
 in_range : (v e l r h : ℕ) → ((v ≡ e) × (l ≤ r) × (r < h)) ⊎ (v ≡ e → l ≤ r → r < h → ⊥)
-in_range v e l r h = elim (same_or_not v e) [
+in_range v e l r h = elim (cases_eq v e) [
   | inr other ↦ inr (λ same _ _. other same)
-  | inl same ↦ elim (apart r l) [
-    | inr less ↦ inr (λ _ most _. absurd (omega (arith, less, most)))
-    | inl most ↦ elim (apart r h) [
-      | inl past ↦ inr (λ _ _ below. absurd (omega (arith, past, below)))
-      | inr below ↦ inl (same, most, below)
+  | inl same ↦ elim (cases_lt r l) [
+    | inl less ↦ inr (λ _ most _. absurd (omega (arith, less, most)))
+    | inr most ↦ elim (cases_lt r h) [
+      | inr past ↦ inr (λ _ _ below. absurd (omega (arith, past, below)))
+      | inl below ↦ inl (same, most, below)
     ]
   ]
 ]
@@ -165,9 +154,9 @@ held event residue first next N M U h low high before behind = record {
     least_and_most r residue first next T low high below most less = grind arith
 
 least_residue : (r residue end T : ℕ) → end ≡ min residue T → r < T → (end ≤ r → r < T → ⊥) → r < residue
-least_residue r residue end T e below out = elim (apart r end) [
-  | inl most ↦ absurd (out most below)
-  | inr less ↦ omega (arith, e, less)
+least_residue r residue end T e below out = elim (cases_lt r end) [
+  | inr most ↦ absurd (out most below)
+  | inl less ↦ omega (arith, e, less)
 ]
 
 no_residue : (r residue end T : ℕ) → end ≡ min residue T → r < T → r < residue → end ≤ r → ⊥

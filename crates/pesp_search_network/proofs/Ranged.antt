@@ -6,6 +6,7 @@ use Rattle.std.proofs.lemmas.Int.{ints}
 use Rattle.std.proofs.lemmas.List.{get_or-set_same}
 use Rattle.std.proofs.lemmas.List.Elements.{All-set}
 use Rattle.std.proofs.lemmas.List.Sums.{sum_by-set}
+use Rattle.std.proofs.lemmas.Bool.{cases_lt}
 use Rattle.pesp_base.specs.Bounds.{Bounds}
 use Rattle.pesp_base.specs.Tensions.{is_met, slack_of}
 use Rattle.pesp_base.proofs.Laws.{quotient, residue_below, residue_is}
@@ -132,9 +133,6 @@ module _ (N : Arcs) (k : ℕ) (a b : Arc) (map : List ℕ) (inside : k < length 
 
 -- ---- both ranges
 
-apart : (m n : ℕ) → (n ≤ m) ⊎ (m < n)
-apart m n = grind arith
-
 -- the arc with another span
 abbrev pub with_span : Arc → Bounds → Arc
 with_span a span = record { from = a.from; to = a.to; span = span; weight = a.weight }
@@ -179,9 +177,9 @@ module _ (N : Arcs) (k values constant total : ℕ) (a : Arc) (top : ℤ) (some 
     cut_keeps : (cost : ℕ) → IsCostedAbove N constant map cost → IsCostedAbove (put N k low) constant map cost ⊎ IsCostedAbove (put N k high) total map cost
     cut_keeps cost is =
         let met : IsTrue (meets N.period map a) = all_met is.costed.met in
-        elim (apart slack values) [
-          | inl above ↦ inr (put_there N k a high map inside here constant (a.weight * values) total cost (met_above N.period values r s a.span top some is_top above met) (less_high (slack_down N.period values r s a.span top some above)) more is)
-          | inr below ↦ inl (put_there N k a low map inside here constant 0 constant cost (met_below N.period values r s a.span top some below) same_low plain is)
+        elim (cases_lt slack values) [
+          | inr above ↦ inr (put_there N k a high map inside here constant (a.weight * values) total cost (met_above N.period values r s a.span top some is_top above met) (less_high (slack_down N.period values r s a.span top some above)) more is)
+          | inl below ↦ inl (put_there N k a low map inside here constant 0 constant cost (met_below N.period values r s a.span top some below) same_low plain is)
         ]
 
     low_within : (cost : ℕ) → IsCostedAbove (put N k low) constant map cost → IsCostedAbove N constant map cost

@@ -1,7 +1,8 @@
 -- Sums of entries are at most costs, in a scale.
-use Rattle.std.proofs.Common.{◌≡◌, ℕ, ◌+◌, ◌-◌, ◌*◌, ◌/◌, ◌<◌, ◌≤◌, ◌⊎◌, inl, inr, ap, ℤ, pos, negsuc, ◌+ℤ◌, ◌≤ℤ◌, ◌<ℤ◌, arith}
+use Rattle.std.proofs.Common.{◌≡◌, ℕ, ◌+◌, ◌-◌, ◌*◌, ◌/◌, ◌<◌, ◌≤◌, inl, inr, ap, ℤ, pos, negsuc, ◌+ℤ◌, ◌≤ℤ◌, ◌<ℤ◌, arith}
 use Rattle.std.proofs.Math.Nat.{mul-le-mul_right, div-mul-le_self, le-div_iff_mul-le}
 use Rattle.std.proofs.lemmas.Int.{ints}
+use Rattle.std.proofs.lemmas.Bool.{cases_lt}
 use Rattle.pesp_search_network.specs.Scales.{IsScaled}
 use Rattle.pesp_search_network.specs.declared.scale.Scale.{Scale}
 
@@ -11,14 +12,11 @@ scaled-zero scale n h =
     let none : n ≡ 0 = omega (arith, ints, h) in
     omega (arith, ap (λ m. m * scale.over) none)
 
-apart : (m n : ℕ) → (n ≤ m) ⊎ (m < n)
-apart m n = grind arith
-
 -- an entry more, and what it stands for
 pub scaled-add : (scale : Scale) (z w : ℤ) (m cost more : ℕ) → IsScaled scale z cost → m * scale.over ≤ more * scale.times → w ≤ℤ (z +ℤ pos m) → IsScaled scale w (cost + more)
-scaled-add scale z w m cost more before here least n h = elim (apart m n) [
-  | inl low ↦ omega (arith, mul-le-mul_right scale.over low, here)
-  | inr high ↦
+scaled-add scale z w m cost more before here least n h = elim (cases_lt m n) [
+  | inr low ↦ omega (arith, mul-le-mul_right scale.over low, here)
+  | inl high ↦
       (let k : ℕ = n - m in
       let rest : pos k ≤ℤ z = omega (arith, ints, high, least, h) in
       let parts : n ≡ k + m = omega (arith, high) in
@@ -36,9 +34,9 @@ part_of_product x over cost times h = omega (arith, mul-le-mul_right over h, div
 
 -- a quotient is below where the dividend is
 div_below : (y k c : ℕ) → 0 < k → y < c * k + k → y / k ≤ c
-div_below y k c some below = elim (apart c (y / k)) [
-  | inl low ↦ low
-  | inr high ↦ absurd (omega (arith, div-mul-le_self y k, mul-le-mul_right k high, below))
+div_below y k c some below = elim (cases_lt c (y / k)) [
+  | inr low ↦ low
+  | inl high ↦ absurd (omega (arith, div-mul-le_self y k, mul-le-mul_right k high, below))
 ]
 
 through : (x k y : ℕ) → 0 < k → x * k ≤ y → x ≤ y / k

@@ -1,6 +1,7 @@
 -- What cuts and halves of tables do to the maps that they admit.
 use Rattle.std.proofs.Common.{◌≡◌, ◌≢◌, ℕ, zero, suc, ◌+◌, ◌<◌, ◌≤◌, ◌⊎◌, inl, inr, Bool, true, false, ◌&&◌, cond, IsSome, IfSome, is_some, Option, Some, None, List, length, get_or, slice_index, slice_index_or, ℤ, ◌<ℤ◌, refl, sym, subst, ap, ◌∙◌, arith, add-one}
 use Rattle.std.proofs.lemmas.List.{ext_get_or, get_or_default}
+use Rattle.std.proofs.lemmas.Bool.{and_from, and_parts}
 use Rattle.pesp_search_least.specs.Sums.{AreHalves, IsCut, IsEmpty}
 use Rattle.pesp_search_tables.specs.Differences.{difference}
 use Rattle.pesp_search_tables.specs.Relaxed.{IsHalf, Relaxation, SameShape, differences, ends_at, sum_at}
@@ -14,14 +15,12 @@ use Rattle.pesp_search_network.specs.Ways.{IsWay, ahead, cost_at}
 use Rattle.pesp_search_network.specs.declared.arc.Arc.{Arc}
 use Rattle.pesp_search_network.specs.declared.scale.Scale.{Scale}
 use Rattle.pesp_search_network.specs.declared.way.Way.{Way}
+use Rattle.pesp_base.proofs.Tests.{value_of}
+use Rattle.pesp_search_tables.proofs.Places.{difference_below}
 use Rattle.pesp_search_network.proofs.ArcCosts.{cost_met-met}
-use Rattle.pesp_search_network.proofs.Ways.{difference_below, difference_from_zero, origin_zero, placed}
+use Rattle.pesp_search_network.proofs.Ways.{difference_from_zero, origin_zero, placed}
 
 -- ---- values
-
-pub the_value : {A : Type 0} (o : Option A) → IsSome o → (v : A) × (o ≡ Some v)
-the_value None h = absurd (cc)
-the_value (Some v) h = (v, refl)
 
 pub is_there : {A : Type 0} (o : Option A) (v : A) → o ≡ Some v → IsSome o
 is_there o v e = ap is_some e
@@ -43,7 +42,7 @@ half_fewer R S p set inside half x z e = elim (one_of_two (slice_index_or set (d
 
 pub half_within : (N : Arcs) (R S : Relaxation) (p : ℕ) (set : List Bool) (inside : Bool) → IsHalf R S p set inside → (map : List ℕ) (cost : ℕ) → IsSummed N S map cost → IsSummed N R map cost
 half_within N R S p set inside half map cost is =
-    let sum = the_value (sum_at S (slice_index map)) is.admitted in
+    let sum = value_of (sum_at S (slice_index map)) is.admitted in
     record { costed = is.costed; admitted = is_there (sum_at R (slice_index map)) sum.0 (half_fewer R S p set inside half (slice_index map) sum.0 sum.1) }
 
 half_keeps : (N : Arcs) (R S : Relaxation) (p : ℕ) (set : List Bool) (inside : Bool) → IsHalf R S p set inside → (map : List ℕ) (cost : ℕ)
@@ -92,20 +91,15 @@ pub cut_sums : (N : Arcs) (scale : Scale) (cap : Option ℤ) (limit : ℕ) (R S 
     → ((z : ℤ) (cost : ℕ) → cost < limit → IsScaled scale z cost → IsUnderCap cap z) → IsCut limit (IsSummed N R) (IsSummed N S)
 cut_sums N scale cap limit R S under cut small = record {
   keeps = λ map cost h is.
-      (let sum = the_value (sum_at R (slice_index map)) is.admitted in
+      (let sum = value_of (sum_at R (slice_index map)) is.admitted in
       let kept = cut.below (slice_index map) sum.0 sum.1 (small sum.0 cost h (under map cost sum.0 is.costed sum.1)) in
       record { costed = is.costed; admitted = is_there (sum_at S (slice_index map)) sum.0 kept });
   within = λ map cost is.
-      (let sum = the_value (sum_at S (slice_index map)) is.admitted in
+      (let sum = value_of (sum_at S (slice_index map)) is.admitted in
       record { costed = is.costed; admitted = is_there (sum_at R (slice_index map)) sum.0 (cut.fewer (slice_index map) sum.0 sum.1) });
 }
 
 -- ---- what pairs admit
-
-both_true : (a b : Bool) → (a && b) ≡ true → (a ≡ true) × (b ≡ true)
-both_true true true e = (refl, refl)
-both_true true false e = absurd (cc)
-both_true false b e = absurd (cc)
 
 is_last : (p n : ℕ) → p < suc n → (p < n) ⊎ (p ≡ n)
 is_last p n h = grind arith
@@ -114,7 +108,7 @@ is_last p n h = grind arith
 pub admits-each : (T : ℕ) (tests : List Bool) (d : ℕ → ℕ) (n p : ℕ) → admits T tests d n ≡ true → p < n → admits_at T tests p (d p) ≡ true
 admits-each T tests d zero p e h = absurd (omega (arith, h))
 admits-each T tests d (suc n) p e h =
-    let both = both_true (admits T tests d n) (admits_at T tests n (d n)) e in
+    let both = and_parts (admits T tests d n) (admits_at T tests n (d n)) e in
     elim (is_last p n h) [
       | inl before ↦ admits-each T tests d n p both.0 before
       | inr last ↦ subst (λ q. admits_at T tests q (d q) ≡ true) (sym last) both.1
@@ -136,15 +130,10 @@ admits-none T tests d (suc n) p e h = elim (is_last p n h) [
   | inr last ↦ not_second (admits T tests d n) (admits_at T tests n (d n)) (subst (λ q. admits_at T tests q (d q) ≡ false) last e)
 ]
 
-both_are : (a b : Bool) → a ≡ true → b ≡ true → (a && b) ≡ true
-both_are true true e f = refl
-both_are true false e f = f
-both_are false b e f = e
-
 -- one pair more
 pub admits-more : (T : ℕ) (tests : List Bool) (d : ℕ → ℕ) (n : ℕ) → admits T tests d n ≡ true → admits_at T tests n (d n) ≡ true → admits T tests d (n + 1) ≡ true
 admits-more T tests d n e f =
-    subst (λ k. admits T tests d k ≡ true) (sym (add-one n)) (both_are (admits T tests d n) (admits_at T tests n (d n)) e f)
+    subst (λ k. admits T tests d k ≡ true) (sym (add-one n)) (and_from (admits T tests d n) (admits_at T tests n (d n)) e f)
 
 if_there : {A : Type 0} (b : Bool) (z : A) → IsSome (cond b (Some z) None) → b ≡ true
 if_there true z h = refl

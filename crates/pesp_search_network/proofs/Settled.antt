@@ -11,8 +11,9 @@ use Rattle.pesp_search_network.specs.Scales.{IsScaled}
 use Rattle.pesp_search_network.specs.Splits.{AreOnes, AreSettled}
 use Rattle.pesp_search_network.specs.declared.arc.Arc.{Arc}
 use Rattle.pesp_search_network.specs.declared.scale.Scale.{Scale}
+use Rattle.pesp_base.proofs.Tests.{value_of}
 use Rattle.pesp_search_network.proofs.Made.{relaxed_sum}
-use Rattle.pesp_search_network.proofs.Searched.{is_there, only_one, the_value}
+use Rattle.pesp_search_network.proofs.Searched.{is_there, only_one}
 
 -- ---- before anything is split
 
@@ -28,13 +29,13 @@ summed_within N scale R relaxed map cost is =
 
 pub no_sums : (N : Arcs) (R : Relaxation) → ((x : ℕ → ℕ) (n : ℤ) → sum_at R x ≡ Some n → ⊥) → IsEmpty (IsSummed N R)
 no_sums N R none map cost is =
-    let sum = the_value (sum_at R (slice_index map)) is.admitted in
+    let sum = value_of (sum_at R (slice_index map)) is.admitted in
     none (slice_index map) sum.0 sum.1
 
 pub lower : (N : Arcs) (scale : Scale) (R : Relaxation) (b : ℤ) (low : ℕ) → AreUnder N scale R → ((x : ℕ → ℕ) (n : ℤ) → sum_at R x ≡ Some n → b ≤ℤ n)
     → ((z : ℤ) (cost : ℕ) → b ≤ℤ z → IsScaled scale z cost → low ≤ cost) → IsLowerBound (IsSummed N R) low
 lower N scale R b low under least told map cost is =
-    let sum = the_value (sum_at R (slice_index map)) is.admitted in
+    let sum = value_of (sum_at R (slice_index map)) is.admitted in
     told sum.0 cost (least (slice_index map) sum.0 sum.1) (under map cost sum.0 is.costed sum.1)
 
 pub greater : (sums : Sums) (a b : ℕ) → IsLowerBound sums a → IsLowerBound sums b → IsLowerBound sums (max a b)

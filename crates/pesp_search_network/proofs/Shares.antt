@@ -6,7 +6,8 @@ use Rattle.pesp_search_network.specs.Arcs.{Arcs, IsCosted, IsPlaced, cost_in, ha
 use Rattle.pesp_search_network.specs.Pieces.{IsJoined, IsPeeled, IsShare, is_inner, is_of, turn_of}
 use Rattle.pesp_search_network.specs.SumsApart.{AreTogether, IsSumOf}
 use Rattle.pesp_search_network.specs.declared.arc.Arc.{Arc}
-use Rattle.pesp_search_network.proofs.Joined.{IsBuilt, all_both, build, joined_inside, joined_list, joined_outside, joined_placed, outside_same, unturned}
+use Rattle.pesp_base.proofs.WindowLaws.{after_no_step}
+use Rattle.pesp_search_network.proofs.Joined.{IsBuilt, all_both, build, joined_inside, joined_list, joined_outside, joined_placed, outside_same}
 use Rattle.pesp_search_network.proofs.Turned.{costs-turned, met-turned}
 use Rattle.pesp_search_network.proofs.Ways.{placed}
 
@@ -146,7 +147,7 @@ module _ (N P R : Arcs) (inner : List Bool) (joint : Option ℕ) (peeled : IsPee
       out_of_piece : (M : Arcs) (ground old new : List ℕ) → IsPlaced N old → length ground ≡ N.events → Each M ground → Kept false M → IsJoined N.period inner 0 ground old new
           → (v : ℕ) → v < N.events → (b : Bool) → is_inner inner v ≡ b → (slice_index new v < N.period) × IsTrue (has M v (slice_index new v))
       out_of_piece M ground old new po long each kept joined v h true is =
-          let same : slice_index new v ≡ slice_index ground v = joined.turned v (omega (arith, h, po.long)) is ∙ unturned N.period (slice_index ground v) (each v h).0 in
+          let same : slice_index new v ≡ slice_index ground v = joined.turned v (omega (arith, h, po.long)) is ∙ after_no_step N.period (slice_index ground v) (each v h).0 in
           (subst (λ r. r < N.period) (sym same) (each v h).0, subst (λ r. IsTrue (has M v r)) (sym same) (each v h).1)
       out_of_piece M ground old new po long each kept joined v h false is =
           let same : slice_index new v ≡ slice_index old v = joined.stays v (omega (arith, h, po.long)) is in (

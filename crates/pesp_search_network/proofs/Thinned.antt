@@ -1,27 +1,16 @@
 -- Rows of which some are left one residue.
-use Rattle.std.proofs.Common.{◌≡◌, ◌≢◌, ℕ, ◌<◌, ◌≤◌, ◌⊎◌, inl, inr, Bool, IsTrue, List, sym, subst, ap, ◌∙◌, arith}
+use Rattle.std.proofs.Common.{◌≢◌, ℕ, ◌<◌, inl, inr, Bool, IsTrue, List, sym, subst, ap, ◌∙◌, arith}
+use Rattle.std.proofs.lemmas.Bool.{cases_eq}
 use Rattle.pesp_search_network.specs.Arcs.{Arcs, has}
 use Rattle.pesp_search_network.specs.Narrow.{IsHeldFirst}
 use Rattle.pesp_search_network.specs.Pieces.{IsThinned, is_inner}
-
-apart : (m n : ℕ) → (n ≤ m) ⊎ (m < n)
-apart m n = grind arith
-
-same_or_not : (a b : ℕ) → (a ≡ b) ⊎ (a ≢ b)
-same_or_not a b = elim (apart a b) [
-  | inr less ↦ inr (λ e. omega (arith, less, e))
-  | inl most ↦ elim (apart b a) [
-    | inr more ↦ inr (λ e. omega (arith, more, e))
-    | inl least ↦ inl (omega (arith, most, least))
-  ]
-]
 
 -- one event more, which is not of the side
 module _ (inner : List Bool) (side : Bool) (event : ℕ) (N M U : Arcs) (other : is_inner inner event ≢ side) (before : IsThinned inner side N M) (held : IsHeldFirst event M U) where
   fewer_at : (v r : ℕ) → r < N.period → IsTrue (has U v r) → IsTrue (has N v r)
   fewer_at v r h is =
       let within : r < M.period = omega (arith, h, before.period) in
-      before.fewer v r h (elim (same_or_not v event) [
+      before.fewer v r h (elim (cases_eq v event) [
         | inl same ↦ subst (λ w. IsTrue (has M w r)) (sym same) (held.fewer r within (subst (λ w. IsTrue (has U w r)) same is))
         | inr apart ↦ sym (held.stay v r within apart) ∙ is
       ])
@@ -30,7 +19,7 @@ module _ (inner : List Bool) (side : Bool) (event : ℕ) (N M U : Arcs) (other :
   some_at v r h is =
       let one = before.some v r h is in
       let within : one.0 < M.period = omega (arith, one.1, before.period) in
-      elim (same_or_not v event) [
+      elim (cases_eq v event) [
         | inl same ↦
             (let left = held.some one.0 within (subst (λ w. IsTrue (has M w one.0)) same one.2) in
             let below : left.0 < N.period = omega (arith, left.1, before.period) in

@@ -1,9 +1,10 @@
 -- What the difference of a pair tells of the ends of an arc.
-use Rattle.std.proofs.Common.{◌≡◌, ℕ, ◌+◌, ◌-◌, ◌%◌, ◌<◌, ◌≤◌, ◌⊎◌, inl, inr, List, length, slice_index, pos, ◌-ℤ◌, sym, ap, ◌∙◌, arith}
-use Rattle.std.proofs.Math.Nat.{mod-eq_of_lt, mod-lt, add-mod_right, mod-add-mod, add-mod-mod, zero-mod}
+use Rattle.std.proofs.Common.{◌≡◌, ℕ, ◌+◌, ◌-◌, ◌%◌, ◌<◌, ◌⊎◌, inl, inr, List, length, slice_index, pos, ◌-ℤ◌, sym, ap, ◌∙◌, arith}
+use Rattle.std.proofs.Math.Nat.{mod-eq_of_lt, add-mod_right, mod-add-mod, add-mod-mod, zero-mod}
 use Rattle.std.proofs.lemmas.Int.{ints}
 use Rattle.std.proofs.lemmas.List.{get_or_past}
 use Rattle.std.proofs.lemmas.List.Elements.{All-get_or}
+use Rattle.std.proofs.lemmas.Bool.{cases_lt}
 use Rattle.pesp_base.specs.Bounds.{Bounds}
 use Rattle.pesp_base.specs.Tensions.{residue, slack_of}
 use Rattle.pesp_base.proofs.ResidueLaws.{residue-below_first, residue-residue_sub}
@@ -14,15 +15,10 @@ use Rattle.pesp_search_network.specs.Ways.{IsOnly, IsSeat, IsWay, ahead, seat_at
 use Rattle.pesp_search_network.specs.declared.arc.Arc.{Arc}
 use Rattle.pesp_search_network.specs.declared.way.Seat.{Seat}
 use Rattle.pesp_search_network.specs.declared.way.Seat.TheVariants.{At, Ahead}
+use Rattle.pesp_search_tables.proofs.Differences.{difference_is}
+use Rattle.pesp_search_tables.proofs.Places.{difference_below}
 
 -- ---- differences
-
-pub difference_below : (T r s : ℕ) → 0 < T → difference T r s < T
-difference_below T r s h = mod-lt (s + (T - r % T)) h
-
--- at residues
-pub difference_is : (T r s : ℕ) → r < T → difference T r s ≡ (s + (T - r)) % T
-difference_is T r s h = ap (λ q. (s + (T - q)) % T) (mod-eq_of_lt h)
 
 -- from residue 0 the difference is the residue
 pub difference_from_zero : (T s : ℕ) → s < T → difference T 0 s ≡ s
@@ -51,19 +47,16 @@ period_rest T =
     let plain : 0 + T ≡ T = omega arith in
     ap (λ n. n % T) (sym plain) ∙ add-mod_right 0 T ∙ zero-mod T
 
-apart : (m n : ℕ) → (n ≤ m) ⊎ (m < n)
-apart m n = grind arith
-
 -- two differences below the period whose sum is no part of one are both 0, or one period together
 no_rest : (T d e : ℕ) → d < T → e < T → (d + e) % T ≡ 0 → ((d ≡ 0) × (e ≡ 0)) ⊎ (d + e ≡ T)
-no_rest T d e small short none = elim (apart (d + e) T) [
-  | inl high ↦
+no_rest T d e small short none = elim (cases_lt (d + e) T) [
+  | inr high ↦
       (let k : ℕ = (d + e) - T in
       let whole : k + T ≡ d + e = omega (arith, high) in
       let below : k < T = omega (arith, small, short) in
       let zero_rest : k ≡ 0 = sym (mod-eq_of_lt below) ∙ sym (add-mod_right k T) ∙ ap (λ n. n % T) whole ∙ none in
       inr (omega (arith, whole, zero_rest)))
-  | inr low ↦
+  | inl low ↦
       (let zero_sum : d + e ≡ 0 = sym (mod-eq_of_lt low) ∙ none in
       inl (omega (arith, zero_sum), omega (arith, zero_sum)))
 ]
@@ -128,9 +121,9 @@ only_is N event r h only map is =
 
 -- every node's residue is below the period
 pub below_period : (N : Arcs) (map : List ℕ) (v : ℕ) → 0 < N.period → IsMet N map → slice_index map v < N.period
-below_period N map v some is = elim (apart v (length map)) [
-  | inl past ↦ omega (arith, some, get_or_past map v 0 past)
-  | inr within ↦ All-get_or (λ r. r < N.period) map v 0 within is.below
+below_period N map v some is = elim (cases_lt v (length map)) [
+  | inr past ↦ omega (arith, some, get_or_past map v 0 past)
+  | inl within ↦ All-get_or (λ r. r < N.period) map v 0 within is.below
 ]
 
 -- ---- ways

@@ -4,7 +4,7 @@ use Rattle.std.proofs.Math.Nat.{mod-eq_of_lt, mod-lt, add-mod_right, add-mod-mod
 use Rattle.std.proofs.lemmas.Nat.{div-add-mod'}
 use Rattle.pesp_search_tables.specs.Differences.{difference}
 
-difference_is : (T r s : ℕ) → r < T → difference T r s ≡ (s + (T - r)) % T
+pub difference_is : (T r s : ℕ) → r < T → difference T r s ≡ (s + (T - r)) % T
 difference_is T r s h = ap (λ q. (s + (T - q)) % T) (mod-eq_of_lt h)
 
 -- the difference to a residue k ahead of r is k

@@ -1,5 +1,6 @@
 -- Tables of one pair more, or one triple more.
 use Rattle.std.proofs.Common.{◌≡◌, ℕ, zero, suc, ◌+◌, ◌-◌, ◌*◌, ◌%◌, ◌<◌, ◌≤◌, Bool, true, false, ◌&&◌, cond, ℤ, pos, ◌+ℤ◌, Some, None, List, [], ◌∷◌, ◌++◌, length, replicate, get_or, refl, sym, subst, ap, ap₂, ◌∙◌, inl, inr, arith}
+use Rattle.std.proofs.Math.Bool.{and-true}
 use Rattle.std.proofs.lemmas.Bool.{cases_lt}
 use Rattle.std.proofs.lemmas.Int.{ints}
 use Rattle.std.proofs.lemmas.List.{get_or_append_left, get_or-append_right, get_or_past, get_or_push, get_or-replicate, length-append, length-replicate, length_push}
@@ -12,14 +13,12 @@ use Rattle.pesp_search_tables.specs.Floors.{IsShallow}
 use Rattle.pesp_search_tables.specs.Moves.{IsFloor}
 use Rattle.pesp_search_tables.specs.Relaxed.{AreSides, IsWhole, Relaxation, differences, ends_at, seat, side_at, sum_at, triple_at}
 use Rattle.pesp_search_tables.specs.Sums.{AreDifferences, admits, admits_at, number_at, total}
+use Rattle.pesp_search_rows.proofs.Numbers.{zero_number}
 use Rattle.pesp_search_tables.proofs.Places.{difference_below}
 use Rattle.pesp_search_tables.proofs.Triples.{differences_below, floor_stays, side_before, side_there}
 use Rattle.pesp_search_tables.proofs.Whole.{same_cost, sides_of}
 
 -- ---- lists that have grown
-
-zero_number : IsNumber (pos 0)
-zero_number = record { low = omega (arith, ints); high = omega (arith, ints) }
 
 -- behind the numbers all are zeros
 pub zeros_behind : (xs : List ℤ) (count k : ℕ) → length xs ≤ k → get_or (xs ++ replicate count (pos 0)) k (pos 0) ≡ pos 0
@@ -140,14 +139,10 @@ module _ (R : Relaxation) (e : Ends) (ends : List Ends) (numbers : List ℤ) (te
       let test : admits_at T (R.tests ++ replicate T true) n (f n) ≡ true =
       get_or-append_right R.tests (replicate T true) (length R.tests) (n * T + f n) false refl (omega (arith, whole.tests)) ∙ get_or-replicate T ((n * T + f n) - length R.tests) true false place in
       let all : admits T tests f (length ends) ≡ admits T R.tests d n =
-      ap₂ (λ xs k. admits T xs f k) tests_are last ∙ ap₂ (λ a b. a && b) (all_before T n d f same inside R.tests (replicate T true) whole.tests n (omega arith)) test ∙ and_true (admits T R.tests d n) in
+      ap₂ (λ xs k. admits T xs f k) tests_are last ∙ ap₂ (λ a b. a && b) (all_before T n d f same inside R.tests (replicate T true) whole.tests n (omega arith)) test ∙ and-true (admits T R.tests d n) in
       let there = side_there n R.triples (λ k h. let s = sides_of R whole k h in (s.ab_there, s.bc_there, s.ac_there)) in
       let own = total_same T R.own (λ q. d (side_at R.triples q)) (λ q. f (side_at R.triples q)) (3 * length R.triples) (λ q h. same (side_at R.triples q) (there q h)) in
       same_cost all (ap₂ (λ a b. a +ℤ b) sums own)
-    where
-      and_true : (b : Bool) → b && true ≡ b
-      and_true true = refl
-      and_true false = refl
 
 -- ---- a triple more
 

@@ -12,10 +12,8 @@ use Rattle.pesp_search_tables.specs.declared.triple.Way.TheVariants.{Behind, Bet
 use Rattle.pesp_search_tables.specs.Differences.{third}
 use Rattle.pesp_search_tables.specs.Moves.{AreLeasts, entry_at, spot}
 use Rattle.pesp_search_tables.specs.Sums.{admits_at, number_at}
+use Rattle.pesp_search_rows.proofs.Numbers.{zero_number}
 use Rattle.pesp_search_tables.proofs.Differences.{spot_back}
-
-zero_number : IsNumber (pos 0)
-zero_number = record { low = omega (arith, ints); high = omega (arith, ints) }
 
 pub zero_row : (n : ℕ) → IsRow (replicate n (pos 0))
 zero_row n k =

@@ -1,5 +1,6 @@
 -- Tests of one place that become false.
 use Rattle.std.proofs.Common.{◌≡◌, ◌≢◌, ℕ, ◌+◌, ◌*◌, ◌<◌, Bool, true, false, ◌&&◌, List, length, set, get_or, refl, sym, subst, ap, ◌∙◌, inl, inr}
+use Rattle.std.proofs.Math.Bool.{and-true}
 use Rattle.std.proofs.lemmas.Bool.{and_parts, cases_eq}
 use Rattle.std.proofs.lemmas.List.{get_or-set_same, get_or-set_other}
 use Rattle.pesp_search_tables.specs.Moves.{AreTrimmed}
@@ -50,11 +51,7 @@ trim_set T p Kept old xs e b below long same fewer t =
 pub trim_and : (T p : ℕ) (Kept : ℕ → Type 0) (old xs : List Bool) (e : ℕ) (b : Bool) → e < T → p * T + e < length xs → (Kept e → b ≡ true) → AreTrimmed T p Kept old xs → AreTrimmed T p Kept old (set xs (p * T + e) (get_or xs (p * T + e) false && b))
 trim_and T p Kept old xs e b below long stays t =
     let was : Bool = get_or xs (p * T + e) false in
-    trim_set T p Kept old xs e (was && b) below long (λ k. ap (λ c. was && c) (stays k) ∙ and_true was) (λ h. (and_parts was b h).0) t
-  where
-    and_true : (c : Bool) → c && true ≡ c
-    and_true true = refl
-    and_true false = refl
+    trim_set T p Kept old xs e (was && b) below long (λ k. ap (λ c. was && c) (stays k) ∙ and-true was) (λ h. (and_parts was b h).0) t
 
 -- what is false at a place stays so where another test is written, or this one is made false
 pub gone_set : (T p : ℕ) (xs : List Bool) (e : ℕ) (b : Bool) → e < T → p * T + e < length xs → (f : ℕ) → f < T → (f ≡ e → b ≡ false) → (f ≢ e → admits_at T xs p f ≡ false) → admits_at T (set xs (p * T + e) b) p f ≡ false

@@ -1,15 +1,16 @@
 -- What a file stands for has the period that it was read with.
-use Rattle.std.proofs.Common.{◌≡◌, ℕ, true, false, cond, List, [], ◌∷◌, fold, Option, Some, None, Result, Ok, Err, refl, sym, ap, ◌∙◌}
+use Rattle.std.proofs.Common.{◌≡◌, ℕ, List, [], ◌∷◌, fold, Option, Some, None, Result, Ok, Err, refl, sym, ap, ◌∙◌}
 use Rattle.pesp_base.specs.Refusals.{unless_refused}
-use Rattle.pesp_instance.specs.Network.{Network, has_event}
+use Rattle.pesp_instance.specs.Network.{Network}
 use Rattle.pesp_instance.specs.Edited.{effect, empty_network}
-use Rattle.pesp_instance.specs.declared.edit.Edit.TheVariants.{AddEvent, Fix}
+use Rattle.pesp_instance.specs.declared.edit.Edit.TheVariants.{Fix}
 use Rattle.pesp_tension.specs.Timetables.{Times, no_times}
 use Rattle.pesplib_reader.specs.declared.fault.FaultKind.{FaultKind}
 use Rattle.pesplib_reader.specs.Records.{Row, rows_of}
 use Rattle.pesplib_reader.specs.Rows.{activity_in}
 use Rattle.pesplib_reader.specs.Taking.{at_place, on_ok, row_taken, taken}
 use Rattle.pesplib_reader.specs.Reading.{activities_read, activity_faults_behind, time_faults_behind, times_read, with_activity_row, with_event, with_fixed, with_time_row}
+use Rattle.pesplib_reader.proofs.InstanceLemmas.{event_period}
 
 unless_refused_ok : {X : Type 0} (faults : List (Option FaultKind)) (x y : X) → unless_refused faults x ≡ Ok y → x ≡ y
 unless_refused_ok [] x y e = cc
@@ -30,9 +31,6 @@ module _ {X : Type 0} (faults : X → List (List ℕ) → List (Option FaultKind
 
 pub times_period : (period : ℕ) (bytes : List ℕ) (m : Times) → times_read period bytes ≡ Ok m → m.period ≡ period
 times_period period bytes m e = taken_period time_faults_behind with_time_row (λ (x : Times). x.period) (λ x fields. refl) (rows_of bytes) (no_times period) m e
-
-event_period : (I : Network) (e : ℕ) → (with_event I e).period ≡ I.period
-event_period I e = elim (has_event I e) as (λ b. (cond b I (effect I (AddEvent e))).period ≡ I.period) [ true ↦ refl | false ↦ refl ]
 
 pub activities_period : (period : ℕ) (bytes : List ℕ) (I : Network) → activities_read period bytes ≡ Ok I → I.period ≡ period
 activities_period period bytes I e =

@@ -4,6 +4,7 @@ use Rattle.std.specs.Prelude.{IsSome, pos, unwrap_or}
 use Rattle.std.specs.Option.{SomeIff}
 use Rattle.std.specs.Str.Parse.{ExplainsUnsignedError, HasUnsignedDigitsIfOk, ParsesUnsigned, signed_digits_value, starts_with_minus}
 use Rattle.std.proofs.lemmas.Int.{ints}
+use Rattle.std.proofs.lemmas.Option.{same_Some}
 use Rattle.clap.specs.Faults.{fault_of, is_simple_and_free}
 use Rattle.clap.specs.Kinds.{HasKind}
 use Rattle.clap.specs.declared.error.Error.{Error}
@@ -40,9 +41,6 @@ pub taken_rows : (a : App) (words : List Text) (m : ArgMatches) → a ≡ pespbe
 taken_rows a words m is has = (has (ap is_simple is ∙ simple)).0 ∙ ap (λ (x : App). matches_of x words) is
 
 -- ---- the number that a period writes
-
-pub some_is : {T : Type 0} (x y : T) → Some x ≡ Some y → x ≡ y
-some_is x y e = cc
 
 pos_is : (n k : ℕ) → pos n ≡ pos k → n ≡ k
 pos_is n k e = cc
@@ -97,7 +95,7 @@ module _ (E : Type 0) (G : List ℕ → Result ℕ E → Type 0) (m : ArgMatches
   period_read : (n : ℕ) → r ≡ Some n → IsPeriodOf rows n
   period_read n is =
       let got = number in
-      let same : got.0 ≡ n = some_is got.0 n (sym got.1 ∙ is) in
+      let same : got.0 ≡ n = same_Some got.0 n (sym got.1 ∙ is) in
       record {
         least = subst (λ (k : ℕ). least_period ≤ k) same got.2;
         greatest = subst (λ (k : ℕ). k ≤ greatest_period) same got.3;
@@ -137,4 +135,4 @@ some_where (Some x) P v h p = refl
 
 pub some_value : {T : Type 0} (o : Option T) (P : Type 0) (v x : T) → SomeIff o P v → o ≡ Some x → x ≡ v
 some_value None P v x h is = cc
-some_value (Some y) P v x h is = some_is x y (sym is) ∙ h.1
+some_value (Some y) P v x h is = same_Some x y (sym is) ∙ h.1

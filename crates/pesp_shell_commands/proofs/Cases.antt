@@ -6,7 +6,6 @@ use Rattle.pesp_instance.specs.declared.edit.Edit.TheVariants as edit
 use Rattle.pesplib_writer.specs.Script.{edit_line}
 use Rattle.pesp_shell_commands.specs.declared.command.Command.TheVariants as command
 use Rattle.pesp_shell_commands.specs.declared.parsing.ParseFault.TheVariants as fault
-use Rattle.pesp_shell_io.specs.Lines.{lines_of}
 use Rattle.pesp_shell_commands.specs.Words.{words_of}
 use Rattle.pesp_shell_commands.specs.Parsed.{parsed}
 use Rattle.pesp_shell_commands.specs.Replayed.{said}
@@ -19,12 +18,6 @@ words_before_a_return = refl
 
 no_words : words_of (32 ∷ 9 ∷ 13 ∷ []) ≡ []
 no_words = refl
-
-line_without_end : lines_of (codes "a" ++ 10 ∷ 10 ∷ codes "b") ≡ codes "a" ∷ [] ∷ codes "b" ∷ []
-line_without_end = refl
-
-line_with_end : lines_of (codes "a" ++ 10 ∷ []) ≡ codes "a" ∷ []
-line_with_end = refl
 
 unknown : parsed (codes "add") ≡ Err fault.UnknownCommand
 unknown = refl

@@ -13,6 +13,7 @@ use Rattle.pesp_base.specs.Limits.{greatest_bound, least_bound}
 use Rattle.pesp_shell_io.specs.Lines.{is_line_feed, IsUncut}
 use Rattle.pesp_shell_commands.specs.Words.{is_space}
 use Rattle.pesp_shell_commands.specs.Parsed.{Range, bound}
+use Rattle.pesp_base.proofs.Laws.{numbers_in_order}
 use Rattle.pesplib_writer.proofs.FieldLaws.{signed_nonempty}
 
 -- a short word of one line
@@ -81,16 +82,13 @@ pub record IsNumber (range : Range) (word : List ℕ) (z : ℤ) : Type 0 where
 pub not_less : (y z : ℤ) → y ≤ℤ z → int_lt z y ≡ false
 not_less y z h = grind (arith, ints)
 
-naturals_in_order : (m n : ℕ) → m ≤ n → pos m ≤ℤ pos n
-naturals_in_order m n h = omega (arith, ints)
-
 -- a number without a sign
 pub decimal_number : (high n : ℕ) → n ≤ high → high < 10 ^ 10 → IsNumber (record { low = pos 0; high = pos high }) (decimal n) (pos n)
 decimal_number high n h most = record {
   plain = plain_decimal n (omega (arith, h, most));
   reads = number_value-decimal n (omega (arith, h, most));
-  not_below = not_less (pos 0) (pos n) (naturals_in_order 0 n (omega arith));
-  not_above = not_less (pos n) (pos high) (naturals_in_order n high h);
+  not_below = not_less (pos 0) (pos n) (numbers_in_order 0 n (omega arith));
+  not_above = not_less (pos n) (pos high) (numbers_in_order n high h);
 }
 
 small_bound : (z : ℤ) → least_bound ≤ℤ z → z ≤ℤ greatest_bound → mag z + 1 < 10 ^ 10

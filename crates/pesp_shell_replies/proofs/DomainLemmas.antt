@@ -1,11 +1,9 @@
 -- Rows and lists of domains, told as residues of events.
-use Rattle.std.proofs.Common.{◌≡◌, ℕ, ◌+◌, ◌<◌, Bool, Some, List, [], ◌∷◌, length, map, All, IsTrue, false, refl, sym, ap, ◌∙◌, inl, inr, arith}
+use Rattle.std.proofs.Common.{◌≡◌, ℕ, ◌<◌, Bool, Some, List, [], ◌∷◌, length, map, All, IsTrue, false, refl, sym, ap, ◌∙◌, inl, inr, arith}
 use Rattle.std.specs.List.{AllZip, range_with_len, zip}
-use Rattle.std.specs.List.Sorted.{IsStrictlyIncreasing}
 use Rattle.std.proofs.lemmas.Bool.{cases_lt, false≢true}
 use Rattle.std.proofs.lemmas.List.{get_or_past}
 use Rattle.std.proofs.lemmas.List.Elements.{All-head, All-tail}
-use Rattle.std.proofs.lemmas.List.FromFn.{get_or-range_with_len, length-range_with_len}
 use Rattle.std.proofs.lemmas.List.Kept.{IsStrictlyIncreasing-filter}
 use Rattle.pesp_instance.specs.Network.{Network, has_event}
 use Rattle.pesp_domains.specs.Domains.{IsDomain, holds, residues}
@@ -15,11 +13,7 @@ use Rattle.pesp_bench.specs.Asked.{AreDomains, IsListed}
 use Rattle.pesp_shell_commands.specs.declared.command.Command.TheVariants as command
 use Rattle.pesp_shell_replies.specs.Legal.{AreResidues, LegalCommand, Work}
 use Rattle.pesp_shell_replies.specs.Replies.{domain_text, domains_text, event_residues}
-
-range_rises : (n : ℕ) → IsStrictlyIncreasing (range_with_len 0 n)
-range_rises n = λ k l.
-    let long : length (range_with_len 0 n) ≡ n = length-range_with_len 0 n in
-    rw (get_or-range_with_len 0 n k 0 (omega (arith, l, long)), get_or-range_with_len 0 n (k + 1) 0 (omega (arith, l, long))) (omega arith)
+use Rattle.pesp_base.proofs.Ranges.{range_rises}
 
 -- the residues of a row are those of the domain
 are_residues : (I : Network) (e : ℕ) (row : List Bool) → IsDomain I [] e row → AreResidues I e (residues row)

@@ -1,12 +1,12 @@
 -- What one line more, and one word more, adds to a text.
-use Rattle.std.proofs.Common.{◌≡◌, ℕ, ◌+◌, ◌<◌, List, [], ◌∷◌, ◌++◌, length, get_or, take, map, sym, ap, ◌∙◌, append_assoc, refl, codes, decimal, filter, Bool, true, false, cond, arith}
+use Rattle.std.proofs.Common.{◌≡◌, ℕ, ◌+◌, ◌<◌, List, [], ◌∷◌, ◌++◌, length, get_or, take, map, sym, ap, ◌∙◌, append_assoc, refl, codes, decimal, filter, Bool, true, false, cond}
 use Rattle.std.specs.List.{range_with_len}
-use Rattle.std.proofs.lemmas.List.FromFn.{filter_of_map_range_with_len_more}
 use Rattle.std.proofs.lemmas.Simd.{map-map}
-use Rattle.std.proofs.lemmas.List.{length-map, map-id, take_more, map-append, append-nil}
+use Rattle.std.proofs.lemmas.List.{length-map, take_more, map-append, append-nil}
 use Rattle.pesp_base.specs.Texts.{as_lines, separated, words_line}
 use Rattle.pesp_bench.specs.declared.lists.EventDomain.{EventDomain}
 use Rattle.pesp_shell_replies.specs.Replies.{counted, domain_line, domains_text, event_residues}
+use Rattle.pesp_base.proofs.Ranges.{filter_more}
 
 as_lines_append : (ls ks : List (List ℕ)) → as_lines (ls ++ ks) ≡ as_lines ls ++ as_lines ks
 as_lines_append [] ks = refl
@@ -48,9 +48,6 @@ pub line_more : (before text next : List ℕ) (e : ℕ) (residues items : List �
 line_more before text next e residues items i same h at is =
     is ∙ ap (λ t. t ++ (32 ∷ decimal (get_or items i 0))) at ∙ append_assoc before (domain_line e (take i residues)) (32 ∷ decimal (get_or items i 0))
     ∙ ap (λ r. before ++ r) (rw same (sym (ap (λ rs. domain_line e rs) (take_more residues i 0 (rw same at h)) ∙ residue_more e (take i residues) (get_or residues i 0))))
-
-filter_more : (test : ℕ → Bool) (n : ℕ) → filter test (range_with_len 0 (n + 1)) ≡ filter test (range_with_len 0 n) ++ cond (test n) (n ∷ []) []
-filter_more test n = rw (← map-id (range_with_len 0 (n + 1)), ← map-id (range_with_len 0 n)) (filter_of_map_range_with_len_more test (λ k. k) 0 n n (omega arith))
 
 -- the line of a domain whose residues are those that pass a test
 pub row_more : (before text next : List ℕ) (e r : ℕ) (test : ℕ → Bool) → text ≡ before ++ domain_line e (filter test (range_with_len 0 r)) → test r ≡ true

@@ -13,17 +13,12 @@ use Rattle.std.proofs.lemmas.List.{get_or-map, length-map}
 use Rattle.std.proofs.lemmas.List.Sorted.{IsNonDecreasingBy-from_default}
 use Rattle.std.proofs.lemmas.List.Edits.{length-insert, length-remove, get_or-insert_below, get_or-insert_at, get_or-insert_above, get_or-remove_below, get_or-remove_above}
 use Rattle.pesp_tension.specs.Places.{event_at, AreRising, IsAt, IsGap}
+use Rattle.pesp_base.proofs.Orders.{cmp_above, cmp_below, cmp_same}
 
 -- ---- how an event compares
 
 same : (e n : ℕ) → n ≡ e → nat_cmp e n ≡ Equal
-same e n h = grind (arith, nat_tests)
-
-above : (e n : ℕ) → n < e → nat_cmp e n ≡ Greater
-above e n h = grind (arith, nat_tests)
-
-below : (e n : ℕ) → e < n → nat_cmp e n ≡ Less
-below e n h = grind (arith, nat_tests)
+same e n h = cmp_same e n (sym h)
 
 -- ---- the list without its first entry
 
@@ -62,13 +57,13 @@ pub lookup_at : (es : List (ℕ × ℕ)) (e place : ℕ) → AreRising es → Is
 lookup_at [] e place rising at = absurd (omega (arith, at.within))
 lookup_at (x ∷ es) e zero rising at = found_if x es e Equal (same e x.0 at.event)
 lookup_at (x ∷ es) e (suc place) rising at =
-    found_if x es e Greater (above e x.0 (first_below x es e place rising at)) ∙ lookup_at es e place (rising_tail x es rising) (at_tail x es e place at)
+    found_if x es e Greater (cmp_above e x.0 (first_below x es e place rising at)) ∙ lookup_at es e place (rising_tail x es rising) (at_tail x es e place at)
 
 -- an event with a gap has no time
 pub lookup_gap : (es : List (ℕ × ℕ)) (e place : ℕ) → IsGap es e place → lookup (is_at (nat_cmp e)) es ≡ None
 lookup_gap [] e place gap = refl
-lookup_gap (x ∷ es) e zero gap = found_if x es e Less (below e x.0 (gap.greater 0 (omega arith) (omega arith))) ∙ lookup_gap es e 0 (gap_all x es e gap)
-lookup_gap (x ∷ es) e (suc place) gap = found_if x es e Greater (above e x.0 (gap.smaller 0 (omega arith))) ∙ lookup_gap es e place (gap_tail x es e place gap)
+lookup_gap (x ∷ es) e zero gap = found_if x es e Less (cmp_below e x.0 (gap.greater 0 (omega arith) (omega arith))) ∙ lookup_gap es e 0 (gap_all x es e gap)
+lookup_gap (x ∷ es) e (suc place) gap = found_if x es e Greater (cmp_above e x.0 (gap.smaller 0 (omega arith))) ∙ lookup_gap es e place (gap_tail x es e place gap)
 
 -- what holds of each time holds of the one at a place
 pub time_at_place : (P : ℕ → Type 0) (es : List (ℕ × ℕ)) (place : ℕ) → All P (values_of es) → place < length es → P (get_or es place (0, 0)).1
@@ -87,9 +82,9 @@ entered_if x es e t o h = ap (λ r. match_ordering r ((e, t) ∷ x ∷ es) ((x.0
 pub insert_gap : (es : List (ℕ × ℕ)) (e t place : ℕ) → IsGap es e place → insert es place (e, t) ≡ insert_entry nat_cmp es e t
 insert_gap [] e t zero gap = refl
 insert_gap [] e t (suc place) gap = absurd (omega (arith, gap.within))
-insert_gap (x ∷ es) e t zero gap = sym (entered_if x es e t Less (below e x.0 (gap.greater 0 (omega arith) (omega arith))))
+insert_gap (x ∷ es) e t zero gap = sym (entered_if x es e t Less (cmp_below e x.0 (gap.greater 0 (omega arith) (omega arith))))
 insert_gap (x ∷ es) e t (suc place) gap =
-    ap (λ l. x ∷ l) (insert_gap es e t place (gap_tail x es e place gap)) ∙ sym (entered_if x es e t Greater (above e x.0 (gap.smaller 0 (omega arith))))
+    ap (λ l. x ∷ l) (insert_gap es e t place (gap_tail x es e place gap)) ∙ sym (entered_if x es e t Greater (cmp_above e x.0 (gap.smaller 0 (omega arith))))
 
 -- a time that is put in the place of another
 pub set_at : (es : List (ℕ × ℕ)) (e t place : ℕ) → AreRising es → IsAt es e place → set es place (e, t) ≡ insert_entry nat_cmp es e t
@@ -97,7 +92,7 @@ set_at [] e t place rising at = absurd (omega (arith, at.within))
 set_at (x ∷ es) e t zero rising at = ap (λ (n : ℕ). (n, t) ∷ es) (sym at.event) ∙ sym (entered_if x es e t Equal (same e x.0 at.event))
 set_at (x ∷ es) e t (suc place) rising at =
     ap (λ l. x ∷ l) (set_at es e t place (rising_tail x es rising) (at_tail x es e place at))
-    ∙ sym (entered_if x es e t Greater (above e x.0 (first_below x es e place rising at)))
+    ∙ sym (entered_if x es e t Greater (cmp_above e x.0 (first_below x es e place rising at)))
 
 left_if : (x : ℕ × ℕ) (es : List (ℕ × ℕ)) (e : ℕ) (o : Ordering) → nat_cmp e x.0 ≡ o → remove_entry (is_at (nat_cmp e)) (x ∷ es) ≡ cond (is_eq o) es (x ∷ remove_entry (is_at (nat_cmp e)) es)
 left_if x es e o h = ap (λ r. cond (is_eq r) es (x ∷ remove_entry (is_at (nat_cmp e)) es)) h
@@ -108,15 +103,15 @@ remove_at [] e place rising at = absurd (omega (arith, at.within))
 remove_at (x ∷ es) e zero rising at = sym (left_if x es e Equal (same e x.0 at.event))
 remove_at (x ∷ es) e (suc place) rising at =
     ap (λ l. x ∷ l) (remove_at es e place (rising_tail x es rising) (at_tail x es e place at))
-    ∙ sym (left_if x es e Greater (above e x.0 (first_below x es e place rising at)))
+    ∙ sym (left_if x es e Greater (cmp_above e x.0 (first_below x es e place rising at)))
 
 -- where there is none to take away
 pub remove_gap : (es : List (ℕ × ℕ)) (e place : ℕ) → IsGap es e place → remove_entry (is_at (nat_cmp e)) es ≡ es
 remove_gap [] e place gap = refl
 remove_gap (x ∷ es) e zero gap =
-    left_if x es e Less (below e x.0 (gap.greater 0 (omega arith) (omega arith))) ∙ ap (λ l. x ∷ l) (remove_gap es e 0 (gap_all x es e gap))
+    left_if x es e Less (cmp_below e x.0 (gap.greater 0 (omega arith) (omega arith))) ∙ ap (λ l. x ∷ l) (remove_gap es e 0 (gap_all x es e gap))
 remove_gap (x ∷ es) e (suc place) gap =
-    left_if x es e Greater (above e x.0 (gap.smaller 0 (omega arith))) ∙ ap (λ l. x ∷ l) (remove_gap es e place (gap_tail x es e place gap))
+    left_if x es e Greater (cmp_above e x.0 (gap.smaller 0 (omega arith))) ∙ ap (λ l. x ∷ l) (remove_gap es e place (gap_tail x es e place gap))
 
 -- ---- the list still rises
 

@@ -36,6 +36,10 @@ refused false true false s n e f x h = cc
 refused false true true true n e f x h = cc
 refused false true true false n e f x h = cc
 
+-- an end does not change the period
+pub event_period : (I : Network) (e : ℕ) → (with_event I e).period ≡ I.period
+event_period I e = elim (has_event I e) as (λ t. (cond t I (effect I (AddEvent e))).period ≡ I.period) [ true ↦ refl | false ↦ refl ]
+
 module _ (I : Network) (a : Activity) where
   abbrev too_many_events : Bool
   too_many_events = nat_lt (max_events I.period) (length (with_ends I a).events)
@@ -74,9 +78,6 @@ module _ (I : Network) (a : Activity) where
       could (Err r) e is = absurd (cc)
 
   -- ---- ends do not change the period
-
-  event_period : (J : Network) (e : ℕ) → (with_event J e).period ≡ J.period
-  event_period J e = elim (has_event J e) as (λ t. (cond t J (effect J (AddEvent e))).period ≡ J.period) [ true ↦ refl | false ↦ refl ]
 
   ends_period : (with_ends I a).period ≡ I.period
   ends_period = event_period (with_event I a.from) a.to ∙ event_period I a.from

@@ -18,6 +18,7 @@ use Rattle.pesplib_reader.specs.Taking.{at_place, on_ok, row_taken, taken}
 use Rattle.pesplib_reader.proofs.InstanceLemmas.{taken_whole}
 use Rattle.pesplib_reader.proofs.TakingLemmas.{good_row}
 use Rattle.pesplib_writer.specs.Texts.{activity_fields}
+use Rattle.pesp_base.proofs.Tests.{or_alone}
 use Rattle.pesplib_writer.proofs.EndLaws.{kept, or_at, put_in-kept, with_number-failed, with_number-passed}
 use Rattle.pesplib_writer.proofs.FieldLaws.{IsWithin, activity_back, activity_is_row, activity_stands}
 use Rattle.pesplib_writer.proofs.OrderLaws.{IsBelow, below_after, put_in-below, with_number-below}
@@ -32,16 +33,12 @@ is_used activities n = is_some (find (is_end_of n) activities)
 
 -- ---- tests for ends
 
-or_false : (b : Bool) → b ≡ (b || false)
-or_false true = refl
-or_false false = refl
-
 -- one number more that passes already changes nothing
 passes_already : (test : ℕ → Bool) (e n : ℕ) → test e ≡ true → test n ≡ or_at test e n
 passes_already test e n passes =
     elim (e == n) as (λ b. (e == n) ≡ b → test n ≡ (test n || b)) [
       | true ↦ λ same. ap test (sym (eqb-true e n same)) ∙ passes ∙ sym (or_right (test n) true refl)
-      | false ↦ λ _. or_false (test n)
+      | false ↦ λ _. or_alone (test n)
     ] refl
 
 is_some_if : (a : Activity) (p q : Bool) → ((false || p) || q) ≡ is_some (cond (p || q) (Some a) None)

@@ -21,6 +21,7 @@ use Rattle.pesplib_reader.specs.declared.fault.FaultKind.{FaultKind}
 use Rattle.pesplib_reader.specs.declared.fault.FaultKind.TheVariants as fault
 use Rattle.pesplib_reader.specs.Rows.{greatest_time, activity_faults, activity_in, decimal_fault, decimals, is_point, natural, number_fault, range_fault, time_faults, value, weight_fault, weight_value, whole_part}
 use Rattle.pesplib_writer.specs.Texts.{activity_fields}
+use Rattle.pesp_base.proofs.Laws.{le_through, not_negative, numbers_in_order}
 use Rattle.pesplib_writer.proofs.RecordLaws.{AreFields, IsField, IsRow}
 
 -- ---- a number within limits
@@ -42,15 +43,9 @@ module _ (n : ℕ) (small : n < 2 ^ 64) where
   decimal_in_limits : (k : ℕ) (low high : ℤ) → low ≤ℤ pos n → pos n ≤ℤ high → number_fault k low high (decimal n) ≡ None
   decimal_in_limits k low high g h = ap (range_fault k low high) (number_value-decimal n small) ∙ in_limits k low high (pos n) g h
 
-not_negative : (n : ℕ) → pos 0 ≤ℤ pos n
-not_negative n = omega (arith, ints)
-
-at_most : (n most : ℕ) → n ≤ most → pos n ≤ℤ pos most
-at_most n most le = omega (arith, ints, le)
-
 -- a number of an event or an activity
 number_stands : (k n : ℕ) → n ≤ greatest_number → number_fault k (pos 0) (pos greatest_number) (decimal n) ≡ None
-number_stands k n le = decimal_in_limits n (omega (arith, le)) k (pos 0) (pos greatest_number) (not_negative n) (at_most n greatest_number le)
+number_stands k n le = decimal_in_limits n (omega (arith, le)) k (pos 0) (pos greatest_number) (not_negative n) (numbers_in_order n greatest_number le)
 
 module _ (z : ℤ) (low : least_bound ≤ℤ z) (high : z ≤ℤ greatest_bound) where
   -- a bound is small enough to be written
@@ -94,7 +89,7 @@ module _ (w : ℕ) (le : w ≤ greatest_weight) where
       ap (λ ds. decimal_fault ds (number_value (whole_part (decimal w)))) (no_decimals (decimal w) (decimal_between w small_weight))
       ∙ ap (λ t. decimal_fault [] (number_value t)) (all_whole (decimal w) (decimal_between w small_weight))
       ∙ ap (decimal_fault []) (number_value-decimal w small_weight)
-      ∙ in_limits 6 (pos 0) (pos greatest_weight) (pos w) (not_negative w) (at_most w greatest_weight le)
+      ∙ in_limits 6 (pos 0) (pos greatest_weight) (pos w) (not_negative w) (numbers_in_order w greatest_weight le)
 
 -- ---- what is written in digits, and a minus
 
@@ -120,9 +115,6 @@ pub record IsWithin (a : Activity) : Type 0 where
   pub from : a.from ≤ greatest_number
   pub to : a.to ≤ greatest_number
 
-lies_between : (l m u : ℤ) → l ≤ℤ m → m ≤ℤ u → l ≤ℤ u
-lies_between l m u g h = omega (arith, ints, g, h)
-
 not_crossed : (x y l u : ℤ) → x ≡ u → y ≡ l → l ≤ℤ u → when (int_lt x y) fault.Crossed ≡ None
 not_crossed x y l u e f h =
     let in_order : int_lt x y ≡ false = grind (arith, ints) in
@@ -141,10 +133,10 @@ module _ (a : Activity) (is : IsWithin a) where
   bounds = is.activity.bounds
 
   lower_below : a.span.lower ≤ℤ greatest_bound
-  lower_below = lies_between a.span.lower a.span.upper greatest_bound bounds.in_order bounds.below_greatest
+  lower_below = le_through a.span.lower a.span.upper greatest_bound bounds.in_order bounds.below_greatest
 
   upper_above : least_bound ≤ℤ a.span.upper
-  upper_above = lies_between least_bound a.span.lower a.span.upper bounds.above_least bounds.in_order
+  upper_above = le_through least_bound a.span.lower a.span.upper bounds.above_least bounds.in_order
 
   -- the fields of an activity read back as the activity
   pub activity_back : activity_in (activity_fields a) ≡ a

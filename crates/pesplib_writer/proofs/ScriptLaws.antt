@@ -7,7 +7,7 @@ use Rattle.std.proofs.lemmas.List.Elements.{All-head, All-tail}
 use Rattle.pesp_base.specs.declared.activity.Activity.{Activity}
 use Rattle.pesp_base.specs.declared.refusal.Refusal.{Refusal}
 use Rattle.pesp_base.specs.Limits.{max_events, max_activities}
-use Rattle.pesp_base.specs.Numbered.{with_number, put_in, change_in}
+use Rattle.pesp_base.specs.Numbered.{with_number, change_in}
 use Rattle.pesp_base.specs.Refusals.{unless_refused, when}
 use Rattle.pesp_base.specs.Windows.{Interval, IsWindow, at_time}
 use Rattle.pesp_instance.specs.declared.edit.Edit.{Edit}
@@ -19,20 +19,13 @@ use Rattle.pesp_instance.proofs.Rising.{IsAbove, Rises, Rises-from_increasing, c
 use Rattle.pesplib_reader.proofs.FixedLemmas.{fix_edited}
 use Rattle.pesplib_writer.specs.Script.{applied, on_accepted, own_edit, script_edits, window_edit}
 use Rattle.pesplib_writer.specs.Texts.{without_window}
-use Rattle.pesplib_writer.proofs.OrderLaws.{above_before, below_after, put_in-below, with_number-below}
+use Rattle.pesplib_writer.proofs.OrderLaws.{above_before}
 use Rattle.pesp_instance.proofs.Numbers.{activity_number as id_of, event_number as number}
+use Rattle.pesp_instance.proofs.PutLast.{none_before, put_last}
 
 -- ---- a number that is above those before it
 
 module _ {X : Type 0} (number : X → ℕ) where
-  -- the members before another one have other, smaller numbers
-  before_absent : (xs : List X) (x : X) (rest : List X) → Rises number (xs ++ x ∷ rest) → with_number number (number x) xs ≡ None
-  before_absent xs x rest rises = with_number-below number (number x) xs (below_after number xs rest x rises)
-
-  -- behind them it goes to the end
-  put_behind : (xs : List X) (x : X) (rest : List X) → Rises number (xs ++ x ∷ rest) → put_in number x xs ≡ xs ++ x ∷ []
-  put_behind xs x rest rises = put_in-below number x xs (below_after number xs rest x rises)
-
   -- a change reaches the one member of its number, with others before and behind it
   change_between : (change : X → X) (xs : List X) (x : X) (rest : List X) → Rises number (xs ++ x ∷ rest)
       → change_in number (number x) change (xs ++ x ∷ rest) ≡ xs ++ change x ∷ rest
@@ -77,8 +70,8 @@ module _ (period : ℕ) where
       → edited (with_events done) (AddEvent e) ≡ Ok (with_events (done ++ new_event e ∷ []))
   event_added done rest e rises room =
       event_accepted (has_event (with_events done) e) (nat_le (max_events period) (length done)) _ _ (effect (with_events done) (AddEvent e))
-      (ap is_some (before_absent number done (new_event e) rest rises)) (lt-leb (max_events period) (length done) room)
-      ∙ ap (λ events. Ok (with_events events)) (put_behind number done (new_event e) rest rises)
+      (ap is_some (none_before number done (new_event e) rest rises)) (lt-leb (max_events period) (length done) room)
+      ∙ ap (λ events. Ok (with_events events)) (put_last number done (new_event e) rest rises)
 
   events_added : (done : List Event) (numbers : List ℕ) → Rises number (done ++ map new_event numbers) → length done + length numbers ≤ max_events period
       → applied (with_events done) (map AddEvent numbers) ≡ Ok (with_events (done ++ map new_event numbers))
@@ -180,8 +173,8 @@ module _ (period : ℕ) (events : List Event) where
       → edited (with_activities done) (AddActivity a) ≡ Ok (with_activities (done ++ a ∷ []))
   activity_added done rest a rises has room =
       activity_accepted (is_some (activity_of (with_activities done) a.id)) (has_event (with_activities done) a.from) (has_event (with_activities done) a.to) (nat_le (max_activities period) (length done)) _ _ _ _ (effect (with_activities done) (AddActivity a))
-      (ap is_some (before_absent id_of done a rest rises)) has.from has.to (lt-leb (max_activities period) (length done) room)
-      ∙ ap (λ activities. Ok (with_activities activities)) (put_behind id_of done a rest rises)
+      (ap is_some (none_before id_of done a rest rises)) has.from has.to (lt-leb (max_activities period) (length done) room)
+      ∙ ap (λ activities. Ok (with_activities activities)) (put_last id_of done a rest rises)
 
   activities_added : (done activities : List Activity) → Rises id_of (done ++ activities) → All (HasEnds events) activities → length done + length activities ≤ max_activities period
       → applied (with_activities done) (map AddActivity activities) ≡ Ok (with_activities (done ++ activities))

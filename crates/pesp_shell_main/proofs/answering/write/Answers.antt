@@ -13,17 +13,18 @@ kept_behind (Some xs) None after text appends keeps = absurd appends
 kept_behind (Some xs) (Some ys) None text appends keeps = absurd keeps
 kept_behind (Some xs) (Some ys) (Some zs) text appends keeps = keeps ∙ appends
 
-on_any : {X E P : Type 0} (r : Result X E) → P → OnErr r P
-on_any (Ok x) p = tt
-on_any (Err e) p = p
+-- what was written is written, however the sink ended
+whole_written : {X E : Type 0} (r : Result X E) (before after : Option (List ℕ)) (text : List ℕ) → Appends before after text → OnOk r (Appends before after text)
+whole_written (Ok x) before after text is = is
+whole_written (Err e) before after text is = tt
 
-on_ok : {X E P : Type 0} (r : Result X E) → P → OnOk r P
-on_ok (Ok x) p = p
-on_ok (Err e) p = tt
+front_written : {X E : Type 0} (r : Result X E) (before after : Option (List ℕ)) (text : List ℕ) → (n : ℕ) × Appends before after (take n text) → OnErr r ((n : ℕ) × Appends before after (take n text))
+front_written (Ok x) before after text is = tt
+front_written (Err e) before after text is = is
 
 pub returns-clause-ok : goal.returns-clause-ok
 returns-clause-ok g c =
-    on_ok c.finish.result
+    whole_written c.finish.result (g.W.ByteSink.written c.args.sink.now) (g.W.ByteSink.written c.finish.new.self) c.args.text.now
     (kept_behind (g.W.ByteSink.written c.args.sink.now) (g.W.ByteSink.written c.put_all.new.sink) (g.W.ByteSink.written c.finish.new.self) c.args.text.now c.in_ok-put_all.ensures.ok c.finish.ensures.bytes)
 
 pub returns-clause-err : goal.returns-clause-err
@@ -33,7 +34,7 @@ returns-clause-err g c =
     let before = g.W.ByteSink.written c.args.sink.now in
     let after = g.W.ByteSink.written c.finish.new.self in
     let all : Appends before after text = kept_behind before (g.W.ByteSink.written c.put_all.new.sink) after text c.in_ok-put_all.ensures.ok c.finish.ensures.bytes in
-    on_any c.finish.result (length text, subst (Appends before after) (sym whole) all)
+    front_written c.finish.result before after text (length text, subst (Appends before after) (sym whole) all)
 
 pub returns-clause-failure : goal.returns-clause-failure
 returns-clause-failure g c =

@@ -13,11 +13,11 @@ use Rattle.pesp_counts_supports.specs.Put.{Back}
 use Rattle.pesp_counts.specs.Reached.{starts}
 use Rattle.pesp_counts.specs.Restores.{Restores, Seen, StaysWithin, numbered_pair}
 use Rattle.pesp_counts.proofs.Applied.{forgotten, keeping_none, none_of_length, not_adds}
-use Rattle.pesp_counts.proofs.Housed.{to_err}
 use Rattle.pesp_counts.proofs.Keeping.{room_same}
 use Rattle.pesp_counts.proofs.Told.{reached_none, told_places, told_restored, told_room, within_told}
 use Rattle.pesp_counts.specs.declared.work.Work.{Work}
 use Rattle.pesp_counts.specs.Works.{IsWork, IsWorked, KeepPlaces}
+use Rattle.pesp_base.proofs.Tests.{always_err}
 use Rattle.pesp_counts.proofs.Worked.{work_is}
 use Rattle.pesp_counts.proofs.keeper.CountKeeperKeeper.apply.Goals as goal
 use Rattle.pesp_counts.proofs.keeper.CountKeeperKeeper.apply.Goals.{in-AddEvent, in-AddActivity, in_default}
@@ -340,7 +340,7 @@ returns-clause-work c =
     subst (λ (v : Seen). IsWork v.network c.args.edit.now c.number_pairs.new.restored.items work) c.self.view_is (subst (λ restored. IsWork I c.args.edit.now restored work) (sym same) told)
 
 pub returns-in_err-apply-clause-still : goal.returns-in_err-apply-clause-still
-returns-in_err-apply-clause-still c = to_err c.from_residual.result (ap (λ (v : Seen). v.restored) c.self.view_is, ap (λ (v : Seen). v.work) c.self.view_is)
+returns-in_err-apply-clause-still c = always_err c.from_residual.result (ap (λ (v : Seen). v.restored) c.self.view_is, ap (λ (v : Seen). v.work) c.self.view_is)
 
 pub returns-then-is_err-clause-still : goal.returns-then-is_err-clause-still
 returns-then-is_err-clause-still c = search rules

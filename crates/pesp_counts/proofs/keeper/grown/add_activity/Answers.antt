@@ -8,20 +8,20 @@ use Rattle.pesp_counts_arcs.specs.Ends.{ends_of}
 use Rattle.pesp_counts_supports.specs.Counts.{has_at}
 use Rattle.pesp_counts.specs.Keeping.{AreAtRestBut}
 use Rattle.pesp_counts_arcs.specs.Places.{place_of}
-use Rattle.pesp_counts.proofs.Bridge.{the_same}
 use Rattle.pesp_counts.proofs.Carried.{rest_but, tail_listed, tail_low, tail_mate}
-use Rattle.pesp_counts.proofs.Housed.{activity_period, rows_seen, settled_seen, to_err}
+use Rattle.pesp_counts.proofs.Housed.{activity_period, rows_seen, settled_seen}
 use Rattle.pesp_counts.proofs.Keeping.{for_linked, for_same}
 use Rattle.pesp_counts_supports.proofs.Marks.{keeps_like}
 use Rattle.pesp_counts.proofs.Tightened.{settled_even}
 use Rattle.pesp_counts_supports.specs.Spent.{ends_at}
+use Rattle.pesp_base.proofs.Tests.{same_value, always_err}
 use Rattle.pesp_counts.proofs.Gone.{gone_placed, keep_seen, worked_tight}
 use Rattle.pesp_counts_supports.proofs.Taken.{taken_same, taken_then}
 use Rattle.pesp_counts.proofs.keeper.grown.add_activity.Goals as goal
 
 pub returns-in_err-house_activity-clause-err : goal.returns-in_err-house_activity-clause-err
 returns-in_err-house_activity-clause-err c =
-    to_err c.from_residual.result (λ I made h.
+    always_err c.from_residual.result (λ I made h.
     let J = c.args.instance.now in
     let period = activity_period I J c.args.activity.now made in
     let b = c.in_err-house_activity.ensures.back I J (sym period ∙ sym c.period.ensures.value) h.network made h.fits in
@@ -96,7 +96,7 @@ narrow_ends-requires-clause-listed c =
     let fits = ok.ok I J (sym period ∙ sym c.period.ensures.value) w.made w.settled.fits in
     let q = ok.changed in
     let listed = tail_listed J after a.id q.0 fits.stand q.1 in
-    let twice : c.in-Some.tail ≡ 2 * q.0 = the_same (option_map (λ k. 2 * k) (place_of after.activities a.id)) c.in-Some.tail (2 * q.0) (sym c.tail.ensures ∙ c.in-Some.is) (ap (option_map (λ k. 2 * k)) q.1) in
+    let twice : c.in-Some.tail ≡ 2 * q.0 = same_value (option_map (λ k. 2 * k) (place_of after.activities a.id)) c.in-Some.tail (2 * q.0) (sym c.tail.ensures ∙ c.in-Some.is) (ap (option_map (λ k. 2 * k)) q.1) in
     subst (λ k. (p : ℕ) × Contains (ends_of after.lists p) k) (sym twice) listed
 
 pub narrow_ends-requires-clause-rest : goal.narrow_ends-requires-clause-rest
@@ -114,7 +114,7 @@ narrow_ends-requires-clause-rest c =
     let fits = ok.ok I J (sym period ∙ sym c.period.ensures.value) w.made w.settled.fits in
     let q = ok.changed in
     let listed = tail_listed J after a.id q.0 fits.stand q.1 in
-    let twice : c.in-Some.tail ≡ 2 * q.0 = the_same (option_map (λ k. 2 * k) (place_of after.activities a.id)) c.in-Some.tail (2 * q.0) (sym c.tail.ensures ∙ c.in-Some.is) (ap (option_map (λ k. 2 * k)) q.1) in
+    let twice : c.in-Some.tail ≡ 2 * q.0 = same_value (option_map (λ k. 2 * k) (place_of after.activities a.id)) c.in-Some.tail (2 * q.0) (sym c.tail.ensures ∙ c.in-Some.is) (ap (option_map (λ k. 2 * k)) q.1) in
     subst (λ t. AreAtRestBut after m t []) (sym twice) (rest_but links after s m c.house_activity.ensures.grown q.0 [] w.settled.rest q.2 (tail_mate J after listed.0 q.0 fits.stand listed.1) w.trail)
 
 pub returns-in-Some-clause-ok : goal.returns-in-Some-clause-ok

@@ -4,8 +4,9 @@ use Rattle.std.specs.List.{Contains}
 use Rattle.pesp_counts_arcs.specs.Ends.{ends_of}
 use Rattle.pesp_counts_arcs.specs.Links.{IsChangedAt, IsEndOfPlace}
 use Rattle.pesp_counts_arcs.specs.Places.{place_of}
+use Rattle.pesp_base.proofs.Tests.{always_err}
 use Rattle.pesp_counts.proofs.Carried.{if_some, roomier_none}
-use Rattle.pesp_counts.proofs.Housed.{activity_period, dropped_activity_again, for_linked_more, for_seen, look_seen, to_err, unlinked_seen}
+use Rattle.pesp_counts.proofs.Housed.{activity_period, dropped_activity_again, for_linked_more, for_seen, look_seen, unlinked_seen}
 use Rattle.pesp_counts_arcs.proofs.StandLaws.{stands_same}
 use Rattle.pesp_counts.proofs.keeper.grown.house_activity.Goals as goal
 
@@ -15,7 +16,7 @@ returns-in_err-add_activity-clause-back c =
     let after = c.add_activity.new.self in
     let s = c.args.supports.now in
     let same = c.in_err-add_activity.ensures.err in
-    to_err c.from_residual.result (λ I J period network made h. (
+    always_err c.from_residual.result (λ I J period network made h. (
       for_seen I links after s s h (stands_same I links after same h.stand) (look_seen links after same) (roomier_none s) h.even,
       look_seen links after same,
     ))

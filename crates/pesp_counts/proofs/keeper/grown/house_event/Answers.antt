@@ -6,8 +6,9 @@ use Rattle.pesp_instance.specs.Network.{Network}
 use Rattle.pesp_domains.proofs.Edits.{effect_is}
 use Rattle.pesp_counts.specs.Keeping.{IsHousedAt}
 use Rattle.pesp_counts_arcs.specs.Links.{StandFor}
+use Rattle.pesp_base.proofs.Tests.{always_err}
 use Rattle.pesp_counts.proofs.Carried.{roomier_none}
-use Rattle.pesp_counts.proofs.Housed.{dropped_event_again, dropped_seen, for_housed, for_seen, look_seen, new_event_of, to_err}
+use Rattle.pesp_counts.proofs.Housed.{dropped_event_again, dropped_seen, for_housed, for_seen, look_seen, new_event_of}
 use Rattle.pesp_counts_arcs.proofs.StandLaws.{stands_same}
 use Rattle.pesp_counts.proofs.keeper.grown.house_event.Goals as goal
 
@@ -17,7 +18,7 @@ returns-in_err-place-clause-back c =
     let after = c.add_event.new.self in
     let s = c.args.supports.now in
     let same = c.in_err-place.ensures.err in
-    to_err c.from_residual.result (λ I J network made h. (
+    always_err c.from_residual.result (λ I J network made h. (
       for_seen I links after s s h (stands_same I links after same h.stand) (look_seen links after same) (roomier_none s) h.even,
       look_seen links after same,
     ))

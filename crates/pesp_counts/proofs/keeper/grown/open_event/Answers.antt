@@ -4,16 +4,17 @@ use Rattle.pesp_instance.specs.declared.edit.Edit.TheVariants.{AddEvent}
 use Rattle.pesp_instance.specs.Network.{Network}
 use Rattle.pesp_domains.proofs.Edits.{effect_is}
 use Rattle.pesp_counts.specs.Keeping.{AreFor}
-use Rattle.pesp_counts.proofs.Housed.{opened_settled, settled_seen, to_err}
+use Rattle.pesp_counts.proofs.Housed.{opened_settled, settled_seen}
 use Rattle.std.proofs.lemmas.Bool.{false≢true}
 use Rattle.pesp_counts_supports.specs.Supports.{is_in}
+use Rattle.pesp_base.proofs.Tests.{always_err}
 use Rattle.pesp_counts.proofs.Gone.{worked_none}
 use Rattle.pesp_counts.proofs.Housed.{opened_places}
 use Rattle.pesp_counts.proofs.keeper.grown.open_event.Goals as goal
 
 pub returns-in_err-place-clause-err : goal.returns-in_err-place-clause-err
 returns-in_err-place-clause-err c =
-    to_err c.from_residual.result (λ I made h.
+    always_err c.from_residual.result (λ I made h.
     let b = c.in_err-place.ensures.back I c.args.instance.now h.network made h.fits in
     settled_seen I [] c.args.links.now c.house_event.new.links c.args.supports.now c.house_event.new.supports h b.0 b.1 c.house_event.ensures.grown)
 

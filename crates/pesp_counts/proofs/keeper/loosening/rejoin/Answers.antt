@@ -2,9 +2,9 @@
 use Rattle.std.proofs.Common.{◌+◌, ◌*◌, ◌≤◌, length, subst, rules}
 use Rattle.pesp_counts_supports.specs.Counts.{has_at}
 use Rattle.pesp_counts_supports.specs.Spent.{ends_at}
+use Rattle.pesp_counts_supports.proofs.Taken.{fit_then}
 use Rattle.pesp_counts.proofs.Gone.{gone_placed, rejoined_probes, worked_is}
 use Rattle.pesp_counts.proofs.Keeping.{for_linked}
-use Rattle.pesp_counts_supports.proofs.Marks.{fit_same}
 use Rattle.pesp_counts.proofs.Reopened.{rejoined_exact, rejoined_rest, spared_mates}
 use Rattle.pesp_counts.proofs.keeper.loosening.rejoin.Goals as goal
 
@@ -24,7 +24,7 @@ pub narrow_ends-requires-clause-linked : goal.narrow_ends-requires-clause-linked
 narrow_ends-requires-clause-linked c = rw c.restore.ensures.restored.shape.period (for_linked c.args.instance.now c.args.links.now c.args.supports.now c.requires.fits)
 
 pub narrow_ends-requires-clause-fit : goal.narrow_ends-requires-clause-fit
-narrow_ends-requires-clause-fit c = fit_same c.args.links.now c.args.supports.now c.restore.new.self c.restore.ensures.restored.shape c.requires.fits.fit
+narrow_ends-requires-clause-fit c = fit_then c.args.links.now c.args.supports.now c.restore.new.self c.restore.ensures.restored.shape c.requires.fits.fit
 
 pub narrow_ends-requires-clause-rest : goal.narrow_ends-requires-clause-rest
 narrow_ends-requires-clause-rest c =

@@ -1,9 +1,8 @@
 -- The counts are exact at all ends, and what has no partner is among the pairs that came.
 use Rattle.std.proofs.Common.{◌+◌, ◌*◌, ◌≤◌, length, subst}
 use Rattle.pesp_counts.proofs.Keeping.{for_linked}
-use Rattle.pesp_counts_supports.proofs.Marks.{fit_same}
 use Rattle.pesp_counts.proofs.Reopened.{reopened_pending}
-use Rattle.pesp_counts_supports.proofs.Taken.{kept_none, taken_none}
+use Rattle.pesp_counts_supports.proofs.Taken.{kept_none, taken_none, fit_then}
 use Rattle.pesp_counts.proofs.Gone.{gone_placed, reopened_probes, worked_is}
 use Rattle.pesp_counts_supports.specs.Counts.{has_at}
 use Rattle.pesp_counts_supports.specs.Spent.{ends_at}
@@ -19,7 +18,7 @@ pub settle_back-requires-clause-linked : goal.settle_back-requires-clause-linked
 settle_back-requires-clause-linked c = rw c.restore.ensures.restored.shape.period (for_linked c.args.instance.now c.args.links.now c.args.supports.now c.requires.fits)
 
 pub settle_back-requires-clause-fit : goal.settle_back-requires-clause-fit
-settle_back-requires-clause-fit c = fit_same c.args.links.now c.args.supports.now c.restore.new.self c.restore.ensures.restored.shape c.requires.fits.fit
+settle_back-requires-clause-fit c = fit_then c.args.links.now c.args.supports.now c.restore.new.self c.restore.ensures.restored.shape c.requires.fits.fit
 
 pub settle_back-requires-clause-pending : goal.settle_back-requires-clause-pending
 settle_back-requires-clause-pending c =

@@ -3,9 +3,9 @@ use Rattle.std.proofs.Common.{◌+◌, ◌*◌, ◌≤◌, ◌∷◌, [], length
 use Rattle.pesp_instance.specs.Network.{admits}
 use Rattle.pesp_counts.proofs.Keeping.{for_linked}
 use Rattle.pesp_domains.specs.Sweeps.{narrowed_to}
-use Rattle.pesp_counts_supports.proofs.Marks.{fit_same, keeps_like}
+use Rattle.pesp_counts_supports.proofs.Marks.{keeps_like}
 use Rattle.pesp_counts.proofs.Reopened.{reopened_pending}
-use Rattle.pesp_counts_supports.proofs.Taken.{kept_shape, shape_then, taken_then}
+use Rattle.pesp_counts_supports.proofs.Taken.{kept_shape, shape_then, taken_then, fit_then}
 use Rattle.pesp_counts.proofs.Gone.{narrowed_placed, reopened_probes, worked_is}
 use Rattle.pesp_counts_supports.specs.Counts.{has_at}
 use Rattle.pesp_counts_supports.specs.Spent.{ends_at}
@@ -24,7 +24,7 @@ pub settle_back-requires-clause-fit : goal.settle_back-requires-clause-fit
 settle_back-requires-clause-fit c =
     let m = c.restore.new.self in
     let shape = shape_then c.args.supports.now m c.limit_at.new.supports c.restore.ensures.restored.shape (kept_shape m c.limit_at.new.supports c.limit_at.ensures.keeps) in
-    fit_same c.args.links.now c.args.supports.now c.limit_at.new.supports shape c.requires.fits.fit
+    fit_then c.args.links.now c.args.supports.now c.limit_at.new.supports shape c.requires.fits.fit
 
 pub settle_back-requires-clause-pending : goal.settle_back-requires-clause-pending
 settle_back-requires-clause-pending c =

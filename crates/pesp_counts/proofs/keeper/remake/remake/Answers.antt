@@ -2,9 +2,9 @@
 use Rattle.std.proofs.Common.{ap, subst, length}
 use Rattle.pesp_counts_supports.specs.Counts.{ArePending, has_at}
 use Rattle.pesp_counts.proofs.Keeping.{for_linked, for_same}
-use Rattle.pesp_counts_supports.proofs.Marks.{fit_same, rest_pending}
+use Rattle.pesp_counts_supports.proofs.Marks.{rest_pending}
 use Rattle.pesp_counts.proofs.Remade.{full_as, remade}
-use Rattle.pesp_counts_supports.proofs.Taken.{kept_shape, shape_then}
+use Rattle.pesp_counts_supports.proofs.Taken.{kept_shape, shape_then, fit_then}
 use Rattle.pesp_counts.proofs.keeper.remake.remake.Goals as goal
 
 pub refill-requires-clause-linked : goal.refill-requires-clause-linked
@@ -20,8 +20,8 @@ settle-requires-clause-linked c =
 
 pub settle-requires-clause-fit : goal.settle-requires-clause-fit
 settle-requires-clause-fit c =
-    fit_same c.args.links.now c.refill.new.self c.limit_windows.new.supports (kept_shape c.refill.new.self c.limit_windows.new.supports c.limit_windows.ensures.keeps)
-    (fit_same c.args.links.now c.args.supports.now c.refill.new.self c.refill.ensures.shape c.requires.fit)
+    fit_then c.args.links.now c.refill.new.self c.limit_windows.new.supports (kept_shape c.refill.new.self c.limit_windows.new.supports c.limit_windows.ensures.keeps)
+    (fit_then c.args.links.now c.args.supports.now c.refill.new.self c.refill.ensures.shape c.requires.fit)
 
 pub settle-requires-clause-pending : goal.settle-requires-clause-pending
 settle-requires-clause-pending c =

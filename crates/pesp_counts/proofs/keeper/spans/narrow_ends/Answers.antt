@@ -2,11 +2,11 @@
 use Rattle.std.proofs.Common.{◌∙◌, ap, subst}
 use Rattle.pesp_counts_arcs.specs.Ends.{AreLinked}
 use Rattle.pesp_counts_supports.specs.Counts.{KeepsClosed, has_at}
-use Rattle.pesp_counts_supports.proofs.Marks.{fit_same, keeps_like}
+use Rattle.pesp_counts_supports.proofs.Marks.{keeps_like}
 use Rattle.pesp_counts.proofs.Narrowed.{anew_below, anew_exact, anew_level, anew_live, anew_trail, first_sift, second_sift, sifted_keeps, sifted_pending}
 use Rattle.pesp_counts_supports.specs.Spent.{ends_at}
 use Rattle.pesp_counts.proofs.Gone.{narrowed_probes}
-use Rattle.pesp_counts_supports.proofs.Taken.{keeps_then, kept_shape, kept_then, shape_then, taken_same, taken_then}
+use Rattle.pesp_counts_supports.proofs.Taken.{keeps_then, kept_shape, kept_then, shape_then, taken_same, taken_then, fit_then}
 use Rattle.pesp_counts.proofs.keeper.spans.narrow_ends.Goals as goal
 
 pub end-end-requires : goal.end-end-requires
@@ -34,14 +34,14 @@ recount-requires-clause-width c = rw c.end-end.ensures (c.requires.linked.each _
 pub recount-requires-2-clause-end : goal.recount-requires-2-clause-end
 recount-requires-2-clause-end c =
     let E = c.requires.linked.each _ c.args.tail c.requires.listed.1 in
-    let fit = fit_same c.args.links.now c.args.supports.now c.recount.new.self c.recount.ensures.shape c.requires.fit in
+    let fit = fit_then c.args.links.now c.args.supports.now c.recount.new.self c.recount.ensures.shape c.requires.fit in
     rw c.end-end.ensures (fit.counts _ _ E.mate_there)
 
 pub recount-requires-2-clause-looks : goal.recount-requires-2-clause-looks
 recount-requires-2-clause-looks c =
     let E = c.requires.linked.each _ c.args.tail c.requires.listed.1 in
     let M = c.requires.linked.each _ _ E.mate_there in
-    let fit = fit_same c.args.links.now c.args.supports.now c.recount.new.self c.recount.ensures.shape c.requires.fit in
+    let fit = fit_then c.args.links.now c.args.supports.now c.recount.new.self c.recount.ensures.shape c.requires.fit in
     rw (c.end-mate.ensures, c.end-end.ensures) (fit.counted _ _ M.mate_there)
 
 pub recount-requires-2-clause-first : goal.recount-requires-2-clause-first
@@ -59,13 +59,13 @@ sift-requires-clause-place c =
     let E = c.requires.linked.each _ c.args.tail c.requires.listed.1 in
     let M = c.requires.linked.each _ _ E.mate_there in
     let shape = shape_then c.args.supports.now c.recount.new.self c.recount-2.new.self c.recount.ensures.shape c.recount-2.ensures.shape in
-    let fit = fit_same c.args.links.now c.args.supports.now c.recount-2.new.self shape c.requires.fit in
+    let fit = fit_then c.args.links.now c.args.supports.now c.recount-2.new.self shape c.requires.fit in
     rw (c.end-mate.ensures, c.end-end.ensures) (fit.rows _ _ M.mate_there)
 
 pub sift-requires-clause-end : goal.sift-requires-clause-end
 sift-requires-clause-end c =
     let shape = shape_then c.args.supports.now c.recount.new.self c.recount-2.new.self c.recount.ensures.shape c.recount-2.ensures.shape in
-    let fit = fit_same c.args.links.now c.args.supports.now c.recount-2.new.self shape c.requires.fit in
+    let fit = fit_then c.args.links.now c.args.supports.now c.recount-2.new.self shape c.requires.fit in
     fit.counts _ c.args.tail c.requires.listed.1
 
 pub sift-requires-2-clause-place : goal.sift-requires-2-clause-place
@@ -73,7 +73,7 @@ sift-requires-2-clause-place c =
     let E = c.requires.linked.each _ c.args.tail c.requires.listed.1 in
     let shape = shape_then c.args.supports.now c.recount.new.self c.recount-2.new.self c.recount.ensures.shape c.recount-2.ensures.shape in
     let shape' = shape_then c.args.supports.now c.recount-2.new.self c.sift.new.self shape (kept_shape c.recount-2.new.self c.sift.new.self c.sift.ensures.keeps) in
-    let fit = fit_same c.args.links.now c.args.supports.now c.sift.new.self shape' c.requires.fit in
+    let fit = fit_then c.args.links.now c.args.supports.now c.sift.new.self shape' c.requires.fit in
     rw c.end-end.ensures (fit.rows _ _ E.mate_there)
 
 pub sift-requires-2-clause-end : goal.sift-requires-2-clause-end
@@ -81,7 +81,7 @@ sift-requires-2-clause-end c =
     let E = c.requires.linked.each _ c.args.tail c.requires.listed.1 in
     let shape = shape_then c.args.supports.now c.recount.new.self c.recount-2.new.self c.recount.ensures.shape c.recount-2.ensures.shape in
     let shape' = shape_then c.args.supports.now c.recount-2.new.self c.sift.new.self shape (kept_shape c.recount-2.new.self c.sift.new.self c.sift.ensures.keeps) in
-    let fit = fit_same c.args.links.now c.args.supports.now c.sift.new.self shape' c.requires.fit in
+    let fit = fit_then c.args.links.now c.args.supports.now c.sift.new.self shape' c.requires.fit in
     rw c.end-end.ensures (fit.counts _ _ E.mate_there)
 
 pub settle_back-requires-clause-fit : goal.settle_back-requires-clause-fit
@@ -89,7 +89,7 @@ settle_back-requires-clause-fit c =
     let shape = shape_then c.args.supports.now c.recount.new.self c.recount-2.new.self c.recount.ensures.shape c.recount-2.ensures.shape in
     let shape' = shape_then c.args.supports.now c.recount-2.new.self c.sift.new.self shape (kept_shape c.recount-2.new.self c.sift.new.self c.sift.ensures.keeps) in
     let shape'' = shape_then c.args.supports.now c.sift.new.self c.sift-2.new.self shape' (kept_shape c.sift.new.self c.sift-2.new.self c.sift-2.ensures.keeps) in
-    fit_same c.args.links.now c.args.supports.now c.sift-2.new.self shape'' c.requires.fit
+    fit_then c.args.links.now c.args.supports.now c.sift-2.new.self shape'' c.requires.fit
 
 pub settle_back-requires-clause-pending : goal.settle_back-requires-clause-pending
 settle_back-requires-clause-pending c =

@@ -3,7 +3,7 @@ use Rattle.std.proofs.Common.{◌≡◌, Some, not, refl, sym, ap, ◌∙◌}
 use Rattle.std.specs.BTreeMap.{is_at}
 use Rattle.std.specs.Map.{lookup}
 use Rattle.std.specs.Ordering.{nat_cmp}
-use Rattle.pesp_instance.proofs.Effects.{when_err}
+use Rattle.pesp_base.proofs.Tests.{always_err}
 use Rattle.pesp_instance.proofs.Links.{slot_is_used}
 use Rattle.pesp_instance.proofs.Vertices.{IsTable-written, events_kept, lists_here, lists_more, lists_same, one_more}
 use Rattle.pesp_instance.proofs.ends.Table+Vertex.list.Goals as goal
@@ -21,7 +21,7 @@ invariant_of-self c =
 pub returns-in_err-insert-clause-err : goal.returns-in_err-insert-clause-err
 returns-in_err-insert-clause-err c =
     let is = rw (← c.self.view_is) at c.requires.slot in
-    rw (← c.self.view_is) (when_err c.from_residual.result (lists_same c.self.inside.slots _ c.self.invariant is.0 _ is.1 _ c.index_mut.ensures.value _ refl c.in_err-insert.ensures.err))
+    rw (← c.self.view_is) (always_err c.from_residual.result (lists_same c.self.inside.slots _ c.self.invariant is.0 _ is.1 _ c.index_mut.ensures.value _ refl c.in_err-insert.ensures.err))
 
 pub invariant_of-self-2 : goal.invariant_of-self-2
 invariant_of-self-2 c =

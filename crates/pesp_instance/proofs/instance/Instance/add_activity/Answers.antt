@@ -5,7 +5,8 @@ use Rattle.pesp_base.specs.Limits.{max_activities}
 use Rattle.pesp_base.specs.Numbered.{with_number, put_in, take_out}
 use Rattle.pesp_instance.specs.Network.{has_event}
 use Rattle.pesp_instance.specs.Stored.{network_in}
-use Rattle.pesp_instance.proofs.Effects.{added_activity, none_is, on_err, on_ok, some_is}
+use Rattle.pesp_base.proofs.Tests.{some_from}
+use Rattle.pesp_instance.proofs.Effects.{added_activity, none_is, on_err, on_ok}
 use Rattle.pesp_instance.proofs.Refused.{add_known, add_to_many, add_without_from, add_without_memory, add_without_to, added}
 use Rattle.pesp_instance.proofs.Relisted.{AreListed-put_in, AreListed-same}
 use Rattle.pesp_instance.proofs.Rising.{Rises-from_increasing, take_out-put_in}
@@ -89,7 +90,7 @@ returns-then-activity_count-max_activities-clause-err c =
 
 pub returns-in-Ok-false-clause-err : goal.returns-in-Ok-false-clause-err
 returns-in-Ok-false-clause-err c =
-    let there = some_is _ (sym c.in-Ok-false.ensures.added ∙ c.in-Ok-false.field-0-test) in
+    let there = some_from _ (sym c.in-Ok-false.ensures.added ∙ c.in-Ok-false.field-0-test) in
     rw (← c.self.view_is) (inl (add_known (network_in c.self.inside) c.args.activity there))
 
 pub returns-in-Err-clause-err : goal.returns-in-Err-clause-err

@@ -6,7 +6,8 @@ use Rattle.pesp_base.specs.Numbered.{with_number, put_in}
 use Rattle.pesp_instance.specs.Ends.{vertex_number, events_of}
 use Rattle.pesp_instance.specs.Network.{has_event, new_event}
 use Rattle.pesp_instance.specs.Stored.{network_in}
-use Rattle.pesp_instance.proofs.Effects.{added_event, none_from, none_is, some_is}
+use Rattle.pesp_base.proofs.Tests.{none_from, some_from}
+use Rattle.pesp_instance.proofs.Effects.{added_event, none_is}
 use Rattle.pesp_instance.proofs.Numbers.{event_number}
 use Rattle.pesp_instance.proofs.Refused.{add_known_event, added_event as accepted_event}
 use Rattle.pesp_instance.proofs.Relisted.{AreListed-added}
@@ -41,7 +42,7 @@ returns-in-Ok-true-clause-ok c =
 pub returns-in-Ok-false-clause-err : goal.returns-in-Ok-false-clause-err
 returns-in-Ok-false-clause-err c =
     let its : vertex_number c.new.result ≡ c.args.event = ap event_number c.new.ensures.event in
-    let there : is_some (with_number vertex_number (vertex_number c.new.result) c.self.inside.vertices.values) ≡ true = some_is _ (sym c.in-Ok-false.ensures.added ∙ c.in-Ok-false.field-0-test) in
+    let there : is_some (with_number vertex_number (vertex_number c.new.result) c.self.inside.vertices.values) ≡ true = some_from _ (sym c.in-Ok-false.ensures.added ∙ c.in-Ok-false.field-0-test) in
     let has : has_event (network_in c.self.inside) c.args.event ≡ true = is_event c.args.event c.self.inside.vertices.values ∙ ap (λ n. is_some (with_number vertex_number n c.self.inside.vertices.values)) (sym its) ∙ there in
     rw (← c.self.view_is) (inl (add_known_event (network_in c.self.inside) c.args.event has))
 

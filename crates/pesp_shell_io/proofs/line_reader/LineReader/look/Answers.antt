@@ -1,11 +1,12 @@
 -- What one more call took stands behind what was taken before.
-use Rattle.std.proofs.Common.{◌≡◌, List, ℕ, ◌+◌, ◌-◌, ◌<◌, ◌≤◌, Bool, true, Option, Result, Ok, Err, IsErr, OnErr, length, ◌++◌, ap, subst, ◌∙◌, append_assoc, arith, rules}
+use Rattle.std.proofs.Common.{◌≡◌, List, ℕ, ◌+◌, ◌-◌, ◌<◌, ◌≤◌, Bool, true, Option, Result, Ok, Err, IsErr, length, ◌++◌, ap, subst, ◌∙◌, append_assoc, arith, rules}
 use Rattle.std.specs.Io.KnownBytes.{Consumes}
 use Rattle.std.proofs.KnownBytes.{Consumes-trans}
 use Rattle.pesp_shell_io.specs.Devices.{MarksFailure}
 use Rattle.pesp_shell_io.specs.Fronts.{IsUnended}
 use Rattle.pesp_shell_io.specs.Lines.{longest_line}
 use Rattle.pesp_shell_io.specs.declared.limits.TheConstants.{LONGEST_LINE}
+use Rattle.pesp_base.proofs.Tests.{always_err}
 use Rattle.pesp_shell_io.proofs.line_reader.LineReader.look.Goals as goal
 
 -- these bytes left the source, and stand behind what was held
@@ -26,10 +27,6 @@ nearer m n short more = omega arith
 marked : {T E : Type 0} (r : Result T E) (before after : Bool) → IsErr r → after ≡ true → MarksFailure r before after
 marked (Ok x) before after failed mark = cc
 marked (Err e) before after failed mark = mark
-
-always_err : {T E A : Type 0} (r : Result T E) → A → OnErr r A
-always_err (Ok x) a = tt
-always_err (Err e) a = a
 
 pub returns-in_err-fill-clause-taken : goal.returns-in_err-fill-clause-taken
 returns-in_err-fill-clause-taken g c = Taken-trans _ _ _ _ _ _ c.pieces.invariant.taken c.fill.ensures.taken
