@@ -13,7 +13,7 @@ pub record IsWindow (period : ℕ) (window : Interval) : Type 0 where
   pub some : 1 ≤ window.length
   pub once : window.length ≤ period
 
--- the residue is so many steps from the first one, up and on from zero behind the last residue of the period
+-- the residue is so many steps from the first one, up and on from zero after the last residue of the period
 abbrev pub IsHeld : ℕ → Interval → ℕ → Type 0
 IsHeld period window r = (k : ℕ) × (k < window.length) × ((window.first + k) % period ≡ r)
 

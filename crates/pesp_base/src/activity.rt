@@ -1,4 +1,4 @@
-//! Activities.
+//! Activities: the constraints between two events.
 
 use crate::{ActivityId, EventId, Span, Weight};
 

@@ -9,6 +9,7 @@ use std::marker::Model;
 /// The number of an activity, at most [`GREATEST_NUMBER`].
 #[derive(Clone, Copy, Debug, PartialEq, Eq, PartialOrd, Ord)]
 pub struct ActivityId {
+    // At most GREATEST_NUMBER.
     value: u32,
 }
 

@@ -9,6 +9,7 @@ use std::marker::Model;
 /// The number of an event, at most [`GREATEST_NUMBER`].
 #[derive(Clone, Copy, Debug, PartialEq, Eq, PartialOrd, Ord)]
 pub struct EventId {
+    // At most GREATEST_NUMBER.
     value: u32,
 }
 

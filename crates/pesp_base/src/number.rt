@@ -47,7 +47,7 @@ fn capped_number(text: &[u8]) -> Option<i64>
 
 /// The number that the text writes, where it is within the limits.
 ///
-/// A number is one or more digits behind a `+`, a `-` or neither, as many digits as there may be; it
+/// A number is one or more digits after a `+`, a `-` or neither, as many digits as there may be; it
 /// takes no memory to read it. Errors: `NotANumber`, then `OutOfRange`.
 pub fn number_between(text: &[u8], low: i64, high: i64) -> Result<i64, NumberFault>
     requires low { neg_ℤ (pos number_cap) <ℤ low }

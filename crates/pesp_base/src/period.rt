@@ -9,6 +9,7 @@ use std::marker::Model;
 /// After how many units of time a timetable repeats: from [`LEAST_PERIOD`] to [`GREATEST_PERIOD`].
 #[derive(Clone, Copy, Debug, PartialEq, Eq)]
 pub struct Period {
+    // From LEAST_PERIOD to GREATEST_PERIOD.
     value: u16,
 }
 

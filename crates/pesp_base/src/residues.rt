@@ -35,11 +35,13 @@ impl Direction {
 /// The residues of [`partners`] or [`sources`] that are left, from either end.
 #[derive(Drop)]
 pub struct Residues {
+    // Above the first residue, and no less than the end of the steps.
     period: Period,
     // The residue of step 0.
     first: u16,
     // The steps that are left.
     steps: Range<u16>,
+    // Which way the steps go from the first residue.
     direction: Direction,
 }
 

@@ -9,7 +9,9 @@ use std::marker::Model;
 /// The least and the greatest tension with which an activity is met, each from [`LEAST_BOUND`] to [`GREATEST_BOUND`].
 #[derive(Clone, Copy, Debug, PartialEq, Eq)]
 pub struct Span {
+    // From LEAST_BOUND on, and at most the upper bound.
     lower: i32,
+    // At most GREATEST_BOUND.
     upper: i32,
 }
 

@@ -9,6 +9,7 @@ use std::marker::Model;
 /// What one unit of an activity's slack costs, at most [`GREATEST_WEIGHT`].
 #[derive(Clone, Copy, Debug, PartialEq, Eq, PartialOrd, Ord)]
 pub struct Weight {
+    // At most GREATEST_WEIGHT.
     value: u32,
 }
 

@@ -10,7 +10,9 @@ use std::marker::Model;
 /// Residues one above the other, of which the last of the period is followed by 0: at each of them an event may stand.
 #[derive(Clone, Copy, Debug, PartialEq, Eq)]
 pub struct Window {
+    // Below the period that it was made with: `new` asks for it, and the type does not know it.
     first: u16,
+    // From 1 to that period, which the type does not know either.
     length: u16,
 }
 
@@ -25,7 +27,8 @@ impl Model for Window {
 impl Window {
     /// The window, where its first residue is below the period and its length from 1 to the period.
     pub fn new(period: Period, first: u16, length: u16) -> Option<Window>
-        ensures { SomeIff result (IsWindow period (record { first = first; length = length })) (record { first = first; length = length }) }
+        ensures { SomeIff result (IsWindow period (record { first = first; length = length }))
+            (record { first = first; length = length }) }
     {
         if first < period.get() && 1 <= length && length <= period.get() {
             Some(Window { first, length })

@@ -19,8 +19,11 @@ use std::marker::Model;
 /// A keeper with nothing pushed, a working timetable on some of its events, and what is known of the optimum.
 #[derive(Drop)]
 pub struct Bench<K: Keeper> {
+    // Nothing is pushed on it.
     keeper: K,
+    // Of the instance's period, and of events of the instance.
     times: Timetable,
+    // The optimum of the keeper's instance; None where it is not known.
     known: Option<Answer>,
     // The timetable of an optimum that was forgotten, or that a search stopped with; whether it meets everything is
     // asked where it is used.
@@ -43,7 +46,12 @@ impl<K: Keeper> Bench<K> {
     /// The workbench without times.
     pub fn new(alloc: Global, keeper: K) -> Bench<K>
         requires { K.pushes keeper ≡ [] }
-        ensures { result ≡ record { instance = K.network keeper; times = no_times (K.network keeper).period; known = None; nodes = 0 } }
+        ensures { result ≡ record {
+          instance = K.network keeper;
+          times = no_times (K.network keeper).period;
+          known = None;
+          nodes = 0;
+        } }
     {
         let times = Timetable::new(alloc, keeper.instance().period());
         Bench {
@@ -65,7 +73,8 @@ impl<K: Keeper> Bench<K> {
     pub fn timetable(&self) -> &Timetable
         ensures value { result.now ≡ self.now.times }
         ensures period { self.now.times.period ≡ self.now.instance.period }
-        ensures events { (e : ℕ) → IsSome (time_of self.now.times e) → IsTrue (has_event self.now.instance e) }
+        ensures events { (e : ℕ) → IsSome (time_of self.now.times e)
+            → IsTrue (has_event self.now.instance e) }
     {
         &self.times
     }

@@ -28,7 +28,8 @@ pub(crate) fn or_candidate(
     bound: Option<u64>,
     candidate: &mut Option<Timetable>,
 ) -> Option<Best>
-    ensures { (I : Network) (limit : ℕ) → IsCandidate I bound candidate.old → MayStop I bound limit best → MayStop I None limit result }
+    ensures { (I : Network) (limit : ℕ) → IsCandidate I bound candidate.old
+        → MayStop I bound limit best → MayStop I None limit result }
 {
     if best.is_some() {
         return best;

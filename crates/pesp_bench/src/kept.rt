@@ -51,8 +51,10 @@ fn cheapens(instance: &Instance, edit: &Edit) -> bool
 
 /// Whether an activity has times at both ends, is met and costs nothing.
 fn adds_nothing(activity: &Activity, times: &Timetable) -> bool
-    ensures yes { result ≡ true → (meets times.now activity.now ≡ true) × (cost_in times.now activity.now ≡ 0) }
-    ensures no { result ≡ false → IsTimed times.now activity.now → meets times.now activity.now ≡ true → cost_in times.now activity.now ≡ 0 → ⊥ }
+    ensures yes { result ≡ true → (meets times.now activity.now ≡ true)
+        × (cost_in times.now activity.now ≡ 0) }
+    ensures no { result ≡ false → IsTimed times.now activity.now
+        → meets times.now activity.now ≡ true → cost_in times.now activity.now ≡ 0 → ⊥ }
 {
     if times.get(activity.from).is_none() || times.get(activity.to).is_none() {
         return false;
@@ -68,7 +70,9 @@ fn is_timed_within(
     length: u16,
     times: &Timetable,
 ) -> bool
-    ensures { (t : ℕ) → Some t ≡ time_of times.now event → IsWindow (instance.now).period (record { first = first; length = length }) → result ≡ is_held (instance.now).period (record { first = first; length = length }) t }
+    ensures { (t : ℕ) → Some t ≡ time_of times.now event
+        → IsWindow (instance.now).period (record { first = first; length = length })
+        → result ≡ is_held (instance.now).period (record { first = first; length = length }) t }
 {
     let period = instance.period();
     match (Window::new(period, first, length), times.get(event)) {
@@ -115,7 +119,8 @@ fn stands(instance: &Instance, edit: &Edit, times: &Timetable) -> bool
 /// Whether an edit, where it is accepted, keeps what is known, by the instance before it.
 pub(crate) fn keeps(instance: &Instance, edit: &Edit, known: &Option<Answer>) -> bool
     requires { IfSome known.now (IsAnswer instance.now) }
-    ensures value { (J : Network) → edited instance.now edit.now ≡ Ok J → IfSome known.now (λ answer. IsTrue result ↔ Keeps instance.now edit.now answer) }
+    ensures value { (J : Network) → edited instance.now edit.now ≡ Ok J
+        → IfSome known.now (λ answer. IsTrue result ↔ Keeps instance.now edit.now answer) }
     ensures network { IsNetwork instance.now }
 {
     // Each call of an instance tells that it is one.

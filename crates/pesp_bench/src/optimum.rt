@@ -14,8 +14,10 @@ impl<K: Keeper> Bench<K> {
     /// The optimum, or refusal 10: what [`Bench::find_optimum`] makes known, and a known one as it is. The working timetable stays.
     pub fn optimum(&mut self, alloc: Global) -> Result<&Answer, Refusal>
         ensures ok { IfOk result (λ answer. IsAnswer self.old.instance answer.now) }
-        ensures kept { IfSome self.old.known (λ known. IsOkAnd result (λ answer. answer.now ≡ known)) }
-        ensures refused { IfErr result (λ refusal. (refusal ≡ no.Memory) × (self.old.known ≡ None)) }
+        ensures kept { IfSome self.old.known
+            (λ known. IsOkAnd result (λ answer. answer.now ≡ known)) }
+        ensures refused { IfErr result (λ refusal. (refusal ≡ no.Memory)
+            × (self.old.known ≡ None)) }
     {
         match self.known_optimum(alloc) {
             Ok(answer) => Ok(answer),

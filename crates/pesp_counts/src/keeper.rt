@@ -44,12 +44,15 @@ use told::work_of;
 /// that it reaches, and then takes out what has no partner.
 #[derive(Drop)]
 pub struct CountKeeper {
+    // That of which the rows are the domains.
     instance: Instance,
     // Each of another event; there is room for as many as there are events.
     pushed: Vec<Pair>,
     // Where the trail stood before each push.
     marks: Vec<usize>,
+    // They stand for the instance.
     links: Links,
+    // The rows are the domains under the pushed pairs, and nothing waits to be counted out.
     supports: Supports,
     // What the last edit put back, by place; forgotten at the next edit.
     back: Back,
@@ -57,6 +60,7 @@ pub struct CountKeeper {
     restored: Vec<Pair>,
     // That of the last edit that was accepted.
     work: Work,
+    // Where an edit takes its memory from.
     alloc: Global,
 }
 
@@ -76,7 +80,8 @@ impl CountKeeper {
     /// How many residues of the other event go with a residue at an end of an activity. There is no answer where no activity has
     /// the number, or the residue is not in the domain of the event at that end.
     pub fn support(&self, activity: ActivityId, side: Side, residue: u16) -> Option<u16>
-        ensures { IsSupportAnswer (self.now).network (self.now).pushes activity side residue result }
+        ensures { IsSupportAnswer (self.now).network (self.now).pushes activity side residue
+            result }
     {
         let activity = self.instance.activity(activity)?;
         if !self.holds(side.own(activity), residue) {
@@ -100,7 +105,8 @@ impl Keeper for CountKeeper {
         ensures network { IfOk result (λ keeper. keeper.network ≡ instance) }
         ensures pushes { IfOk result (λ keeper. keeper.pushes ≡ []) }
         ensures restored { IfOk result (λ keeper. keeper.restored ≡ []) }
-        ensures work { IfOk result (λ keeper. keeper.work ≡ record { restored = 0; removed = 0; probes = 0 }) }
+        ensures work { IfOk result (λ keeper.
+            keeper.work ≡ record { restored = 0; removed = 0; probes = 0 }) }
         ensures back { IfErr result (λ no_room. no_room.instance ≡ instance) }
     {
         let mut pushed = Vec::new(alloc);
@@ -160,10 +166,12 @@ impl Keeper for CountKeeper {
         ensures ok { OnOk result (edited (self.old).network edit.now ≡ Ok (self.new).network) }
         ensures restored { OnOk result (Restores (self.old).network edit.now (self.new).restored) }
         ensures within { OnOk result (StaysWithin (self.old).network edit.now (self.new).restored) }
-        ensures work { OnOk result (IsWork (self.old).network edit.now (self.new).restored (self.new).work) }
+        ensures work { OnOk result (IsWork (self.old).network edit.now (self.new).restored
+            (self.new).work) }
         ensures err { IfErr result (IsRefusal (self.old).network edit.now) }
         ensures unchanged { OnErr result ((self.new).network ≡ (self.old).network) }
-        ensures still { OnErr result (((self.new).restored ≡ (self.old).restored) × ((self.new).work ≡ (self.old).work)) }
+        ensures still { OnErr result (((self.new).restored ≡ (self.old).restored)
+            × ((self.new).work ≡ (self.old).work)) }
         ensures pushes { (self.new).pushes ≡ [] }
     {
         let restores = restores(&self.instance, edit);
@@ -214,7 +222,8 @@ impl Keeper for CountKeeper {
         requires free { (r : ℕ) → In (self.old).pushes event r → ⊥ }
         requires residue { residue < (self.old).network.period }
         ensures network { (self.new).network ≡ (self.old).network }
-        ensures pushes { (self.new).pushes ≡ (self.old).pushes ++ record { event = event; residue = residue } ∷ [] }
+        ensures pushes { (self.new).pushes
+            ≡ (self.old).pushes ++ record { event = event; residue = residue } ∷ [] }
         ensures restored { (self.new).restored ≡ (self.old).restored }
         ensures work { (self.new).work ≡ (self.old).work }
     {

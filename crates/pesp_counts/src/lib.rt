@@ -1,4 +1,4 @@
-//! Domains kept by support counts.
+//! Domains kept by support counts: arc consistency as AC-4 keeps it, through edits that tighten and edits that loosen.
 #![tactic(auto)]
 
 mod keeper;

@@ -45,7 +45,8 @@ pub trait Keeper: Drop {
     /// The domain of an event.
     fn row(&self, event: EventId) -> Option<&Row>
         ensures event { is_some result ≡ has_event (network self.now) event }
-        ensures domain { IfSome result (λ row. IsDomain (network self.now) (pushes self.now) event row.now) };
+        ensures domain { IfSome result
+            (λ row. IsDomain (network self.now) (pushes self.now) event row.now) };
 
     /// Makes an edit where nothing is pushed, or answers the first refusal and changes nothing.
     ///
@@ -63,7 +64,8 @@ pub trait Keeper: Drop {
         requires free { (r : ℕ) → In (pushes self.old) event r → ⊥ }
         requires residue { residue < (network self.old).period }
         ensures network { network self.new ≡ network self.old }
-        ensures pushes { pushes self.new ≡ pushes self.old ++ record { event = event; residue = residue } ∷ [] };
+        ensures pushes { pushes self.new
+            ≡ pushes self.old ++ record { event = event; residue = residue } ∷ [] };
 
     /// Takes the pair away that was pushed last. This takes no memory.
     fn pop_fix(&mut self)

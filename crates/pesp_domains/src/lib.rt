@@ -1,4 +1,4 @@
-//! The domains of an instance: for each event the residues that are left when pairs without a partner go,
+//! The domains of an instance, arc consistent: for each event the residues that are left when pairs without a partner go,
 //! again and again. The trait of what keeps them while edits are made and pairs are pushed and popped,
 //! and a plain keeper.
 #![tactic(auto)]

@@ -32,7 +32,8 @@ fn event_now(instance: &Instance, event: EventId) -> Event
 
 /// Whether the event may stand at one of these residues, `length` from `first` on, at which it may not now.
 pub fn window_admits_anew(instance: &Instance, event: EventId, first: u16, length: u16) -> bool
-    ensures { result ≡ admits_anew instance.now (rewindowed instance.now event (Some (record { first = first; length = length }))) event }
+    ensures { result ≡ admits_anew instance.now
+        (rewindowed instance.now event (Some (record { first = first; length = length }))) event }
 {
     let period = instance.period();
     let old = event_now(instance, event);
@@ -58,5 +59,6 @@ pub fn span_admits_more(period: Period, old: Span, new: Span) -> bool
 
 /// A span admits more than another exactly where some residues of the two events are admitted by it, and not by the other one.
 pub fn law_of_wider_spans()
-    ensures { (period : ℕ) (old new : Bounds) → 0 < period → IsTrue (admits_more period old new) ↔ AdmitsNewPair period old new }
+    ensures { (period : ℕ) (old new : Bounds) → 0 < period → IsTrue (admits_more period old new)
+        ↔ AdmitsNewPair period old new }
 {}

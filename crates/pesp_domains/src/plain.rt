@@ -1,4 +1,4 @@
-//! The keeper that sweeps over everything until nothing is taken out.
+//! The keeper that sweeps over everything until nothing is taken out: arc consistency as AC-1 makes it.
 
 ghost use Rattle.std.specs.Prelude.{◌≡◌, ◌≤◌, ℕ, [], IfOk, OnOk, OnErr, length, vec_capacity, Ok, Err, Some, true, replicate};
 ghost use Rattle.pesp_domains.specs.Rows.{AreRowsOf, SetsRow};
@@ -17,6 +17,7 @@ use std::marker::Model;
 /// that there are.
 #[derive(Drop)]
 pub struct PlainKeeper {
+    // That of which the rows are the domains.
     instance: Instance,
     // Each of another event; there is room for as many as there are events.
     pushed: Vec<Pair>,
@@ -56,7 +57,8 @@ fn make_room(
 ) -> Result<(), AllocError>
     requires { pushed.old.items ≡ [] }
     ensures room { OnOk result (length instance.now.events ≤ vec_capacity pushed.new) }
-    ensures row { OnOk result (SetsRow event (Some (replicate instance.now.period true)) rows.old rows.new) }
+    ensures row { OnOk result (SetsRow event (Some (replicate instance.now.period true)) rows.old
+        rows.new) }
     ensures pushed { pushed.new.items ≡ [] }
     ensures capacity { vec_capacity pushed.old ≤ vec_capacity pushed.new }
     ensures err { OnErr result (rows.new ≡ rows.old) }

@@ -9,5 +9,7 @@ ghost use Rattle.pesp_domains.specs.Sweeps.{AreDomains, Covers, Pairs};
 /// From a set that has all pairs of the domains, taking out pairs that break a clause of support ends at
 /// the domains, whichever of them are taken and in whatever order, once no pair breaks one.
 pub fn law_of_removal()
-    ensures { (I : Network) (pushes : List Pair) (S : Pairs) (removed : List Pair) (left : Pairs) → Covers I pushes S → IsRemoval I pushes S removed left → NoneBreaks I pushes left → AreDomains I pushes left }
+    ensures { (I : Network) (pushes : List Pair) (S : Pairs) (removed : List Pair) (left : Pairs)
+        → Covers I pushes S → IsRemoval I pushes S removed left → NoneBreaks I pushes left
+        → AreDomains I pushes left }
 {}

@@ -13,6 +13,7 @@ use std::marker::Model;
 /// A set of residues, seen as a test for each residue below the period.
 #[derive(Drop)]
 pub struct Row {
+    // One for each residue below the period, no more than the greatest period.
     tests: Vec<bool>,
 }
 

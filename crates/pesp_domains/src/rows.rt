@@ -12,6 +12,7 @@ use std::marker::Model;
 /// A row for each of some events.
 #[derive(Drop)]
 pub struct Rows {
+    // By the event's number.
     rows: BTreeMap<u32, Row>,
     // Where the rows have their memory from.
     alloc: Global,

@@ -1,4 +1,4 @@
-//! Sweeps over all activities.
+//! Sweeps over all activities: constraint propagation to its fixed point.
 
 ghost use Rattle.std.specs.Prelude.{◌≡◌, ℕ, ◌<◌, true, false, IsTrue, []};
 ghost use Rattle.std.specs.List.{Contains, list_any};
@@ -29,8 +29,10 @@ fn holds_any(row: &Row, residues: Residues) -> bool
 /// Whether the residue at this end of the activity has a partner in the row at the other end.
 fn has_partner(period: Period, activity: &Activity, side: Side, residue: u16, row: &Row) -> bool
     requires { residue < period }
-    ensures yes { result ≡ true → (s : ℕ) × IsTrue (holds row.now s) × Joins side period activity.now residue s }
-    ensures no { result ≡ false → (s : ℕ) → s < period → IsTrue (holds row.now s) → Joins side period activity.now residue s → ⊥ }
+    ensures yes { result ≡ true → (s : ℕ) × IsTrue (holds row.now s)
+        × Joins side period activity.now residue s }
+    ensures no { result ≡ false → (s : ℕ) → s < period → IsTrue (holds row.now s)
+        → Joins side period activity.now residue s → ⊥ }
 {
     match side {
         Side::Tail => holds_any(row, partners(period, activity.span, residue)),
@@ -42,7 +44,8 @@ fn has_partner(period: Period, activity: &Activity, side: Side, residue: u16, ro
 fn is_alone(period: Period, activity: &Activity, side: Side, residue: u16, rows: &Rows) -> bool
     requires { residue < period }
     ensures alone { result ≡ true → IsAlone period (has rows.now) side activity.now residue }
-    ensures stays { result ≡ false → IsTrue (has rows.now (own side activity.now) residue) → HasPartner period (Of (has rows.now)) side activity.now residue }
+    ensures stays { result ≡ false → IsTrue (has rows.now (own side activity.now) residue)
+        → HasPartner period (Of (has rows.now)) side activity.now residue }
 {
     if !rows.holds(side.own(activity), residue) {
         return false;
@@ -58,7 +61,8 @@ fn narrow(instance: &Instance, activity: &Activity, side: Side, rows: &mut Rows)
     requires { Contains instance.now.activities activity.now }
     ensures shape { HaveSameShape rows.old rows.new }
     ensures pass { IsPass instance.now (has rows.old) (has rows.new) result }
-    ensures settled { result ≡ false → IsSettledAt instance.now.period (has rows.new) side activity.now }
+    ensures settled { result ≡ false
+        → IsSettledAt instance.now.period (has rows.new) side activity.now }
 {
     let period = instance.period();
     let event = side.own(activity);
@@ -77,7 +81,8 @@ fn narrow_both(instance: &Instance, activity: &Activity, rows: &mut Rows) -> boo
     requires { Contains instance.now.activities activity.now }
     ensures shape { HaveSameShape rows.old rows.new }
     ensures pass { IsPass instance.now (has rows.old) (has rows.new) result }
-    ensures settled { result ≡ false → (side : Side) → IsSettledAt instance.now.period (has rows.new) side activity.now }
+    ensures settled { result ≡ false → (side : Side)
+        → IsSettledAt instance.now.period (has rows.new) side activity.now }
 {
     let tail = narrow(instance, activity, Side::Tail, rows);
     let head = narrow(instance, activity, Side::Head, rows);
@@ -88,7 +93,9 @@ fn narrow_both(instance: &Instance, activity: &Activity, rows: &mut Rows) -> boo
 fn sweep(instance: &Instance, rows: &mut Rows) -> bool
     ensures shape { HaveSameShape rows.old rows.new }
     ensures pass { IsPass instance.now (has rows.old) (has rows.new) result }
-    ensures settled { result ≡ false → (side : Side) (a : Activity) → Contains instance.now.activities a → IsSettledAt instance.now.period (has rows.new) side a }
+    ensures settled { result ≡ false → (side : Side) (a : Activity)
+        → Contains instance.now.activities a
+        → IsSettledAt instance.now.period (has rows.new) side a }
 {
     let mut changed = false;
     for activity in instance.activities() {

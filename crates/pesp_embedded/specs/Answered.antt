@@ -6,7 +6,7 @@ use Rattle.pesp_shell.specs.Runs.{IsRun, marks}
 use Rattle.pesp_embedded.specs.Numbers.{field_of, place_of, reason_of, status_of}
 use Rattle.pesp_embedded.specs.declared.told.Told.{Told}
 
--- the text in front of a room, as far as it fits, and behind it what was there
+-- the text in front of a room, as far as it fits, and after it what was there
 abbrev pub fronted : List ℕ → List ℕ → List ℕ
 fronted text room = take (length room) text ++ drop (length text) room
 

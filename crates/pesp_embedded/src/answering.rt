@@ -42,7 +42,8 @@ fn run_over(alloc: Global, asked: &Asked) -> (Result<(), RunFault>, Vec<u8>)
 
 /// Puts the replies in front of the room, and tells how the run ended.
 pub(crate) fn answer(alloc: Global, asked: &Asked, out: &mut [u8]) -> Told
-    ensures { IsAnswered asked.now.period asked.now.activities.now asked.now.fixed.now asked.now.times.now asked.now.commands.now out.old out.new result }
+    ensures { IsAnswered asked.now.period asked.now.activities.now asked.now.fixed.now
+        asked.now.times.now asked.now.commands.now out.old out.new result }
 {
     let (ended, output) = run_over(alloc, asked);
     put_front(out, output.as_slice());

@@ -21,7 +21,7 @@ pub use told::Told;
 
 /// Answers the lines of `commands`, as a run of the workbench over the three files does.
 ///
-/// The replies stand in front of `out`, as many of their bytes as it has room for, and what is behind them stays as
+/// The replies stand in front of `out`, as many of their bytes as it has room for, and what comes after them stays as
 /// it was. `told` has how many bytes all replies have, and how the run ended. A file that is not given has no bytes.
 #[unsafe(no_mangle)]
 pub extern "C" fn pesp_answer(
@@ -36,8 +36,10 @@ pub extern "C" fn pesp_answer(
 )
     ensures answered { (least_period ≤ period) × (period ≤ greatest_period)
         → IsAnswered period activities.now fixed.now times.now commands.now out.old out.new told.new }
-    ensures refused { ¬ ((least_period ≤ period) × (period ≤ greatest_period)) → told.new ≡ no_period }
-    ensures untouched { ¬ ((least_period ≤ period) × (period ≤ greatest_period)) → out.new ≡ out.old }
+    ensures refused { ¬ ((least_period ≤ period) × (period ≤ greatest_period))
+        → told.new ≡ no_period }
+    ensures untouched { ¬ ((least_period ≤ period) × (period ≤ greatest_period))
+        → out.new ≡ out.old }
 {
     *told = match Period::new(period) {
         Some(period) => {

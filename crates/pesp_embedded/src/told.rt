@@ -31,7 +31,13 @@ impl Told {
 
     /// A run with replies of this length ended so, by no fault of a file.
     fn ended(length: u64, status: u32, place: u64) -> Told
-        ensures { result ≡ record { length = length; place = place; status = status; reason = 0; field = 0 } }
+        ensures { result ≡ record {
+          length = length;
+          place = place;
+          status = status;
+          reason = 0;
+          field = 0;
+        } }
     {
         Told {
             length,

@@ -24,7 +24,7 @@ no_event I e = when (not (has_event I e)) (no.NoEvent e)
 abbrev pub no_activity : Network → ℕ → Option Refusal
 no_activity I n = when (is_none (activity_of I n)) (no.NoActivity n)
 
--- the refusals that an edit may meet, in order; want of memory is none of them
+-- the refusals that an edit may meet, in order; out of memory is none of them
 abbrev pub refusals : Network → Edit → List (Option Refusal)
 refusals I (AddEvent e) = when (has_event I e) (no.EventExists e) ∷ when (nat_le (max_events I.period) (length I.events)) no.TooManyEvents ∷ []
 refusals I (DropEvent e) = no_event I e ∷ option_map (λ a. no.EventInUse e a.id) (find (is_end_of e) I.activities) ∷ []
@@ -83,7 +83,7 @@ grows (DropActivity n) = false
 grows (SetSpan n span) = false
 grows (SetWeight n weight) = false
 
--- the first refusal of the edit, or want of memory where there is none
+-- the first refusal of the edit, or out of memory where there is none
 abbrev pub IsRefusal : Network → Edit → Refusal → Type 0
 IsRefusal I edit refusal =
     (edited I edit ≡ Err refusal) ⊎ ((refusal ≡ no.Memory) × IsTrue (grows edit) × IsOk (edited I edit))

@@ -102,7 +102,8 @@ impl Instance {
     }
 
     fn set_window(&mut self, event: EventId, first: u16, length: u16) -> Result<(), Refusal>
-        ensures ok { OnOk result (edited self.old (Edit.SetWindow event first length) ≡ Ok self.new) }
+        ensures ok { OnOk result (edited self.old (Edit.SetWindow event first length)
+            ≡ Ok self.new) }
         ensures err { IfErr result (IsRefusal self.old (Edit.SetWindow event first length)) }
         ensures unchanged { OnErr result (self.new ≡ self.old) }
     {
@@ -136,7 +137,8 @@ impl Instance {
 
     /// `ActivityExists` where the number is an activity, since that comes first, and else the other refusal.
     fn activity_exists_or(&self, id: ActivityId, other: Refusal) -> Refusal
-        ensures { result ≡ (if is_some (activity_of self.now id) then no.ActivityExists id else other) }
+        ensures { result ≡ (if is_some (activity_of self.now id) then no.ActivityExists id else
+            other) }
     {
         if self.activities.contains(id.get()) {
             Refusal::ActivityExists(id)

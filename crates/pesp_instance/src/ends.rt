@@ -25,15 +25,18 @@ impl Table<Vertex> {
     /// The slot of an event.
     pub fn event_slot(&self, event: EventId) -> Option<usize>
         ensures slot { result ≡ slot_of self.now event }
-        ensures known { is_some result ≡ is_some (with_number (λ x. x.id) event (events_of self.now.values)) }
+        ensures known { is_some result
+            ≡ is_some (with_number (λ x. x.id) event (events_of self.now.values)) }
     {
         self.slot(event.get())
     }
 
     /// The numbers of the activities at an event, in order, and nothing where the event is not there.
     pub fn numbers_at(&self, event: EventId) -> Option<btree_set::Iter<'_, u32>>
-        ensures known { is_some result ≡ is_some (with_number (λ x. x.id) event (events_of self.now.values)) }
-        ensures value { numbers_left result ≡ numbers_at (with_number vertex_number event self.now.values) }
+        ensures known { is_some result
+            ≡ is_some (with_number (λ x. x.id) event (events_of self.now.values)) }
+        ensures value { numbers_left result
+            ≡ numbers_at (with_number vertex_number event self.now.values) }
         ensures ordered { IsStrictlySortedBy nat_cmp (numbers_left result) }
     {
         Some(self.get(event.get())?.activities.iter())
@@ -44,8 +47,10 @@ impl Table<Vertex> {
     /// A number takes room in the set of its event alone. Without it, each event lists what it did.
     fn list(&mut self, slot: usize, number: u32) -> Result<bool, AllocError>
         requires slot { IsSlot self.old slot }
-        ensures added { IfOk result (λ added. (e : ℕ) → slot_of self.old e ≡ Some slot → added ≡ not (lists self.old.values e number)) }
-        ensures ok { OnOk result ((e : ℕ) → slot_of self.old e ≡ Some slot → ListsMore (λ x n. e == x && number == n) self.old.values self.new.values) }
+        ensures added { IfOk result (λ added. (e : ℕ) → slot_of self.old e ≡ Some slot
+            → added ≡ not (lists self.old.values e number)) }
+        ensures ok { OnOk result ((e : ℕ) → slot_of self.old e ≡ Some slot
+            → ListsMore (λ x n. e == x && number == n) self.old.values self.new.values) }
         ensures err { OnErr result (ListTheSame self.old.values self.new.values) }
         ensures kept { KeepsEvents self.old self.new }
     {
@@ -55,7 +60,8 @@ impl Table<Vertex> {
     /// Lists a number no longer at the event of a slot.
     fn unlist(&mut self, slot: usize, number: u32)
         requires slot { IsSlot self.old slot }
-        ensures listed { (e : ℕ) → slot_of self.old e ≡ Some slot → ListsLess (λ x n. e == x && number == n) self.old.values self.new.values }
+        ensures listed { (e : ℕ) → slot_of self.old e ≡ Some slot
+            → ListsLess (λ x n. e == x && number == n) self.old.values self.new.values }
         ensures kept { KeepsEvents self.old self.new }
     {
         self.slots[slot].activities.remove(&number);
@@ -63,7 +69,8 @@ impl Table<Vertex> {
 
     /// Lists a number no longer at an event.
     fn unlist_at(&mut self, event: EventId, number: u32)
-        ensures listed { ListsLess (λ x n. event == x && number == n) self.old.values self.new.values }
+        ensures listed { ListsLess (λ x n. event == x && number == n) self.old.values
+            self.new.values }
         ensures kept { KeepsEvents self.old self.new }
     {
         if let Some(slot) = self.slot(event.get()) {
@@ -74,7 +81,8 @@ impl Table<Vertex> {
     /// Gives the event of a slot another window, or none.
     pub fn rewindow(&mut self, slot: usize, window: Option<Window>)
         requires slot { IsSlot self.old slot }
-        ensures events { (e : ℕ) → slot_of self.old e ≡ Some slot → events_of self.new.values ≡ with_window e window (events_of self.old.values) }
+        ensures events { (e : ℕ) → slot_of self.old e ≡ Some slot
+            → events_of self.new.values ≡ with_window e window (events_of self.old.values) }
         ensures listed { ListTheSame self.old.values self.new.values }
     {
         self.slots[slot].event.window = window;
@@ -86,7 +94,8 @@ impl Table<Vertex> {
     pub fn link(&mut self, activity: &Activity, from: usize, to: usize) -> Result<(), AllocError>
         requires from { slot_of self.old activity.now.from ≡ Some from }
         requires to { slot_of self.old activity.now.to ≡ Some to }
-        ensures ok { OnOk result (ListsMore (is_pair_of activity.now) self.old.values self.new.values) }
+        ensures ok { OnOk result (ListsMore (is_pair_of activity.now) self.old.values
+            self.new.values) }
         ensures err { OnErr result (ListTheSame self.old.values self.new.values) }
         ensures kept { KeepsEvents self.old self.new }
     {
@@ -115,7 +124,8 @@ impl Table<Vertex> {
 
     /// Takes an activity away from those of its ends that it no longer has.
     pub fn unlink_old(&mut self, old: &Activity, new: &Activity)
-        ensures listed { ListsLess (is_old_pair_of old.now new.now) self.old.values self.new.values }
+        ensures listed { ListsLess (is_old_pair_of old.now new.now) self.old.values
+            self.new.values }
         ensures kept { KeepsEvents self.old self.new }
     {
         let number = old.id.get();

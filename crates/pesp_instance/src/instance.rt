@@ -16,10 +16,13 @@ use std::marker::Model;
 /// Each number, window and count is within its limit, and activities lead between events.
 #[derive(Drop)]
 pub struct Instance {
+    // Where the set of a new event takes its memory from.
     pub(crate) alloc: Global,
+    // Each window is one of this period.
     pub(crate) period: Period,
     // The events, each with the numbers of the activities that have it as an end.
     pub(crate) vertices: Table<Vertex>,
+    // Each leads between events, and is listed at both.
     pub(crate) activities: Table<Activity>,
 }
 

@@ -14,7 +14,9 @@ use std::marker::Model;
 /// Values by number, seen as the list of the values by rising number, and the slot of each number.
 #[derive(Drop)]
 pub struct Table<V: Numbered> {
+    // The slot of each number that has a value.
     numbers: BTreeMap<u32, usize>,
+    // The value of each number at its slot, and nothing else.
     pub(crate) slots: Slab<V>,
 }
 
@@ -69,7 +71,8 @@ impl<V: Numbered> Table<V> {
     /// The value of a slot.
     pub fn at(&self, slot: usize) -> &V
         requires slot { IsSlot self.now slot }
-        ensures { (n : ℕ) → slot_of self.now n ≡ Some slot → with_number V.number n self.now.values ≡ Some result.now }
+        ensures { (n : ℕ) → slot_of self.now n ≡ Some slot
+            → with_number V.number n self.now.values ≡ Some result.now }
     {
         &self.slots[slot]
     }
@@ -94,8 +97,10 @@ impl<V: Numbered> Table<V> {
     /// Adds a value, and says whether its number is new. Where it is not, and where there is no memory for it, nothing
     /// changes.
     pub fn insert(&mut self, value: V) -> Result<bool, AllocError>
-        ensures added { IfOk result (λ added. added ≡ is_none (with_number V.number (V.number value) self.old.values)) }
-        ensures put { IfOk result (λ added. added ≡ true → self.new.values ≡ put_in V.number value self.old.values) }
+        ensures added { IfOk result (λ added.
+            added ≡ is_none (with_number V.number (V.number value) self.old.values)) }
+        ensures put { IfOk result (λ added. added ≡ true
+            → self.new.values ≡ put_in V.number value self.old.values) }
         ensures known { IfOk result (λ added. added ≡ false → self.new ≡ self.old) }
         ensures err { OnErr result (self.new ≡ self.old) }
     {
@@ -113,7 +118,8 @@ impl<V: Numbered> Table<V> {
     /// Puts a value in the slot of its number.
     pub fn set(&mut self, slot: usize, value: V)
         requires slot { slot_of self.old (V.number value) ≡ Some slot }
-        ensures { self.new.values ≡ change_in V.number (V.number value) (λ _. value) self.old.values }
+        ensures { self.new.values
+            ≡ change_in V.number (V.number value) (λ _. value) self.old.values }
     {
         self.slots[slot] = value;
     }

@@ -13,7 +13,9 @@ use std::marker::Model;
 /// The values of a table that are left, by rising number.
 #[derive(Drop)]
 pub struct Walk<'a, V> {
+    // Those that are left, each with the slot of its value.
     pub(crate) numbers: btree_map::Iter<'a, u32, usize>,
+    // The table's.
     pub(crate) slots: &'a Slab<V>,
 }
 
@@ -50,6 +52,7 @@ impl<'a, V> Iterator for Walk<'a, V> {
 /// The events that are left, by rising number.
 #[derive(Drop)]
 pub struct Events<'a> {
+    // Those that are left.
     pub(crate) vertices: Walk<'a, Vertex>,
 }
 
@@ -80,6 +83,7 @@ impl<'a> Iterator for Events<'a> {
 pub struct Around<'a> {
     // Nothing where the event is not in the instance.
     pub(crate) numbers: Option<btree_set::Iter<'a, u32>>,
+    // Each number that is left has one here.
     pub(crate) activities: &'a Table<Activity>,
 }
 

@@ -1,4 +1,4 @@
--- A place of the tree: times for the first events, and what the domains leave behind them.
+-- A place of the tree: times for the first events, and what the domains leave after them.
 use Rattle.std.specs.Prelude.{ℕ, IsTrue, List, [], ◌∷◌, length, slice_index}
 use Rattle.std.specs.List.{zip}
 use Rattle.pesp_instance.specs.Network.{Network, event_ids, has_event}

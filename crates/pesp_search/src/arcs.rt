@@ -80,7 +80,8 @@ fn without_arcs(
 ) -> Result<Network, Memory>
     requires few { events ≤ 20000 }
     requires long { length tests.now ≡ events * period }
-    ensures { IfOk result (λ network. network ≡ record { period = period; events = events; arcs = []; rows = tests.now }) }
+    ensures { IfOk result (λ network.
+        network ≡ record { period = period; events = events; arcs = []; rows = tests.now }) }
 {
     let mut network = Network::new(alloc, period, events)?;
     for place in 0..tests.len() {
@@ -93,8 +94,10 @@ fn without_arcs(
 fn domains_of<K: Keeper>(alloc: Global, keeper: &K, events: &[EventId]) -> Result<Vec<bool>, Memory>
     requires network { IsNetwork (K.network keeper.now) }
     requires events { events.now ≡ event_ids (K.network keeper.now) }
-    ensures long { IfOk result (λ tests. length tests.items ≡ length events.now * (K.network keeper.now).period) }
-    ensures domains { IfOk result (λ tests. AreDomains (K.network keeper.now) (K.pushes keeper.now) tests.items) }
+    ensures long { IfOk result (λ tests.
+        length tests.items ≡ length events.now * (K.network keeper.now).period) }
+    ensures domains { IfOk result (λ tests.
+        AreDomains (K.network keeper.now) (K.pushes keeper.now) tests.items) }
 {
     let width = usize::from(keeper.instance().period().get());
     let Ok(mut tests) = vec![in alloc; false; events.len() * width] else {

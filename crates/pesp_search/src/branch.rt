@@ -20,22 +20,24 @@ pub(crate) struct Branch {
     pub(crate) times: Vec<u16>,
     // That of the activities both of whose ends have times.
     pub(crate) cost: u64,
-    // The times, and for each event behind them some time, so that setting one takes no memory.
+    // The times, and for each event after them some time, so that setting one takes no memory.
     pub(crate) timetable: Timetable,
 }
 
-/// Whether neither end of the activity is an event behind this one.
+/// Whether neither end of the activity is an event after this one.
 fn is_behind(activity: &Activity, event: EventId) -> bool
     ensures { result ≡ is_behind event activity.now }
 {
     activity.from <= event && activity.to <= event
 }
 
-/// What the activities cost that have the event as an end and none behind it.
+/// What the activities cost that have the event as an end and none after it.
 fn cost_behind(instance: &Instance, timetable: &Timetable, event: EventId) -> u64
     requires { first_missing instance.now timetable.now ≡ None }
-    ensures value { result ≡ sum_by (cost_in timetable.now) (filter (is_behind event) (around instance.now event)) }
-    ensures small { result ≤ greatest_weight * (greatest_period - 1) * max_activities instance.now.period }
+    ensures value { result ≡ sum_by (cost_in timetable.now)
+        (filter (is_behind event) (around instance.now event)) }
+    ensures small { result ≤ greatest_weight * (greatest_period - 1)
+        * max_activities instance.now.period }
 {
     let mut cost = 0;
     for activity in instance.around(event) {
@@ -71,7 +73,8 @@ pub(crate) fn all_at_zero(alloc: Global, instance: &Instance) -> Result<Timetabl
 impl Branch {
     /// No times yet, and all the room that there will be need of.
     pub(crate) fn new(alloc: Global, instance: &Instance) -> Result<Branch, Memory>
-        ensures branch { IfOk result (λ b. IsBranch instance.now b.times.items b.cost b.timetable (vec_capacity b.times)) }
+        ensures branch { IfOk result (λ b.
+            IsBranch instance.now b.times.items b.cost b.timetable (vec_capacity b.times)) }
         ensures times { IfOk result (λ b. b.times.items ≡ []) }
     {
         let Ok(times) = Vec::with_capacity(alloc, instance.event_count()) else {
@@ -85,16 +88,18 @@ impl Branch {
         })
     }
 
-    /// What would be known with this time of the next event, which the timetable has afterwards behind the branch.
+    /// What would be known with this time of the next event, which the timetable has afterwards after the branch.
     pub(crate) fn cost_with(&mut self, instance: &Instance, event: EventId, time: u16) -> u64
         requires network { IsNetwork instance.now }
-        requires branch { IsBranch instance.now self.old.times.items self.old.cost self.old.timetable (vec_capacity self.old.times) }
+        requires branch { IsBranch instance.now self.old.times.items self.old.cost
+            self.old.timetable (vec_capacity self.old.times) }
         requires next { event ≡ slice_index (event_ids instance.now) (length self.old.times.items) }
         requires depth { length self.old.times.items < length (event_ids instance.now) }
         requires below { time < instance.now.period }
         ensures times { self.new.times ≡ self.old.times }
         ensures cost { self.new.cost ≡ self.old.cost }
-        ensures front { IsFront instance.now (self.old.times.items ++ time ∷ []) self.new.timetable }
+        ensures front { IsFront instance.now (self.old.times.items ++ time ∷ [])
+            self.new.timetable }
         ensures value { result ≡ known_cost instance.now (self.old.times.items ++ time ∷ []) }
     {
         put_time(&mut self.timetable, event, time);
@@ -104,11 +109,13 @@ impl Branch {
     /// Gives the next event its time.
     pub(crate) fn push(&mut self, instance: &Instance, event: EventId, time: u16)
         requires network { IsNetwork instance.now }
-        requires branch { IsBranch instance.now self.old.times.items self.old.cost self.old.timetable (vec_capacity self.old.times) }
+        requires branch { IsBranch instance.now self.old.times.items self.old.cost
+            self.old.timetable (vec_capacity self.old.times) }
         requires next { event ≡ slice_index (event_ids instance.now) (length self.old.times.items) }
         requires depth { length self.old.times.items < length (event_ids instance.now) }
         requires below { time < instance.now.period }
-        ensures branch { IsBranch instance.now self.new.times.items self.new.cost self.new.timetable (vec_capacity self.new.times) }
+        ensures branch { IsBranch instance.now self.new.times.items self.new.cost self.new.timetable
+            (vec_capacity self.new.times) }
         ensures times { self.new.times.items ≡ self.old.times.items ++ time ∷ [] }
     {
         self.cost = self.cost_with(instance, event, time);
@@ -118,9 +125,11 @@ impl Branch {
     /// Takes the time of the last event away.
     pub(crate) fn pop(&mut self, instance: &Instance, events: &[EventId]) -> Option<u16>
         requires network { IsNetwork instance.now }
-        requires branch { IsBranch instance.now self.old.times.items self.old.cost self.old.timetable (vec_capacity self.old.times) }
+        requires branch { IsBranch instance.now self.old.times.items self.old.cost
+            self.old.timetable (vec_capacity self.old.times) }
         requires events { events.now ≡ event_ids instance.now }
-        ensures branch { IsBranch instance.now self.new.times.items self.new.cost self.new.timetable (vec_capacity self.new.times) }
+        ensures branch { IsBranch instance.now self.new.times.items self.new.cost self.new.timetable
+            (vec_capacity self.new.times) }
         ensures times { IsPopped self.old.times.items self.new.times.items result }
     {
         let time = self.times.pop()?;

@@ -37,7 +37,9 @@ pub(crate) struct Sought {
 /// The same of maps of the events to residues.
 #[derive(Drop)]
 struct SoughtMap {
+    // At the end the first map of least cost, or none; else what was found, if anything was.
     best: Option<Candidate>,
+    // Whether the search came to its end.
     is_end: bool,
 }
 
@@ -70,7 +72,8 @@ fn first_map(
 ) -> Result<SoughtMap, Memory>
     requires least { IsLeast (IsCosted network) candidate }
     requires room { candidate.cost + 1 < 2 ^ 64 }
-    ensures { (cap : ℕ) → candidate.cost < cap → IfOk result (λ sought. IsSoughtMap (IsCosted network) cap sought.is_end sought.best) }
+    ensures { (cap : ℕ) → candidate.cost < cap
+        → IfOk result (λ sought. IsSoughtMap (IsCosted network) cap sought.is_end sought.best) }
 {
     match first(alloc, network, candidate, budget)? {
         First::Done(best) => Ok(SoughtMap {
@@ -137,7 +140,8 @@ fn with_times(
     requires network { IsNetwork instance.now }
     requires events { events.now ≡ event_ids instance.now }
     requires map { IfSome sought.best (IsMapOf instance.now) }
-    ensures best { IfOk result (λ timed. timed.best ≡ option_map (best_of_map instance.now) sought.best) }
+    ensures best { IfOk result (λ timed.
+        timed.best ≡ option_map (best_of_map instance.now) sought.best) }
     ensures end { IfOk result (λ timed. timed.is_end ≡ sought.is_end) }
 {
     let is_end = sought.is_end;
@@ -171,8 +175,10 @@ pub(crate) fn seek<K: Keeper>(
     requires events { events.now ≡ event_ids (K.network keeper.now) }
     requires pushes { K.pushes keeper.now ≡ [] }
     requires bound { IsBound (K.network keeper.now) bound }
-    ensures sought { IfOk result (λ sought. IsSought (K.network keeper.now) bound sought.is_end sought.best) }
-    ensures none { limit ≡ Some 0 → IfOk result (λ sought. (sought.is_end ≡ false) × (sought.best ≡ None)) }
+    ensures sought { IfOk result (λ sought.
+        IsSought (K.network keeper.now) bound sought.is_end sought.best) }
+    ensures none { limit ≡ Some 0
+        → IfOk result (λ sought. (sought.is_end ≡ false) × (sought.best ≡ None)) }
 {
     let nothing = Sought {
         best: None,

@@ -49,7 +49,8 @@ fn is_within(bound: Option<u64>, cost: u64) -> bool
 fn checked(instance: &Instance, timetable: Timetable, bound: Option<u64>) -> Option<Best>
     ensures found { IfSome result (IsFound instance.now bound) }
     ensures times { IfSome result (λ best. best.times ≡ timetable) }
-    ensures none { IfNone result (IsMember instance.now timetable → IsWithin bound (cost_of instance.now timetable) → ⊥) }
+    ensures none { IfNone result
+        (IsMember instance.now timetable → IsWithin bound (cost_of instance.now timetable) → ⊥) }
 {
     let cost = member_cost(instance, &timetable)?;
     if is_within(bound, cost) {

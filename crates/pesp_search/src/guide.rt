@@ -48,12 +48,15 @@ impl Guide {
     )
         requires network { IsNetwork (K.network keeper.now) }
         requires events { events.now ≡ event_ids (K.network keeper.now) }
-        requires pushes { K.pushes keeper.now ≡ pairs_of (event_ids (K.network keeper.now)) path.now }
+        requires pushes { K.pushes keeper.now
+            ≡ pairs_of (event_ids (K.network keeper.now)) path.now }
         requires room { length path.now < length (event_ids (K.network keeper.now)) }
         requires along { SeesAlong (K.network keeper.now) self.old.ahead path.now }
-        requires seen { 0 < from → IsSeen (K.network keeper.now) path.now (told_at self.old.ahead (length path.now)) }
+        requires seen { 0 < from → IsSeen (K.network keeper.now) path.now
+            (told_at self.old.ahead (length path.now)) }
         ensures along { SeesAlong (K.network keeper.now) self.new.ahead path.now }
-        ensures seen { IsSeen (K.network keeper.now) path.now (told_at self.new.ahead (length path.now)) }
+        ensures seen { IsSeen (K.network keeper.now) path.now
+            (told_at self.new.ahead (length path.now)) }
     {
         if from == 0 {
             if let Some(ahead) = &mut self.ahead {

@@ -33,7 +33,9 @@ fn times_the_events(instance: &Instance, timetable: &Timetable) -> bool
 ///
 /// This takes no memory.
 pub fn member_cost(instance: &Instance, timetable: &Timetable) -> Option<u64>
-    ensures member { IfSome result (λ cost. IsMember instance.now timetable.now × (cost_of instance.now timetable.now ≡ cost)) }
+    ensures member { IfSome result
+        (λ cost. IsMember instance.now timetable.now
+        × (cost_of instance.now timetable.now ≡ cost)) }
     ensures none { IfNone result (IsMember instance.now timetable.now → ⊥) }
 {
     if timetable.period() != instance.period() || !times_the_events(instance, timetable) {

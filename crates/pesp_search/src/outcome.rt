@@ -57,9 +57,11 @@ pub(crate) fn best_of(
     requires events { events.now ≡ event_ids instance.now }
     requires front { IsFront instance.now [] timetable }
     requires long { length incumbent.now.times.items ≡ length (event_ids instance.now) }
-    requires below { incumbent.now.is_found ≡ true → All (λ t. t < instance.now.period) incumbent.now.times.items }
+    requires below { incumbent.now.is_found ≡ true
+        → All (λ t. t < instance.now.period) incumbent.now.times.items }
     requires costs { incumbent.now.is_found ≡ true → IsSome incumbent.now.limit }
-    ensures { IsTold instance.now incumbent.now.limit incumbent.now.is_found incumbent.now.times.items result }
+    ensures { IsTold instance.now incumbent.now.limit incumbent.now.is_found
+        incumbent.now.times.items result }
 {
     match incumbent.limit {
         Some(cost) if incumbent.is_found => {

@@ -1,4 +1,5 @@
-//! The connected parts of an instance, and the first event of each one without a window.
+//! The connected parts of an instance, and the first event of each one without a window, which is tried at residue 0 alone: all
+//! timetables of such a part may be turned, and this breaks the symmetry.
 //!
 //! Labels are found by going along the activities; nothing is proved of how. What is told rests on labels that
 //! were checked: one for both ends of each activity.
@@ -22,7 +23,7 @@ fn place_of(events: &[EventId], event: EventId) -> Option<usize>
     }
 }
 
-/// Gives an event the label where it has none yet, and puts it behind those that wait.
+/// Gives an event the label where it has none yet, and puts it after those that wait.
 fn label_event(
     events: &[EventId],
     event: EventId,
@@ -116,7 +117,8 @@ fn labels_of(alloc: Global, instance: &Instance, events: &[EventId]) -> Result<V
 /// Whether both ends of an activity have one label.
 fn has_one_label(activity: &Activity, events: &[EventId], labels: &[usize]) -> bool
     requires { length labels.now ≡ length events.now }
-    ensures { (I : Network) → IsNetwork I → events.now ≡ event_ids I → result ≡ true → at I labels.now activity.now.from ≡ at I labels.now activity.now.to }
+    ensures { (I : Network) → IsNetwork I → events.now ≡ event_ids I → result ≡ true
+        → at I labels.now activity.now.from ≡ at I labels.now activity.now.to }
 {
     match (
         place_of(events, activity.from),
@@ -175,7 +177,8 @@ fn first_of_labels(
     requires events { events.now ≡ event_ids instance.now }
     requires long { length labels.now ≡ length events.now }
     ensures long { IfOk result (λ marks. length marks.items ≡ length events.now) }
-    ensures first { IfOk result (λ marks. (k : ℕ) → IsTrue (slice_index_or marks.items k false) → (are_agreed ≡ true) × IsFirst instance.now labels.now (length events.now) k) }
+    ensures first { IfOk result (λ marks. (k : ℕ) → IsTrue (slice_index_or marks.items k false)
+        → (are_agreed ≡ true) × IsFirst instance.now labels.now (length events.now) k) }
 {
     let Ok(mut marks) = vec![in alloc; are_agreed; events.len()] else {
         return Err(Memory);

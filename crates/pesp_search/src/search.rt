@@ -56,7 +56,9 @@ fn search_tree<K: Keeper>(
     requires bound { IsBound (K.network keeper.old) bound }
     requires found { IfSome found (IsFound (K.network keeper.old) bound) }
     requires none { limit ≡ Some 0 → found ≡ None }
-    ensures outcome { IfOk result (λ outcome. IsOutcome (K.network keeper.old) bound limit outcome.is_stopped outcome.best outcome.nodes) }
+    ensures outcome { IfOk result (λ outcome.
+        IsOutcome (K.network keeper.old) bound limit outcome.is_stopped outcome.best
+        outcome.nodes) }
     ensures nodes { IfOk result (λ outcome. AreNodes (K.network keeper.old) outcome.nodes) }
     ensures network { K.network keeper.new ≡ K.network keeper.old }
     ensures pushes { K.pushes keeper.new ≡ [] }
@@ -86,7 +88,9 @@ fn search_in_turn<K: Keeper>(
     requires events { events.now ≡ event_ids (K.network keeper.old) }
     requires pushes { K.pushes keeper.old ≡ [] }
     requires bound { IsBound (K.network keeper.old) bound }
-    ensures outcome { IfOk result (λ outcome. IsOutcome (K.network keeper.old) bound limit outcome.is_stopped outcome.best outcome.nodes) }
+    ensures outcome { IfOk result (λ outcome.
+        IsOutcome (K.network keeper.old) bound limit outcome.is_stopped outcome.best
+        outcome.nodes) }
     ensures nodes { IfOk result (λ outcome. AreNodes (K.network keeper.old) outcome.nodes) }
     ensures network { K.network keeper.new ≡ K.network keeper.old }
     ensures pushes { K.pushes keeper.new ≡ [] }
@@ -107,7 +111,9 @@ fn search<K: Keeper>(
 ) -> Result<Outcome, Memory>
     requires pushes { K.pushes keeper.old ≡ [] }
     requires bound { IsBound (K.network keeper.old) bound }
-    ensures outcome { IfOk result (λ outcome. IsOutcome (K.network keeper.old) bound limit outcome.is_stopped outcome.best outcome.nodes) }
+    ensures outcome { IfOk result (λ outcome.
+        IsOutcome (K.network keeper.old) bound limit outcome.is_stopped outcome.best
+        outcome.nodes) }
     ensures nodes { IfOk result (λ outcome. AreNodes (K.network keeper.old) outcome.nodes) }
     ensures is_network { IsNetwork (K.network keeper.old) }
     ensures network { K.network keeper.new ≡ K.network keeper.old }
@@ -135,7 +141,8 @@ pub fn best<K: Keeper>(
     requires pushes { K.pushes keeper.old ≡ [] }
     requires bound { IsBound (K.network keeper.old) bound }
     ensures answer { IfOk result (λ r. IsAnswer (K.network keeper.old) r.0) }
-    ensures dead { IsDead (K.network keeper.old) [] → IfOk result (λ r. (r.0 ≡ answers.Infeasible) × (r.1 ≡ 0)) }
+    ensures dead { IsDead (K.network keeper.old) []
+        → IfOk result (λ r. (r.0 ≡ answers.Infeasible) × (r.1 ≡ 0)) }
     ensures nodes { IfOk result (λ r. AreNodes (K.network keeper.old) r.1) }
     ensures network { K.network keeper.new ≡ K.network keeper.old }
     ensures pushes { K.pushes keeper.new ≡ [] }
@@ -157,7 +164,8 @@ pub fn best_within<K: Keeper>(
     requires pushes { K.pushes keeper.old ≡ [] }
     requires bound { IsBound (K.network keeper.old) bound }
     ensures tried { IfOk result (λ r. MayTry (K.network keeper.old) bound limit r.0 r.1) }
-    ensures dead { IsDead (K.network keeper.old) [] → IfOk result (λ r. (r.0 ≡ attempts.Done answers.Infeasible) × (r.1 ≡ 0)) }
+    ensures dead { IsDead (K.network keeper.old) []
+        → IfOk result (λ r. (r.0 ≡ attempts.Done answers.Infeasible) × (r.1 ≡ 0)) }
     ensures nodes { IfOk result (λ r. AreNodes (K.network keeper.old) r.1) }
     ensures network { K.network keeper.new ≡ K.network keeper.old }
     ensures pushes { K.pushes keeper.new ≡ [] }

@@ -1,4 +1,4 @@
-//! The walk through the tree.
+//! The walk through the tree: depth first, with backtracking, and pruned where the lower bound reaches the incumbent's cost.
 
 ghost use Rattle.std.specs.Prelude.{◌≡◌, ◌≢◌, ℕ, ◌<◌, ◌≤◌, ◌+◌, ◌++◌, ◌∷◌, ◌-◌, ◌^◌, min, [], true, false, Option, Some, IsTrue, IfSome, IfNone, length, vec_capacity};
 ghost use Rattle.pesp_instance.specs.Network.{IsNetwork, event_ids, has_event};
@@ -35,21 +35,32 @@ fn visit<K: Keeper>(
     requires network { IsNetwork (K.network keeper.now) }
     requires events { events.now ≡ event_ids (K.network keeper.now) }
     requires least { AreLeast (K.network keeper.now) least.now }
-    requires at { IsAt (AtLeast (K.network keeper.now) incumbent.old.limit) (K.network keeper.now) (K.pushes keeper.now) branch.old.times.items from }
-    requires branch { IsBranch (K.network keeper.now) branch.old.times.items branch.old.cost branch.old.timetable (vec_capacity branch.old.times) }
+    requires at { IsAt (AtLeast (K.network keeper.now) incumbent.old.limit) (K.network keeper.now)
+        (K.pushes keeper.now) branch.old.times.items from }
+    requires branch { IsBranch (K.network keeper.now) branch.old.times.items branch.old.cost
+        branch.old.timetable (vec_capacity branch.old.times) }
     requires guide { SeesAlong (K.network keeper.now) guide.old.ahead branch.old.times.items }
-    requires seen { 0 < from → IsSeen (K.network keeper.now) branch.old.times.items (told_at guide.old.ahead (length branch.old.times.items)) }
+    requires seen { 0 < from → IsSeen (K.network keeper.now) branch.old.times.items
+        (told_at guide.old.ahead (length branch.old.times.items)) }
     requires times { length incumbent.old.times.items ≡ length (event_ids (K.network keeper.now)) }
     ensures path { branch.new.times.items ≡ branch.old.times.items }
-    ensures branch { IsBranch (K.network keeper.now) branch.new.times.items branch.new.cost branch.new.timetable (vec_capacity branch.new.times) }
-    ensures at { IsAt (AtLeast (K.network keeper.now) incumbent.new.limit) (K.network keeper.now) (K.pushes keeper.now) branch.new.times.items from }
+    ensures branch { IsBranch (K.network keeper.now) branch.new.times.items branch.new.cost
+        branch.new.timetable (vec_capacity branch.new.times) }
+    ensures at { IsAt (AtLeast (K.network keeper.now) incumbent.new.limit) (K.network keeper.now)
+        (K.pushes keeper.now) branch.new.times.items from }
     ensures times { length incumbent.new.times.items ≡ length (event_ids (K.network keeper.now)) }
     ensures guide { SeesAlong (K.network keeper.now) guide.new.ahead branch.new.times.items }
-    ensures seen { IfSome result (λ _. IsSeen (K.network keeper.now) branch.new.times.items (told_at guide.new.ahead (length branch.new.times.items))) }
+    ensures seen { IfSome result
+        (λ _. IsSeen (K.network keeper.now) branch.new.times.items
+        (told_at guide.new.ahead (length branch.new.times.items))) }
     ensures best { StaysBest (K.network keeper.now) incumbent.old incumbent.new }
-    ensures next { IsStep (AtLeast (K.network keeper.now) incumbent.new.limit) (K.network keeper.now) branch.new.times.items from result }
-    ensures same { IfSome result (λ _. (incumbent.new.limit ≡ incumbent.old.limit) × (incumbent.new.is_found ≡ incumbent.old.is_found)) }
-    ensures over { IfNone result (IsOver (K.network keeper.now) incumbent.old.limit branch.new.times.items from) }
+    ensures next { IsStep (AtLeast (K.network keeper.now) incumbent.new.limit)
+        (K.network keeper.now) branch.new.times.items from result }
+    ensures same { IfSome result
+        (λ _. (incumbent.new.limit ≡ incumbent.old.limit)
+        × (incumbent.new.is_found ≡ incumbent.old.is_found)) }
+    ensures over { IfNone result
+        (IsOver (K.network keeper.now) incumbent.old.limit branch.new.times.items from) }
 {
     if incumbent.cuts(branch.cost) {
         return None;
@@ -77,7 +88,8 @@ fn descend<K: Keeper>(keeper: &mut K, event: EventId, residue: u16, nodes: u64) 
     requires free { (r : ℕ) → In (K.pushes keeper.old) event r → ⊥ }
     requires residue { residue < (K.network keeper.old).period }
     ensures network { K.network keeper.new ≡ K.network keeper.old }
-    ensures pushes { K.pushes keeper.new ≡ K.pushes keeper.old ++ record { event = event; residue = residue } ∷ [] }
+    ensures pushes { K.pushes keeper.new
+        ≡ K.pushes keeper.old ++ record { event = event; residue = residue } ∷ [] }
     ensures counted { result ≡ min (2 ^ 64 - 1) (nodes + 1) }
     ensures more { (result ≤ nodes + 1) × (0 < result) × (nodes ≤ result) }
 {
@@ -125,16 +137,19 @@ pub(crate) fn walk<K: Keeper>(
     requires least { AreLeast (K.network keeper.old) least.now }
     requires guide { IfSome guide.ahead (IsSightOf (K.network keeper.old)) }
     requires pushes { K.pushes keeper.old ≡ [] }
-    requires branch { IsBranch (K.network keeper.old) branch.times.items branch.cost branch.timetable (vec_capacity branch.times) }
+    requires branch { IsBranch (K.network keeper.old) branch.times.items branch.cost
+        branch.timetable (vec_capacity branch.times) }
     requires start { branch.times.items ≡ [] }
     requires times { length incumbent.times.items ≡ length events.now }
     requires none { incumbent.is_found ≡ false }
-    ensures outcome { (bound : Option ℕ) → incumbent.limit ≡ under_bound bound → IsBound (K.network keeper.old) bound → IsOutcome (K.network keeper.old) bound limit result.is_stopped result.best result.nodes }
+    ensures outcome { (bound : Option ℕ) → incumbent.limit ≡ under_bound bound
+        → IsBound (K.network keeper.old) bound
+        → IsOutcome (K.network keeper.old) bound limit result.is_stopped result.best result.nodes }
     ensures nodes { AreNodes (K.network keeper.old) result.nodes }
     ensures network { K.network keeper.new ≡ K.network keeper.old }
     ensures pushes { K.pushes keeper.new ≡ [] }
 {
-    // The least residue that is yet to be tried at the event behind the branch.
+    // The least residue that is yet to be tried at the event after the branch.
     let mut from = 0;
     // One for each push, those that were popped included.
     let mut nodes = 0;

@@ -1,4 +1,4 @@
--- Rows of residues by the place of their event, one behind the other.
+-- Rows of residues by the place of their event, one after the other.
 use Rattle.std.specs.Prelude.{◌≡◌, ℕ, ◌+◌, ◌*◌, ◌<◌, ◌↔◌, Bool, false, nat_lt, ◌&&◌, IsTrue, List, length, slice_index, slice_index_or}
 use Rattle.pesp_instance.specs.Network.{Network, event_ids}
 use Rattle.pesp_domains.specs.declared.pair.Pair.{Pair}

@@ -1,4 +1,4 @@
-//! What timetables cost at least, by the residue of the next event.
+//! Lower bounds: what timetables cost at least, by the residue of the next event.
 
 ghost use Rattle.std.specs.Prelude.{◌≡◌, ◌≢◌, ℕ, ◌*◌, ◌<◌, IfNone, IfOk, IfSome, length, slice_index};
 ghost use Rattle.pesp_instance.specs.Network.{IsNetwork, event_ids};
@@ -18,6 +18,7 @@ use std::marker::Model;
 /// Tables that see ahead, and for each place what they told when it was last looked at.
 #[derive(Drop)]
 pub struct Ahead {
+    // They tell of each place what the last look at it found.
     tables: Tables,
     // For each place the row of its event, as `arrive` found it last.
     rows: Vec<bool>,
@@ -82,8 +83,10 @@ impl Ahead {
         requires place { place < length (event_ids instance.now) }
         ensures of { IsSightOf instance.now self.new }
         ensures arcs { self.new.arcs ≡ self.old.arcs }
-        ensures sound { IsSound instance.now (InRows instance.now tests.now) (slice_index (event_ids instance.now) place) (bound_at self.new place) }
-        ensures others { (k r : ℕ) → k ≢ place → r < instance.now.period → bound_at self.new k r ≡ bound_at self.old k r }
+        ensures sound { IsSound instance.now (InRows instance.now tests.now)
+            (slice_index (event_ids instance.now) place) (bound_at self.new place) }
+        ensures others { (k r : ℕ) → k ≢ place → r < instance.now.period
+            → bound_at self.new k r ≡ bound_at self.old k r }
     {
         self.tables.look(instance, tests, place);
     }
@@ -94,8 +97,11 @@ impl Ahead {
         requires events { events.now ≡ event_ids (K.network keeper.now) }
         requires place { place < length events.now }
         ensures of { IsSightOf (K.network keeper.now) self.new }
-        ensures sound { IsSound (K.network keeper.now) (InDomains (K.network keeper.now) (K.pushes keeper.now)) (slice_index events.now place) (bound_at self.new place) }
-        ensures others { (k r : ℕ) → k ≢ place → r < (K.network keeper.now).period → bound_at self.new k r ≡ bound_at self.old k r }
+        ensures sound { IsSound (K.network keeper.now)
+            (InDomains (K.network keeper.now) (K.pushes keeper.now)) (slice_index events.now place)
+            (bound_at self.new place) }
+        ensures others { (k r : ℕ) → k ≢ place → r < (K.network keeper.now).period
+            → bound_at self.new k r ≡ bound_at self.old k r }
     {
         let rows: &mut [bool] = &mut self.rows;
         fill_rows(keeper, events, rows);

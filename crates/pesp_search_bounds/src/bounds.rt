@@ -9,7 +9,8 @@ use pesp_base::Period;
 pub(crate) fn least_between(sums: &[u64], tests: &[bool], from: usize, to: usize) -> u64
     requires sums { to ≤ length sums.now }
     requires tests { to ≤ length tests.now }
-    ensures { (k : ℕ) → from ≤ k → k < to → IsTrue (slice_index_or tests.now k false) → result ≤ slice_index sums.now k }
+    ensures { (k : ℕ) → from ≤ k → k < to → IsTrue (slice_index_or tests.now k false)
+        → result ≤ slice_index sums.now k }
 {
     let mut least = u64::MAX;
     for k in from..to {
@@ -25,7 +26,9 @@ fn least_of_others(period: Period, sums: &[u64], tests: &[bool], places: usize, 
     requires place { place < places }
     requires sums { length sums.now ≡ places * period }
     requires tests { length tests.now ≡ places * period }
-    ensures { (x : ℕ → ℕ) → AreWithin period tests.now places x → result + slice_index sums.now (place * period + x place) ≤ total_of period sums.now x places }
+    ensures { (x : ℕ → ℕ) → AreWithin period tests.now places x
+        → result + slice_index sums.now (place * period + x place)
+        ≤ total_of period sums.now x places }
 {
     let period = usize::from(period.get());
     let mut rest: u64 = 0;
@@ -43,8 +46,10 @@ fn write_bounds(bounds: &mut [u64], sums: &[u64], from: usize, to: usize, known:
     requires order { from ≤ to }
     requires bounds { to ≤ length bounds.old }
     requires sums { to ≤ length sums.now }
-    ensures told { (k : ℕ) → from ≤ k → k < to → slice_index bounds.new k ≤ known + slice_index sums.now k - owed }
-    ensures others { (k : ℕ) → ((k < from) ⊎ (to ≤ k)) → slice_index bounds.new k ≡ slice_index bounds.old k }
+    ensures told { (k : ℕ) → from ≤ k → k < to
+        → slice_index bounds.new k ≤ known + slice_index sums.now k - owed }
+    ensures others { (k : ℕ) → ((k < from) ⊎ (to ≤ k))
+        → slice_index bounds.new k ≡ slice_index bounds.old k }
 {
     for k in from..to {
         bounds[k] = known.saturating_add(sums[k]).saturating_sub(owed);
@@ -66,8 +71,11 @@ pub(crate) fn tell_bounds(
     requires sums { length sums.now ≡ places * period }
     requires tests { length tests.now ≡ places * period }
     requires bounds { length bounds.old ≡ places * period }
-    ensures told { (x : ℕ → ℕ) → AreWithin period tests.now places x → slice_index bounds.new (place * period + x place) ≤ known + total_of period sums.now x places - owed }
-    ensures others { (k r : ℕ) → (k ≡ place → ⊥) → r < period → slice_index bounds.new (k * period + r) ≡ slice_index bounds.old (k * period + r) }
+    ensures told { (x : ℕ → ℕ) → AreWithin period tests.now places x
+        → slice_index bounds.new (place * period + x place)
+        ≤ known + total_of period sums.now x places - owed }
+    ensures others { (k r : ℕ) → (k ≡ place → ⊥) → r < period
+        → slice_index bounds.new (k * period + r) ≡ slice_index bounds.old (k * period + r) }
 {
     let rest = least_of_others(period, sums, tests, places, place);
     let from = place * usize::from(period.get());

@@ -10,14 +10,18 @@ use std::marker::Model;
 /// An end of an arc: the place where it is, and the index of the arc.
 #[derive(Clone, Copy, PartialEq, Eq, PartialOrd, Ord)]
 pub(crate) struct End {
+    // First, since ends are sorted by place, and at one place by arc.
     pub(crate) place: usize,
+    // Its index among the arcs.
     pub(crate) arc: usize,
 }
 
 /// The ends at a place, among those of all: from one on and before another.
 #[derive(Clone, Copy)]
 struct Part {
+    // At most `to`.
     from: usize,
+    // At most how many ends there are.
     to: usize,
 }
 

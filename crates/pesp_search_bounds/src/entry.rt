@@ -11,6 +11,7 @@ pub(crate) const PAIR: u64 = 4_398_046_511_104;
 /// An entry of a table, at most [`PAIR`]. It stands for a whole number: for what it is above half of `PAIR`.
 #[derive(Clone, Copy)]
 pub(crate) struct Entry {
+    // At most PAIR; half of that stands for 0.
     value: u64,
 }
 

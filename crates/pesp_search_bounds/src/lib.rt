@@ -1,4 +1,4 @@
-//! Bounds on what timetables cost that are still possible: tables that see ahead in a search.
+//! Lower bounds (dual bounds) on what timetables cost that are still possible: tables that see ahead in a search.
 #![tactic(auto)]
 
 mod ahead;

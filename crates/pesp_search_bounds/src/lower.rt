@@ -25,7 +25,8 @@ fn lower_along(
     requires steps { steps ≤ period }
     requires long { length own.old ≡ period }
     ensures falls { (here : ℕ) → slice_index own.new here ≤ slice_index own.old here }
-    ensures low { (here k : ℕ) → here < period → k < steps → IsStepsFrom side period first k here → slice_index own.new here + other ≤ pair + k * weight }
+    ensures low { (here k : ℕ) → here < period → k < steps → IsStepsFrom side period first k here
+        → slice_index own.new here + other ≤ pair + k * weight }
 {
     let weight = u64::from(weight.get());
     let mut here = first;
@@ -43,7 +44,11 @@ fn lower(period: Period, arc: &Arc, side: Side, own: &mut [Entry], other: &[Entr
     requires own { length own.old ≡ period }
     requires other { length other.now ≡ period }
     requires row { length row.now ≡ period }
-    ensures { (here there : ℕ) → here < period → there < period → IsTrue (slice_index_or row.now there false) → IsMetFrom side period arc.now.span here there → slice_index own.new here + slice_index other.now there ≤ pair + slack_at side period arc.now.span here there * arc.now.weight }
+    ensures { (here there : ℕ) → here < period → there < period
+        → IsTrue (slice_index_or row.now there false)
+        → IsMetFrom side period arc.now.span here there
+        → slice_index own.new here + slice_index other.now there
+        ≤ pair + slack_at side period arc.now.span here there * arc.now.weight }
 {
     own.fill(Entry::greatest());
     let steps = steps_of(period, arc.span);
@@ -61,7 +66,8 @@ fn lower(period: Period, arc: &Arc, side: Side, own: &mut [Entry], other: &[Entr
 fn row_at(period: Period, tests: &[bool], place: usize) -> &[bool]
     requires { place * period + period ≤ length tests.now }
     ensures long { length result.now ≡ period }
-    ensures tests { (r : ℕ) → r < period → slice_index_or result.now r false ≡ slice_index_or tests.now (place * period + r) false }
+    ensures tests { (r : ℕ) → r < period
+        → slice_index_or result.now r false ≡ slice_index_or tests.now (place * period + r) false }
 {
     let period = usize::from(period.get());
     let from = place * period;
@@ -73,7 +79,10 @@ pub(crate) fn renew(period: Period, arc: &Arc, side: Side, tests: &[bool], entri
     requires tail { arc.now.tail * period + period ≤ length tests.now }
     requires head { arc.now.head * period + period ≤ length tests.now }
     requires long { length entries.old ≡ 2 * period }
-    ensures { (r s : ℕ) → IsTrue (holds_at period tests.now arc.now.tail r) → IsTrue (holds_at period tests.now arc.now.head s) → IsMet period arc.now.span r s → slice_index entries.new r + slice_index entries.new (period + s) ≤ pair + arc.now.weight * slack_of period arc.now.span r s }
+    ensures { (r s : ℕ) → IsTrue (holds_at period tests.now arc.now.tail r)
+        → IsTrue (holds_at period tests.now arc.now.head s) → IsMet period arc.now.span r s
+        → slice_index entries.new r + slice_index entries.new (period + s)
+        ≤ pair + arc.now.weight * slack_of period arc.now.span r s }
 {
     let (tails, heads) = entries.split_at_mut(usize::from(period.get()));
     match side {

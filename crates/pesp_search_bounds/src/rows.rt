@@ -11,8 +11,10 @@ use pesp_domains::{Keeper, Row};
 /// Copies the tests of a row to those from one on.
 fn copy_row(period: Period, row: &Row, from: usize, tests: &mut [bool])
     requires { from + period ≤ length tests.old }
-    ensures copied { (r : ℕ) → r < period → slice_index_or tests.new (from + r) false ≡ holds row.now r }
-    ensures others { (k : ℕ) → ((k < from) ⊎ (from + period ≤ k)) → slice_index_or tests.new k false ≡ slice_index_or tests.old k false }
+    ensures copied { (r : ℕ) → r < period
+        → slice_index_or tests.new (from + r) false ≡ holds row.now r }
+    ensures others { (k : ℕ) → ((k < from) ⊎ (from + period ≤ k))
+        → slice_index_or tests.new k false ≡ slice_index_or tests.old k false }
 {
     for residue in 0..period.get() {
         let at = from + usize::from(residue);

@@ -14,7 +14,8 @@ const MOST_ENTRIES: usize = 8_388_608;
 /// How many entries the tables of all places have, unless those are too many.
 pub(crate) fn size_of(period: Period, arcs: usize, places: usize) -> Option<usize>
     requires { arcs ≤ 100000 }
-    ensures { MatchOption result (most_entries < places * (arcs * (2 * period))) (λ size. (size ≡ places * (arcs * (2 * period))) × (size ≤ most_entries)) }
+    ensures { MatchOption result (most_entries < places * (arcs * (2 * period)))
+        (λ size. (size ≡ places * (arcs * (2 * period))) × (size ≤ most_entries)) }
 {
     let size = places.saturating_mul(arcs * (2 * usize::from(period.get())));
     (size <= MOST_ENTRIES).then_some(size)

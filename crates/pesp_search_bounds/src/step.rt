@@ -11,7 +11,8 @@ use pesp_domains::Side;
 /// How many residues at one end go with one at the other: their slacks are below that.
 pub(crate) fn steps_of(period: Period, span: Span) -> u16
     ensures within { result ≤ period }
-    ensures all { (side : Side) (here there : ℕ) → IsMetFrom side period span here there → slack_at side period span here there < result }
+    ensures all { (side : Side) (here there : ℕ) → IsMetFrom side period span here there
+        → slack_at side period span here there < result }
 {
     let width = span.upper().abs_diff(span.lower());
     width.min(u32::from(period.get()) - 1) as u16 + 1
@@ -21,7 +22,8 @@ pub(crate) fn steps_of(period: Period, span: Span) -> u16
 pub(crate) fn first_of(period: Period, span: Span, side: Side, there: u16) -> u16
     requires { there < period }
     ensures below { result < period }
-    ensures steps { (here : ℕ) → here < period → IsStepsFrom side period result (slack_at side period span here there) here }
+    ensures steps { (here : ℕ) → here < period
+        → IsStepsFrom side period result (slack_at side period span here there) here }
 {
     match side {
         Side::Tail => slack(period, span, 0, there),
@@ -50,7 +52,9 @@ fn above(period: Period, residue: u16) -> u16
 pub(crate) fn first_after(period: Period, first: u16) -> u16
     requires { first < period }
     ensures below { result < period }
-    ensures steps { (side : Side) (span : Bounds) (here there : ℕ) → here < period → IsStepsFrom side period first (slack_at side period span here there) here → IsStepsFrom side period result (slack_at side period span here (there + 1)) here }
+    ensures steps { (side : Side) (span : Bounds) (here there : ℕ) → here < period
+        → IsStepsFrom side period first (slack_at side period span here there) here
+        → IsStepsFrom side period result (slack_at side period span here (there + 1)) here }
 {
     above(period, first)
 }
@@ -59,7 +63,8 @@ pub(crate) fn first_after(period: Period, first: u16) -> u16
 pub(crate) fn next_of(period: Period, side: Side, here: u16) -> u16
     requires { here < period }
     ensures below { result < period }
-    ensures steps { (first k : ℕ) → first < period → k < period → IsStepsFrom side period first k here → IsStepsFrom side period first (k + 1) result }
+    ensures steps { (first k : ℕ) → first < period → k < period
+        → IsStepsFrom side period first k here → IsStepsFrom side period first (k + 1) result }
 {
     match side {
         Side::Tail if here == 0 => period.get() - 1,

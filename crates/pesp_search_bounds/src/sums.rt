@@ -13,8 +13,11 @@ use pesp_domains::Side;
 /// Adds the entries to the sums from this one on.
 pub(crate) fn add_entries(sums: &mut [u64], from: usize, entries: &[Entry])
     requires { from + length entries.now ≤ length sums.old }
-    ensures added { (k : ℕ) → k < length entries.now → slice_index sums.new (from + k) ≤ slice_index sums.old (from + k) + slice_index entries.now k }
-    ensures others { (k : ℕ) → ((k < from) ⊎ (from + length entries.now ≤ k)) → slice_index sums.new k ≡ slice_index sums.old k }
+    ensures added { (k : ℕ) → k < length entries.now
+        → slice_index sums.new (from + k)
+        ≤ slice_index sums.old (from + k) + slice_index entries.now k }
+    ensures others { (k : ℕ) → ((k < from) ⊎ (from + length entries.now ≤ k))
+        → slice_index sums.new k ≡ slice_index sums.old k }
 {
     for k in 0..entries.len() {
         let at = from + k;
@@ -27,7 +30,11 @@ fn add_arc(period: Period, arc: &Arc, entries: &[Entry], sums: &mut [u64])
     requires tail { arc.now.tail * period + period ≤ length sums.old }
     requires head { arc.now.head * period + period ≤ length sums.old }
     requires long { length entries.now ≡ 2 * period }
-    ensures { (places : ℕ) (x : ℕ → ℕ) → ((p : ℕ) → p < places → x p < period) → arc.now.tail < places → arc.now.head < places → total_of period sums.new x places ≤ total_of period sums.old x places + slice_index entries.now (x arc.now.tail) + slice_index entries.now (period + x arc.now.head) }
+    ensures { (places : ℕ) (x : ℕ → ℕ) → ((p : ℕ) → p < places → x p < period)
+        → arc.now.tail < places → arc.now.head < places
+        → total_of period sums.new x places
+        ≤ total_of period sums.old x places + slice_index entries.now (x arc.now.tail)
+        + slice_index entries.now (period + x arc.now.head) }
 {
     let period = usize::from(period.get());
     add_entries(sums, arc.tail * period, &entries[..period]);
@@ -56,7 +63,8 @@ pub(crate) fn renew_all(
     requires tests { length tests.now ≡ places * period }
     requires sums { length sums.old ≡ places * period }
     requires entries { length entries.old ≡ length arcs.now * (2 * period) }
-    ensures { (x : ℕ → ℕ) → AreWithin period tests.now places x → All (IsMetAt period x) arcs.now → total_of period sums.new x places ≤ length arcs.now * pair + arcs_cost period x arcs.now }
+    ensures { (x : ℕ → ℕ) → AreWithin period tests.now places x → All (IsMetAt period x) arcs.now
+        → total_of period sums.new x places ≤ length arcs.now * pair + arcs_cost period x arcs.now }
 {
     sums.fill(0);
     let width = 2 * usize::from(period.get());

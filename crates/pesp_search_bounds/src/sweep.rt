@@ -1,4 +1,4 @@
-//! Sweeps that move what entries tell from event to event along arcs.
+//! Message-passing sweeps, which move what entries tell from event to event along arcs.
 //!
 //! Bounds hold whatever the entries are, so nothing is proved of these: they make the bounds great. Events before the
 //! one that is looked at are settled: what is told at them is told at one residue, so it is moved off them once and
@@ -42,8 +42,11 @@ impl Way {
 /// How many arcs a place has: to those that the sweep comes to later, to those before, and all, settled ones too.
 #[derive(Clone, Copy)]
 struct Counts {
+    // To places that the sweep comes to later.
     onward: u64,
+    // To places that it has come to, but for settled ones.
     back: u64,
+    // All, settled ones too.
     all: u64,
 }
 
@@ -116,15 +119,20 @@ fn take_off(own: &mut [Entry], shares: &[u64])
     }
 }
 
-/// What a sweep goes over: the arcs between the places, and the rows of these, one behind the other.
+/// What a sweep goes over: the arcs between the places, and the rows of these, one after the other.
 #[derive(Clone, Copy)]
 pub(crate) struct Sweep<'a> {
+    // That of the rows.
     pub(crate) period: Period,
+    // How many events there are.
     pub(crate) places: usize,
     /// The first place that is not settled.
     pub(crate) first: usize,
+    // Each between two of the places.
     pub(crate) arcs: &'a [Arc],
+    // Those of these arcs, by place.
     pub(crate) ends: &'a Ends,
+    // For each place, for each residue, whether its row has it.
     pub(crate) tests: &'a [bool],
     ghost begins: { first ≤ places },
     ghost between: { All (IsBetween places) arcs.now },

@@ -22,8 +22,11 @@ use std::marker::Model;
 /// Entries at both ends of each arc for each place, their sums, and what they told.
 #[derive(Drop)]
 pub(crate) struct Tables {
+    // That of all rows of numbers below.
     period: Period,
+    // How many events there are.
     places: usize,
+    // The activities that are no loops, at most 100,000.
     arcs: Vec<Arc>,
     // The arcs at each place.
     ends: Ends,
@@ -128,8 +131,10 @@ impl Tables {
         requires place { place < length (event_ids instance.now) }
         ensures of { IsSightOf instance.now self.new }
         ensures arcs { self.new.arcs ≡ self.old.arcs }
-        ensures sound { IsSound instance.now (InRows instance.now tests.now) (slice_index (event_ids instance.now) place) (bound_at self.new place) }
-        ensures others { (k r : ℕ) → k ≢ place → r < instance.now.period → bound_at self.new k r ≡ bound_at self.old k r }
+        ensures sound { IsSound instance.now (InRows instance.now tests.now)
+            (slice_index (event_ids instance.now) place) (bound_at self.new place) }
+        ensures others { (k r : ℕ) → k ≢ place → r < instance.now.period
+            → bound_at self.new k r ≡ bound_at self.old k r }
     {
         self.descend(place);
         self.settle(tests, place);

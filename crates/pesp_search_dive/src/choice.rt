@@ -3,7 +3,9 @@
 /// A residue of an event, with what timetables with it cost at least. Choices are tried in ascending order.
 #[derive(Clone, Copy, PartialEq, Eq, PartialOrd, Ord)]
 pub(crate) struct Choice {
+    // First, since choices are tried by rising bound, and at one bound by rising residue.
     pub(crate) bound: u64,
+    // Below the period.
     pub(crate) residue: u16,
 }
 
@@ -13,7 +15,7 @@ impl Choice {
         best.is_none_or(|best| self.bound < best)
     }
 
-    /// Whether it is behind the last choice, if there is one, and before another, if there is one.
+    /// Whether it is after the last choice, if there is one, and before another, if there is one.
     pub(crate) fn is_between(&self, last: Option<Choice>, other: Option<Choice>) -> bool {
         last.is_none_or(|last| last < *self) && other.is_none_or(|other| *self < other)
     }

@@ -14,7 +14,7 @@ use std::alloc::Global;
 /// Looks for times of little cost, and says whether some were found.
 ///
 /// The times stand in the order of the events. A step is one residue tried, and at a place that `least` marks 0 alone is.
-/// The dive goes on behind the first times it finds, to others that cost less, until it has made its steps or nothing is left.
+/// The dive goes on after the first times it finds, to others that cost less, until it has made its steps or nothing is left.
 /// None is made where its rows would take more than 64 MB. Nothing is promised of times that are found.
 pub fn dive<K: Keeper>(
     alloc: Global,

@@ -16,8 +16,11 @@ const MOST_TESTS: usize = 64_000_000;
 /// For each depth the rows of all events. At the depth of a place the places before it are settled.
 #[derive(Drop)]
 pub(crate) struct Levels {
+    // That of each row.
     period: Period,
+    // How many events there are, and as many depths; at least one.
     places: usize,
+    // By depth; there, for each place, for each residue, whether it is left.
     rows: Vec<Vec<bool>>,
     ghost long: { length rows.items ≡ places },
     ghost whole: { All (λ tests. length tests.items ≡ places * period) rows.items },
@@ -78,8 +81,10 @@ impl Levels {
         events: &[EventId],
     ) -> Result<Option<Levels>, Memory>
         requires events { events.now ≡ event_ids (K.network keeper.now) }
-        ensures period { IfOk result (λ levels. IfSome levels (λ some. some.period ≡ (K.network keeper.now).period)) }
-        ensures places { IfOk result (λ levels. IfSome levels (λ some. some.places ≡ length events.now)) }
+        ensures period { IfOk result (λ levels.
+            IfSome levels (λ some. some.period ≡ (K.network keeper.now).period)) }
+        ensures places { IfOk result (λ levels.
+            IfSome levels (λ some. some.places ≡ length events.now)) }
         ensures some { IfOk result (λ levels. IfSome levels (λ some. 0 < some.places)) }
     {
         let period = keeper.instance().period();

@@ -10,7 +10,9 @@ use pesp_search_bounds::Arc;
 /// The place at the other end of an arc, with the arc's span.
 #[derive(Clone, Copy)]
 pub(crate) struct Neighbour {
+    // That of the neighbour.
     pub(crate) place: usize,
+    // From the tail of the arc to its head, whichever the neighbour is.
     span: Span,
     // The end of the arc at which the neighbour is.
     side: Side,
@@ -19,7 +21,8 @@ pub(crate) struct Neighbour {
 impl Neighbour {
     /// The neighbour of a place along the arc, where that is one of its ends.
     pub(crate) fn of(arc: &Arc, place: usize) -> Option<Neighbour>
-        ensures { IfSome result (λ neighbour. (places : ℕ) → IsBetween places arc.now → neighbour.place < places) }
+        ensures { IfSome result
+            (λ neighbour. (places : ℕ) → IsBetween places arc.now → neighbour.place < places) }
     {
         if arc.tail == place {
             return Some(Neighbour {

@@ -12,10 +12,13 @@ use std::alloc::Global;
 /// The choices tried last at each depth, and the least cost that was found.
 #[derive(Drop)]
 pub(crate) struct Path {
+    // Each choice's residue is below it.
     period: Period,
+    // The place of the event that is next; those before it have choices.
     depth: usize,
     // None at the depths below this one, and where nothing was tried yet.
     last: Vec<Option<Choice>>,
+    // The bound that was taken for the cost of the times found last; None before any were found.
     best: Option<u64>,
     ghost within: { depth < length last.items },
     ghost below: { All (IsBelow period) last.items },
@@ -69,7 +72,7 @@ impl Path {
         self.best.is_some()
     }
 
-    /// The first choice at a depth that is behind the last one there and may cost less than what was found.
+    /// The first choice at a depth that is after the last one there and may cost less than what was found.
     /// The row is that of the event there; its residues below `among` are asked for.
     fn next_at(&self, ahead: &Ahead, row: &[bool], depth: usize, among: u16) -> Option<Choice>
         requires depth { depth < length self.now.last.items }
@@ -98,8 +101,10 @@ impl Path {
     /// Goes to the next choice: at this depth, or where none is left here at the nearest one above with one left.
     pub(crate) fn next(&mut self, ahead: &Ahead, levels: &Levels, least: &[bool]) -> Option<Choice>
         requires period { self.old.period ≡ ahead.now.period }
-        requires levels { (levels.now.period ≡ self.old.period) × (levels.now.places ≡ length self.old.last.items) }
-        ensures same { (length self.new.last.items ≡ length self.old.last.items) × (self.new.period ≡ self.old.period) }
+        requires levels { (levels.now.period ≡ self.old.period)
+            × (levels.now.places ≡ length self.old.last.items) }
+        ensures same { (length self.new.last.items ≡ length self.old.last.items)
+            × (self.new.period ≡ self.old.period) }
         ensures below { IfSome result (λ choice. choice.residue < self.new.period) }
     {
         for depth in (0..self.depth + 1).rev() {
@@ -117,7 +122,8 @@ impl Path {
     /// Goes one depth further down.
     pub(crate) fn descend(&mut self)
         requires { self.old.depth + 1 < length self.old.last.items }
-        ensures { (length self.new.last.items ≡ length self.old.last.items) × (self.new.period ≡ self.old.period) }
+        ensures { (length self.new.last.items ≡ length self.old.last.items)
+            × (self.new.period ≡ self.old.period) }
     {
         self.depth += 1;
     }
@@ -126,7 +132,8 @@ impl Path {
     pub(crate) fn keep(&mut self, cost: u64, times: &mut [u16])
         requires long { length times.old ≡ length self.old.last.items }
         requires below { All (λ t. t < self.old.period) times.old }
-        ensures same { (length self.new.last.items ≡ length self.old.last.items) × (self.new.period ≡ self.old.period) }
+        ensures same { (length self.new.last.items ≡ length self.old.last.items)
+            × (self.new.period ≡ self.old.period) }
         ensures long { length times.new ≡ length times.old }
         ensures below { All (λ t. t < self.old.period) times.new }
     {

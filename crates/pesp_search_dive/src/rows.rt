@@ -1,4 +1,4 @@
-//! Rows of residues by place, one behind the other: a test for each residue of each place.
+//! Rows of residues by place, one after the other: a test for each residue of each place.
 
 ghost use Rattle.std.specs.Prelude.{◌≡◌, ◌+◌, ◌*◌, ◌<◌, ◌≤◌, ℕ, All, length};
 ghost use Rattle.pesp_search_bounds.specs.Sights.{IsBetween};
@@ -55,7 +55,8 @@ pub(crate) fn narrow(
     place: usize,
     residue: u16,
 ) -> bool
-    requires between { (places : ℕ) × (places * period ≤ length tests.old) × All (IsBetween places) arcs.now }
+    requires between { (places : ℕ) × (places * period ≤ length tests.old)
+        × All (IsBetween places) arcs.now }
     requires residue { residue < period }
     ensures { length tests.new ≡ length tests.old }
 {

@@ -8,7 +8,9 @@ use crate::{Candidate, Outcome};
 /// The best that was found below a cap.
 #[derive(Drop)]
 pub(crate) struct Incumbent {
+    // The best costs less.
     pub(crate) cap: u64,
+    // A map of the root, with its sum.
     pub(crate) best: Option<Candidate>,
 }
 

@@ -11,7 +11,9 @@ use std::alloc::Global;
 pub(crate) struct Line {
     /// What each residue sums up to; None where it has no sum.
     pub(crate) costs: [Option<u64>; 6],
+    // The least residue that is left.
     pub(crate) lowest: u16,
+    // None is left from here on; at most 6.
     pub(crate) end: u16,
     ghost within: { end ≤ 6 },
 }
@@ -33,7 +35,8 @@ impl Line {
     /// The map that gives the event this residue, if it has a sum.
     fn at(&self, alloc: Global, residue: u16) -> Result<Option<Candidate>, Memory>
         requires { residue < 6 }
-        ensures { IfOk result (λ found. MatchOption found (slice_get self.now.costs residue ≡ Some None)
+        ensures { IfOk result (λ found.
+            MatchOption found (slice_get self.now.costs residue ≡ Some None)
             (λ candidate. (candidate.map.items ≡ residue ∷ []) × (slice_get self.now.costs residue ≡ Some (Some candidate.cost)))) }
     {
         let Some(cost) = self.costs[usize::from(residue)] else {

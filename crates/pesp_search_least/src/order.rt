@@ -21,7 +21,8 @@ fn first_at<R: Region>(
     requires event { event < R.events rest.now }
     requires long { AreLong (R.sums rest.now) (R.events rest.now) }
     requires room { candidate.cost + 1 < 2 ^ 64 }
-    ensures first { IfOk result (IsFirstAnswer (IsFirstAt (R.sums rest.now) event) (R.sums rest.now) candidate.cost) }
+    ensures first { IfOk result (IsFirstAnswer (IsFirstAt (R.sums rest.now) event) (R.sums rest.now)
+        candidate.cost) }
     ensures spent { IfOk result (EndsUnlessSpent budget.new.left) }
     ensures budget { OnlySpends budget.old.left budget.new.left }
 {
@@ -47,7 +48,8 @@ pub fn first<R: Region>(
 ) -> Result<First, Memory>
     requires least { IsLeast (R.sums region) candidate }
     requires room { candidate.cost + 1 < 2 ^ 64 }
-    ensures first { IfOk result (IsFirstAnswer (IsFirst (R.sums region)) (R.sums region) candidate.cost) }
+    ensures first { IfOk result (IsFirstAnswer (IsFirst (R.sums region)) (R.sums region)
+        candidate.cost) }
     ensures spent { IfOk result (EndsUnlessSpent budget.new.left) }
     ensures budget { OnlySpends budget.old.left budget.new.left }
 {

@@ -34,7 +34,8 @@ pub trait Region: Drop {
         requires event { event < events self.now }
         requires floor { IsLowerBound (sums self.now) cost }
         requires room { cost + 1 < 2 ^ 64 }
-        ensures outcome { IfOk result (IsOutcome (BelowResidue (sums self.now) event residue) (cost + 1)) }
+        ensures outcome { IfOk result (IsOutcome (BelowResidue (sums self.now) event residue)
+            (cost + 1)) }
         ensures spent { IfOk result (StopsWhereSpent budget.new.left) }
         ensures budget { OnlySpends budget.old.left budget.new.left };
 

@@ -70,7 +70,8 @@ pub fn least<R: Relaxation>(
     ensures budget { OnlySpends budget.old.left budget.new.left }
     // Without a unit there is no visit, and without a visit no answer.
     ensures stops { limits.floor < limits.cap → budget.old.left ≡ Some 0 → IfOk result IsStop }
-    ensures takes { limits.floor < limits.cap → budget.old.left ≢ Some 0 → OnOk result (TakesUnit budget.old.left budget.new.left) }
+    ensures takes { limits.floor < limits.cap → budget.old.left ≢ Some 0
+        → OnOk result (TakesUnit budget.old.left budget.new.left) }
 {
     let mut nodes = stack_of(alloc, root)?;
     let mut incumbent = Incumbent::new(limits.cap);

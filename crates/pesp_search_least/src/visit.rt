@@ -19,9 +19,11 @@ pub(crate) fn visit<R: Relaxation>(
     budget: &mut Budget,
 ) -> Result<Option<R>, Memory>
     requires { budget.old.left ≢ Some 0 }
-    ensures visited { IfOk result (IsVisited (limit_of incumbent.new.cap incumbent.new.best) R.sums R.size node.old node.new) }
+    ensures visited { IfOk result (IsVisited (limit_of incumbent.new.cap incumbent.new.best) R.sums
+        R.size node.old node.new) }
     ensures cap { incumbent.new.cap ≡ incumbent.old.cap }
-    ensures better { IsBetter (R.sums node.old) incumbent.old.cap incumbent.old.best incumbent.new.best }
+    ensures better { IsBetter (R.sums node.old) incumbent.old.cap incumbent.old.best
+        incumbent.new.best }
     ensures budget { TakesUnit budget.old.left budget.new.left }
 {
     budget.spend(1);

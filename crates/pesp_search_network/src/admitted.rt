@@ -6,7 +6,7 @@ ghost use Rattle.pesp_search_tables.specs.Sums.{admits};
 
 use pesp_search_tables::Tables;
 
-/// The residue of a node: the origin, which is behind the events, stands at 0.
+/// The residue of a node: the origin, which is after the events, stands at 0.
 fn residue(map: &[u16], node: usize) -> usize
     ensures value { result ≡ slice_index map.now node }
     ensures small { result < 65536 }
@@ -36,7 +36,8 @@ fn difference(tables: &Tables, map: &[u16], pair: usize) -> usize
 pub(crate) fn admits_map(tables: &Tables, map: &[u16]) -> bool
     requires some { 0 < tables.now.period }
     requires short { tables.now.period ≤ 1440 }
-    ensures { result ≡ admits tables.now.period tables.now.tests (differences tables.now (slice_index map.now)) (length tables.now.ends) }
+    ensures { result ≡ admits tables.now.period tables.now.tests
+        (differences tables.now (slice_index map.now)) (length tables.now.ends) }
 {
     for pair in 0..tables.pairs() {
         if !tables.admits(pair, difference(tables, map, pair)) {

@@ -18,7 +18,8 @@ const MOST_PIECES: usize = 100;
 impl Network {
     /// The map that those of the piece and of the rest make, at what both cost.
     fn joined(&self, peeled: &Peeled, piece: &Candidate, rest: Candidate) -> Candidate
-        requires peeled { IsPeeled self.now peeled.now.piece peeled.now.rest peeled.now.cut.inner.items peeled.now.cut.joint }
+        requires peeled { IsPeeled self.now peeled.now.piece peeled.now.rest
+            peeled.now.cut.inner.items peeled.now.cut.joint }
         requires piece { IsCandidate (IsCosted peeled.now.piece) piece.now }
         requires rest { IsCandidate (IsCosted peeled.now.rest) rest }
         requires room { piece.now.cost + rest.cost < 2 ^ 64 }
@@ -35,12 +36,14 @@ impl Network {
 
     /// The answer where the piece has a least map, and the rest has been searched below what is left of the cap.
     fn joined_outcome(&self, peeled: &Peeled, piece: &Candidate, cap: u64, rest: Outcome) -> Outcome
-        requires peeled { IsPeeled self.now peeled.now.piece peeled.now.rest peeled.now.cut.inner.items peeled.now.cut.joint }
+        requires peeled { IsPeeled self.now peeled.now.piece peeled.now.rest
+            peeled.now.cut.inner.items peeled.now.cut.joint }
         requires least { IsLeast (IsCosted peeled.now.piece) piece.now }
         requires below { piece.now.cost ≤ cap }
         requires rest { IsOutcome (IsCosted peeled.now.rest) (cap - piece.now.cost) rest }
         ensures outcome { IsOutcome (IsCosted self.now) cap result }
-        ensures spent { (left : Option ℕ) → StopsWhereSpent left rest → StopsWhereSpent left result }
+        ensures spent { (left : Option ℕ) → StopsWhereSpent left rest
+            → StopsWhereSpent left result }
     {
         match rest {
             Outcome::Found(rest) => Outcome::Found(self.joined(peeled, piece, rest)),
@@ -71,7 +74,8 @@ impl Network {
         ensures spent { IfOk result (StopsWhereSpent budget.new.left) }
         ensures budget { OnlySpends budget.old.left budget.new.left }
         ensures stops { limits.floor < limits.cap → budget.old.left ≡ Some 0 → IfOk result IsStop }
-        ensures takes { limits.floor < limits.cap → budget.old.left ≢ Some 0 → OnOk result (TakesUnit budget.old.left budget.new.left) }
+        ensures takes { limits.floor < limits.cap → budget.old.left ≢ Some 0
+            → OnOk result (TakesUnit budget.old.left budget.new.left) }
     {
         if pieces == 0 {
             return self.least_in_one(alloc, limits, budget);
@@ -116,7 +120,8 @@ impl Network {
         ensures budget { OnlySpends budget.old.left budget.new.left }
         // Without a unit there is no visit, and without a visit no answer.
         ensures stops { limits.floor < limits.cap → budget.old.left ≡ Some 0 → IfOk result IsStop }
-        ensures takes { limits.floor < limits.cap → budget.old.left ≢ Some 0 → OnOk result (TakesUnit budget.old.left budget.new.left) }
+        ensures takes { limits.floor < limits.cap → budget.old.left ≢ Some 0
+            → OnOk result (TakesUnit budget.old.left budget.new.left) }
     {
         self.least_apart(alloc, limits, budget, MOST_PIECES)
     }

@@ -14,7 +14,7 @@ const UNITS: u64 = 4;
 pub(crate) enum Stage {
     /// Before anything is split.
     Root,
-    /// Behind a split.
+    /// After a split.
     Split,
 }
 
@@ -74,7 +74,7 @@ fn cut_to(tables: &mut Tables, cap: Option<i64>)
     }
 }
 
-/// A sweep, and a cut: the bound behind it, where there is more to do.
+/// A sweep, and a cut: the bound after it, where there is more to do.
 fn turn(tables: &mut Tables, cap: Option<i64>, backwards: bool, budget: &mut Budget) -> Option<i64>
     ensures cut { IsCutTo cap tables.old tables.new }
     ensures budget { OnlySpends budget.old.left budget.new.left }

@@ -63,7 +63,8 @@ impl Network {
     fn arc_cost(&self, arc: Arc, map: &[u16]) -> Option<u64>
         requires between { IsBetween self.now.events arc }
         requires placed { IsPlaced self.now map.now }
-        ensures value { result ≡ cost_met self.now.period arc (slice_index map.now arc.from) (slice_index map.now arc.to) }
+        ensures value { result ≡ cost_met self.now.period arc (slice_index map.now arc.from)
+            (slice_index map.now arc.to) }
         ensures small { IfSome result (λ cost. cost ≤ 1439000000000) }
     {
         cost_between(self.period(), &arc, map[arc.from], map[arc.to])
@@ -72,7 +73,8 @@ impl Network {
     /// The cost of a map that gives each event a residue at which it may stand, where each arc is met.
     fn cost_placed(&self, map: &[u16]) -> Option<u64>
         requires { IsPlaced self.now map.now }
-        ensures { MatchOption result ((cost : ℕ) → IsCosted self.now map.now cost → ⊥) (IsCosted self.now map.now) }
+        ensures { MatchOption result ((cost : ℕ) → IsCosted self.now map.now cost → ⊥)
+            (IsCosted self.now map.now) }
     {
         let mut cost = 0;
         for index in 0..self.arc_count() {
@@ -83,7 +85,8 @@ impl Network {
 
     /// The cost of a map: none where an event may not stand at its residue, or an arc is not met.
     pub fn cost(&self, map: &[u16]) -> Option<u64>
-        ensures { MatchOption result ((cost : ℕ) → IsCosted self.now map.now cost → ⊥) (IsCosted self.now map.now) }
+        ensures { MatchOption result ((cost : ℕ) → IsCosted self.now map.now cost → ⊥)
+            (IsCosted self.now map.now) }
     {
         if !self.places(map) {
             return None;

@@ -8,7 +8,9 @@ use pesp_base::{Period, Span};
 /// The first values of a span, and those above.
 #[derive(Clone, Copy)]
 pub(crate) struct Cut {
+    // From the lower bound on.
     pub(crate) below: Span,
+    // From the value after these to the last one that the span needs.
     pub(crate) above: Span,
 }
 

@@ -14,7 +14,9 @@ use std::alloc::Global;
 /// Tables with triples, and the order in which nodes were taken out.
 #[derive(Drop)]
 pub(crate) struct Eliminated {
+    // Every map has the sum that it had.
     pub(crate) tables: Tables,
+    // The first to be taken out stands first.
     pub(crate) order: Vec<usize>,
 }
 

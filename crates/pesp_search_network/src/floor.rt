@@ -23,7 +23,8 @@ pub(crate) fn least_cost(tables: &Tables, period: Period, arc: &Arc, place: usiz
     requires from { IsSeatBelow period way.from }
     requires to { IsSeatBelow period way.to }
     ensures small { result ≤ 1439000000000 }
-    ensures least { (d cost : ℕ) → IsOne tables.now place d → cost_at period arc.now way d ≡ Some cost → result ≤ cost }
+    ensures least { (d cost : ℕ) → IsOne tables.now place d
+        → cost_at period arc.now way d ≡ Some cost → result ≤ cost }
 {
     let mut least = MOST_COST;
     for difference in 0..period.get() {

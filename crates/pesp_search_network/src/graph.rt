@@ -10,14 +10,18 @@ use std::alloc::Global;
 /// A node that another is joined with, and the place of their pair.
 #[derive(Clone, Copy)]
 pub(crate) struct Neighbour {
+    // The other one.
     pub(crate) node: usize,
+    // The same at both nodes.
     pub(crate) place: usize,
 }
 
 /// For each node its neighbours.
 #[derive(Drop)]
 pub(crate) struct Graph {
+    // Where a longer list takes its memory from.
     alloc: Global,
+    // By node; of two that are joined each is in the list of the other, until one is taken out.
     lists: Vec<Vec<Neighbour>>,
 }
 

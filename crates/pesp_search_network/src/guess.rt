@@ -1,6 +1,6 @@
 //! A map that is likely to cost little.
 //!
-//! Nothing is proved of it: what it costs, and that the tables admit it, is worked out behind it.
+//! Nothing is proved of it: what it costs, and that the tables admit it, is worked out after it.
 
 ghost use Rattle.std.specs.Prelude.{◌<◌, ◌≤◌, IfSome, length};
 

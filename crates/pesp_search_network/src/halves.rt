@@ -10,8 +10,11 @@ use std::alloc::Global;
 /// A pair, the difference of least number that it admits, and another one that it admits.
 #[derive(Clone, Copy)]
 pub(crate) struct Choice {
+    // Its place.
     pub(crate) pair: usize,
+    // The difference of least number.
     pub(crate) least: usize,
+    // Another one that the pair admits.
     pub(crate) other: usize,
 }
 
@@ -37,7 +40,8 @@ pub(crate) fn least_of(tables: &Tables, pair: usize) -> Option<usize>
 /// Of the admitted differences but the one of least number that of the greatest number.
 fn other_of(tables: &Tables, pair: usize, least: usize) -> Option<usize>
     requires { pair < length tables.now.ends }
-    ensures { MatchOption result ((d : ℕ) → IsOne tables.now pair d → d ≡ least) (IsOther tables.now pair least) }
+    ensures { MatchOption result ((d : ℕ) → IsOne tables.now pair d → d ≡ least)
+        (IsOther tables.now pair least) }
 {
     let mut other = None;
     let mut number = i32::MIN;
@@ -100,7 +104,8 @@ fn choice_at(tables: &Tables, pair: usize) -> Option<Choice>
 
 /// The pair of the greatest contrast, of those that admit two differences.
 pub(crate) fn best_choice(tables: &Tables, room: i64) -> Option<Choice>
-    ensures { MatchOption result ((p : ℕ) → p < length tables.now.ends → AreSettled tables.now p) (λ c. IsChoice tables.now c.pair c) }
+    ensures { MatchOption result ((p : ℕ) → p < length tables.now.ends → AreSettled tables.now p)
+        (λ c. IsChoice tables.now c.pair c) }
 {
     let mut best = None;
     let mut greatest = 0;
@@ -157,7 +162,8 @@ pub(crate) fn only_map(
 ) -> Result<Option<Vec<u16>>, Memory>
     requires short { tables.now.period ≤ 1440 }
     requires events { events ≤ length tables.now.ends }
-    ensures { IfOk result (λ map. MatchOption map (IsStuck tables.now events) (λ m. AreOnes tables.now events m.items)) }
+    ensures { IfOk result (λ map.
+        MatchOption map (IsStuck tables.now events) (λ m. AreOnes tables.now events m.items)) }
 {
     let mut map = Vec::new(alloc);
     for event in 0..events {

@@ -24,7 +24,8 @@ impl Network {
     fn may_meet(&self, arc: Arc, event: usize, residue: u16) -> bool
         requires between { IsBetween self.now.events arc }
         requires residue { residue < self.now.period }
-        ensures { result ≡ false → (map : List ℕ) → IsMet self.now map → slice_index map event ≡ residue → IsTrue (meets self.now.period map arc) → ⊥ }
+        ensures { result ≡ false → (map : List ℕ) → IsMet self.now map
+            → slice_index map event ≡ residue → IsTrue (meets self.now.period map arc) → ⊥ }
     {
         if arc.from != event && arc.to != event {
             return true;
@@ -46,7 +47,8 @@ impl Network {
     /// Whether the event may stand at the residue, as far as those of its neighbours tell that have one residue alone.
     fn may_stand(&self, event: usize, residue: u16) -> bool
         requires { event < self.now.events }
-        ensures { result ≡ false → (map : List ℕ) (cost : ℕ) → IsCosted self.now map cost → slice_index map event ≡ residue → ⊥ }
+        ensures { result ≡ false → (map : List ℕ) (cost : ℕ) → IsCosted self.now map cost
+            → slice_index map event ≡ residue → ⊥ }
     {
         if !self.may_have(event, residue) {
             return false;
@@ -62,7 +64,8 @@ impl Network {
     /// Whether the event may stand at a residue below this one.
     pub(crate) fn has_below(&self, event: usize, residue: u16) -> bool
         requires { event < self.now.events }
-        ensures { result ≡ false → (map : List ℕ) (cost : ℕ) → IsCosted self.now map cost → slice_index map event < residue → ⊥ }
+        ensures { result ≡ false → (map : List ℕ) (cost : ℕ) → IsCosted self.now map cost
+            → slice_index map event < residue → ⊥ }
     {
         for lesser in 0..residue {
             if self.may_stand(event, lesser) {

@@ -13,8 +13,11 @@ use std::marker::Model;
 /// Events by index, arcs between them, and at which residues each event may stand.
 #[derive(Drop)]
 pub struct Network {
+    // That of each row.
     period: Period,
+    // At most 20,000.
     events: usize,
+    // Each between two of the events; at most 100,000.
     arcs: Vec<Arc>,
     // For each event, for each residue, whether the event may stand there.
     rows: Vec<bool>,
@@ -34,7 +37,13 @@ impl Network {
     /// A network without arcs, whose events may stand at every residue.
     pub fn new(alloc: Global, period: Period, events: usize) -> Result<Network, Memory>
         requires { events ≤ 20000 }
-        ensures { IfOk result (λ network. network ≡ record { period = period; events = events; arcs = []; rows = replicate (events * period) true }) }
+        ensures { IfOk result (λ network.
+            network ≡ record {
+              period = period;
+              events = events;
+              arcs = [];
+              rows = replicate (events * period) true;
+            }) }
     {
         let Ok(rows) = vec![in alloc; true; events * usize::from(period.get())] else {
             return Err(Memory);
@@ -47,7 +56,7 @@ impl Network {
         })
     }
 
-    /// Puts an arc behind those that there are.
+    /// Puts an arc after those that there are.
     pub fn add(&mut self, arc: Arc) -> Result<(), Memory>
         requires from { arc.from < self.old.events }
         requires to { arc.to < self.old.events }
@@ -65,7 +74,9 @@ impl Network {
     pub fn forbid(&mut self, event: usize, residue: u16)
         requires event { event < self.old.events }
         requires residue { residue < self.old.period }
-        ensures { self.new ≡ record self.old { rows = slice_set self.old.rows (event * self.old.period + residue) false } }
+        ensures { self.new ≡ record self.old {
+          rows = slice_set self.old.rows (event * self.old.period + residue) false;
+        } }
     {
         let place = event * usize::from(self.period.get()) + usize::from(residue);
         self.rows[place] = false;
@@ -100,7 +111,8 @@ impl Network {
 
     /// The arcs on this side of a cut.
     fn arcs_of(&self, alloc: Global, cut: &Separation, side: bool) -> Result<Vec<Arc>, Memory>
-        ensures { IfOk result (λ arcs. arcs.items ≡ filter (is_of cut.now.inner.items side) self.now.arcs) }
+        ensures { IfOk result (λ arcs.
+            arcs.items ≡ filter (is_of cut.now.inner.items side) self.now.arcs) }
     {
         let mut arcs = Vec::new(alloc);
         for arc in &self.arcs {
@@ -118,7 +130,10 @@ impl Network {
         cut: &Separation,
         side: bool,
     ) -> Result<Network, Memory>
-        ensures { IfOk result (λ network. network ≡ record self.now { arcs = filter (is_of cut.now.inner.items side) self.now.arcs }) }
+        ensures { IfOk result (λ network.
+            network ≡ record self.now {
+              arcs = filter (is_of cut.now.inner.items side) self.now.arcs;
+            }) }
     {
         let arcs = self.arcs_of(alloc, cut, side)?;
         let Ok(rows) = self.rows.clone() else {
@@ -165,7 +180,8 @@ impl Network {
     pub(crate) fn row(&self, event: usize) -> &[bool]
         requires { event < self.now.events }
         ensures long { length result.now ≡ self.now.period }
-        ensures values { (r : ℕ) → r < self.now.period → slice_index_or result.now r false ≡ has self.now event r }
+        ensures values { (r : ℕ) → r < self.now.period
+            → slice_index_or result.now r false ≡ has self.now event r }
     {
         let period = usize::from(self.period.get());
         &self.rows[event * period..event * period + period]

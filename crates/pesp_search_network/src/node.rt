@@ -21,13 +21,17 @@ use std::alloc::Global;
 /// The maps of a network that tables admit.
 #[derive(Drop)]
 pub(crate) struct Node<'a> {
+    // The whole one: a node admits some of its maps.
     pub(crate) network: &'a Network,
     // The order in which nodes were taken out; a map is made in the reverse one.
     pub(crate) order: &'a [usize],
     // Of each arc the place of the pair that has its table.
     pub(crate) places: &'a [usize],
+    // That of the tables' entries.
     pub(crate) scale: Scale,
+    // At a map that they admit, their sum is at most its cost in the scale.
     pub(crate) tables: Tables,
+    // Whether anything was split yet, by which sweeps end.
     pub(crate) stage: Stage,
     // How far the bound was below the cap when it last climbed.
     pub(crate) room: i64,
@@ -68,7 +72,9 @@ impl<'a> Node<'a> {
 
     /// The cost of a map that the tables admit.
     fn cost(&self, map: &[u16]) -> Option<u64>
-        ensures { MatchOption result ((cost : ℕ) → IsSummed self.now.network.now self.now.tables map.now cost → ⊥) (IsSummed self.now.network.now self.now.tables map.now) }
+        ensures { MatchOption result
+            ((cost : ℕ) → IsSummed self.now.network.now self.now.tables map.now cost → ⊥)
+            (IsSummed self.now.network.now self.now.tables map.now) }
     {
         let cost = self.network.cost(map)?;
         if admits_map(&self.tables, map) {
@@ -80,7 +86,8 @@ impl<'a> Node<'a> {
 
     /// A map with its cost, if the tables admit it.
     fn candidate_of(&self, map: Vec<u16>) -> Option<Candidate>
-        ensures none { IfNone result ((cost : ℕ) → IsSummed self.now.network.now self.now.tables map.items cost → ⊥) }
+        ensures none { IfNone result
+            ((cost : ℕ) → IsSummed self.now.network.now self.now.tables map.items cost → ⊥) }
         ensures same { IfSome result (λ candidate. candidate.map.items ≡ map.items) }
         ensures some { IfSome result (IsCandidate (IsSummed self.now.network.now self.now.tables)) }
     {

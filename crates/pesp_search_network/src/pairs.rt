@@ -14,15 +14,20 @@ const MOST_NUMBERS: usize = 131_072;
 /// Tables, and the place of a pair among them.
 #[derive(Drop)]
 pub(crate) struct Placed {
+    // They have the pair.
     pub(crate) tables: Tables,
+    // That of the pair.
     pub(crate) place: usize,
 }
 
 /// The places of the sides of a triple.
 #[derive(Clone, Copy)]
 struct Sides {
+    // Of the pair from a to b,
     ab: usize,
+    // from b to c,
     bc: usize,
+    // and from a to c.
     ac: usize,
 }
 

@@ -13,8 +13,11 @@ use std::alloc::Global;
 /// A network in two: a piece, and the rest.
 #[derive(Drop)]
 pub(crate) struct Peeled {
+    // All events, and the arcs with an end in the piece; other events keep one residue.
     pub(crate) piece: Network,
+    // All events, and the other arcs; those of the piece keep one residue.
     pub(crate) rest: Network,
+    // Which events the piece has, as `is_piece` checked it.
     pub(crate) cut: Separation,
 }
 
@@ -48,7 +51,8 @@ impl Network {
 
     /// Whether all events of the piece may stand at every residue.
     fn are_free(&self, cut: &Separation) -> bool
-        ensures { result ≡ true → (v : ℕ) → v < self.now.events → IsTrue (is_inner cut.now.inner.items v) → IsFree self.now v }
+        ensures { result ≡ true → (v : ℕ) → v < self.now.events
+            → IsTrue (is_inner cut.now.inner.items v) → IsFree self.now v }
     {
         for event in 0..self.events() {
             if cut.has(event) && !self.is_free(event) {
@@ -93,7 +97,8 @@ impl Network {
 
     /// The cut of a piece, if one is found.
     fn cut(&self, alloc: Global) -> Result<Option<Separation>, Memory>
-        ensures { IfOk result (λ found. IfSome found (λ cut. IsPiece self.now cut.inner.items cut.joint)) }
+        ensures { IfOk result (λ found.
+            IfSome found (λ cut. IsPiece self.now cut.inner.items cut.joint)) }
     {
         let graph = self.links(alloc)?;
         let stops = walk(alloc, &graph, self.events())?;

@@ -44,7 +44,8 @@ impl Network {
         ensures outcome { IfOk result (IsOutcome (IsCosted self.now) limits.cap) }
         ensures budget { OnlySpends budget.old.left budget.new.left }
         ensures stops { limits.floor < limits.cap → budget.old.left ≡ Some 0 → IfOk result IsStop }
-        ensures takes { limits.floor < limits.cap → budget.old.left ≢ Some 0 → OnOk result (TakesUnit budget.old.left budget.new.left) }
+        ensures takes { limits.floor < limits.cap → budget.old.left ≢ Some 0
+            → OnOk result (TakesUnit budget.old.left budget.new.left) }
     {
         let units = first_units(budget);
         let mut part = Budget::of(units);
@@ -85,7 +86,8 @@ impl Network {
         ensures budget { OnlySpends budget.old.left budget.new.left }
         // Without a unit there is no visit, and without a visit no answer.
         ensures stops { limits.floor < limits.cap → budget.old.left ≡ Some 0 → IfOk result IsStop }
-        ensures takes { limits.floor < limits.cap → budget.old.left ≢ Some 0 → OnOk result (TakesUnit budget.old.left budget.new.left) }
+        ensures takes { limits.floor < limits.cap → budget.old.left ≢ Some 0
+            → OnOk result (TakesUnit budget.old.left budget.new.left) }
     {
         if !self.is_small() || !has_wide_span(self) {
             return self.least_whole(alloc, limits, budget);

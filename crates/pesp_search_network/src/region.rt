@@ -26,7 +26,8 @@ impl Network {
         requires event { event < self.now.events }
         requires floor { IsLowerBound (IsCosted self.now) cost }
         requires room { cost + 1 < 2 ^ 64 }
-        ensures outcome { IfOk result (IsOutcome (BelowResidue (IsCosted self.now) event residue) (cost + 1)) }
+        ensures outcome { IfOk result (IsOutcome (BelowResidue (IsCosted self.now) event residue)
+            (cost + 1)) }
         ensures spent { IfOk result (StopsWhereSpent budget.new.left) }
         ensures budget { OnlySpends budget.old.left budget.new.left }
     {
@@ -53,7 +54,8 @@ impl Network {
         requires event { event < self.now.events }
         requires floor { IsLowerBound (IsCosted self.now) cost }
         requires room { cost + 1 < 2 ^ 64 }
-        ensures found { (residue : ℕ) → 0 < residue → IfOk result (λ found. IfSome found (λ candidate.
+        ensures found { (residue : ℕ) → 0 < residue
+            → IfOk result (λ found. IfSome found (λ candidate.
             IsOutcome (BelowResidue (IsCosted self.now) event residue) (cost + 1) (Found candidate))) }
         ensures budget { OnlySpends budget.old.left budget.new.left }
     {

@@ -16,15 +16,20 @@ use std::alloc::Global;
 /// A network whose tables are made, and their scale.
 #[derive(Clone, Copy)]
 pub(crate) struct Plan<'a> {
+    // Where the tables take their memory from.
     pub(crate) alloc: Global,
+    // The arcs whose tables are made.
     pub(crate) network: &'a Network,
+    // By which costs become entries.
     pub(crate) scale: Scale,
 }
 
 /// Tables with those of all arcs, and for each arc the place of its pair.
 #[derive(Drop)]
 pub(crate) struct Joined {
+    // With those of all arcs.
     pub(crate) tables: Tables,
+    // By arc; of a pair whose difference tells what the arc costs.
     pub(crate) places: Vec<usize>,
 }
 
@@ -130,7 +135,8 @@ impl<'a> Plan<'a> {
         requires more { self.now.network.now.events ≤ length tables.ends }
         requires period { tables.period ≡ self.now.network.now.period }
         requires there { IsArc self.now.network.now arc.now }
-        ensures { IfOk result (λ placed. AddsArc self.now.network.now self.now.scale arc.now tables placed.tables) }
+        ensures { IfOk result (λ placed.
+            AddsArc self.now.network.now self.now.scale arc.now tables placed.tables) }
     {
         let Placed { tables, place } = self.place(tables, graph, arc)?;
         let joined = self.join(tables, place, arc)?;
@@ -145,7 +151,9 @@ impl<'a> Plan<'a> {
         requires anchored { IsAnchored self.now.network.now tables }
         requires sums { HasNothing self.now.network.now tables }
         ensures anchored { IfOk result (λ joined. IsAnchored self.now.network.now joined.tables) }
-        ensures relaxed { IfOk result (λ joined. IsRelaxed self.now.network.now self.now.scale (length self.now.network.now.arcs) joined.tables) }
+        ensures relaxed { IfOk result (λ joined.
+            IsRelaxed self.now.network.now self.now.scale (length self.now.network.now.arcs)
+            joined.tables) }
     {
         let mut joined = tables;
         let mut places = Vec::new(self.alloc);

@@ -13,7 +13,9 @@ const GREATEST_CAP: u64 = 18_014_398_509_481_984;
 /// An entry is a cost times `times`, by `over`, rounded down: sums of entries are at most the costs so scaled.
 #[derive(Clone, Copy)]
 pub(crate) struct Scale {
+    // From 1 to 48; more than 1 only where `over` is 1.
     pub(crate) times: u64,
+    // From 1 to 2^30; 1 where nothing is rounded.
     pub(crate) over: u64,
     ghost some_times: { 1 ≤ times },
     ghost few_times: { times ≤ 48 },
@@ -68,7 +70,8 @@ impl Scale {
 
     /// What sums of entries are below where costs are below the cap; none where the cap is too great to tell.
     pub(crate) fn sum_of(self, cap: u64) -> Option<i64>
-        ensures { IfSome result (λ sum. (z : ℤ) (cost : ℕ) → cost < cap → IsScaled self z cost → z <ℤ sum) }
+        ensures { IfSome result
+            (λ sum. (z : ℤ) (cost : ℕ) → cost < cap → IsScaled self z cost → z <ℤ sum) }
     {
         if cap > GREATEST_CAP {
             return None;

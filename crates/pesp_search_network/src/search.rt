@@ -28,8 +28,11 @@ const MOST_SUMS: usize = 4_194_304;
 /// The tables of a network, the order in which nodes were taken out, and for each arc the place of its pair.
 #[derive(Drop)]
 struct Made {
+    // Before anything is split: they admit every map with a cost.
     tables: Tables,
+    // The first to be taken out stands first.
     order: Vec<usize>,
+    // By arc, of the pair that has its table.
     places: Vec<usize>,
 }
 
@@ -65,7 +68,8 @@ impl Network {
     /// of arcs.
     fn relaxed(&self, alloc: Global, scale: Scale) -> Result<Made, Memory>
         ensures anchored { IfOk result (λ made. IsAnchored self.now made.tables) }
-        ensures relaxed { IfOk result (λ made. IsRelaxed self.now scale (length self.now.arcs) made.tables) }
+        ensures relaxed { IfOk result (λ made.
+            IsRelaxed self.now scale (length self.now.arcs) made.tables) }
     {
         let plan = Plan {
             alloc,
@@ -95,7 +99,8 @@ impl Network {
         ensures budget { OnlySpends budget.old.left budget.new.left }
         // Without a unit there is no visit, and without a visit no answer.
         ensures stops { limits.floor < limits.cap → budget.old.left ≡ Some 0 → IfOk result IsStop }
-        ensures takes { limits.floor < limits.cap → budget.old.left ≢ Some 0 → OnOk result (TakesUnit budget.old.left budget.new.left) }
+        ensures takes { limits.floor < limits.cap → budget.old.left ≢ Some 0
+            → OnOk result (TakesUnit budget.old.left budget.new.left) }
     {
         let scale = Scale::of(self.most());
         let Made {

@@ -96,7 +96,8 @@ impl Selection {
     fn raised_outcome(&self, cap: u64, outcome: Outcome) -> Outcome
         requires { IsOutcome (IsCosted self.now.network) (cap - self.now.constant) outcome }
         ensures outcome { IsOutcome (selected self.now) cap result }
-        ensures spent { (left : Option ℕ) → StopsWhereSpent left outcome → StopsWhereSpent left result }
+        ensures spent { (left : Option ℕ) → StopsWhereSpent left outcome
+            → StopsWhereSpent left result }
     {
         match outcome {
             Outcome::Found(found) => Outcome::Found(self.raised(cap, found)),

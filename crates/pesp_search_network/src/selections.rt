@@ -21,7 +21,8 @@ fn cut_range(
     ranges: u16,
 ) -> Result<(), Memory>
     requires { place < length selections.old.items }
-    ensures same { OnOk result (AreSame (InSome selected selections.old.items) (InSome selected selections.new.items)) }
+    ensures same { OnOk result (AreSame (InSome selected selections.old.items)
+        (InSome selected selections.new.items)) }
     ensures more { OnOk result (length selections.old.items ≤ length selections.new.items) }
 {
     let values = selections[place].values_below(index, ranges);
@@ -42,7 +43,8 @@ fn cut_ranges(
     ranges: u16,
 ) -> Result<(), Memory>
     requires { place < length selections.old.items }
-    ensures same { OnOk result (AreSame (InSome selected selections.old.items) (InSome selected selections.new.items)) }
+    ensures same { OnOk result (AreSame (InSome selected selections.old.items)
+        (InSome selected selections.new.items)) }
     ensures more { OnOk result (length selections.old.items ≤ length selections.new.items) }
 {
     for cut in 1..ranges {
@@ -53,7 +55,8 @@ fn cut_ranges(
 
 /// Cuts the span of an arc in each selection into so many ranges.
 fn cut_all(selections: &mut Vec<Selection>, index: usize, ranges: u16) -> Result<(), Memory>
-    ensures { OnOk result (AreSame (InSome selected selections.old.items) (InSome selected selections.new.items)) }
+    ensures { OnOk result (AreSame (InSome selected selections.old.items)
+        (InSome selected selections.new.items)) }
 {
     for place in 0..selections.len() {
         cut_ranges(selections, place, index, ranges)?;
@@ -63,7 +66,8 @@ fn cut_all(selections: &mut Vec<Selection>, index: usize, ranges: u16) -> Result
 
 /// All maps of a network.
 fn whole(alloc: Global, network: &Network) -> Result<Vec<Selection>, Memory>
-    ensures { IfOk result (λ selections. AreSame (IsCosted network.now) (InSome selected selections.items)) }
+    ensures { IfOk result (λ selections.
+        AreSame (IsCosted network.now) (InSome selected selections.items)) }
 {
     let mut selections = Vec::new(alloc);
     let all = Selection {
@@ -83,7 +87,8 @@ pub(crate) fn in_ranges(
     arcs: &[usize],
     ranges: u16,
 ) -> Result<Vec<Selection>, Memory>
-    ensures { IfOk result (λ selections. AreSame (IsCosted network.now) (InSome selected selections.items)) }
+    ensures { IfOk result (λ selections.
+        AreSame (IsCosted network.now) (InSome selected selections.items)) }
 {
     let mut selections = whole(alloc, network)?;
     for index in arcs {

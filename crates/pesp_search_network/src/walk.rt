@@ -13,6 +13,7 @@ use std::alloc::Global;
 /// An event in the order of the walk.
 #[derive(Clone, Copy)]
 pub(crate) struct Stop {
+    // No other stop has it.
     event: usize,
     // The place of the stop from which the walk came; none where it began anew.
     parent: Option<usize>,
@@ -27,7 +28,9 @@ pub(crate) struct Stop {
 /// An event that the walk may go to, and the place of the stop from which it would come.
 #[derive(Clone, Copy)]
 struct Step {
+    // The walk may have come to it since, by another way.
     event: usize,
+    // None where the walk begins anew.
     parent: Option<usize>,
 }
 
@@ -184,7 +187,7 @@ impl Stop {
     }
 }
 
-/// The events that were come to by way of a stop, and the one that they hang on. The origin stands behind the events, and what
+/// The events that were come to by way of a stop, and the one that they hang on. The origin stands after the events, and what
 /// hangs on it hangs on no event.
 pub(crate) fn cut_at(
     alloc: Global,

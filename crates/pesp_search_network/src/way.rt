@@ -31,7 +31,9 @@ impl Seat {
 /// Where the ends of an arc stand. Turned together, they cost the same.
 #[derive(Clone, Copy)]
 pub(crate) struct Way {
+    // The event that the arc leads from.
     pub(crate) from: Seat,
+    // The one that it leads to.
     pub(crate) to: Seat,
 }
 

@@ -9,9 +9,13 @@ pub(crate) const NONE: i32 = 1_073_741_823;
 /// Four least sums.
 #[derive(Clone, Copy)]
 pub(crate) struct Four {
+    // At a distance,
     pub(crate) first: i32,
+    // at the next one,
     pub(crate) second: i32,
+    // at the one after that,
     pub(crate) third: i32,
+    // and at the fourth.
     pub(crate) fourth: i32,
 }
 

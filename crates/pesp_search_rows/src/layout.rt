@@ -73,7 +73,9 @@ pub fn lay_back(numbers: &[i32], tests: &[bool], row: &mut [i32])
     requires numbers { AreNumbers numbers.now }
     requires room { length numbers.now ≤ length row.old }
     requires row { IsRow row.old }
-    ensures laid { (k : ℕ) → k < length numbers.now → at row.new k ≡ laid numbers.now tests.now ((length numbers.now - k) % length numbers.now) }
+    ensures laid { (k : ℕ) → k < length numbers.now
+        → at row.new k
+        ≡ laid numbers.now tests.now ((length numbers.now - k) % length numbers.now) }
     ensures row { IsRow row.new }
 {
     for k in 0..numbers.len() {

@@ -1,4 +1,4 @@
--- Sums over tables that stand one behind the other: each has a number, and may have a test, for each difference below the period.
+-- Sums over tables that stand one after the other: each has a number, and may have a test, for each difference below the period.
 use Rattle.std.specs.Prelude.{ℕ, zero, suc, ◌+◌, ◌*◌, ◌<◌, Bool, true, false, ◌&&◌, ℤ, pos, ◌+ℤ◌, List, [], ◌∷◌, slice_index_or}
 
 -- the number for the difference d in the table at a place

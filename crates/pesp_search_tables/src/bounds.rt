@@ -21,10 +21,14 @@ fn lesser(least: Option<i32>, test: bool, number: i32) -> Option<i32>
 
 /// The least number of the pair at the place; none where it has no entry.
 pub(crate) fn least_of(numbers: &[i32], tests: &[bool], period: usize, place: usize) -> Option<i32>
-    requires fits { (Fits period place (length numbers.now)) × (Fits period place (length tests.now)) }
+    requires fits { (Fits period place (length numbers.now))
+        × (Fits period place (length tests.now)) }
     requires small { AreNumbers numbers.now }
-    ensures least { (e : ℕ) → e < period → admits_at period tests.now place e ≡ true → IsSomeAnd result (λ l. l ≤ℤ number_at period numbers.now place e) }
-    ensures reached { IfSome result (λ l. (e : ℕ) × (e < period) × (admits_at period tests.now place e ≡ true) × (number_at period numbers.now place e ≡ l)) }
+    ensures least { (e : ℕ) → e < period → admits_at period tests.now place e ≡ true
+        → IsSomeAnd result (λ l. l ≤ℤ number_at period numbers.now place e) }
+    ensures reached { IfSome result
+        (λ l. (e : ℕ) × (e < period) × (admits_at period tests.now place e ≡ true)
+        × (number_at period numbers.now place e ≡ l)) }
 {
     let mut least = None;
     for e in 0..period {
@@ -41,7 +45,8 @@ fn least_of_pairs(numbers: &[i32], tests: &[bool], period: usize, pairs: usize) 
     requires tests { length tests.now ≡ pairs * period }
     requires small { AreNumbers numbers.now }
     ensures bound { IfSome result (IsPairBound period pairs numbers.now tests.now) }
-    ensures none { result ≡ None → (d : ℕ → ℕ) → AreDifferences period d pairs → admits period tests.now d pairs ≡ true → ⊥ }
+    ensures none { result ≡ None → (d : ℕ → ℕ) → AreDifferences period d pairs
+        → admits period tests.now d pairs ≡ true → ⊥ }
 {
     let mut sum = 0;
     for place in 0..pairs {
@@ -79,10 +84,13 @@ pub(crate) fn bound_of(
     requires tests { length tests.now ≡ pairs * period }
     requires small { AreNumbers numbers.now }
     requires shallow { AreShallow floors.now }
-    ensures bound { IfSome result (λ b. IsPairBound period pairs numbers.now tests.now (b -ℤ floor_sum floors.now (length floors.now))) }
+    ensures bound { IfSome result
+        (λ b. IsPairBound period pairs numbers.now tests.now
+        (b -ℤ floor_sum floors.now (length floors.now))) }
     ensures low { IfSome result (λ b. neg_ℤ (pos (2 ^ 53)) ≤ℤ b) }
     ensures high { IfSome result (λ b. b ≤ℤ pos (2 ^ 53)) }
-    ensures none { result ≡ None → (d : ℕ → ℕ) → AreDifferences period d pairs → admits period tests.now d pairs ≡ true → ⊥ }
+    ensures none { result ≡ None → (d : ℕ → ℕ) → AreDifferences period d pairs
+        → admits period tests.now d pairs ≡ true → ⊥ }
 {
     let least = least_of_pairs(numbers, tests, period, pairs)?;
     Some(least + sum_of(floors))

@@ -16,8 +16,10 @@ const MOST: i64 = 576_460_752_303_423_488;
 pub(crate) fn keep_at(tests: &mut [bool], period: usize, place: usize, set: &[bool], inside: bool)
     requires fits { Fits period place (length tests.old) }
     requires set { length set.now ≡ period }
-    ensures trimmed { AreTrimmed period place (λ e. slice_index_or set.now e false ≡ inside) tests.old tests.new }
-    ensures gone { (e : ℕ) → e < period → slice_index_or set.now e false ≢ inside → admits_at period tests.new place e ≡ false }
+    ensures trimmed { AreTrimmed period place (λ e. slice_index_or set.now e false ≡ inside)
+        tests.old tests.new }
+    ensures gone { (e : ℕ) → e < period → slice_index_or set.now e false ≢ inside
+        → admits_at period tests.new place e ≡ false }
 {
     for e in 0..period {
         tests[place * period + e] &= set[e] == inside;
@@ -34,11 +36,13 @@ fn stays(test: bool, number: i32, limit: i64) -> bool
 
 /// Leaves the pair at the place only numbers below the limit.
 fn cut_from(numbers: &[i32], tests: &mut [bool], period: usize, place: usize, limit: i64)
-    requires fits { (Fits period place (length numbers.now)) × (Fits period place (length tests.old)) }
+    requires fits { (Fits period place (length numbers.now))
+        × (Fits period place (length tests.old)) }
     requires small { AreNumbers numbers.now }
     requires low { neg_ℤ (pos (2 ^ 61)) ≤ℤ limit }
     requires high { limit ≤ℤ pos (2 ^ 61) }
-    ensures trimmed { AreTrimmed period place (λ e. number_at period numbers.now place e <ℤ limit) tests.old tests.new }
+    ensures trimmed { AreTrimmed period place (λ e. number_at period numbers.now place e <ℤ limit)
+        tests.old tests.new }
 {
     for e in 0..period {
         let here = place * period + e;
@@ -53,7 +57,8 @@ fn limit_of(least: Option<i32>, room: i64) -> i64
     requires high { room ≤ℤ pos (2 ^ 60) }
     ensures low { neg_ℤ (pos (2 ^ 61)) ≤ℤ result }
     ensures high { result ≤ℤ pos (2 ^ 61) }
-    ensures enough { (z : ℤ) → IsNumber z → ((l : ℤ) → least ≡ Some l → (z -ℤ l) <ℤ room) → z <ℤ result }
+    ensures enough { (z : ℤ) → IsNumber z → ((l : ℤ) → least ≡ Some l → (z -ℤ l) <ℤ room)
+        → z <ℤ result }
 {
     match least {
         Some(least) => room + i64::from(least),
@@ -63,11 +68,13 @@ fn limit_of(least: Option<i32>, room: i64) -> i64
 
 /// Leaves the pair at the place only numbers that are less than so far above the least one.
 fn cut_place(numbers: &[i32], tests: &mut [bool], period: usize, place: usize, room: i64)
-    requires fits { (Fits period place (length numbers.now)) × (Fits period place (length tests.old)) }
+    requires fits { (Fits period place (length numbers.now))
+        × (Fits period place (length tests.old)) }
     requires small { AreNumbers numbers.now }
     requires low { neg_ℤ (pos (2 ^ 60)) ≤ℤ room }
     requires high { room ≤ℤ pos (2 ^ 60) }
-    ensures trimmed { AreTrimmed period place (IsNear period numbers.now tests.old place room) tests.old tests.new }
+    ensures trimmed { AreTrimmed period place (IsNear period numbers.now tests.old place room)
+        tests.old tests.new }
 {
     let limit = limit_of(least_of(numbers, tests, period, place), room);
     cut_from(numbers, tests, period, place, limit);
@@ -75,7 +82,8 @@ fn cut_place(numbers: &[i32], tests: &mut [bool], period: usize, place: usize, r
 
 /// The cap, or the nearest beyond which no sum is.
 fn limited(cap: i64) -> i64
-    ensures enough { (z : ℤ) → neg_ℤ (pos (2 ^ 54)) ≤ℤ z → z ≤ℤ pos (2 ^ 54) → z <ℤ cap → z <ℤ result }
+    ensures enough { (z : ℤ) → neg_ℤ (pos (2 ^ 54)) ≤ℤ z → z ≤ℤ pos (2 ^ 54) → z <ℤ cap
+        → z <ℤ result }
     ensures low { neg_ℤ (pos (2 ^ 59)) ≤ℤ result }
     ensures high { result ≤ℤ pos (2 ^ 59) }
 {
@@ -93,7 +101,8 @@ fn limited(cap: i64) -> i64
 pub(crate) fn room_of(cap: i64, bound: Option<i64>) -> i64
     requires low { IfSome bound (λ b. neg_ℤ (pos (2 ^ 53)) ≤ℤ b) }
     requires high { IfSome bound (λ b. b ≤ℤ pos (2 ^ 53)) }
-    ensures enough { (b z : ℤ) → bound ≡ Some b → neg_ℤ (pos (2 ^ 29)) ≤ℤ z → z ≤ℤ pos (2 ^ 29) → (z +ℤ b) <ℤ cap → z <ℤ result }
+    ensures enough { (b z : ℤ) → bound ≡ Some b → neg_ℤ (pos (2 ^ 29)) ≤ℤ z → z ≤ℤ pos (2 ^ 29)
+        → (z +ℤ b) <ℤ cap → z <ℤ result }
     ensures low { neg_ℤ (pos (2 ^ 60)) ≤ℤ result }
     ensures high { result ≤ℤ pos (2 ^ 60) }
 {
@@ -110,7 +119,10 @@ pub(crate) fn cut_at(numbers: &[i32], tests: &mut [bool], period: usize, pairs: 
     requires small { AreNumbers numbers.now }
     requires low { neg_ℤ (pos (2 ^ 60)) ≤ℤ room }
     requires high { room ≤ℤ pos (2 ^ 60) }
-    ensures kept { (d : ℕ → ℕ) → AreDifferences period d pairs → admits period tests.old d pairs ≡ true → ((p : ℕ) → p < pairs → IsNear period numbers.now tests.old p room (d p)) → admits period tests.new d pairs ≡ true }
+    ensures kept { (d : ℕ → ℕ) → AreDifferences period d pairs
+        → admits period tests.old d pairs ≡ true
+        → ((p : ℕ) → p < pairs → IsNear period numbers.now tests.old p room (d p))
+        → admits period tests.new d pairs ≡ true }
     ensures within { AreWithin tests.old tests.new }
 {
     for place in 0..pairs {
@@ -122,7 +134,8 @@ pub(crate) fn cut_at(numbers: &[i32], tests: &mut [bool], period: usize, pairs: 
 fn joined(number: i32, entry: Option<u32>) -> i32
     requires { IsNumber number }
     ensures below { (m : ℕ) → entry ≡ Some m → result ≤ℤ (number +ℤ pos m) }
-    ensures exact { (m : ℕ) → entry ≡ Some m → (number +ℤ pos m) ≤ℤ greatest → result ≡ number +ℤ pos m }
+    ensures exact { (m : ℕ) → entry ≡ Some m → (number +ℤ pos m) ≤ℤ greatest
+        → result ≡ number +ℤ pos m }
     ensures small { IsNumber result }
 {
     let sum = i64::from(number) + i64::from(entry.unwrap_or(0));
@@ -150,14 +163,20 @@ pub(crate) fn join_at(
     place: usize,
     table: &[Option<u32>],
 )
-    requires fits { (Fits period place (length numbers.old)) × (Fits period place (length tests.old)) }
+    requires fits { (Fits period place (length numbers.old))
+        × (Fits period place (length tests.old)) }
     requires table { length table.now ≡ period }
     requires small { AreNumbers numbers.old }
     ensures trimmed { AreTrimmed period place (λ e. entry table.now e ≢ None) tests.old tests.new }
-    ensures gone { (e : ℕ) → e < period → entry table.now e ≡ None → admits_at period tests.new place e ≡ false }
-    ensures below { (e m : ℕ) → e < period → entry table.now e ≡ Some m → number_at period numbers.new place e ≤ℤ (number_at period numbers.old place e +ℤ pos m) }
-    ensures exact { (e m : ℕ) → e < period → entry table.now e ≡ Some m → (number_at period numbers.old place e +ℤ pos m) ≤ℤ greatest → number_at period numbers.new place e ≡ number_at period numbers.old place e +ℤ pos m }
-    ensures others { (q e : ℕ) → q ≢ place → e < period → number_at period numbers.new q e ≡ number_at period numbers.old q e }
+    ensures gone { (e : ℕ) → e < period → entry table.now e ≡ None
+        → admits_at period tests.new place e ≡ false }
+    ensures below { (e m : ℕ) → e < period → entry table.now e ≡ Some m
+        → number_at period numbers.new place e ≤ℤ (number_at period numbers.old place e +ℤ pos m) }
+    ensures exact { (e m : ℕ) → e < period → entry table.now e ≡ Some m
+        → (number_at period numbers.old place e +ℤ pos m) ≤ℤ greatest
+        → number_at period numbers.new place e ≡ number_at period numbers.old place e +ℤ pos m }
+    ensures others { (q e : ℕ) → q ≢ place → e < period
+        → number_at period numbers.new q e ≡ number_at period numbers.old q e }
     ensures small { AreNumbers numbers.new }
 {
     for e in 0..period {

@@ -4,7 +4,7 @@ ghost use Rattle.std.specs.Prelude.{◌≡◌, [], ◌∷◌, ◌++◌, IfOk, po
 
 use pesp_base::Memory;
 
-/// Adds one more behind the others.
+/// Adds one more after the others.
 pub(crate) fn add<T: Copy>(list: &mut Vec<T>, item: T) -> Result<(), Memory>
     ensures { IfOk result (λ _. list.new.items ≡ list.old.items ++ item ∷ []) }
 {
@@ -14,7 +14,7 @@ pub(crate) fn add<T: Copy>(list: &mut Vec<T>, item: T) -> Result<(), Memory>
     }
 }
 
-/// Adds so many zeros behind the numbers.
+/// Adds so many zeros after the numbers.
 pub(crate) fn add_zeros(numbers: &mut Vec<i32>, count: usize) -> Result<(), Memory>
     ensures { IfOk result (λ _. numbers.new.items ≡ numbers.old.items ++ replicate count (pos 0)) }
 {
@@ -26,7 +26,7 @@ pub(crate) fn add_zeros(numbers: &mut Vec<i32>, count: usize) -> Result<(), Memo
     Ok(())
 }
 
-/// Adds so many tests that hold behind the others.
+/// Adds so many tests that hold after the others.
 pub(crate) fn add_tests(tests: &mut Vec<bool>, count: usize) -> Result<(), Memory>
     ensures { IfOk result (λ _. tests.new.items ≡ tests.old.items ++ replicate count true) }
 {

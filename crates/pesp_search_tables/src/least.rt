@@ -34,7 +34,9 @@ fn lay_other(own: &[i32], tests: &[bool], turn: Turn, row: &mut [i32])
     requires small { AreNumbers own.now }
     requires long { turn.period ≤ length row.old }
     requires row { IsRow row.old }
-    ensures laid { (k : ℕ) → k < turn.period → at row.new (spot turn.way turn.period k) ≡ entry_at turn.period own.now tests.now turn.other k }
+    ensures laid { (k : ℕ) → k < turn.period
+        → at row.new (spot turn.way turn.period k)
+        ≡ entry_at turn.period own.now tests.now turn.other k }
     ensures row { IsRow row.new }
 {
     let numbers = numbers_of(own, turn.period, turn.other.own);
@@ -52,7 +54,8 @@ fn lay_third(own: &[i32], tests: &[bool], turn: Turn, row: &mut [i32])
     requires small { AreNumbers own.now }
     requires long { turn.period + turn.period ≤ length row.old }
     requires row { IsRow row.old }
-    ensures laid { (q : ℕ) → q < turn.period + turn.period → at row.new q ≡ entry_at turn.period own.now tests.now turn.third (q % turn.period) }
+    ensures laid { (q : ℕ) → q < turn.period + turn.period
+        → at row.new q ≡ entry_at turn.period own.now tests.now turn.third (q % turn.period) }
     ensures row { IsRow row.new }
 {
     let numbers = numbers_of(own, turn.period, turn.third.own);
@@ -64,8 +67,10 @@ fn lay_third(own: &[i32], tests: &[bool], turn: Turn, row: &mut [i32])
 /// that their pairs admit; more than any sum of two numbers where they admit none.
 pub(crate) fn least_of_others(own: &[i32], tests: &[bool], turn: Turn, scratch: &mut Scratch)
     requires period { turn.period ≤ 1440 }
-    requires pairs { (Fits turn.period turn.other.pair (length tests.now)) × (Fits turn.period turn.third.pair (length tests.now)) }
-    requires own { (Fits turn.period turn.other.own (length own.now)) × (Fits turn.period turn.third.own (length own.now)) }
+    requires pairs { (Fits turn.period turn.other.pair (length tests.now))
+        × (Fits turn.period turn.third.pair (length tests.now)) }
+    requires own { (Fits turn.period turn.other.own (length own.now))
+        × (Fits turn.period turn.third.own (length own.now)) }
     requires small { AreNumbers own.now }
     requires rows { IsRow scratch.old.once × IsRow scratch.old.twice }
     ensures least { AreLeasts turn tests.now own.now scratch.new.sums }

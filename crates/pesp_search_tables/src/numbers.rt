@@ -15,7 +15,9 @@ pub(crate) const GREATEST_SUM: i32 = 536_870_912;
 /// Two numbers.
 #[derive(Clone, Copy)]
 pub(crate) struct Two {
+    // The triple's own.
     pub(crate) own: i32,
+    // The pair's.
     pub(crate) pair: i32,
 }
 

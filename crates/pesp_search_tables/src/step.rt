@@ -38,13 +38,15 @@ fn stays(test: bool, least: i32) -> bool
 
 /// Gives a pair a part of the least sum that the triple allows, for each difference; none where it allows none.
 fn give(numbers: &mut [i32], tests: &mut [bool], own: &mut [i32], turn: Turn, row: &[i32])
-    requires pair { (Fits turn.period turn.this.pair (length numbers.old)) × (Fits turn.period turn.this.pair (length tests.old)) }
+    requires pair { (Fits turn.period turn.this.pair (length numbers.old))
+        × (Fits turn.period turn.this.pair (length tests.old)) }
     requires own { Fits turn.period turn.this.own (length own.old) }
     requires small { AreNumbers numbers.old × AreNumbers own.old }
     requires row { turn.period ≤ length row.now }
     requires sums { (e : ℕ) → e < turn.period → IsSum (at row.now e) }
     ensures shared { AreShared turn.period turn.this numbers.old numbers.new own.old own.new }
-    ensures trimmed { AreTrimmed turn.period turn.this.pair (λ e. at row.now e ≤ℤ greatest_sum) tests.old tests.new }
+    ensures trimmed { AreTrimmed turn.period turn.this.pair (λ e. at row.now e ≤ℤ greatest_sum)
+        tests.old tests.new }
     ensures small { AreNumbers numbers.new × AreNumbers own.new }
 {
     for e in 0..turn.period {
@@ -68,13 +70,18 @@ fn take_turn(
 )
     requires period { turn.period ≤ 1440 }
     requires long { length numbers.old ≡ length tests.old }
-    requires pairs { (Fits turn.period turn.this.pair (length tests.old)) × (Fits turn.period turn.other.pair (length tests.old)) × (Fits turn.period turn.third.pair (length tests.old)) }
-    requires own { (Fits turn.period turn.this.own (length own.old)) × (Fits turn.period turn.other.own (length own.old)) × (Fits turn.period turn.third.own (length own.old)) }
+    requires pairs { (Fits turn.period turn.this.pair (length tests.old))
+        × (Fits turn.period turn.other.pair (length tests.old))
+        × (Fits turn.period turn.third.pair (length tests.old)) }
+    requires own { (Fits turn.period turn.this.own (length own.old))
+        × (Fits turn.period turn.other.own (length own.old))
+        × (Fits turn.period turn.third.own (length own.old)) }
     requires apart { (turn.other.own ≢ turn.this.own) × (turn.third.own ≢ turn.this.own) }
     requires small { AreNumbers numbers.old × AreNumbers own.old }
     requires rows { IsRow scratch.old.once × IsRow scratch.old.twice }
     ensures shared { AreShared turn.period turn.this numbers.old numbers.new own.old own.new }
-    ensures trimmed { AreTrimmed turn.period turn.this.pair (IsSupported turn tests.old) tests.old tests.new }
+    ensures trimmed { AreTrimmed turn.period turn.this.pair (IsSupported turn tests.old) tests.old
+        tests.new }
     ensures small { AreNumbers numbers.new × AreNumbers own.new }
     ensures least { AreLeasts turn tests.new own.new scratch.new.sums }
     ensures sums { (e : ℕ) → e < turn.period → IsSum (at scratch.new.sums e) }
@@ -86,8 +93,12 @@ fn take_turn(
 
 /// All numbers of a triple's pairs are moved to the triple.
 fn take_all(numbers: &mut [i32], own: &mut [i32], seat: Seat)
-    requires pairs { (Fits seat.period seat.ab.pair (length numbers.old)) × (Fits seat.period seat.bc.pair (length numbers.old)) × (Fits seat.period seat.ac.pair (length numbers.old)) }
-    requires own { (Fits seat.period seat.ab.own (length own.old)) × (Fits seat.period seat.bc.own (length own.old)) × (Fits seat.period seat.ac.own (length own.old)) }
+    requires pairs { (Fits seat.period seat.ab.pair (length numbers.old))
+        × (Fits seat.period seat.bc.pair (length numbers.old))
+        × (Fits seat.period seat.ac.pair (length numbers.old)) }
+    requires own { (Fits seat.period seat.ab.own (length own.old))
+        × (Fits seat.period seat.bc.own (length own.old))
+        × (Fits seat.period seat.ac.own (length own.old)) }
     requires small { AreNumbers numbers.old × AreNumbers own.old }
     ensures sums { KeepSums seat numbers.old numbers.new own.old own.new }
     ensures others { KeepOthers seat own.old own.new }
@@ -117,7 +128,9 @@ fn floor_of(own: &[i32], tests: &[bool], turn: Turn, row: &[i32]) -> i32
     requires small { AreNumbers own.now }
     requires row { turn.period ≤ length row.now }
     requires sums { (e : ℕ) → e < turn.period → IsSum (at row.now e) }
-    ensures low { (e : ℕ) → e < turn.period → admits_at turn.period tests.now turn.this.pair e ≡ true → result ≤ℤ (number_at turn.period own.now turn.this.own e +ℤ at row.now e) }
+    ensures low { (e : ℕ) → e < turn.period
+        → admits_at turn.period tests.now turn.this.pair e ≡ true
+        → result ≤ℤ (number_at turn.period own.now turn.this.own e +ℤ at row.now e) }
     ensures shallow { IsShallow result }
 {
     let mut floor = NONE;
@@ -135,8 +148,12 @@ fn floor_of(own: &[i32], tests: &[bool], turn: Turn, row: &[i32]) -> i32
 pub(crate) fn step_at(numbers: &mut [i32], tests: &mut [bool], own: &mut [i32], seat: Seat) -> i32
     requires period { seat.period ≤ 1440 }
     requires long { length numbers.old ≡ length tests.old }
-    requires pairs { (Fits seat.period seat.ab.pair (length tests.old)) × (Fits seat.period seat.bc.pair (length tests.old)) × (Fits seat.period seat.ac.pair (length tests.old)) }
-    requires own { (Fits seat.period seat.ab.own (length own.old)) × (Fits seat.period seat.bc.own (length own.old)) × (Fits seat.period seat.ac.own (length own.old)) }
+    requires pairs { (Fits seat.period seat.ab.pair (length tests.old))
+        × (Fits seat.period seat.bc.pair (length tests.old))
+        × (Fits seat.period seat.ac.pair (length tests.old)) }
+    requires own { (Fits seat.period seat.ab.own (length own.old))
+        × (Fits seat.period seat.bc.own (length own.old))
+        × (Fits seat.period seat.ac.own (length own.old)) }
     requires order { (seat.ab.own < seat.bc.own) × (seat.bc.own < seat.ac.own) }
     requires small { AreNumbers numbers.old × AreNumbers own.old }
     ensures sums { KeepSums seat numbers.old numbers.new own.old own.new }

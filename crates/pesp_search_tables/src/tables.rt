@@ -29,9 +29,11 @@ pub const MOST_TRIPLES: usize = 1_048_576;
 /// Tables between nodes: those of pairs of nodes, and three of each triple of them.
 #[derive(Drop)]
 pub struct Tables {
+    // From 1 to 1,440.
     period: usize,
     // Of each pair, its nodes.
     ends: Vec<Ends>,
+    // The sides of each are three pairs between the same three nodes.
     triples: Vec<Triple>,
     // Of each pair, for each difference below the period, the number of its entry,
     numbers: Vec<i32>,
@@ -89,12 +91,13 @@ impl Tables {
         }
     }
 
-    /// These tables and one more pair, behind the others, in which every difference is admitted and costs nothing.
+    /// These tables and one more pair, after the others, in which every difference is admitted and costs nothing.
     pub fn with_pair(self, from: usize, to: usize) -> Result<Tables, Memory>
         requires few { length self.ends < 1048576 }
         ensures sums { IfOk result (λ tables. (x : ℕ → ℕ) → sum_at tables x ≡ sum_at self x) }
         ensures period { IfOk result (λ tables. tables.period ≡ self.period) }
-        ensures ends { IfOk result (λ tables. tables.ends ≡ self.ends ++ record { from = from; to = to } ∷ []) }
+        ensures ends { IfOk result (λ tables.
+            tables.ends ≡ self.ends ++ record { from = from; to = to } ∷ []) }
         ensures triples { IfOk result (λ tables. tables.triples ≡ self.triples) }
     {
         let Tables {
@@ -127,7 +130,8 @@ impl Tables {
         ensures sums { IfOk result (λ tables. (x : ℕ → ℕ) → sum_at tables x ≡ sum_at self x) }
         ensures period { IfOk result (λ tables. tables.period ≡ self.period) }
         ensures ends { IfOk result (λ tables. tables.ends ≡ self.ends) }
-        ensures triples { IfOk result (λ tables. tables.triples ≡ self.triples ++ record { ab = ab; bc = bc; ac = ac } ∷ []) }
+        ensures triples { IfOk result (λ tables.
+            tables.triples ≡ self.triples ++ record { ab = ab; bc = bc; ac = ac } ∷ []) }
         ensures tests { IfOk result (λ tables. tables.tests ≡ self.tests) }
     {
         let Tables {
@@ -171,7 +175,9 @@ impl Tables {
         ensures half { IsHalf self.old self.new pair set.now inside }
         ensures shape { SameShape self.old self.new }
         ensures size { size self.new ≤ size self.old }
-        ensures less { (e : ℕ) → e < self.old.period → admits_at self.old.period self.old.tests pair e ≡ true → slice_index_or set.now e false ≢ inside → size self.new < size self.old }
+        ensures less { (e : ℕ) → e < self.old.period
+            → admits_at self.old.period self.old.tests pair e ≡ true
+            → slice_index_or set.now e false ≢ inside → size self.new < size self.old }
     {
         keep_at(&mut self.tests, self.period, pair, set, inside);
     }
@@ -191,7 +197,8 @@ impl Tables {
 
     /// A number that no map's sum is below; none where no map has a sum.
     pub fn bound(&self) -> Option<i64>
-        ensures { (x : ℕ → ℕ) (n : ℤ) → sum_at self.now x ≡ Some n → IsSomeAnd result (λ b. b ≤ℤ n) }
+        ensures { (x : ℕ → ℕ) (n : ℤ) → sum_at self.now x ≡ Some n
+            → IsSomeAnd result (λ b. b ≤ℤ n) }
     {
         bound_of(
             &self.numbers,
@@ -205,8 +212,10 @@ impl Tables {
     /// Leaves only entries with which a sum below the cap is possible: maps whose sum is below it keep their
     /// sums, and each other map keeps its sum or has none from now on.
     pub fn cut(&mut self, cap: i64)
-        ensures below { (x : ℕ → ℕ) (n : ℤ) → sum_at self.old x ≡ Some n → n <ℤ cap → sum_at self.new x ≡ Some n }
-        ensures fewer { (x : ℕ → ℕ) (n : ℤ) → sum_at self.new x ≡ Some n → sum_at self.old x ≡ Some n }
+        ensures below { (x : ℕ → ℕ) (n : ℤ) → sum_at self.old x ≡ Some n → n <ℤ cap
+            → sum_at self.new x ≡ Some n }
+        ensures fewer { (x : ℕ → ℕ) (n : ℤ) → sum_at self.new x ≡ Some n
+            → sum_at self.old x ≡ Some n }
         ensures shape { SameShape self.old self.new }
         ensures size { size self.new ≤ size self.old }
     {

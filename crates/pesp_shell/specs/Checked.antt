@@ -9,7 +9,7 @@ use Rattle.pesp_shell.specs.declared.run_fault.RunFault.TheVariants as ended
 use Rattle.pesp_shell.specs.Opening.{Files, IsFirstFault, StandFor}
 use Rattle.pesp_shell_replies.specs.Replies.{behind, cost_text, tensions_text, told, violations_text}
 
--- one reply behind another, where both are there
+-- one reply after another, where both are there
 abbrev pub joined : Option (List ℕ) → Option (List ℕ) → Option (List ℕ)
 joined None later = None
 joined (Some text) later = behind text later
@@ -25,7 +25,7 @@ pub record IsCheck (f : Files) (text : List ℕ) (I : Network) (fixed times : Ti
   pub files : StandFor f I fixed times
   pub tells : check_text (with_fixed I fixed) times ≡ Some text
 
--- the fault is that of the first file that has one, or want of memory behind all
+-- the fault is that of the first file that has one, or out of memory after all
 abbrev pub IsCheckFault : Files → RunFault → Type 0
 IsCheckFault f (ended.File source fault) = IsFirstFault f source fault
 IsCheckFault f (ended.Memory line) = (I : Network) × (fixed : Times) × (times : Times) × StandFor f I fixed times × (line ≡ 0)

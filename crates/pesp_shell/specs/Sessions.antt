@@ -16,7 +16,7 @@ MayAnswer first lines number last written written' not_written (Ok done) =
 -- one line, which has a reply, found no memory, and nothing is written
 MayAnswer first lines number last written written' not_written (Err (fault.Memory line)) =
     (not_written ≡ false) × (line ≡ number) × (asking : List ℕ) × (lines ≡ asking ∷ []) × (parsed asking ≢ Ok None) × Keeps written written'
--- writing failed behind some first bytes of their replies
+-- writing failed after some first bytes of their replies
 MayAnswer first lines number last written written' not_written (Err fault.Write) =
     IsTrue not_written × (next : Work) × (replies : List ℕ) × (n : ℕ) × Leads first lines replies next × Appends written written' (take n replies)
 MayAnswer first lines number last written written' not_written (Err other) = ⊥
@@ -27,7 +27,7 @@ MayFinish not_written passed_on (Ok done) = (not_written ≡ false) × IsTrue pa
 MayFinish not_written passed_on (Err fault.Write) = IsTrue not_written
 MayFinish not_written passed_on (Err other) = ⊥
 
--- behind the greatest number of lines these bytes are left, and the run may end so
+-- after the greatest number of lines these bytes are left, and the run may end so
 abbrev pub MayEndBehind : List ℕ → Option (List ℕ) → Marks → Result (Unit {0}) RunFault → Type 0
 MayEndBehind rest left m (Ok done) = NoneFailed m × (rest ≡ []) × IsTrue m.at_end × IsAtEnd left × IsTrue m.passed_on
 MayEndBehind rest left m (Err fault.Read) = (m.not_written ≡ false) × (rest ≡ []) × IsTrue m.not_read

@@ -23,7 +23,8 @@ pub(crate) fn answer<K: Keeper, W: ByteSink>(
     sink: &mut W,
 ) -> Result<(), RunFault>
     requires { W.failed sink.old ≡ false }
-    ensures { MayAnswer (work_of bench.old) (line.now ∷ []) number (work_of bench.new) (W.written sink.old) (W.written sink.new) (W.failed sink.new) result }
+    ensures { MayAnswer (work_of bench.old) (line.now ∷ []) number (work_of bench.new)
+        (W.written sink.old) (W.written sink.new) (W.failed sink.new) result }
 {
     let Ok(text) = reply_to_line(alloc, bench, line) else {
         return Err(RunFault::Memory { line: number });
@@ -44,7 +45,8 @@ pub(crate) fn answer_last<K: Keeper, W: ByteSink>(
 ) -> Result<(), RunFault>
     requires uncut { IsUncut is_line_feed line.now }
     requires writer { W.failed sink.old ≡ false }
-    ensures ending { MayAnswer (work_of bench.old) (lines_of line.now) number (work_of bench.new) (W.written sink.old) (W.written sink.new) (W.failed sink.new) result }
+    ensures ending { MayAnswer (work_of bench.old) (lines_of line.now) number (work_of bench.new)
+        (W.written sink.old) (W.written sink.new) (W.failed sink.new) result }
     ensures passed { OnOk result (IsTrue (W.passed_on sink.new)) }
 {
     if line.is_empty() {
@@ -65,7 +67,7 @@ fn finish<W: ByteSink>(sink: &mut W) -> Result<(), RunFault>
     }
 }
 
-/// Ends behind the greatest number of lines, where no byte is left.
+/// Ends after the greatest number of lines, where no byte is left.
 pub(crate) fn end<R: ByteSource, W: ByteSink>(
     lines: &mut LineReader,
     source: &mut R,
@@ -73,9 +75,12 @@ pub(crate) fn end<R: ByteSource, W: ByteSink>(
 ) -> Result<(), RunFault>
     requires reader { R.failed source.old ≡ false }
     requires writer { W.failed sink.old ≡ false }
-    ensures taken { (bytes : List ℕ) × Consumes (R.left source.old) (R.left source.new) bytes × (lines.new ≡ lines.old ++ bytes) }
+    ensures taken { (bytes : List ℕ) × Consumes (R.left source.old) (R.left source.new) bytes
+        × (lines.new ≡ lines.old ++ bytes) }
     ensures kept { Keeps (W.written sink.old) (W.written sink.new) }
-    ensures ending { MayEndBehind lines.new (R.left source.new) (marks (R.at_end source.new) (R.failed source.new) (W.failed sink.new) (W.passed_on sink.new)) result }
+    ensures ending { MayEndBehind lines.new (R.left source.new)
+        (marks (R.at_end source.new) (R.failed source.new) (W.failed sink.new)
+        (W.passed_on sink.new)) result }
 {
     if !lines.held().is_empty() {
         return Err(RunFault::TooManyLines);

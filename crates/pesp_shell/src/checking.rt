@@ -18,7 +18,10 @@ use std::alloc::{AllocError, Global};
 
 /// The replies to `tensions`, `violations` and `cost`.
 fn put_assessment(text: &mut Vec<u8>, assessment: &Assessment) -> Result<(), AllocError>
-    ensures { OnOk result (text.new.items ≡ text.old.items ++ (tensions_text assessment.now.tensions.items ++ (violations_text assessment.now.violations.items ++ cost_text assessment.now.cost))) }
+    ensures { OnOk result (text.new.items
+        ≡ text.old.items
+        ++ (tensions_text assessment.now.tensions.items
+        ++ (violations_text assessment.now.violations.items ++ cost_text assessment.now.cost))) }
 {
     put_tensions(text, assessment.tensions.as_slice())?;
     put_violations(text, assessment.violations.as_slice())?;
@@ -27,7 +30,9 @@ fn put_assessment(text: &mut Vec<u8>, assessment: &Assessment) -> Result<(), All
 
 /// The reply of a refusal of all three.
 fn put_refusals(text: &mut Vec<u8>, refusal: &Refusal) -> Result<(), AllocError>
-    ensures { OnOk result (behind text.old.items (joined (refusal_text refusal.now) (joined (refusal_text refusal.now) (refusal_text refusal.now))) ≡ Some text.new.items) }
+    ensures { OnOk result (behind text.old.items
+        (joined (refusal_text refusal.now)
+        (joined (refusal_text refusal.now) (refusal_text refusal.now))) ≡ Some text.new.items) }
 {
     put_refusal(text, *refusal)?;
     put_refusal(text, *refusal)?;
@@ -56,7 +61,7 @@ fn told_check(
 ///
 /// Without fixed times no event is fixed, and without times the timetable is empty. An event without
 /// a time makes each reply that of refusal 11, which is no fault. Faults in order: the file of
-/// activities, that of fixed times, that of times, want of memory.
+/// activities, that of fixed times, that of times, out of memory.
 pub fn check(
     alloc: Global,
     period: Period,
@@ -66,7 +71,8 @@ pub fn check(
 ) -> Result<Vec<u8>, RunFault>
     ensures replies { IfOk result (λ text. (I : Network) × (f : Times) × (m : Times)
         × IsCheck (files period activities.now (option_copied fixed.entry) (option_copied times.entry)) text.items I f m) }
-    ensures fault { IfErr result (IsCheckFault (files period activities.now (option_copied fixed.entry) (option_copied times.entry))) }
+    ensures fault { IfErr result (IsCheckFault
+        (files period activities.now (option_copied fixed.entry) (option_copied times.entry))) }
 {
     let (instance, timetable) = read(alloc, period, activities, fixed, times)?;
     match told_check(alloc, &instance, &timetable) {

@@ -19,7 +19,7 @@ const PERIOD_HELP: &str = "The period, 2 to 1440";
 
 const _: () = prove!(LEAST_PERIOD == 2 && GREATEST_PERIOD == 1440);
 
-/// What help says behind the options.
+/// What help says after the options.
 const MORE_HELP: &str = "\
 Without --check, commands come from standard input, a line each, and each is answered before the next is read:
   domains, domain E, fix E t, window E f n, span A l u, optimum, adopt, violations, cost, dump and more
@@ -95,12 +95,12 @@ fn command<'a>(alloc: Global) -> Result<Command<'a>, AllocError>
 
 /// What the words of a command line ask for; the first word is the program's name.
 ///
-/// The error's kind tells a question for help, refused words and want of memory apart.
+/// The error's kind tells a question for help, refused words and out of memory apart.
 pub fn settings<'a>(alloc: Global, words: &'a [&'a str]) -> Result<Settings<'a>, Error>
     ensures settings { IfOk result (AreSettings (texts words.entry.now)) }
 
     // A line with a fault has the kind of the first step of reading that fails, and one without it
-    // fails for want of memory alone.
+    // fails only where it is out of memory.
     ensures kinds { FailsBy (fault_of pespbench (texts words.entry.now)) result }
     ensures taken { IfErr result (λ e. takes pespbench (texts words.entry.now) ≡ true
         → kind_of e ≡ ErrorKind.OutOfMemory) }

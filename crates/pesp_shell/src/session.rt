@@ -48,8 +48,8 @@ fn answer_all<K: Keeper, R: ByteSource, W: ByteSink>(
 ///
 /// The reply to a line is whole before its first byte is written, and is written before more of the
 /// stream is taken. Without fixed times no event is fixed, and without times the timetable is empty.
-/// Faults in order: the files, want of memory at line 0; then, at the first line that has one,
-/// `TooManyLines`, `LineTooLong`, want of memory, or a device that failed. No device is used behind a fault.
+/// Faults in order: the files, out of memory at line 0; then, at the first line that has one,
+/// `TooManyLines`, `LineTooLong`, out of memory, or a device that failed. No device is used after a fault.
 pub fn run<K: Keeper, R: ByteSource, W: ByteSink>(
     alloc: Global,
     period: Period,
@@ -62,7 +62,8 @@ pub fn run<K: Keeper, R: ByteSource, W: ByteSink>(
     requires reader { R.failed reader.old ≡ false }
     requires end { R.at_end reader.old ≡ false }
     requires writer { W.failed writer.old ≡ false }
-    ensures { IsRun (files period activities.now (option_copied fixed.entry) (option_copied times.entry))
+    ensures { IsRun (files period activities.now (option_copied fixed.entry)
+        (option_copied times.entry))
         (R.left reader.old) (R.left reader.new) (W.written writer.old) (W.written writer.new)
         (marks (R.at_end reader.new) (R.failed reader.new) (W.failed writer.new) (W.passed_on writer.new)) result }
 {

@@ -1,4 +1,4 @@
--- The forms of commands by their names, and the first fault of the numbers behind a name.
+-- The forms of commands by their names, and the first fault of the numbers after a name.
 use Rattle.std.specs.Prelude.{ℕ, ◌+◌, ◌≡◌, ◌≤◌, Bool, not, ◌==◌, int_lt, List, [], ◌∷◌, ◌++◌, length, map, ℤ, unsigned_abs, Option, Some, None, option_map, bytes_eq, Result, Ok, Err}
 use Rattle.std.specs.Borrow.{Bor}
 use Rattle.std.specs.List.{starts_with}
@@ -13,7 +13,7 @@ use Rattle.pesp_shell_commands.specs.declared.parsing.ParseFault.TheVariants as 
 use Rattle.pesp_shell_commands.specs.Parsed.{Range, Form, arguments, fault_at, form_for, bound, id, number_faults, number_of, weight}
 use Rattle.pesp_shell_commands.specs.Words.{texts}
 
--- the words behind a command's name, the first of which stands at a place of the line
+-- the words after a command's name, the first of which stands at a place of the line
 pub record Arguments : Type 0 where
   pub words : List (List ℕ)
   pub place : ℕ
@@ -66,7 +66,7 @@ abbrev pub unless_faulty : Option ParseFault → Command → Result Command Pars
 unless_faulty None command = Ok command
 unless_faulty (Some fault) command = Err fault
 
--- what the words behind a name say
+-- what the words after a name say
 abbrev pub said : Name → Arguments → Result Command ParseFault
 said name a = unless_faulty (first_fault a (form_for name).ranges (form_for name).is_crossed) ((form_for name).made (values a))
 
@@ -83,7 +83,7 @@ pub record IsNamed (row : Bor (List (Bor (List ℕ))) × Name) : Type 0 where
   pub words : texts row.0.now ≡ (form_for row.1).name
   pub few : length row.0.now ≤ 2
 
--- the words behind a form's name
+-- the words after a form's name
 pub record AreBehind (line : List (List ℕ)) (form : Form) (a : Arguments) : Type 0 where
   pub within : length form.name ≤ length line
   pub words : a.words ≡ arguments form line

@@ -40,7 +40,7 @@ time = record { low = pos 0; high = pos 65535 }
 abbrev pub limit : Range
 limit = record { low = pos 0; high = pos 1000000000000 }
 
--- a command's name, the ranges of the numbers behind it, whether these are two crossed bounds, and the command that they make
+-- a command's name, the ranges of the numbers after it, whether these are two crossed bounds, and the command that they make
 pub record Form : Type 0 where
   pub name : List (List ℕ)
   pub ranges : List Range
@@ -132,7 +132,7 @@ number_faults k (range ∷ ranges) (w ∷ words) = fault_at k (number_in range.l
 abbrev pub number_of : List ℕ → ℤ
 number_of w = unwrap_or (number_value w) (pos 0)
 
--- the words behind a form's name
+-- the words after a form's name
 abbrev pub arguments : Form → List (List ℕ) → List (List ℕ)
 arguments form words = drop (length form.name) words
 

@@ -60,7 +60,7 @@ may_grow other = false
 abbrev pub line_at : List (List ℕ) → ℕ → List ℕ
 line_at lines n = slice_index_or lines (n - 1) []
 
--- want of memory at one of the lines, an edit that may grow: neither it nor a line before it is faulty
+-- out of memory at one of the lines, an edit that may grow: neither it nor a line before it is faulty
 pub record IsMemoryFault (lines : List (List ℕ)) (stands : Result Network ReplayFault) (found : ReplayFault) : Type 0 where
   pub kind : found.kind ≡ kind.Refused no.Memory
   pub from_one : 0 < found.line
@@ -68,7 +68,7 @@ pub record IsMemoryFault (lines : List (List ℕ)) (stands : Result Network Repl
   pub grows : IsTrue (may_grow (parsed (line_at lines found.line)))
   pub none_faulty : IfErr stands (λ first. found.line < first.line)
 
--- the fault of a script's first faulty line, or want of memory
+-- the fault of a script's first faulty line, or out of memory
 abbrev pub IsReplayFault : List ℕ → Result Network ReplayFault → ReplayFault → Type 0
 IsReplayFault bytes stands found = (stands ≡ Err found) ⊎ IsMemoryFault (lines_of bytes) stands found
 
@@ -82,7 +82,7 @@ pub record IsSaid (I : Network) : Type 0 where
   pub head : parsed (script_head I) ≡ Ok None
   pub edits : map parsed (script_lines I) ≡ map said (script_edits I)
 
--- where the bytes are the script of an instance, the answer is that instance, or want of memory
+-- where the bytes are the script of an instance, the answer is that instance, or out of memory
 abbrev pub GivesBack : ℕ → List ℕ → Result Network ReplayFault → Type 0
 GivesBack period bytes answer =
     (I : Network) → IsNetwork I → I.period ≡ period → bytes ≡ script I

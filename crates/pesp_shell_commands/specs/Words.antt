@@ -14,7 +14,7 @@ has_byte bytes = not (length bytes == 0)
 abbrev pub words_of : List ℕ → List (List ℕ)
 words_of line = filter has_byte (cut_at is_space line)
 
--- the texts behind references
+-- the texts after references
 abbrev pub texts : List (Bor (List ℕ)) → List (List ℕ)
 texts words = map (λ w. w.now) words
 

@@ -59,7 +59,7 @@ const NAMES: [(&[&[u8]], Name); 21] = [
     (&[b"dump"], Name::Dump),
 ];
 
-/// The words behind a command's own ones, where the words begin with these.
+/// The words after a command's own ones, where the words begin with these.
 fn numbers_behind<'a>(own: &'static [&'static [u8]], words: &'a [&'a [u8]]) -> Option<Numbers<'a>>
     requires { length own.now ≤ 2 }
     ensures begins { is_some result ≡ starts_with bytes_eq (texts words.now) (texts own.now) }
@@ -74,13 +74,14 @@ fn numbers_behind<'a>(own: &'static [&'static [u8]], words: &'a [&'a [u8]]) -> O
     }
 }
 
-/// The first of the commands that the words name, and the words behind its name.
+/// The first of the commands that the words name, and the words after its name.
 fn first_named<'a>(
     names: &[(&'static [&'static [u8]], Name)],
     words: &'a [&'a [u8]],
 ) -> Option<(Name, Numbers<'a>)>
     requires { All IsNamed names.now }
-    ensures form { form_found result ≡ find (begins_with (texts words.now)) (map (λ row. form_for row.1) names.now) }
+    ensures form { form_found result
+        ≡ find (begins_with (texts words.now)) (map (λ row. form_for row.1) names.now) }
     ensures numbers { IfSome result (λ p. AreBehind (texts words.now) (form_for p.0) p.1) }
 {
     for (own, name) in names {
@@ -91,7 +92,7 @@ fn first_named<'a>(
     None
 }
 
-/// The command that the words name, and the words behind its name.
+/// The command that the words name, and the words after its name.
 pub(crate) fn named<'a>(words: &'a [&'a [u8]]) -> Option<(Name, Numbers<'a>)>
     ensures form { form_found result ≡ form_of (texts words.now) }
     ensures numbers { IfSome result (λ p. AreBehind (texts words.now) (form_for p.0) p.1) }

@@ -19,10 +19,12 @@ use pesp_base::{
 fn number_at(place: u8, word: &[u8], low: i64, high: i64) -> Result<i64, ParseFault>
     requires low { neg_ℤ (pos number_cap) <ℤ low }
     requires high { high <ℤ pos number_cap }
-    ensures no_fault { IfOk result (λ number. word_fault place (record { low = low; high = high }) word.now ≡ None) }
+    ensures no_fault { IfOk result (λ number.
+        word_fault place (record { low = low; high = high }) word.now ≡ None) }
     ensures value { IfOk result (λ number. number ≡ number_of word.now) }
     ensures within { IfOk result (λ number. (low ≤ℤ number) × (number ≤ℤ high)) }
-    ensures fault { IfErr result (λ fault. word_fault place (record { low = low; high = high }) word.now ≡ Some fault) }
+    ensures fault { IfErr result (λ fault.
+        word_fault place (record { low = low; high = high }) word.now ≡ Some fault) }
 {
     match number_between(word, low, high) {
         Ok(number) => Ok(number),
@@ -34,10 +36,12 @@ fn number_at(place: u8, word: &[u8], low: i64, high: i64) -> Result<i64, ParseFa
 /// The number of the word at a place, where it is from 0 to a limit.
 fn natural_at(place: u8, word: &[u8], greatest: u64) -> Result<u64, ParseFault>
     requires { greatest ≤ GREATEST_LIMIT }
-    ensures no_fault { IfOk result (λ number. word_fault place (record { low = pos 0; high = pos greatest }) word.now ≡ None) }
+    ensures no_fault { IfOk result (λ number.
+        word_fault place (record { low = pos 0; high = pos greatest }) word.now ≡ None) }
     ensures value { IfOk result (λ number. number ≡ unsigned_abs (number_of word.now)) }
     ensures within { IfOk result (λ number. number ≤ greatest) }
-    ensures fault { IfErr result (λ fault. word_fault place (record { low = pos 0; high = pos greatest }) word.now ≡ Some fault) }
+    ensures fault { IfErr result (λ fault.
+        word_fault place (record { low = pos 0; high = pos greatest }) word.now ≡ Some fault) }
 {
     let number = number_at(place, word, 0, greatest as i64)?;
     Ok(number as u64)

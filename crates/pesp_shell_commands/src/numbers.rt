@@ -1,4 +1,4 @@
-//! The numbers behind a command's name.
+//! The numbers after a command's name.
 
 ghost use Rattle.std.specs.Prelude.{◌≡◌, ◌≤◌, ◌≤ℤ◌, IfOk, IfErr, None, Some, false, true, int_lt};
 ghost use Rattle.pesp_base.specs.Limits.{least_bound, greatest_bound};
@@ -29,6 +29,7 @@ fn span_between(lower: i32, upper: i32) -> Result<Span, ParseFault>
 /// The words of an activity's numbers.
 #[derive(Clone, Copy)]
 struct ActivityWords<'a> {
+    // In the order of the line, and none of them read yet.
     id: &'a [u8],
     from: &'a [u8],
     to: &'a [u8],
@@ -41,9 +42,11 @@ impl ActivityWords<'_> {
     /// The activity, where the first of the words stands at the place.
     fn activity_at(&self, place: u8) -> Result<Activity, ParseFault>
         requires { place ≤ 3 }
-        ensures no_fault { IfOk result (λ activity. first_of (activity_faults place self.now) ≡ None) }
+        ensures no_fault { IfOk result (λ activity.
+            first_of (activity_faults place self.now) ≡ None) }
         ensures value { IfOk result (λ activity. activity ≡ activity_from self.now) }
-        ensures fault { IfErr result (λ fault. first_of (activity_faults place self.now) ≡ Some fault) }
+        ensures fault { IfErr result (λ fault.
+            first_of (activity_faults place self.now) ≡ Some fault) }
     {
         let id = activity_at(place, self.id)?;
         let from = event_at(place + 1, self.from)?;
@@ -62,9 +65,10 @@ impl ActivityWords<'_> {
     }
 }
 
-/// The words behind a command's name.
+/// The words after a command's name.
 #[derive(Drop)]
 pub(crate) struct Numbers<'a> {
+    // None of them is the command's name.
     words: &'a [&'a [u8]],
     /// The place of the first of them in the line.
     place: u8,
@@ -85,7 +89,7 @@ impl<'a> Numbers<'a> {
     ghost use Rattle.pesp_shell_commands.specs.Parsed as ranges;
     ghost use Rattle.pesp_shell_commands.specs.Words.{texts};
 
-    /// The words of a line behind its first ones, which are one or two.
+    /// The words of a line after its first ones, which are one or two.
     #[tactic(auto, using(crate::proofs::TakenLemmas::texts_behind))]
     pub(crate) fn behind(words: &'a [&'a [u8]], count: usize) -> Numbers<'a>
         requires few { count ≤ 2 }
@@ -112,9 +116,11 @@ impl<'a> Numbers<'a> {
 
     #[tactic(auto, unfolding(crate::specs::Forms::first_fault))]
     pub(crate) fn event(&self) -> Result<EventId, ParseFault>
-        ensures no_fault { IfOk result (λ event. first_fault self.now (ranges.id ∷ []) never ≡ None) }
+        ensures no_fault { IfOk result (λ event.
+            first_fault self.now (ranges.id ∷ []) never ≡ None) }
         ensures value { IfOk result (λ event. event ≡ natural (values self.now) 0) }
-        ensures fault { IfErr result (λ fault. first_fault self.now (ranges.id ∷ []) never ≡ Some fault) }
+        ensures fault { IfErr result (λ fault.
+            first_fault self.now (ranges.id ∷ []) never ≡ Some fault) }
     {
         let [event] = self.words else {
             return Err(ParseFault::WordCount);
@@ -124,10 +130,12 @@ impl<'a> Numbers<'a> {
 
     #[tactic(auto, unfolding(crate::specs::Forms::first_fault))]
     pub(crate) fn event_and_time(&self) -> Result<(EventId, u16), ParseFault>
-        ensures no_fault { IfOk result (λ pair. first_fault self.now (ranges.id ∷ ranges.time ∷ []) never ≡ None) }
+        ensures no_fault { IfOk result (λ pair.
+            first_fault self.now (ranges.id ∷ ranges.time ∷ []) never ≡ None) }
         ensures event { IfOk result (λ pair. pair.0 ≡ natural (values self.now) 0) }
         ensures time { IfOk result (λ pair. pair.1 ≡ natural (values self.now) 1) }
-        ensures fault { IfErr result (λ fault. first_fault self.now (ranges.id ∷ ranges.time ∷ []) never ≡ Some fault) }
+        ensures fault { IfErr result (λ fault.
+            first_fault self.now (ranges.id ∷ ranges.time ∷ []) never ≡ Some fault) }
     {
         let [event, time] = self.words else {
             return Err(ParseFault::WordCount);
@@ -139,11 +147,13 @@ impl<'a> Numbers<'a> {
 
     #[tactic(auto, unfolding(crate::specs::Forms::first_fault))]
     pub(crate) fn event_and_window(&self) -> Result<(EventId, u16, u16), ParseFault>
-        ensures no_fault { IfOk result (λ said. first_fault self.now (ranges.id ∷ ranges.time ∷ ranges.time ∷ []) never ≡ None) }
+        ensures no_fault { IfOk result (λ said.
+            first_fault self.now (ranges.id ∷ ranges.time ∷ ranges.time ∷ []) never ≡ None) }
         ensures event { IfOk result (λ said. said.0 ≡ natural (values self.now) 0) }
         ensures first { IfOk result (λ said. said.1 ≡ natural (values self.now) 1) }
         ensures length { IfOk result (λ said. said.2 ≡ natural (values self.now) 2) }
-        ensures fault { IfErr result (λ fault. first_fault self.now (ranges.id ∷ ranges.time ∷ ranges.time ∷ []) never ≡ Some fault) }
+        ensures fault { IfErr result (λ fault.
+            first_fault self.now (ranges.id ∷ ranges.time ∷ ranges.time ∷ []) never ≡ Some fault) }
     {
         let [event, first, length] = self.words else {
             return Err(ParseFault::WordCount);
@@ -158,7 +168,8 @@ impl<'a> Numbers<'a> {
     pub(crate) fn activity_id(&self) -> Result<ActivityId, ParseFault>
         ensures no_fault { IfOk result (λ id. first_fault self.now (ranges.id ∷ []) never ≡ None) }
         ensures value { IfOk result (λ id. id ≡ natural (values self.now) 0) }
-        ensures fault { IfErr result (λ fault. first_fault self.now (ranges.id ∷ []) never ≡ Some fault) }
+        ensures fault { IfErr result (λ fault.
+            first_fault self.now (ranges.id ∷ []) never ≡ Some fault) }
     {
         let [id] = self.words else {
             return Err(ParseFault::WordCount);
@@ -168,10 +179,12 @@ impl<'a> Numbers<'a> {
 
     #[tactic(auto, unfolding(crate::specs::Forms::first_fault))]
     pub(crate) fn id_and_weight(&self) -> Result<(ActivityId, Weight), ParseFault>
-        ensures no_fault { IfOk result (λ pair. first_fault self.now (ranges.id ∷ ranges.weight ∷ []) never ≡ None) }
+        ensures no_fault { IfOk result (λ pair.
+            first_fault self.now (ranges.id ∷ ranges.weight ∷ []) never ≡ None) }
         ensures id { IfOk result (λ pair. pair.0 ≡ natural (values self.now) 0) }
         ensures weight { IfOk result (λ pair. pair.1 ≡ natural (values self.now) 1) }
-        ensures fault { IfErr result (λ fault. first_fault self.now (ranges.id ∷ ranges.weight ∷ []) never ≡ Some fault) }
+        ensures fault { IfErr result (λ fault.
+            first_fault self.now (ranges.id ∷ ranges.weight ∷ []) never ≡ Some fault) }
     {
         let [id, weight] = self.words else {
             return Err(ParseFault::WordCount);
@@ -183,11 +196,13 @@ impl<'a> Numbers<'a> {
 
     #[tactic(auto, unfolding(crate::specs::Forms::first_fault))]
     pub(crate) fn id_and_ends(&self) -> Result<(ActivityId, EventId, EventId), ParseFault>
-        ensures no_fault { IfOk result (λ ends. first_fault self.now (ranges.id ∷ ranges.id ∷ ranges.id ∷ []) never ≡ None) }
+        ensures no_fault { IfOk result (λ ends.
+            first_fault self.now (ranges.id ∷ ranges.id ∷ ranges.id ∷ []) never ≡ None) }
         ensures id { IfOk result (λ ends. ends.0 ≡ natural (values self.now) 0) }
         ensures from { IfOk result (λ ends. ends.1 ≡ natural (values self.now) 1) }
         ensures to { IfOk result (λ ends. ends.2 ≡ natural (values self.now) 2) }
-        ensures fault { IfErr result (λ fault. first_fault self.now (ranges.id ∷ ranges.id ∷ ranges.id ∷ []) never ≡ Some fault) }
+        ensures fault { IfErr result (λ fault.
+            first_fault self.now (ranges.id ∷ ranges.id ∷ ranges.id ∷ []) never ≡ Some fault) }
     {
         let [id, from, to] = self.words else {
             return Err(ParseFault::WordCount);
@@ -200,10 +215,14 @@ impl<'a> Numbers<'a> {
 
     #[tactic(auto, unfolding(crate::specs::Forms::first_fault))]
     pub(crate) fn id_and_span(&self) -> Result<(ActivityId, Span), ParseFault>
-        ensures no_fault { IfOk result (λ pair. first_fault self.now (ranges.id ∷ ranges.bound ∷ ranges.bound ∷ []) (crosses_at 1) ≡ None) }
+        ensures no_fault { IfOk result (λ pair.
+            first_fault self.now (ranges.id ∷ ranges.bound ∷ ranges.bound ∷ []) (crosses_at 1)
+            ≡ None) }
         ensures id { IfOk result (λ pair. pair.0 ≡ natural (values self.now) 0) }
         ensures span { IfOk result (λ pair. pair.1 ≡ span_at (values self.now) 1) }
-        ensures fault { IfErr result (λ fault. first_fault self.now (ranges.id ∷ ranges.bound ∷ ranges.bound ∷ []) (crosses_at 1) ≡ Some fault) }
+        ensures fault { IfErr result (λ fault.
+            first_fault self.now (ranges.id ∷ ranges.bound ∷ ranges.bound ∷ []) (crosses_at 1)
+            ≡ Some fault) }
     {
         let [id, lower, upper] = self.words else {
             return Err(ParseFault::WordCount);
@@ -217,9 +236,11 @@ impl<'a> Numbers<'a> {
 
     #[tactic(auto, unfolding(crate::specs::Forms::first_fault))]
     pub(crate) fn activity(&self) -> Result<Activity, ParseFault>
-        ensures no_fault { IfOk result (λ activity. first_fault self.now activity_ranges (crosses_at 3) ≡ None) }
+        ensures no_fault { IfOk result (λ activity.
+            first_fault self.now activity_ranges (crosses_at 3) ≡ None) }
         ensures value { IfOk result (λ activity. activity ≡ activity_of (values self.now)) }
-        ensures fault { IfErr result (λ fault. first_fault self.now activity_ranges (crosses_at 3) ≡ Some fault) }
+        ensures fault { IfErr result (λ fault.
+            first_fault self.now activity_ranges (crosses_at 3) ≡ Some fault) }
     {
         let [id, from, to, lower, upper, weight] = self.words else {
             return Err(ParseFault::WordCount);
@@ -240,9 +261,11 @@ impl<'a> Numbers<'a> {
 
     #[tactic(auto, unfolding(crate::specs::Forms::first_fault))]
     pub(crate) fn limit(&self) -> Result<u64, ParseFault>
-        ensures no_fault { IfOk result (λ limit. first_fault self.now (ranges.limit ∷ []) never ≡ None) }
+        ensures no_fault { IfOk result (λ limit.
+            first_fault self.now (ranges.limit ∷ []) never ≡ None) }
         ensures value { IfOk result (λ limit. limit ≡ natural (values self.now) 0) }
-        ensures fault { IfErr result (λ fault. first_fault self.now (ranges.limit ∷ []) never ≡ Some fault) }
+        ensures fault { IfErr result (λ fault.
+            first_fault self.now (ranges.limit ∷ []) never ≡ Some fault) }
     {
         let [limit] = self.words else {
             return Err(ParseFault::WordCount);

@@ -32,7 +32,7 @@ pub enum ParseFault {
     Crossed,
 }
 
-/// What the words behind a name say.
+/// What the words after a name say.
 fn said(name: Name, numbers: &Numbers<'_>) -> Result<Command, ParseFault>
     ensures { result ≡ forms.said name numbers.now }
 {

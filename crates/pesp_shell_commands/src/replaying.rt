@@ -23,7 +23,7 @@ pub enum ReplayKind {
     Parse(ParseFault),
     /// The line is a command, but no edit.
     NotAnEdit,
-    /// The edit is refused; want of memory is such a refusal too.
+    /// The edit is refused; out of memory is such a refusal too.
     Refused(Refusal),
 }
 
@@ -37,7 +37,8 @@ pub struct ReplayFault {
 /// Makes an edit, or answers its refusal.
 fn make_edit(instance: &mut Instance, edit: &Edit) -> Result<(), ReplayKind>
     ensures ok { OnOk result (or_refused (edited instance.old edit.now) ≡ Ok instance.new) }
-    ensures fault { IfErr result (IsLineFault (or_refused (edited instance.old edit.now)) (grows edit.now)) }
+    ensures fault { IfErr result (IsLineFault (or_refused (edited instance.old edit.now))
+        (grows edit.now)) }
 {
     match instance.apply(edit) {
         Ok(()) => Ok(()),
@@ -49,7 +50,8 @@ fn make_edit(instance: &mut Instance, edit: &Edit) -> Result<(), ReplayKind>
 /// `NotAnEdit`, `Refused`.
 fn take_line(instance: &mut Instance, number: u64, line: &[u8]) -> Result<(), ReplayKind>
     ensures ok { OnOk result (after_line number instance.old line.now ≡ Ok instance.new) }
-    ensures fault { IfErr result (IsLineFault (after_line number instance.old line.now) (may_grow (parsed line.now))) }
+    ensures fault { IfErr result (IsLineFault (after_line number instance.old line.now)
+        (may_grow (parsed line.now))) }
 {
     if number > MOST_LINES {
         return Err(ReplayKind::TooManyLines);

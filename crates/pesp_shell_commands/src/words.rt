@@ -45,7 +45,8 @@ fn length_of_word(text: &[u8]) -> usize
 
 /// The first word of a text, and what follows it.
 fn first_word(text: &[u8]) -> Option<(&[u8], &[u8])>
-    ensures { MatchOption result (words_of text.now ≡ []) (λ p. words_of text.now ≡ p.0.now ∷ words_of p.1.now) }
+    ensures { MatchOption result (words_of text.now ≡ [])
+        (λ p. words_of text.now ≡ p.0.now ∷ words_of p.1.now) }
 {
     let text = skip_spaces(text);
     if text.is_empty() {
@@ -57,7 +58,9 @@ fn first_word(text: &[u8]) -> Option<(&[u8], &[u8])>
 /// The first words of a line, [`MOST_WORDS`] of them at most.
 #[derive(Drop)]
 pub(crate) struct Words<'a> {
+    // The first `count` are words of the line, the others empty.
     words: [&'a [u8]; MOST_WORDS],
+    // At most MOST_WORDS; where it is as many, more may follow.
     count: usize,
 }
 

@@ -62,9 +62,13 @@ pub trait ByteSink {
 /// A reader or a writer, with a note of a failure, of the end, and of whether all that was written is flushed.
 #[derive(Drop)]
 pub struct Noted<D> {
+    // Nothing else calls it.
     device: D,
+    // Set by a call that failed, and never cleared.
     failed: bool,
+    // Whether the last read with room gave nothing.
     at_end: bool,
+    // Whether a flush succeeded and nothing was taken by the device since.
     passed_on: bool,
 }
 

@@ -30,8 +30,11 @@ pub enum Front {
 /// Holds the bytes that were taken from a source and are not yet used: those from `start` to `end` of a buffer.
 #[derive(Drop)]
 pub struct LineReader {
+    // ROOM bytes, always.
     buffer: Vec<u8>,
+    // At most `end`.
     start: usize,
+    // At most ROOM.
     end: usize,
 }
 
@@ -74,14 +77,16 @@ impl LineReader {
         self.start += count;
     }
 
-    /// Takes more bytes behind those that are held, and answers whether there were any.
+    /// Takes more bytes after those that are held, and answers whether there were any.
     pub fn fill<R: ByteSource>(&mut self, source: &mut R) -> Result<bool, Failed>
         requires { length self.old < ROOM }
         ensures some { IfOk result (λ more. more ≡ true → length self.old < length self.new) }
-        ensures none { IfOk result (λ more. more ≡ false → (self.new ≡ self.old) × IsAtEnd (R.left source.new)) }
+        ensures none { IfOk result (λ more. more ≡ false → (self.new ≡ self.old)
+            × IsAtEnd (R.left source.new)) }
         ensures mark { IfOk result (λ more. R.at_end source.new ≡ not more) }
         ensures failed { OnErr result (self.new ≡ self.old) }
-        ensures taken { (bytes : List ℕ) × Consumes (R.left source.old) (R.left source.new) bytes × (self.new ≡ self.old ++ bytes) }
+        ensures taken { (bytes : List ℕ) × Consumes (R.left source.old) (R.left source.new) bytes
+            × (self.new ≡ self.old ++ bytes) }
         ensures failure { MarksFailure result (R.failed source.old) (R.failed source.new) }
     {
         self.end = pack(&mut self.buffer, self.start, self.end);
@@ -94,10 +99,12 @@ impl LineReader {
     /// Takes bytes until those that are held tell what stands at their front, and none where they tell it already.
     pub fn look<R: ByteSource>(&mut self, source: &mut R) -> Result<Front, Failed>
         ensures front { IfOk result (IsFront self.new) }
-        ensures end { IfOk result (λ front. front ≡ fronts.Last → IsTrue (R.at_end source.new) × IsAtEnd (R.left source.new)) }
+        ensures end { IfOk result (λ front. front ≡ fronts.Last → IsTrue (R.at_end source.new)
+            × IsAtEnd (R.left source.new)) }
         ensures unended { OnErr result (IsUnended self.new) }
         ensures known { ¬ IsUnended self.old → (self.new ≡ self.old) × (source.new ≡ source.old) }
-        ensures taken { (bytes : List ℕ) × Consumes (R.left source.old) (R.left source.new) bytes × (self.new ≡ self.old ++ bytes) }
+        ensures taken { (bytes : List ℕ) × Consumes (R.left source.old) (R.left source.new) bytes
+            × (self.new ≡ self.old ++ bytes) }
         ensures failure { MarksFailure result (R.failed source.old) (R.failed source.new) }
     {
         'pieces: loop {

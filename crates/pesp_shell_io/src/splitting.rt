@@ -5,9 +5,10 @@ ghost use Rattle.pesp_shell_io.specs.Lines.{lines_of};
 
 use memchr::memchr;
 
-/// The first line, without its line feed, and the text behind it, or none where the text is empty.
+/// The first line, without its line feed, and the text after it, or none where the text is empty.
 pub fn split_line(text: &[u8]) -> Option<(&[u8], &[u8])>
-    ensures lines { MatchOption result (text.now ≡ []) (λ cut. lines_of text.now ≡ cut.0.now ∷ lines_of cut.1.now) }
+    ensures lines { MatchOption result (text.now ≡ [])
+        (λ cut. lines_of text.now ≡ cut.0.now ∷ lines_of cut.1.now) }
     ensures shorter { IfSome result (λ cut. length cut.1.now < length text.now) }
 {
     if text.is_empty() {

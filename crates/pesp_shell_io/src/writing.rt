@@ -9,7 +9,8 @@ use crate::{ByteSink, Failed};
 /// Puts all the bytes, in as many calls as it takes.
 pub fn put_all<W: ByteSink>(sink: &mut W, bytes: &[u8]) -> Result<(), Failed>
     ensures ok { OnOk result (Appends (W.written sink.old) (W.written sink.new) bytes.now) }
-    ensures err { OnErr result ((n : ℕ) × Appends (W.written sink.old) (W.written sink.new) (take n bytes.now)) }
+    ensures err { OnErr result ((n : ℕ)
+        × Appends (W.written sink.old) (W.written sink.new) (take n bytes.now)) }
     ensures failure { MarksFailure result (W.failed sink.old) (W.failed sink.new) }
 {
     let mut rest = bytes;

@@ -17,7 +17,7 @@ abbrev pub IsWritten : Files → Option (List ℕ) → Option (List ℕ) → Boo
 IsWritten f written written' failed passed_on =
     (failed ≡ false) × IsTrue passed_on × (text : List ℕ) × Checks f text × Appends written written' text
 
--- the files have a fault or memory is wanted, and nothing is written and no write failed; or a write failed behind some first bytes of the answer
+-- the files have a fault or memory is wanted, and nothing is written and no write failed; or a write failed after some first bytes of the answer
 abbrev pub IsUnchecked : Files → Option (List ℕ) → Option (List ℕ) → Bool → RunFault → Type 0
 IsUnchecked f written written' failed ended =
     (IsCheckFault f ended × (failed ≡ false) × Keeps written written')

@@ -16,7 +16,8 @@ use std::alloc::Global;
 
 fn write<W: ByteSink>(sink: &mut W, text: &[u8]) -> Result<(), Failed>
     ensures ok { OnOk result (Appends (W.written sink.old) (W.written sink.new) text.now) }
-    ensures err { OnErr result ((n : ℕ) × Appends (W.written sink.old) (W.written sink.new) (take n text.now)) }
+    ensures err { OnErr result ((n : ℕ)
+        × Appends (W.written sink.old) (W.written sink.new) (take n text.now)) }
     ensures passed { OnOk result (IsTrue (W.passed_on sink.new)) }
     ensures failure { MarksFailure result (W.failed sink.old) (W.failed sink.new) }
 {
@@ -34,8 +35,14 @@ fn write_check<W: ByteSink>(
     sink: &mut W,
 ) -> Result<(), RunFault>
     requires { W.failed sink.old ≡ false }
-    ensures ok { OnOk result (IsWritten (files settings.now.period activities.now (option_copied fixed.entry) (option_copied times.entry)) (W.written sink.old) (W.written sink.new) (W.failed sink.new) (W.passed_on sink.new)) }
-    ensures fault { IfErr result (IsUnchecked (files settings.now.period activities.now (option_copied fixed.entry) (option_copied times.entry)) (W.written sink.old) (W.written sink.new) (W.failed sink.new)) }
+    ensures ok { OnOk result (IsWritten
+        (files settings.now.period activities.now (option_copied fixed.entry)
+        (option_copied times.entry)) (W.written sink.old) (W.written sink.new) (W.failed sink.new)
+        (W.passed_on sink.new)) }
+    ensures fault { IfErr result (IsUnchecked
+        (files settings.now.period activities.now (option_copied fixed.entry)
+        (option_copied times.entry)) (W.written sink.old) (W.written sink.new) (W.failed
+        sink.new)) }
 {
     let replies = check(alloc, settings.period, activities, fixed, times)?;
     match write(sink, replies.as_slice()) {
@@ -57,9 +64,19 @@ fn answer<R: ByteSource, W: ByteSink>(
     requires reader { R.failed source.old ≡ false }
     requires end { R.at_end source.old ≡ false }
     requires writer { W.failed sink.old ≡ false }
-    ensures check { settings.now.check ≡ true → OnOk result (IsWritten (files settings.now.period activities.now (option_copied fixed.entry) (option_copied times.entry)) (W.written sink.old) (W.written sink.new) (W.failed sink.new) (W.passed_on sink.new)) }
-    ensures unchecked { settings.now.check ≡ true → IfErr result (IsUnchecked (files settings.now.period activities.now (option_copied fixed.entry) (option_copied times.entry)) (W.written sink.old) (W.written sink.new) (W.failed sink.new)) }
-    ensures commands { settings.now.check ≡ false → IsRun (files settings.now.period activities.now (option_copied fixed.entry) (option_copied times.entry))
+    ensures check { settings.now.check ≡ true
+        → OnOk result
+        (IsWritten (files settings.now.period activities.now (option_copied fixed.entry)
+        (option_copied times.entry)) (W.written sink.old) (W.written sink.new) (W.failed sink.new)
+        (W.passed_on sink.new)) }
+    ensures unchecked { settings.now.check ≡ true
+        → IfErr result
+        (IsUnchecked (files settings.now.period activities.now (option_copied fixed.entry)
+        (option_copied times.entry)) (W.written sink.old) (W.written sink.new) (W.failed
+        sink.new)) }
+    ensures commands { settings.now.check ≡ false
+        → IsRun (files settings.now.period activities.now (option_copied fixed.entry)
+        (option_copied times.entry))
         (R.left source.old) (R.left source.new) (W.written sink.old) (W.written sink.new)
         (marks (R.at_end source.new) (R.failed source.new) (W.failed sink.new) (W.passed_on sink.new)) result }
 {
@@ -89,8 +106,14 @@ pub fn answer_files<R: ByteSource, W: ByteSink>(
     requires reader { R.failed source.old ≡ false }
     requires end { R.at_end source.old ≡ false }
     requires writer { W.failed sink.old ≡ false }
-    ensures check { settings.now.check ≡ true → OnOk result (IsWritten (files_of settings.now.period files.now) (W.written sink.old) (W.written sink.new) (W.failed sink.new) (W.passed_on sink.new)) }
-    ensures unchecked { settings.now.check ≡ true → IfErr result (IsUnchecked (files_of settings.now.period files.now) (W.written sink.old) (W.written sink.new) (W.failed sink.new)) }
+    ensures check { settings.now.check ≡ true
+        → OnOk result
+        (IsWritten (files_of settings.now.period files.now) (W.written sink.old)
+        (W.written sink.new) (W.failed sink.new) (W.passed_on sink.new)) }
+    ensures unchecked { settings.now.check ≡ true
+        → IfErr result
+        (IsUnchecked (files_of settings.now.period files.now) (W.written sink.old)
+        (W.written sink.new) (W.failed sink.new)) }
     ensures commands { settings.now.check ≡ false → IsRun (files_of settings.now.period files.now)
         (R.left source.old) (R.left source.new) (W.written sink.old) (W.written sink.new)
         (marks (R.at_end source.new) (R.failed source.new) (W.failed sink.new) (W.passed_on sink.new)) result }

@@ -27,7 +27,7 @@ pub enum Fault {
 }
 
 impl Fault {
-    /// Want of memory before the first line.
+    /// Out of memory before the first line.
     pub const EARLY_MEMORY: Fault = Fault::Memory { line: 0 };
 }
 

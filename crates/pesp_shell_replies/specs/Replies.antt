@@ -15,7 +15,7 @@ use Rattle.pesp_bench.specs.declared.lists.EventDomain.{EventDomain}
 use Rattle.pesp_shell_commands.specs.declared.parsing.ParseFault.{ParseFault}
 use Rattle.pesp_shell_commands.specs.declared.parsing.ParseFault.TheVariants as fault
 
--- a line of a word and the number of the lines behind it, and those lines
+-- a line of a word and the number of the lines after it, and those lines
 abbrev pub counted : List ℕ → List (List ℕ) → List ℕ
 counted word lines = as_lines (words_line (word ∷ decimal (length lines) ∷ []) ∷ lines)
 
@@ -39,7 +39,7 @@ cost_text cost = codes "cost " ++ decimal cost ++ codes "\n"
 abbrev pub in_use_text : ℕ → ℕ → List ℕ
 in_use_text e a = codes "refused 3 event " ++ decimal e ++ codes " is used by activity " ++ decimal a ++ codes "\n"
 
--- the reply of a refusal; want of memory has none
+-- the reply of a refusal; out of memory has none
 abbrev pub refusal_text : Refusal → Option (List ℕ)
 refusal_text (no.EventExists e) = Some (codes "refused 1 event " ++ decimal e ++ codes " exists\n")
 refusal_text (no.NoEvent e) = Some (codes "refused 2 no event " ++ decimal e ++ codes "\n")
@@ -60,7 +60,7 @@ abbrev pub told : {X : Type 0} → (X → List ℕ) → Result X Refusal → Opt
 told text (Ok x) = Some (text x)
 told text (Err refusal) = refusal_text refusal
 
--- a reply behind a text, where there is one
+-- a reply after a text, where there is one
 abbrev pub behind : List ℕ → Option (List ℕ) → Option (List ℕ)
 behind text reply = option_map (λ more. text ++ more) reply
 
@@ -85,7 +85,7 @@ domains_text rows = counted (codes "domains") (map (λ x. domain_line x.0 x.1) r
 abbrev pub time_line : ℕ × ℕ → List ℕ
 time_line x = words_line (decimal x.0 ∷ decimal x.1 ∷ [])
 
--- a word, a cost, and the number of the lines behind it
+-- a word, a cost, and the number of the lines after it
 abbrev pub costed_line : List ℕ → ℕ → ℕ → List ℕ
 costed_line word cost count = words_line (word ∷ decimal cost ∷ decimal count ∷ [])
 

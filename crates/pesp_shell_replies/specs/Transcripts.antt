@@ -31,7 +31,7 @@ edit_in line = edit_said (parsed line)
 abbrev pub edits_in : List (List ℕ) → List Edit
 edits_in lines = filter_map edit_in lines
 
--- behind its first n lines a transcript goes on as one for the instance that their edits leave
+-- after its first n lines a transcript goes on as one for the instance that their edits leave
 pub record GoesOnAfresh (first : Work) (lines : List (List ℕ)) (output : List ℕ) (n : ℕ) : Type 0 where
   pub times : Times
   pub told : List ℕ
@@ -51,7 +51,7 @@ abbrev pub is_try : Result (Option Command) ParseFault → Bool
 is_try (Ok (Some (command.TryOptimum limit))) = true
 is_try other = false
 
--- a line that is no `try` has one reply, and one work behind it
+-- a line that is no `try` has one reply, and one work after it
 abbrev pub OneReply : Type 0
 OneReply =
     (w : Work) (line text other : List ℕ) (next after : Work) → is_try (parsed line) ≡ false → Legal w line text next → Legal w line other after

@@ -18,7 +18,8 @@ pub(crate) fn domain<K: Keeper>(
     bench: &Bench<K>,
     event: EventId,
 ) -> Result<Vec<u8>, AllocError>
-    ensures { IfOk result (λ text. LegalCommand (work_of bench.now) (command.Domain event) text.items (work_of bench.now)) }
+    ensures { IfOk result (λ text.
+        LegalCommand (work_of bench.now) (command.Domain event) text.items (work_of bench.now)) }
 {
     match bench.domain(event) {
         Ok(row) => {
@@ -31,7 +32,8 @@ pub(crate) fn domain<K: Keeper>(
 }
 
 pub(crate) fn domains<K: Keeper>(alloc: Global, bench: &Bench<K>) -> Result<Vec<u8>, AllocError>
-    ensures { IfOk result (λ text. LegalCommand (work_of bench.now) command.Domains text.items (work_of bench.now)) }
+    ensures { IfOk result (λ text.
+        LegalCommand (work_of bench.now) command.Domains text.items (work_of bench.now)) }
 {
     match bench.domains(alloc) {
         Ok(list) => {
@@ -44,7 +46,8 @@ pub(crate) fn domains<K: Keeper>(alloc: Global, bench: &Bench<K>) -> Result<Vec<
 }
 
 pub(crate) fn tensions<K: Keeper>(alloc: Global, bench: &Bench<K>) -> Result<Vec<u8>, AllocError>
-    ensures { IfOk result (λ text. LegalCommand (work_of bench.now) command.Tensions text.items (work_of bench.now)) }
+    ensures { IfOk result (λ text.
+        LegalCommand (work_of bench.now) command.Tensions text.items (work_of bench.now)) }
 {
     match bench.tensions(alloc) {
         Ok(rows) => {
@@ -57,7 +60,8 @@ pub(crate) fn tensions<K: Keeper>(alloc: Global, bench: &Bench<K>) -> Result<Vec
 }
 
 pub(crate) fn violations<K: Keeper>(alloc: Global, bench: &Bench<K>) -> Result<Vec<u8>, AllocError>
-    ensures { IfOk result (λ text. LegalCommand (work_of bench.now) command.Violations text.items (work_of bench.now)) }
+    ensures { IfOk result (λ text.
+        LegalCommand (work_of bench.now) command.Violations text.items (work_of bench.now)) }
 {
     match bench.violations(alloc) {
         Ok(rows) => {
@@ -70,7 +74,8 @@ pub(crate) fn violations<K: Keeper>(alloc: Global, bench: &Bench<K>) -> Result<V
 }
 
 pub(crate) fn cost<K: Keeper>(alloc: Global, bench: &Bench<K>) -> Result<Vec<u8>, AllocError>
-    ensures { IfOk result (λ text. LegalCommand (work_of bench.now) command.Cost text.items (work_of bench.now)) }
+    ensures { IfOk result (λ text.
+        LegalCommand (work_of bench.now) command.Cost text.items (work_of bench.now)) }
 {
     match bench.cost() {
         Ok(cost) => {
@@ -85,7 +90,8 @@ pub(crate) fn cost<K: Keeper>(alloc: Global, bench: &Bench<K>) -> Result<Vec<u8>
 /// The optimum that a workbench knows.
 fn known<K: Keeper>(alloc: Global, bench: &Bench<K>) -> Result<Vec<u8>, AllocError>
     requires { IsSome bench.now.known }
-    ensures { IfOk result (λ text. LegalCommand (work_of bench.now) command.Optimum text.items (work_of bench.now)) }
+    ensures { IfOk result (λ text.
+        LegalCommand (work_of bench.now) command.Optimum text.items (work_of bench.now)) }
 {
     let mut text = Vec::new(alloc);
     put_optimum(&mut text, bench.known().unwrap())?;
@@ -93,7 +99,8 @@ fn known<K: Keeper>(alloc: Global, bench: &Bench<K>) -> Result<Vec<u8>, AllocErr
 }
 
 pub(crate) fn optimum<K: Keeper>(alloc: Global, bench: &mut Bench<K>) -> Result<Vec<u8>, AllocError>
-    ensures legal { IfOk result (λ text. LegalCommand (work_of bench.old) command.Optimum text.items (work_of bench.new)) }
+    ensures legal { IfOk result (λ text.
+        LegalCommand (work_of bench.old) command.Optimum text.items (work_of bench.new)) }
     ensures unchanged { work_of bench.new ≡ work_of bench.old }
 {
     match bench.find_optimum(alloc) {
@@ -107,7 +114,9 @@ pub(crate) fn try_optimum<K: Keeper>(
     bench: &mut Bench<K>,
     limit: u64,
 ) -> Result<Vec<u8>, AllocError>
-    ensures legal { IfOk result (λ text. LegalCommand (work_of bench.old) (command.TryOptimum limit) text.items (work_of bench.new)) }
+    ensures legal { IfOk result (λ text.
+        LegalCommand (work_of bench.old) (command.TryOptimum limit) text.items
+        (work_of bench.new)) }
     ensures unchanged { work_of bench.new ≡ work_of bench.old }
 {
     match bench.try_optimum(alloc, limit) {
@@ -122,7 +131,8 @@ pub(crate) fn try_optimum<K: Keeper>(
 }
 
 pub(crate) fn script<K: Keeper>(alloc: Global, bench: &Bench<K>) -> Result<Vec<u8>, AllocError>
-    ensures { IfOk result (λ text. LegalCommand (work_of bench.now) command.Dump text.items (work_of bench.now)) }
+    ensures { IfOk result (λ text.
+        LegalCommand (work_of bench.now) command.Dump text.items (work_of bench.now)) }
 {
     dump(alloc, bench.instance()).map_err(|_| AllocError)
 }

@@ -1,6 +1,6 @@
 //! Replies to commands that change the work.
 //!
-//! The text `ok` is written before the change is made, so that no memory is wanted behind it.
+//! The text `ok` is written before the change is made, so that no memory is wanted after it.
 
 ghost use Rattle.std.specs.Prelude.{◌≡◌, IfOk, OnErr, Some};
 ghost use Rattle.pesp_shell_commands.specs.declared.command.Command.TheVariants as command;
@@ -23,7 +23,7 @@ fn ok_reply(alloc: Global) -> Result<Vec<u8>, AllocError>
     Ok(text)
 }
 
-/// The reply of a refusal; want of memory has none and is passed on.
+/// The reply of a refusal; out of memory has none and is passed on.
 pub(crate) fn refusal_reply(alloc: Global, refusal: Refusal) -> Result<Vec<u8>, AllocError>
     ensures { IfOk result (λ text. refusal_text refusal ≡ Some text.items) }
 {
@@ -37,7 +37,8 @@ pub(crate) fn edit<K: Keeper>(
     bench: &mut Bench<K>,
     edit: &Edit,
 ) -> Result<Vec<u8>, AllocError>
-    ensures legal { IfOk result (λ text. LegalCommand (work_of bench.old) (command.Edit edit.now) text.items (work_of bench.new)) }
+    ensures legal { IfOk result (λ text.
+        LegalCommand (work_of bench.old) (command.Edit edit.now) text.items (work_of bench.new)) }
     ensures unchanged { OnErr result (work_of bench.new ≡ work_of bench.old) }
 {
     let done = ok_reply(alloc)?;
@@ -53,7 +54,8 @@ pub(crate) fn set_time<K: Keeper>(
     event: EventId,
     time: u16,
 ) -> Result<Vec<u8>, AllocError>
-    ensures legal { IfOk result (λ text. LegalCommand (work_of bench.old) (command.Time event time) text.items (work_of bench.new)) }
+    ensures legal { IfOk result (λ text.
+        LegalCommand (work_of bench.old) (command.Time event time) text.items (work_of bench.new)) }
     ensures unchanged { OnErr result (work_of bench.new ≡ work_of bench.old) }
 {
     let done = ok_reply(alloc)?;
@@ -68,7 +70,8 @@ pub(crate) fn clear_time<K: Keeper>(
     bench: &mut Bench<K>,
     event: EventId,
 ) -> Result<Vec<u8>, AllocError>
-    ensures legal { IfOk result (λ text. LegalCommand (work_of bench.old) (command.Untime event) text.items (work_of bench.new)) }
+    ensures legal { IfOk result (λ text.
+        LegalCommand (work_of bench.old) (command.Untime event) text.items (work_of bench.new)) }
     ensures unchanged { OnErr result (work_of bench.new ≡ work_of bench.old) }
 {
     let done = ok_reply(alloc)?;
@@ -79,7 +82,8 @@ pub(crate) fn clear_time<K: Keeper>(
 }
 
 pub(crate) fn adopt<K: Keeper>(alloc: Global, bench: &mut Bench<K>) -> Result<Vec<u8>, AllocError>
-    ensures legal { IfOk result (λ text. LegalCommand (work_of bench.old) command.Adopt text.items (work_of bench.new)) }
+    ensures legal { IfOk result (λ text.
+        LegalCommand (work_of bench.old) command.Adopt text.items (work_of bench.new)) }
     ensures unchanged { OnErr result (work_of bench.new ≡ work_of bench.old) }
 {
     let done = ok_reply(alloc)?;

@@ -18,7 +18,8 @@ fn answer<K: Keeper>(
     bench: &mut Bench<K>,
     command: &Command,
 ) -> Result<Vec<u8>, AllocError>
-    ensures legal { IfOk result (λ text. LegalCommand (work_of bench.old) command.now text.items (work_of bench.new)) }
+    ensures legal { IfOk result (λ text.
+        LegalCommand (work_of bench.old) command.now text.items (work_of bench.new)) }
     ensures unchanged { OnErr result (work_of bench.new ≡ work_of bench.old) }
 {
     match *command {
@@ -46,7 +47,8 @@ pub fn reply<K: Keeper>(
     bench: &mut Bench<K>,
     command: &Command,
 ) -> Result<Vec<u8>, Memory>
-    ensures legal { IfOk result (λ text. LegalCommand (work_of bench.old) command.now text.items (work_of bench.new)) }
+    ensures legal { IfOk result (λ text.
+        LegalCommand (work_of bench.old) command.now text.items (work_of bench.new)) }
     ensures unchanged { OnErr result (work_of bench.new ≡ work_of bench.old) }
 {
     match answer(alloc, bench, command) {
@@ -75,7 +77,8 @@ pub fn reply_to_line<K: Keeper>(
     bench: &mut Bench<K>,
     line: &[u8],
 ) -> Result<Vec<u8>, Memory>
-    ensures legal { IfOk result (λ text. Legal (work_of bench.old) line.now text.items (work_of bench.new)) }
+    ensures legal { IfOk result (λ text.
+        Legal (work_of bench.old) line.now text.items (work_of bench.new)) }
     ensures silent { parsed line.now ≡ Ok None → IsOk result }
     ensures unchanged { OnErr result (work_of bench.new ≡ work_of bench.old) }
 {

@@ -1,6 +1,6 @@
 //! The texts of domains and of timetables.
 //!
-//! Each function puts its text behind what is written already.
+//! Each function puts its text after what is written already.
 
 ghost use Rattle.std.specs.Prelude.{◌≡◌, ◌++◌, [], ◌∷◌, OnOk, codes, decimal, length, map};
 ghost use Rattle.pesp_base.specs.Texts.{as_lines};
@@ -39,7 +39,8 @@ pub(crate) fn put_row(
     period: Period,
 ) -> Result<(), AllocError>
     requires { length row.now ≡ period }
-    ensures { OnOk result (text.new.items ≡ text.old.items ++ domain_text event (residues row.now)) }
+    ensures { OnOk result (text.new.items
+        ≡ text.old.items ++ domain_text event (residues row.now)) }
 {
     put_event(text, event)?;
     for residue in 0..period.get() {
@@ -51,7 +52,8 @@ pub(crate) fn put_row(
 }
 
 fn put_domain(text: &mut Vec<u8>, domain: &EventDomain) -> Result<(), AllocError>
-    ensures { OnOk result (text.new.items ≡ text.old.items ++ (domain_line domain.now.event domain.now.residues.items ++ 10 ∷ [])) }
+    ensures { OnOk result (text.new.items
+        ≡ text.old.items ++ (domain_line domain.now.event domain.now.residues.items ++ 10 ∷ [])) }
 {
     put_event(text, domain.event)?;
     for residue in &domain.residues {
@@ -62,7 +64,8 @@ fn put_domain(text: &mut Vec<u8>, domain: &EventDomain) -> Result<(), AllocError
 
 /// The reply to `domains`.
 pub(crate) fn put_domains(text: &mut Vec<u8>, list: &[EventDomain]) -> Result<(), AllocError>
-    ensures { OnOk result (text.new.items ≡ text.old.items ++ domains_text (map event_residues list.now)) }
+    ensures { OnOk result (text.new.items
+        ≡ text.old.items ++ domains_text (map event_residues list.now)) }
 {
     put_between(text, b"domains ", list.len() as u64, b"\n")?;
     for domain in list {
@@ -72,7 +75,8 @@ pub(crate) fn put_domains(text: &mut Vec<u8>, list: &[EventDomain]) -> Result<()
 }
 
 fn put_time(text: &mut Vec<u8>, timed: EventTime) -> Result<(), AllocError>
-    ensures { OnOk result (text.new.items ≡ text.old.items ++ (time_line (timed.event, timed.time) ++ 10 ∷ [])) }
+    ensures { OnOk result (text.new.items
+        ≡ text.old.items ++ (time_line (timed.event, timed.time) ++ 10 ∷ [])) }
 {
     put_between(text, b"", u64::from(timed.event.get()), b" ")?;
     put_between(text, b"", u64::from(timed.time), b"\n")
@@ -80,7 +84,8 @@ fn put_time(text: &mut Vec<u8>, timed: EventTime) -> Result<(), AllocError>
 
 /// A line for each time.
 fn put_times(text: &mut Vec<u8>, times: &Timetable) -> Result<(), AllocError>
-    ensures { OnOk result (text.new.items ≡ text.old.items ++ as_lines (map time_line times.now.entries)) }
+    ensures { OnOk result (text.new.items
+        ≡ text.old.items ++ as_lines (map time_line times.now.entries)) }
 {
     for timed in times.walk() {
         put_time(text, timed)?;
@@ -90,7 +95,8 @@ fn put_times(text: &mut Vec<u8>, times: &Timetable) -> Result<(), AllocError>
 
 /// A word, a cost, and how many lines follow.
 fn put_head(text: &mut Vec<u8>, word: &[u8], cost: u64, count: usize) -> Result<(), AllocError>
-    ensures { OnOk result (text.new.items ≡ text.old.items ++ (costed_line word.now cost count ++ 10 ∷ [])) }
+    ensures { OnOk result (text.new.items
+        ≡ text.old.items ++ (costed_line word.now cost count ++ 10 ∷ [])) }
 {
     put(text, word)?;
     put_between(text, b" ", cost, b" ")?;

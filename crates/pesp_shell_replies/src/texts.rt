@@ -1,6 +1,6 @@
 //! The texts of replies.
 //!
-//! Each function puts its text behind what is written already.
+//! Each function puts its text after what is written already.
 
 ghost use Rattle.std.specs.Prelude.{◌≡◌, ◌++◌, [], ◌∷◌, OnOk, Some, decimal};
 ghost use Rattle.pesp_shell_replies.specs.Replies.{behind, cost_text, fault_text, in_use_text, refusal_text, tension_line, tensions_text, violation_line, violations_text};
@@ -65,7 +65,8 @@ fn put_event(
     event: EventId,
     after: &[u8],
 ) -> Result<(), AllocError>
-    ensures { OnOk result (text.new.items ≡ text.old.items ++ (before.now ++ (decimal event ++ after.now))) }
+    ensures { OnOk result (text.new.items
+        ≡ text.old.items ++ (before.now ++ (decimal event ++ after.now))) }
 {
     put_between(text, before, u64::from(event.get()), after)
 }
@@ -77,7 +78,8 @@ fn put_activity(
     activity: ActivityId,
     after: &[u8],
 ) -> Result<(), AllocError>
-    ensures { OnOk result (text.new.items ≡ text.old.items ++ (before.now ++ (decimal activity ++ after.now))) }
+    ensures { OnOk result (text.new.items
+        ≡ text.old.items ++ (before.now ++ (decimal activity ++ after.now))) }
 {
     put_between(text, before, u64::from(activity.get()), after)
 }
@@ -90,7 +92,7 @@ fn put_in_use(text: &mut Vec<u8>, event: EventId, activity: ActivityId) -> Resul
     put_activity(text, b"", activity, b"\n")
 }
 
-/// The reply of a refusal; want of memory has none and is passed on.
+/// The reply of a refusal; out of memory has none and is passed on.
 pub fn put_refusal(text: &mut Vec<u8>, refusal: Refusal) -> Result<(), AllocError>
     ensures { OnOk result (behind text.old.items (refusal_text refusal) ≡ Some text.new.items) }
 {

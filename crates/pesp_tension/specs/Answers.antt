@@ -63,7 +63,7 @@ first_missing I m = find (λ e. is_none (time_of m e)) (event_ids I)
 abbrev pub where_timed : {X : Type 0} → Network → Times → X → Result X Refusal
 where_timed I m x = unless_refused (option_map no.MissingTime (first_missing I m) ∷ []) x
 
--- the refusal is the one of an answer, or want of memory where the answer has none
+-- the refusal is the one of an answer, or out of memory where the answer has none
 abbrev pub IsRefusalOf : {X : Type 0} → Result X Refusal → Refusal → Type 0
 IsRefusalOf (Err first) refusal = refusal ≡ first
 IsRefusalOf (Ok x) refusal = refusal ≡ no.Memory

@@ -11,7 +11,7 @@ pub record IsAssessment (I : Network) (m : Times) (a : Assessment) : Type 0 wher
   pub violations : a.violations.items ≡ violations_of I m
   pub cost : a.cost ≡ cost_of I m
 
--- what the activities answer stands behind what was there
+-- what the activities answer stands after what was there
 pub record IsBehind (I : Network) (m : Times) (old new : Assessment) : Type 0 where
   pub tensions : new.tensions.items ≡ old.tensions.items ++ tensions_of I m
   pub violations : new.violations.items ≡ old.violations.items ++ unmet_among m I.activities

@@ -6,7 +6,7 @@ use Rattle.pesp_tension.specs.Timetables.{Times, IsTimetable}
 abbrev pub event_at : List (ℕ × ℕ) → ℕ → ℕ
 event_at es place = let entry = slice_index_or es place (0, 0) in entry.0
 
--- each event is below those behind it
+-- each event is below those after it
 abbrev pub AreRising : List (ℕ × ℕ) → Type 0
 AreRising es = (i j : ℕ) → i < j → j < length es → event_at es i < event_at es j
 

@@ -39,7 +39,7 @@ set_time m e t =
     ∷ when (is_none (time_of m e) && nat_le (max_events m.period) (length m.entries)) no.TooManyEvents ∷ [])
     (with_time m e t)
 
--- the refusal is the first one; want of memory comes where there is none, and only for an event without a time
+-- the refusal is the first one; out of memory comes where there is none, and only for an event without a time
 abbrev pub IsRefusalBy : Times → ℕ → Result Times Refusal → Refusal → Type 0
 IsRefusalBy m e (Err first) refusal = refusal ≡ first
 IsRefusalBy m e (Ok next) refusal = (refusal ≡ no.Memory) × (time_of m e ≡ None)

@@ -1,6 +1,6 @@
 //! What a timetable makes of an instance: tensions, violations and cost.
 //!
-//! Each answer first looks for an event without a time, and so each look-up behind that finds one.
+//! Each answer first looks for an event without a time, and so each look-up after that finds one.
 
 ghost use Rattle.std.specs.Prelude.{◌≡◌, ◌<◌, ◌≤◌, ◌*◌, ◌-◌, ◌++◌, int_le, All, Ok, IfOk, IfErr, OnOk, None, IsSome};
 ghost use Rattle.pesp_base.specs.Limits.{greatest_period, greatest_weight};
@@ -125,21 +125,25 @@ pub fn tensions(
     timetable: &Timetable,
 ) -> Result<Tensions, Refusal>
     requires { instance.now.period ≡ timetable.now.period }
-    ensures ok { IfOk result (λ v. where_timed instance.now timetable.now (tensions_of instance.now timetable.now) ≡ Ok v.items) }
-    ensures refused { IfErr result (IsRefusalOf (where_timed instance.now timetable.now (tensions_of instance.now timetable.now))) }
+    ensures ok { IfOk result (λ v.
+        where_timed instance.now timetable.now (tensions_of instance.now timetable.now)
+        ≡ Ok v.items) }
+    ensures refused { IfErr result (IsRefusalOf
+        (where_timed instance.now timetable.now (tensions_of instance.now timetable.now))) }
 {
     require_times(instance, timetable)?;
     list_tensions(alloc, instance, timetable).map_err(|_| Refusal::Memory)
 }
 
-/// Puts the activities that are not met behind the violations.
+/// Puts the activities that are not met after the violations.
 fn list_unmet(
     violations: &mut Violations,
     instance: &Instance,
     timetable: &Timetable,
 ) -> Result<(), AllocError>
     requires { first_missing instance.now timetable.now ≡ None }
-    ensures { OnOk result (violations.new.items ≡ violations.old.items ++ unmet_among timetable.now (instance.now).activities) }
+    ensures { OnOk result (violations.new.items
+        ≡ violations.old.items ++ unmet_among timetable.now (instance.now).activities) }
 {
     for activity in instance.activities() {
         if !is_met(activity, timetable) {
@@ -149,14 +153,15 @@ fn list_unmet(
     Ok(())
 }
 
-/// Puts the events whose times are not in their windows behind the violations.
+/// Puts the events whose times are not in their windows after the violations.
 pub(crate) fn list_moved(
     violations: &mut Violations,
     instance: &Instance,
     timetable: &Timetable,
 ) -> Result<(), AllocError>
     requires { first_missing instance.now timetable.now ≡ None }
-    ensures { OnOk result (violations.new.items ≡ violations.old.items ++ moved_among timetable.now (instance.now).events) }
+    ensures { OnOk result (violations.new.items
+        ≡ violations.old.items ++ moved_among timetable.now (instance.now).events) }
 {
     for event in instance.events() {
         if !is_in_window(event, timetable) {
@@ -190,8 +195,11 @@ pub fn violations(
     timetable: &Timetable,
 ) -> Result<Violations, Refusal>
     requires { instance.now.period ≡ timetable.now.period }
-    ensures ok { IfOk result (λ v. where_timed instance.now timetable.now (violations_of instance.now timetable.now) ≡ Ok v.items) }
-    ensures refused { IfErr result (IsRefusalOf (where_timed instance.now timetable.now (violations_of instance.now timetable.now))) }
+    ensures ok { IfOk result (λ v.
+        where_timed instance.now timetable.now (violations_of instance.now timetable.now)
+        ≡ Ok v.items) }
+    ensures refused { IfErr result (IsRefusalOf
+        (where_timed instance.now timetable.now (violations_of instance.now timetable.now))) }
 {
     require_times(instance, timetable)?;
     list_violations(alloc, instance, timetable).map_err(|_| Refusal::Memory)

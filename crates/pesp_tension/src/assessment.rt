@@ -19,7 +19,7 @@ pub struct Assessment {
     pub cost: u64,
 }
 
-/// Puts what an activity answers behind what those before it do.
+/// Puts what an activity answers after what those before it do.
 fn add_activity(
     assessment: &mut Assessment,
     activity: &Activity,
@@ -27,10 +27,14 @@ fn add_activity(
 ) -> Result<(), AllocError>
     requires timed { IsTimed timetable.now activity.now }
     requires room { assessment.old.cost + greatest_weight * (greatest_period - 1) ≤ 2 ^ 64 - 1 }
-    ensures tensions { OnOk result (assessment.new.tensions.items ≡ assessment.old.tensions.items ++ tension_in timetable.now activity.now ∷ []) }
-    ensures violations { OnOk result (assessment.new.violations.items ≡ assessment.old.violations.items ++ unmet_among timetable.now (activity.now ∷ [])) }
-    ensures cost { OnOk result (assessment.new.cost ≡ assessment.old.cost + cost_in timetable.now activity.now) }
-    ensures small { OnOk result (assessment.new.cost ≤ assessment.old.cost + greatest_weight * (greatest_period - 1)) }
+    ensures tensions { OnOk result (assessment.new.tensions.items
+        ≡ assessment.old.tensions.items ++ tension_in timetable.now activity.now ∷ []) }
+    ensures violations { OnOk result (assessment.new.violations.items
+        ≡ assessment.old.violations.items ++ unmet_among timetable.now (activity.now ∷ [])) }
+    ensures cost { OnOk result (assessment.new.cost
+        ≡ assessment.old.cost + cost_in timetable.now activity.now) }
+    ensures small { OnOk result (assessment.new.cost
+        ≤ assessment.old.cost + greatest_weight * (greatest_period - 1)) }
 {
     let answer = tension_of(activity, timetable);
     let ActivityTension { tension, slack, .. } = answer;
@@ -44,7 +48,7 @@ fn add_activity(
     Ok(())
 }
 
-/// Puts what all activities answer behind an assessment that has nothing yet.
+/// Puts what all activities answer after an assessment that has nothing yet.
 fn add_activities(
     assessment: &mut Assessment,
     instance: &Instance,
@@ -90,7 +94,8 @@ pub fn assess(
     requires { instance.now.period ≡ timetable.now.period }
     ensures timed { IfOk result (λ _. first_missing instance.now timetable.now ≡ None) }
     ensures ok { IfOk result (IsAssessment instance.now timetable.now) }
-    ensures refused { IfErr result (IsRefusalOf (where_timed instance.now timetable.now (tensions_of instance.now timetable.now))) }
+    ensures refused { IfErr result (IsRefusalOf
+        (where_timed instance.now timetable.now (tensions_of instance.now timetable.now))) }
 {
     require_times(instance, timetable)?;
     assess_timed(alloc, instance, timetable).map_err(|_| Refusal::Memory)

@@ -5,7 +5,7 @@ ghost use Rattle.pesp_tension.specs.Places.{AreRising, IsAt, IsGap};
 
 use pesp_base::EventId;
 
-/// Where an event stands, if it is as far behind the first one as its number says.
+/// Where an event stands, if it is as far after the first one as its number says.
 fn place_by_number(times: &[(u32, u16)], event: EventId) -> Option<usize>
     ensures { IfSome result (IsAt times.now event) }
 {

@@ -16,6 +16,7 @@ use std::marker::Model;
 /// Times of events, each below the period; an event need not have one.
 #[derive(Drop)]
 pub struct Timetable {
+    // Each time is below it.
     period: Period,
     // The number and the time of each event that has one, by rising numbers.
     times: Vec<(u32, u16)>,

@@ -16,6 +16,7 @@ pub struct EventTime {
 /// The events of a timetable that are left, in ascending order, each with its time.
 #[derive(Drop)]
 pub struct Walk<'a> {
+    // Those that are left, by rising numbers.
     pub(crate) entries: slice::Iter<'a, (u32, u16)>,
 }
 

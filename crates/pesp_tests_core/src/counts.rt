@@ -21,7 +21,7 @@ fn assert_supports(rt: &impl Abort, keeper: &CountKeeper, counts: &[Count], mess
     }
 }
 
-/// The counts while the first event is pushed to 0, and behind that.
+/// The counts while the first event is pushed to 0, and after that.
 fn assert_pushed(rt: &impl Abort, kept: &mut Counted, pushed: &[Count], popped: &[Count]) {
     push(rt, &mut kept.keeper, event(rt, 1), 0);
     assert_supports(rt, &kept.keeper, pushed, "event 1 at 0");

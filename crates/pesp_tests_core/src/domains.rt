@@ -11,7 +11,7 @@ use std::process::Abort;
 /// Events and the residues in their rows.
 type Rows<'a> = &'a [(u32, &'a [u16])];
 
-/// Edits, the rows behind each, and a message.
+/// Edits, the rows after each, and a message.
 type Edits<'a> = &'a [(Change, Rows<'a>, &'a str)];
 
 /// The residues at period 10.
@@ -60,13 +60,13 @@ fn edited_by<K: Keeper>(
     kept
 }
 
-/// A keeper of either kind of what the first edits make at period 10 has the first rows, and behind each of the others these.
+/// A keeper of either kind of what the first edits make at period 10 has the first rows, and after each of the others these.
 fn try_edits(rt: &(impl Abort + AllocGlobal), made: &[Change], first: Rows<'_>, edits: Edits<'_>) {
     drop(edited_by::<PlainKeeper>(rt, 10, made, first, edits));
     drop(edited_by::<CountKeeper>(rt, 10, made, first, edits));
 }
 
-/// Two events at a period of a day, of which the second is a day less a minute behind the first.
+/// Two events at a period of a day, of which the second is a day less a minute after the first.
 const A_DAY_APART: &[Change] = &[
     Change::AddEvent(1),
     Change::AddEvent(2),
@@ -222,7 +222,7 @@ fn loops_and_spans(rt: HostRuntime) {
     try_edits(&rt, ONE_EVENT, ONE_ROW, LOOPS_AND_SPANS);
 }
 
-/// Pushes a pair, and behind it a second one where there is one; pops leave the rows that were there before.
+/// Pushes a pair, and after it a second one where there is one; pops leave the rows that were there before.
 fn assert_pushed<K: Keeper>(
     rt: &impl Abort,
     kept: &mut Unpushed<K>,

@@ -45,7 +45,8 @@ pub(crate) fn activity(
 /// Pushes a pair of an event of the instance.
 pub(crate) fn push<K: Keeper>(rt: &impl Abort, keeper: &mut K, event: EventId, residue: u16)
     requires { (r : ℕ) → In (K.pushes keeper.old) event r → ⊥ }
-    ensures { K.pushes keeper.new ≡ K.pushes keeper.old ++ record { event = event; residue = residue } ∷ [] }
+    ensures { K.pushes keeper.new
+        ≡ K.pushes keeper.old ++ record { event = event; residue = residue } ∷ [] }
 {
     assert!(rt; keeper.instance().has_event(event));
     assert!(rt; residue < keeper.instance().period().get());

@@ -78,7 +78,7 @@ const COST_OF_A_MEMBER_WITH_A_WINDOW: Costs<'_> = &[
 
 const COST_OF_NO_MEMBER: Costs<'_> = &[(&[(1, 0), (2, 4)], None, "infeasible")];
 
-/// What these times cost behind an edit.
+/// What these times cost after an edit.
 fn assert_costs_after<K: Keeper>(
     rt: &(impl Abort + AllocGlobal),
     kept: &mut Unpushed<K>,

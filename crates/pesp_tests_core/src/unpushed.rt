@@ -14,9 +14,10 @@ use std::process::Abort;
 /// A keeper on which nothing is pushed.
 ///
 /// Its functions have no contracts, so that what an edit makes of the keeper is not worked out again
-/// behind each one while the tests are proved.
+/// after each one while the tests are proved.
 #[derive(Drop)]
 pub(crate) struct Unpushed<K: Keeper> {
+    // Nothing is pushed on it.
     pub(crate) keeper: K,
 }
 

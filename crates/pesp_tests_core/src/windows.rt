@@ -55,7 +55,7 @@ fn residues_of_windows(rt: HostRuntime) {
     }
 }
 
-/// An event's window behind an edit, as its first residue and its length.
+/// An event's window after an edit, as its first residue and its length.
 type Seen = Option<(u16, u16)>;
 
 fn seen(rt: &impl Abort, instance: &Instance, number: u32) -> Seen {
@@ -63,7 +63,7 @@ fn seen(rt: &impl Abort, instance: &Instance, number: u32) -> Seen {
     Some((window.first(), window.length()))
 }
 
-/// Edits of event 1, its window behind each, and its fixed time.
+/// Edits of event 1, its window after each, and its fixed time.
 const EDITS: &[(Change, Seen, Option<u16>, &str)] = &[
     (Change::SetWindow(1, 9, 3), Some((9, 3)), None, "it wraps"),
     (Change::SetWindow(1, 0, 2), Some((0, 2)), None, "narrower"),
@@ -129,7 +129,7 @@ const REFUSALS: &[(Change, Why, &str)] = &[
     (Change::SetWindow(1, 0, 11), Why::Length(11), "too long"),
 ];
 
-/// The window of event 1 is as it was behind each refusal.
+/// The window of event 1 is as it was after each refusal.
 fn assert_refusals(rt: &impl Abort, instance: &mut Instance, window: Seen) {
     for (change, why, message) in REFUSALS {
         let refused = instance.apply(&edit_of(rt, *change));

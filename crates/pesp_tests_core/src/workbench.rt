@@ -62,7 +62,7 @@ pub(crate) fn assert_known<K: Keeper>(
 /// Whether the optimum is answered, found or known before.
 ///
 /// Like the functions that call others of a workbench it has no contract, so that what a call makes of the
-/// workbench is not worked out again behind it while the tests are proved.
+/// workbench is not worked out again after it while the tests are proved.
 pub(crate) fn is_answered<K: Keeper>(
     rt: &(impl Abort + AllocGlobal),
     bench: &mut Bench<K>,
@@ -149,10 +149,10 @@ fn take<K: Keeper>(
     }
 }
 
-/// Steps, what is known behind each, and a message.
+/// Steps, what is known after each, and a message.
 pub(crate) type Steps<'a> = &'a [(Step, Known<'a>, &'a str)];
 
-/// Takes these steps one after another. Behind each, this is known.
+/// Takes these steps one after another. After each, this is known.
 pub(crate) fn take_steps<K: Keeper>(
     rt: &(impl Abort + AllocGlobal),
     bench: &mut Bench<K>,

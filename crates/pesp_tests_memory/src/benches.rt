@@ -29,9 +29,13 @@ enum Ask {
 
 #[derive(Drop)]
 struct Lent {
+    // What the call is asked of,
     bench: Bench<CountKeeper>,
+    // the event that it names,
     event: EventId,
+    // the edit that it makes,
     edit: Edit,
+    // and which call it is.
     ask: Ask,
 }
 

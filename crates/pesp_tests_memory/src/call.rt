@@ -12,7 +12,7 @@ pub(crate) trait Call {
     /// Tells what the call is lent.
     fn show<R: Print>(&self, rt: &R);
 
-    /// Makes the call and tells its answer. Whether that is want of memory.
+    /// Makes the call and tells its answer. Whether that is out of memory.
     fn make<R: Print + AllocGlobal>(&mut self, rt: &R) -> bool;
 }
 
@@ -37,13 +37,13 @@ pub(crate) fn try_and_drop<C: Call + Drop, R: Print + AllocGlobal>(rt: &R, mut c
     try_call(rt, &mut call);
 }
 
-/// Tells the answer. Whether it is want of memory.
+/// Tells the answer. Whether it is out of memory.
 pub(crate) fn is_wanted(rt: &impl Print, answer: Result<(), Refusal>) -> bool {
     showing::line(rt, &answer);
     answer == Err(Refusal::Memory)
 }
 
-/// The words of the command line: the program, and behind it the cases that are asked for. Where none is, all of them are.
+/// The words of the command line: the program, and after it the cases that are asked for. Where none is, all of them are.
 pub(crate) fn words<R: Env + AllocGlobal>(rt: &R) -> Option<Vec<String>> {
     env::args(rt).ok()?.collect::<Vec<String>>(rt.alloc()).ok()
 }

@@ -9,7 +9,9 @@ use std::alloc::Global;
 /// A keeper, and how many pairs were pushed, those that were popped included. The count stays at the greatest number.
 #[derive(Drop)]
 pub(crate) struct Counting {
+    // That of which pushes are counted.
     pub(crate) keeper: CountKeeper,
+    // It stays at the greatest number.
     pub(crate) pushed: u64,
 }
 

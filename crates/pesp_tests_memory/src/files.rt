@@ -30,9 +30,13 @@ enum Ask {
 
 #[derive(Drop)]
 struct Lent {
+    // What the call is asked of,
     instance: Instance,
+    // with its timetable,
     times: Timetable,
+    // the event that it names,
     event: EventId,
+    // and which call it is.
     ask: Ask,
 }
 

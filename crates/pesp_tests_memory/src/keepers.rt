@@ -10,7 +10,9 @@ use std::marker::Model;
 /// A keeper with nothing pushed.
 #[derive(Drop)]
 struct Kept<K: Keeper> {
+    // Nothing is pushed on it.
     keeper: K,
+    // It may run out of memory.
     edit: Edit,
 }
 

@@ -9,7 +9,9 @@ use std::marker::PhantomData;
 /// An instance that is not kept yet.
 #[derive(Drop)]
 struct Opened<K> {
+    // None once it was opened, or was not handed back.
     instance: Option<Instance>,
+    // Which keeper opens it.
     keeper: PhantomData<K>,
 }
 

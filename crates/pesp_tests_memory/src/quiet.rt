@@ -32,8 +32,11 @@ fn edits() -> Option<[Edit; 9]> {
 /// A keeper with nothing pushed.
 #[derive(Drop)]
 struct Edited<K: Keeper> {
+    // Nothing is pushed on it.
     keeper: K,
+    // The one that is pushed and popped first.
     event: EventId,
+    // None of them takes memory.
     edits: [Edit; 9],
 }
 
@@ -86,8 +89,11 @@ impl<K: Keeper> Call for Edited<K> {
 /// A workbench with times and a known optimum.
 #[derive(Drop)]
 struct Worked {
+    // With times and a known optimum.
     bench: Bench<CountKeeper>,
+    // The one whose time is set.
     event: EventId,
+    // None of them takes memory.
     edits: [Edit; 9],
 }
 

@@ -14,7 +14,9 @@ use std::marker::Model;
 /// A keeper with nothing pushed, and how many nodes its search may have, where there is a limit.
 #[derive(Drop)]
 struct Searched {
+    // Nothing is pushed on it.
     keeper: Counting,
+    // None where the search goes to its end.
     limit: Option<u64>,
 }
 

@@ -33,7 +33,7 @@ pub(crate) fn keeper<K: Keeper>(rt: &impl Print, keeper: &K) {
     }
 }
 
-/// A timetable with its cost, each line behind a word.
+/// A timetable with its cost, each line after a word.
 pub(crate) fn best(rt: &impl Print, word: &str, cost: u64, times: &Timetable) {
     let _ = println!(rt; "{word} {cost}");
     for entry in times.walk() {
@@ -48,7 +48,7 @@ pub(crate) fn stopped(rt: &impl Print, found: &Option<Best>) {
     }
 }
 
-/// An answer, each line behind a word.
+/// An answer, each line after a word.
 pub(crate) fn answer(rt: &impl Print, word: &str, answer: &Answer) {
     match answer {
         Answer::Optimal { cost, times } => best(rt, word, *cost, times),

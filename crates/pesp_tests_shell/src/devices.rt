@@ -20,9 +20,11 @@ pub(crate) enum Manner {
 /// How many bytes a device gives or takes at a call, and what it does from which call on.
 #[derive(Clone, Copy)]
 pub(crate) struct Habit {
+    // How many bytes a call moves at most.
     pub(crate) size: usize,
     // How many calls come before it breaks.
     pub(crate) calls: usize,
+    // From then on.
     pub(crate) broken: Manner,
 }
 
@@ -50,8 +52,11 @@ fn next_manner(habit: &mut Habit, broken_calls: &mut usize) -> Manner {
 /// Gives some bytes.
 #[derive(Drop)]
 struct Pieces<'a> {
+    // Those that are left.
     bytes: &'a [u8],
+    // Its calls fall to 0.
     habit: Habit,
+    // How often it was called after that.
     broken_calls: &'a mut usize,
 }
 
@@ -72,9 +77,13 @@ impl Read for Pieces<'_> {
 /// Takes bytes, and flushes them where it does so.
 #[derive(Drop)]
 struct Narrow<'a> {
+    // All bytes that it took.
     taken: &'a mut Vec<u8>,
+    // Its calls fall to 0.
     habit: Habit,
+    // Whether a flush succeeds.
     flushes: bool,
+    // How often it was called after it broke.
     broken_calls: &'a mut usize,
 }
 
@@ -102,8 +111,11 @@ impl Write for Narrow<'_> {
 /// The devices of a run.
 #[derive(Clone, Copy)]
 pub(crate) struct Devices {
+    // Where commands come from.
     pub(crate) source: Habit,
+    // Where replies go.
     pub(crate) sink: Habit,
+    // Whether a flush of the sink succeeds.
     pub(crate) flushes: bool,
 }
 
@@ -119,8 +131,11 @@ pub(crate) fn pieces_of(size: usize) -> Devices {
 /// What a run ends with, its output, and how many calls of broken devices it made.
 #[derive(Drop)]
 pub(crate) struct Ending {
+    // None where the run answered all lines.
     pub(crate) fault: Option<RunFault>,
+    // What the sink took.
     pub(crate) output: Vec<u8>,
+    // Of both devices.
     pub(crate) broken_calls: usize,
 }
 

@@ -20,9 +20,13 @@ pub(crate) fn period(rt: &impl Abort, length: u16) -> Period {
 /// A period, and the texts of the three files.
 #[derive(Clone, Copy)]
 pub(crate) struct Given {
+    // That of the run.
     pub(crate) period: u16,
+    // Each file as FORMATS has it;
     pub(crate) activities: &'static str,
+    // one that is not given is empty,
     pub(crate) fixed: &'static str,
+    // and so is this one.
     pub(crate) times: &'static str,
 }
 
@@ -274,7 +278,7 @@ fn texts_and_times(rt: HostRuntime) {
     }
 }
 
-/// A question for the cost, and behind it a line of so many blanks.
+/// A question for the cost, and after it a line of so many blanks.
 fn cost_and_blanks(alloc: Global, length: usize) -> Result<Vec<u8>, AllocError> {
     let blanks = vec![in alloc; b' '; length]?;
     let mut input = Vec::new(alloc);

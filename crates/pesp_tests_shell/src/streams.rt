@@ -46,7 +46,7 @@ fn stored_run_in_pieces(rt: HostRuntime) {
     }
 }
 
-/// The fault that a broken device makes, where it was called: once, behind a first part of the replies.
+/// The fault that a broken device makes, where it was called: once, after a first part of the replies.
 fn assert_broken<R: Abort + AllocGlobal>(rt: &R, ending: &Ending, wanted: RunFault, calls: usize) {
     let replies = STORED_REPLIES.as_bytes();
     if ending.broken_calls == 0 {
@@ -60,7 +60,7 @@ fn assert_broken<R: Abort + AllocGlobal>(rt: &R, ending: &Ending, wanted: RunFau
     }
 }
 
-/// The stored run over a source that breaks behind so many calls, in pieces of this size.
+/// The stored run over a source that breaks after so many calls, in pieces of this size.
 fn assert_source<R: Abort + AllocGlobal>(rt: &R, counts: bool, size: usize, calls: usize) {
     let source = Habit {
         size,
@@ -85,7 +85,7 @@ fn source_fails_at_each_call(rt: HostRuntime) {
     }
 }
 
-/// The stored run over a sink that takes one byte a call and breaks behind so many.
+/// The stored run over a sink that takes one byte a call and breaks after so many.
 fn assert_sink<R: Abort + AllocGlobal>(rt: &R, counts: bool, broken: Manner, calls: usize) {
     let sink = Habit {
         size: 1,
@@ -180,7 +180,7 @@ fn long_streams(rt: HostRuntime) -> Result<(), Fail> {
     Ok(())
 }
 
-/// Words, and so many digits behind them.
+/// Words, and so many digits after them.
 fn line_of(alloc: Global, words: &str, digit: u8, count: usize) -> Result<Vec<u8>, AllocError> {
     let digits = vec![in alloc; digit; count]?;
     let mut line = Vec::new(alloc);

@@ -70,7 +70,7 @@ fn first_faulty_activity_is_named(rt: HostRuntime) {
     }
 }
 
-/// Puts the row of an activity behind a text.
+/// Puts the row of an activity after a text.
 fn put_row(
     text: &mut String,
     number: u32,

@@ -6,11 +6,14 @@ use std::alloc::{AllocError, Global};
 use std::io::{self, Read};
 use std::test::Fail;
 
-/// Gives bytes in pieces of at most `size` bytes. Behind them it fails, or is at its end.
+/// Gives bytes in pieces of at most `size` bytes. After them it fails, or is at its end.
 #[derive(Drop)]
 struct Pieces<'a> {
+    // Those that are left.
     bytes: &'a [u8],
+    // At least 1.
     size: usize,
+    // Whether it fails once none are left.
     fails: bool,
 }
 
@@ -26,15 +29,15 @@ impl Read for Pieces<'_> {
     }
 }
 
-/// Puts bytes behind a text, and a mark behind them.
+/// Puts bytes after a text, and a mark after them.
 fn put_marked(text: &mut Vec<u8>, bytes: &[u8], mark: u8) -> Result<(), AllocError> {
     text.extend_from_slice(bytes)?;
     text.push(mark)?;
     Ok(())
 }
 
-/// The first nine lines of a device, with a stroke behind each, and how they end: `.` behind the last
-/// bytes, `!` behind the bytes before a failure, `>` before a line that is too long.
+/// The first nine lines of a device, with a stroke after each, and how they end: `.` after the last
+/// bytes, `!` after the bytes before a failure, `>` before a line that is too long.
 fn told(rt: &impl AllocGlobal, device: impl Read + Drop) -> Result<Vec<u8>, AllocError> {
     let mut source = Noted::new(device);
     let mut reader = LineReader::new(rt.alloc())?;

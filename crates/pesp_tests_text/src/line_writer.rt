@@ -8,8 +8,11 @@ use std::process::Abort;
 /// Takes at most `size` bytes at a time, and no more than `room` bytes in all.
 #[derive(Drop)]
 struct Narrow<'a> {
+    // All bytes that it took.
     taken: &'a mut Vec<u8>,
+    // At least 1.
     size: usize,
+    // How many it still takes.
     room: usize,
 }
 

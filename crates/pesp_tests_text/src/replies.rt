@@ -46,7 +46,7 @@ fn two_activities(rt: &(impl Abort + AllocGlobal)) -> Bench<PlainKeeper> {
     bench
 }
 
-/// Replies to lines behind those of the two activities.
+/// Replies to lines after those of the two activities.
 fn assert_session(rt: &(impl Abort + AllocGlobal), lines: &[(&str, &str)]) {
     assert_replies(rt, &mut two_activities(rt), lines);
 }

@@ -88,7 +88,7 @@ pub record IsNextRow (old new : Records) : Type 0 where
   pub from_one : 0 < new.taken
   pub later : AreFrom new.taken (rows_left new)
 
--- want of memory at a record that is left, or behind all, and at no row before the next one
+-- out of memory at a record that is left, or after all, and at no row before the next one
 pub record IsWant (s : Records) (found : ReadFault) : Type 0 where
   pub kind : found.kind ≡ fault.Memory
   pub from_one : 0 < found.place

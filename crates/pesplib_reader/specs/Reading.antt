@@ -27,7 +27,7 @@ with_ends I a = with_event (with_event I a.from) a.to
 abbrev pub with_activity : Network → Activity → Network
 with_activity I a = effect (with_ends I a) (AddActivity a)
 
--- the faults that an activity may have behind those of an instance, in order
+-- the faults that an activity may have after those of an instance, in order
 abbrev pub instance_faults : Network → Activity → List (Option FaultKind)
 instance_faults I a =
     when (is_some (activity_of I a.id)) fault.DuplicateActivity
@@ -38,7 +38,7 @@ instance_faults I a =
 abbrev pub activity_taken : Network → Activity → Result Network FaultKind
 activity_taken I a = unless_refused (instance_faults I a) (with_activity I a)
 
--- the faults that a row of an activity may have behind other activities, in order
+-- the faults that a row of an activity may have after other activities, in order
 abbrev pub activity_faults_behind : Network → List (List ℕ) → List (Option FaultKind)
 activity_faults_behind I fields = activity_faults fields ++ instance_faults I (activity_in fields)
 
@@ -50,7 +50,7 @@ with_activity_row I fields = with_activity I (activity_in fields)
 abbrev pub activities_read : ℕ → List ℕ → Result Network ReadFault
 activities_read period bytes = taken activity_faults_behind with_activity_row (empty_network period) (rows_of bytes)
 
--- the faults that an event may have behind other events of a timetable, in order
+-- the faults that an event may have after other events of a timetable, in order
 abbrev pub event_faults : Times → ℕ → List (Option FaultKind)
 event_faults m event =
     when (is_some (time_of m event)) fault.DuplicateEvent
@@ -74,7 +74,7 @@ event_taken m event time = unless_refused (event_faults m event) (with_time_modu
 abbrev pub fixed_taken : Network → Times → ℕ → ℤ → Result Times FaultKind
 fixed_taken I m event time = unless_refused (fixed_faults I m event) (with_time_modulo m event time)
 
--- the faults that a row of an event and a time may have behind other events, in order
+-- the faults that a row of an event and a time may have after other events, in order
 abbrev pub time_faults_behind : Times → List (List ℕ) → List (Option FaultKind)
 time_faults_behind m fields = time_faults fields ++ event_faults m (natural (field fields 1))
 

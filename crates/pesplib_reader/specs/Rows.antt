@@ -41,7 +41,7 @@ is_point b = b == 46
 abbrev pub whole_part : List ℕ → List ℕ
 whole_part text = before_first is_point text
 
--- the text behind its first point, nothing where it has none
+-- the text after its first point, nothing where it has none
 abbrev pub decimals : List ℕ → List ℕ
 decimals text = after_first is_point text
 
@@ -55,7 +55,7 @@ decimal_fault digits number =
     else if list_any is_not_zero digits then Some fault.FractionalWeight
     else range_fault 6 (pos 0) (pos greatest_weight) number
 
--- a weight is a number, or a number with a point and zeros behind it
+-- a weight is a number, or a number with a point and zeros after it
 unfoldable pub weight_fault : List ℕ → Option FaultKind
 weight_fault text = decimal_fault (decimals text) (number_value (whole_part text))
 

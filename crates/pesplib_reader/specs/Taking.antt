@@ -16,7 +16,7 @@ abbrev pub on_ok : {X : Type 0} → (X → Result X ReadFault) → Result X Read
 on_ok next (Ok x) = next x
 on_ok next (Err first) = Err first
 
--- a kind of file: the faults that a row may have behind what the rows before it stand for, in order, and what it adds to that
+-- a kind of file: the faults that a row may have after what the rows before it stand for, in order, and what it adds to that
 module _ {X : Type 0} (faults : X → List (List ℕ) → List (Option FaultKind)) (add : X → List (List ℕ) → X) where
   -- what stands there with one more row, or its first fault
   abbrev pub row_taken : X → List (List ℕ) → Result X FaultKind
@@ -27,17 +27,17 @@ module _ {X : Type 0} (faults : X → List (List ℕ) → List (Option FaultKind
   taken x [] = Ok x
   taken x (r ∷ rows) = on_ok (λ y. taken y rows) (at_place r.place (row_taken x r.fields))
 
--- the first fault of a row, or want of memory where it has none
+-- the first fault of a row, or out of memory where it has none
 abbrev pub IsTakeFault : {X : Type 0} → Result X FaultKind → FaultKind → Type 0
 IsTakeFault stands kind = MatchResult stands (λ _. kind ≡ fault.Memory) (λ first. kind ≡ first)
 
--- want of memory at one of the records or behind them, before which no row has a fault
+-- out of memory at one of the records or after them, before which no row has a fault
 pub record IsMemoryFault {X : Type 0} (records : ℕ) (stands : Result X ReadFault) (found : ReadFault) : Type 0 where
   pub kind : found.kind ≡ fault.Memory
   pub from_one : 0 < found.place
   pub in_file : found.place ≤ records + 1
   pub none_before : IfErr stands (λ first. found.place ≤ first.place)
 
--- the fault of what a file stands for, or want of memory
+-- the fault of what a file stands for, or out of memory
 abbrev pub IsReadFault : {X : Type 0} → List ℕ → Result X ReadFault → ReadFault → Type 0
 IsReadFault bytes stands found = (stands ≡ Err found) ⊎ IsMemoryFault (length (records_of bytes)) stands found

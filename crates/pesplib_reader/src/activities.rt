@@ -33,7 +33,8 @@ fn count_with_ends(instance: &Instance, activity: &Activity) -> usize
 ///
 /// They are at most two new ones, so they are looked up near the limit alone.
 fn exceeds_with_ends(instance: &Instance, activity: &Activity) -> bool
-    ensures { result ≡ nat_lt (limits.max_events instance.now.period) (length (with_ends instance.now activity.now).events) }
+    ensures { result ≡ nat_lt (limits.max_events instance.now.period)
+        (length (with_ends instance.now activity.now).events) }
 {
     let limit = max_events(instance.period());
     if instance.event_count() + 2 <= limit {
@@ -97,9 +98,12 @@ fn add_activity(instance: &mut Instance, activity: &Activity) -> Result<(), Faul
 /// Takes the activity of a row.
 fn take_activity(instance: &mut Instance, fields: &ByteRecord) -> Result<(), FaultKind>
     requires { length instance.old.events ≤ limits.max_events instance.old.period }
-    ensures ok { OnOk result (row_taken activity_faults_behind with_activity_row instance.old (trimmed_fields fields.now) ≡ Ok instance.new) }
+    ensures ok { OnOk result (row_taken activity_faults_behind with_activity_row instance.old
+        (trimmed_fields fields.now) ≡ Ok instance.new) }
     ensures few { OnOk result (length instance.new.events ≤ limits.max_events instance.new.period) }
-    ensures fault { IfErr result (IsTakeFault (row_taken activity_faults_behind with_activity_row instance.old (trimmed_fields fields.now))) }
+    ensures fault { IfErr result (IsTakeFault
+        (row_taken activity_faults_behind with_activity_row instance.old
+        (trimmed_fields fields.now))) }
 {
     let Some(row) = activity_row(fields) else {
         return Err(FaultKind::FieldCount);

@@ -44,8 +44,11 @@ fn take_fixed(
     times: &mut Timetable,
     fields: &ByteRecord,
 ) -> Result<(), FaultKind>
-    ensures ok { OnOk result (row_taken (fixed_faults_behind instance.now) with_time_row times.old (trimmed_fields fields.now) ≡ Ok times.new) }
-    ensures fault { IfErr result (IsTakeFault (row_taken (fixed_faults_behind instance.now) with_time_row times.old (trimmed_fields fields.now))) }
+    ensures ok { OnOk result (row_taken (fixed_faults_behind instance.now) with_time_row times.old
+        (trimmed_fields fields.now) ≡ Ok times.new) }
+    ensures fault { IfErr result (IsTakeFault
+        (row_taken (fixed_faults_behind instance.now) with_time_row times.old
+        (trimmed_fields fields.now))) }
 {
     let Some(row) = time_row(fields) else {
         return Err(FaultKind::FieldCount);
@@ -88,7 +91,8 @@ fn fix_all(instance: &mut Instance, times: &Timetable)
 /// `OutOfRange` from left to right, `DuplicateEvent`, `NoEvent`. `Memory` is answered at the number of
 /// the records taken so far and one more.
 pub fn read_fixed(alloc: Global, instance: &mut Instance, bytes: &[u8]) -> Result<(), ReadFault>
-    ensures ok { OnOk result ((m : Times) × (fixed_read instance.old bytes.now ≡ Ok m) × (instance.new ≡ with_fixed instance.old m)) }
+    ensures ok { OnOk result ((m : Times) × (fixed_read instance.old bytes.now ≡ Ok m)
+        × (instance.new ≡ with_fixed instance.old m)) }
     ensures fault { IfErr result (IsReadFault bytes.now (fixed_read instance.old bytes.now)) }
     ensures unchanged { OnErr result (instance.new ≡ instance.old) }
 {

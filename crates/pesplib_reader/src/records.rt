@@ -19,6 +19,7 @@ use std::alloc::Global;
 /// The records of a file, one at a time.
 #[derive(Drop)]
 pub(crate) struct Records<'a> {
+    // After the record that was read last.
     reader: Reader<&'a [u8]>,
     // The record that was read last, without an empty field at its end.
     last: ByteRecord,
@@ -57,9 +58,11 @@ fn reader(alloc: Global, bytes: &[u8]) -> Reader<&[u8]>
 fn read_record(reader: &mut Reader<&[u8]>, fields: &mut ByteRecord) -> Result<bool, Error>
     requires { IsBetween reader.old }
     ensures none { IfOk result (λ found. found ≡ false → left_of reader.old ≡ []) }
-    ensures next { IfOk result (λ found. found ≡ true → left_of reader.old ≡ fields_of fields.new ∷ left_of reader.new) }
+    ensures next { IfOk result (λ found. found ≡ true
+        → left_of reader.old ≡ fields_of fields.new ∷ left_of reader.new) }
     ensures between { IfOk result (λ found. found ≡ true → IsBetween reader.new) }
-    ensures shorter { IfOk result (λ found. found ≡ true → length (unread reader.new) < length (unread reader.old)) }
+    ensures shorter { IfOk result (λ found. found ≡ true
+        → length (unread reader.new) < length (unread reader.old)) }
     ensures memory { IfErr result (λ error. IsOfMemory (error_kind error)) }
 {
     reader.read_byte_record(fields)
@@ -111,7 +114,8 @@ fn is_named(fields: &ByteRecord) -> bool
 
 /// The fields of a record that has as many as an activity row has.
 pub(crate) fn activity_row(fields: &ByteRecord) -> Option<ActivityRow<'_>>
-    ensures { MatchOption result (length (trimmed_fields fields.now) ≢ 6) (λ row. trimmed_fields fields.now ≡ activity_fields row) }
+    ensures { MatchOption result (length (trimmed_fields fields.now) ≢ 6)
+        (λ row. trimmed_fields fields.now ≡ activity_fields row) }
 {
     if fields.len() != 6 {
         return None;
@@ -128,7 +132,8 @@ pub(crate) fn activity_row(fields: &ByteRecord) -> Option<ActivityRow<'_>>
 
 /// The fields of a record that has as many as a row of a timetable has.
 pub(crate) fn time_row(fields: &ByteRecord) -> Option<TimeRow<'_>>
-    ensures { MatchOption result (length (trimmed_fields fields.now) ≢ 2) (λ row. trimmed_fields fields.now ≡ time_fields row) }
+    ensures { MatchOption result (length (trimmed_fields fields.now) ≢ 2)
+        (λ row. trimmed_fields fields.now ≡ time_fields row) }
 {
     if fields.len() != 2 {
         return None;
@@ -174,11 +179,14 @@ impl<'a> Records<'a> {
     fn read(&mut self) -> Result<bool, ReadFault>
         requires { IsReading self.old }
         ensures none { IfOk result (λ found. found ≡ false → left_of self.old.reader ≡ []) }
-        ensures next { IfOk result (λ found. found ≡ true → (fields : List (List ℕ)) × (left_of self.old.reader ≡ fields ∷ left_of self.new.reader) × (trimmed_fields self.new.last ≡ file.fields_in fields)) }
+        ensures next { IfOk result (λ found. found ≡ true → (fields : List (List ℕ))
+            × (left_of self.old.reader ≡ fields ∷ left_of self.new.reader)
+            × (trimmed_fields self.new.last ≡ file.fields_in fields)) }
         ensures reading { IfOk result (λ found. found ≡ true → IsReading self.new) }
         ensures taken { IfOk result (λ found. found ≡ true → self.new.taken ≡ self.old.taken + 1) }
         ensures begun { OnOk result (self.new.is_begun ≡ self.old.is_begun) }
-        ensures fault { IfErr result (λ fault. fault ≡ record { place = self.old.taken + 1; kind = kind.Memory }) }
+        ensures fault { IfErr result (λ fault.
+            fault ≡ record { place = self.old.taken + 1; kind = kind.Memory }) }
     {
         match read_record(&mut self.reader, &mut self.last) {
             Ok(true) => {
@@ -197,7 +205,9 @@ impl<'a> Records<'a> {
     /// Whether the record that was read last is a row: neither blank, nor a comment, nor the header.
     fn is_row(&mut self) -> bool
         ensures row { result ≡ is_row self.old.is_begun (trimmed_fields self.old.last) }
-        ensures changes { self.new ≡ record self.old { is_begun = self.old.is_begun || file.are_spoken (trimmed_fields self.old.last) } }
+        ensures changes { self.new ≡ record self.old {
+          is_begun = self.old.is_begun || file.are_spoken (trimmed_fields self.old.last);
+        } }
     {
         let is_spoken = is_spoken(&self.last);
         let is_row = is_spoken && (self.is_begun || !is_named(&self.last));

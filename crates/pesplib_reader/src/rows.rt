@@ -55,29 +55,35 @@ fn number_field(field: u8, text: &[u8], low: i64, high: i64) -> Result<i64, Faul
 
 /// The number of a field, where it is from 0 to a limit.
 fn natural_field(field: u8, text: &[u8], greatest: u32) -> Result<u32, FaultKind>
-    ensures no_fault { IfOk result (λ number. number_fault field (pos 0) (pos greatest) text.now ≡ None) }
+    ensures no_fault { IfOk result (λ number.
+        number_fault field (pos 0) (pos greatest) text.now ≡ None) }
     ensures value { IfOk result (λ number. number ≡ natural text.now) }
     ensures within { IfOk result (λ number. number ≤ greatest) }
-    ensures fault { IfErr result (λ kind. number_fault field (pos 0) (pos greatest) text.now ≡ Some kind) }
+    ensures fault { IfErr result (λ kind.
+        number_fault field (pos 0) (pos greatest) text.now ≡ Some kind) }
 {
     let number = number_field(field, text, 0, i64::from(greatest))?;
     Ok(number as u32)
 }
 
 fn event_field(field: u8, text: &[u8]) -> Result<EventId, FaultKind>
-    ensures no_fault { IfOk result (λ event. number_fault field (pos 0) (pos greatest_number) text.now ≡ None) }
+    ensures no_fault { IfOk result (λ event.
+        number_fault field (pos 0) (pos greatest_number) text.now ≡ None) }
     ensures value { IfOk result (λ event. event ≡ natural text.now) }
-    ensures fault { IfErr result (λ kind. number_fault field (pos 0) (pos greatest_number) text.now ≡ Some kind) }
+    ensures fault { IfErr result (λ kind.
+        number_fault field (pos 0) (pos greatest_number) text.now ≡ Some kind) }
 {
     let number = natural_field(field, text, GREATEST_NUMBER)?;
     Ok(EventId::new(number).unwrap())
 }
 
 fn bound_field(field: u8, text: &[u8]) -> Result<i32, FaultKind>
-    ensures no_fault { IfOk result (λ bound. number_fault field least_bound greatest_bound text.now ≡ None) }
+    ensures no_fault { IfOk result (λ bound.
+        number_fault field least_bound greatest_bound text.now ≡ None) }
     ensures value { IfOk result (λ bound. bound ≡ value text.now) }
     ensures within { IfOk result (λ bound. (least_bound ≤ℤ bound) × (bound ≤ℤ greatest_bound)) }
-    ensures fault { IfErr result (λ kind. number_fault field least_bound greatest_bound text.now ≡ Some kind) }
+    ensures fault { IfErr result (λ kind.
+        number_fault field least_bound greatest_bound text.now ≡ Some kind) }
 {
     let bound = number_field(
         field,
@@ -88,7 +94,7 @@ fn bound_field(field: u8, text: &[u8]) -> Result<i32, FaultKind>
     Ok(bound as i32)
 }
 
-/// The text before its first point, and the text behind it.
+/// The text before its first point, and the text after it.
 fn at_point(text: &[u8]) -> (&[u8], &[u8])
     ensures whole { result.0.now ≡ whole_part text.now }
     ensures decimals { result.1.now ≡ decimals text.now }
@@ -112,7 +118,7 @@ fn is_some_not_zero(digits: &[u8]) -> bool
     digits.iter().any(|digit| *digit != b'0')
 }
 
-/// The weight, which may have a point and zeros behind it.
+/// The weight, which may have a point and zeros after it.
 #[tactic(auto, unfolding(crate::specs::Rows::weight_fault))]
 fn weight_field(text: &[u8]) -> Result<u32, FaultKind>
     ensures no_fault { IfOk result (λ weight. weight_fault text.now ≡ None) }
@@ -138,9 +144,10 @@ impl ActivityRow<'_> {
     ghost use Rattle.pesplib_reader.specs.Rows.{activity_faults, activity_in};
     ghost use Rattle.pesplib_reader.specs.RowFields.{activity_fields};
 
-    /// The activity, or the first fault of the fields from left to right, and `Crossed` behind them.
+    /// The activity, or the first fault of the fields from left to right, and `Crossed` after them.
     pub(crate) fn activity(&self) -> Result<Activity, FaultKind>
-        ensures { result ≡ unless_refused (activity_faults (activity_fields self.now)) (activity_in (activity_fields self.now)) }
+        ensures { result ≡ unless_refused (activity_faults (activity_fields self.now))
+            (activity_in (activity_fields self.now)) }
     {
         let number = natural_field(1, self.number, GREATEST_NUMBER)?;
         let from = event_field(2, self.from)?;
@@ -167,7 +174,8 @@ impl TimeRow<'_> {
 
     /// The event and its time, or the first fault of the fields from left to right.
     pub(crate) fn event_and_time(&self) -> Result<(EventId, i64), FaultKind>
-        ensures { result ≡ unless_refused (time_faults (time_fields self.now)) (natural self.now.event.now, value self.now.time.now) }
+        ensures { result ≡ unless_refused (time_faults (time_fields self.now))
+            (natural self.now.event.now, value self.now.time.now) }
     {
         let event = event_field(1, self.event)?;
         let greatest = i64::from(GREATEST_TIME);

@@ -40,9 +40,11 @@ fn add_time(timetable: &mut Timetable, event: EventId, time: i64) -> Result<(), 
 
 /// Takes the event and the time of a row.
 fn take_time(timetable: &mut Timetable, fields: &ByteRecord) -> Result<(), FaultKind>
-    ensures ok { OnOk result (row_taken time_faults_behind with_time_row timetable.old (trimmed_fields fields.now) ≡ Ok timetable.new) }
+    ensures ok { OnOk result (row_taken time_faults_behind with_time_row timetable.old
+        (trimmed_fields fields.now) ≡ Ok timetable.new) }
     ensures period { timetable.new.period ≡ timetable.old.period }
-    ensures fault { IfErr result (IsTakeFault (row_taken time_faults_behind with_time_row timetable.old (trimmed_fields fields.now))) }
+    ensures fault { IfErr result (IsTakeFault
+        (row_taken time_faults_behind with_time_row timetable.old (trimmed_fields fields.now))) }
 {
     let Some(row) = time_row(fields) else {
         return Err(FaultKind::FieldCount);

@@ -36,7 +36,7 @@ edit_line (SetSpan n span) = words_line (codes "span" ∷ decimal n ∷ signed_d
 edit_line (SetWeight n weight) = words_line (codes "weight" ∷ decimal n ∷ decimal weight ∷ [])
 edit_line (SetEnds n from to) = words_line (codes "ends" ∷ decimal n ∷ decimal from ∷ decimal to ∷ [])
 
--- the lines of an instance's script, behind the first one
+-- the lines of an instance's script, after the first one
 abbrev pub script_lines : Network → List (List ℕ)
 script_lines I = map edit_line (script_edits I)
 

@@ -11,7 +11,9 @@ use std::alloc::AllocError;
 
 /// The bounds of a span with a text between them.
 fn put_bounds(text: &mut Vec<u8>, span: Span, between: &[u8]) -> Result<(), AllocError>
-    ensures { OnOk result (text.new.items ≡ text.old.items ++ (signed_decimal span.lower ++ (between.now ++ signed_decimal span.upper))) }
+    ensures { OnOk result (text.new.items
+        ≡ text.old.items
+        ++ (signed_decimal span.lower ++ (between.now ++ signed_decimal span.upper))) }
 {
     put_signed(text, span.lower())?;
     put(text, between)?;
@@ -25,7 +27,8 @@ pub(crate) fn put_fields(
     activity: &Activity,
     between: &[u8],
 ) -> Result<(), AllocError>
-    ensures { OnOk result (text.new.items ≡ text.old.items ++ separated between.now (activity_fields activity.now)) }
+    ensures { OnOk result (text.new.items
+        ≡ text.old.items ++ separated between.now (activity_fields activity.now)) }
 {
     put_before(text, u64::from(activity.id.get()), between)?;
     put_before(text, u64::from(activity.from.get()), between)?;

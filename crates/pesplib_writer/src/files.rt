@@ -16,7 +16,8 @@ use std::alloc::{AllocError, Global};
 
 /// The row of an activity.
 fn put_activity(text: &mut Vec<u8>, activity: &Activity) -> Result<(), AllocError>
-    ensures { OnOk result (text.new.items ≡ text.old.items ++ (activity_row activity.now ++ 10 ∷ [])) }
+    ensures { OnOk result (text.new.items
+        ≡ text.old.items ++ (activity_row activity.now ++ 10 ∷ [])) }
 {
     put_fields(text, activity, b"; ")?;
     put(text, b"\n")
@@ -68,7 +69,8 @@ fn put_times(text: &mut Vec<u8>, timetable: &Timetable) -> Result<(), AllocError
 /// Where each event is an end of an activity, the text stands for the instance without its windows.
 pub fn write_activities(alloc: Global, instance: &Instance) -> Result<Vec<u8>, Memory>
     ensures text { IfOk result (λ text. text.items ≡ activities_text instance.now) }
-    ensures stands { IfOk result (λ text. AreUsed instance.now → activities_read instance.now.period text.items ≡ Ok (without_windows instance.now)) }
+    ensures stands { IfOk result (λ text. AreUsed instance.now
+        → activities_read instance.now.period text.items ≡ Ok (without_windows instance.now)) }
 {
     let mut text = Vec::new(alloc);
     match put_activities(&mut text, instance) {
@@ -93,7 +95,8 @@ pub fn write_fixed(alloc: Global, instance: &Instance) -> Result<Vec<u8>, Memory
 /// The text stands for the timetable.
 pub fn write_times(alloc: Global, timetable: &Timetable) -> Result<Vec<u8>, Memory>
     ensures text { IfOk result (λ text. text.items ≡ times_text timetable.now) }
-    ensures stands { IfOk result (λ text. times_read timetable.now.period text.items ≡ Ok timetable.now) }
+    ensures stands { IfOk result (λ text.
+        times_read timetable.now.period text.items ≡ Ok timetable.now) }
 {
     // Known of the period by its type; the law of the text takes it as a fact.
     prove!(timetable.period().get() <= GREATEST_PERIOD);

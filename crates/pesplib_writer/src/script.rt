@@ -38,14 +38,18 @@ fn line_count(instance: &Instance) -> usize
 
 /// The first line, a comment: the period, and how many lines follow.
 fn put_head(text: &mut Vec<u8>, period: Period, lines: usize) -> Result<(), AllocError>
-    ensures { OnOk result (text.new.items ≡ text.old.items ++ (words_line (codes "# period" ∷ decimal period ∷ codes "lines" ∷ decimal lines ∷ []) ++ 10 ∷ [])) }
+    ensures { OnOk result (text.new.items
+        ≡ text.old.items
+        ++ (words_line (codes "# period" ∷ decimal period ∷ codes "lines" ∷ decimal lines ∷ [])
+        ++ 10 ∷ [])) }
 {
     put_between(text, b"# period ", u64::from(period.get()), b" lines ")?;
     put_before(text, lines as u64, b"\n")
 }
 
 fn put_events(text: &mut Vec<u8>, instance: &Instance) -> Result<(), AllocError>
-    ensures { OnOk result (text.new.items ≡ text.old.items ++ as_lines (map edit_line (map AddEvent (event_ids instance.now)))) }
+    ensures { OnOk result (text.new.items
+        ≡ text.old.items ++ as_lines (map edit_line (map AddEvent (event_ids instance.now)))) }
 {
     for event in instance.events() {
         put_between(text, b"add event ", u64::from(event.id.get()), b"\n")?;
@@ -55,7 +59,8 @@ fn put_events(text: &mut Vec<u8>, instance: &Instance) -> Result<(), AllocError>
 
 /// The line that fixes an event's time.
 fn put_fix(text: &mut Vec<u8>, event: EventId, time: u16) -> Result<(), AllocError>
-    ensures { OnOk result (text.new.items ≡ text.old.items ++ (edit_line (Fix event time) ++ 10 ∷ [])) }
+    ensures { OnOk result (text.new.items
+        ≡ text.old.items ++ (edit_line (Fix event time) ++ 10 ∷ [])) }
 {
     put_between(text, b"fix ", u64::from(event.get()), b" ")?;
     put_before(text, u64::from(time), b"\n")
@@ -63,7 +68,8 @@ fn put_fix(text: &mut Vec<u8>, event: EventId, time: u16) -> Result<(), AllocErr
 
 /// The line that gives an event a window that is not one of one residue alone.
 fn put_wide(text: &mut Vec<u8>, event: EventId, window: Window) -> Result<(), AllocError>
-    ensures { OnOk result (text.new.items ≡ text.old.items ++ (edit_line (SetWindow event window.first window.length) ++ 10 ∷ [])) }
+    ensures { OnOk result (text.new.items
+        ≡ text.old.items ++ (edit_line (SetWindow event window.first window.length) ++ 10 ∷ [])) }
 {
     put_between(text, b"window ", u64::from(event.get()), b" ")?;
     put_between(text, b"", u64::from(window.first()), b" ")?;
@@ -72,7 +78,8 @@ fn put_wide(text: &mut Vec<u8>, event: EventId, window: Window) -> Result<(), Al
 
 /// The line that gives an event a window.
 fn put_window(text: &mut Vec<u8>, event: EventId, window: Window) -> Result<(), AllocError>
-    ensures { OnOk result (text.new.items ≡ text.old.items ++ (edit_line (window_edit event window) ++ 10 ∷ [])) }
+    ensures { OnOk result (text.new.items
+        ≡ text.old.items ++ (edit_line (window_edit event window) ++ 10 ∷ [])) }
 {
     match window.only_time() {
         Some(time) => put_fix(text, event, time),
@@ -81,7 +88,8 @@ fn put_window(text: &mut Vec<u8>, event: EventId, window: Window) -> Result<(), 
 }
 
 fn put_windows(text: &mut Vec<u8>, instance: &Instance) -> Result<(), AllocError>
-    ensures { OnOk result (text.new.items ≡ text.old.items ++ as_lines (map edit_line (filter_map own_edit instance.now.events))) }
+    ensures { OnOk result (text.new.items
+        ≡ text.old.items ++ as_lines (map edit_line (filter_map own_edit instance.now.events))) }
 {
     for event in instance.events() {
         if let Some(window) = event.window {
@@ -93,7 +101,8 @@ fn put_windows(text: &mut Vec<u8>, instance: &Instance) -> Result<(), AllocError
 
 /// The line that adds an activity.
 fn put_activity(text: &mut Vec<u8>, activity: &Activity) -> Result<(), AllocError>
-    ensures { OnOk result (text.new.items ≡ text.old.items ++ (edit_line (AddActivity activity.now) ++ 10 ∷ [])) }
+    ensures { OnOk result (text.new.items
+        ≡ text.old.items ++ (edit_line (AddActivity activity.now) ++ 10 ∷ [])) }
 {
     put(text, b"add activity ")?;
     put_fields(text, activity, b" ")?;
@@ -101,7 +110,8 @@ fn put_activity(text: &mut Vec<u8>, activity: &Activity) -> Result<(), AllocErro
 }
 
 fn put_activities(text: &mut Vec<u8>, instance: &Instance) -> Result<(), AllocError>
-    ensures { OnOk result (text.new.items ≡ text.old.items ++ as_lines (map edit_line (map AddActivity instance.now.activities))) }
+    ensures { OnOk result (text.new.items
+        ≡ text.old.items ++ as_lines (map edit_line (map AddActivity instance.now.activities))) }
 {
     for activity in instance.activities() {
         put_activity(text, activity)?;
@@ -120,12 +130,13 @@ fn put_script(text: &mut Vec<u8>, instance: &Instance) -> Result<(), AllocError>
 }
 
 /// The script that builds the instance from the one of its period without events: a comment with the
-/// period and the number of the lines behind it, and then the edits, a line each.
+/// period and the number of the lines after it, and then the edits, a line each.
 ///
 /// The events come first, then their windows, then the activities, each by rising number.
 pub fn dump(alloc: Global, instance: &Instance) -> Result<Vec<u8>, Memory>
     ensures text { IfOk result (λ text. text.items ≡ script instance.now) }
-    ensures builds { applied (empty_network instance.now.period) (script_edits instance.now) ≡ Ok instance.now }
+    ensures builds { applied (empty_network instance.now.period) (script_edits instance.now)
+        ≡ Ok instance.now }
 {
     let mut text = Vec::new(alloc);
     match put_script(&mut text, instance) {

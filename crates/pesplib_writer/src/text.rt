@@ -1,4 +1,4 @@
-//! Texts and numbers, put behind what is written already; numbers are written by `itoa`.
+//! Texts and numbers, put after what is written already; numbers are written by `itoa`.
 //!
 //! A call finds no memory only where the text has no room, and a text keeps the room that it has.
 
@@ -9,7 +9,7 @@ ghost use Rattle.pesplib_writer.specs.Puts.{HasNoRoom, IsPutInPart};
 use itoa::Buffer;
 use std::alloc::AllocError;
 
-/// Puts bytes behind a text. Where memory is wanting the text is as it was.
+/// Puts bytes after a text. Where memory is wanting the text is as it was.
 pub fn put(text: &mut Vec<u8>, bytes: &[u8]) -> Result<(), AllocError>
     ensures text { OnOk result (text.new.items ≡ text.old.items ++ bytes.now) }
     ensures unchanged { OnErr result (text.new.items ≡ text.old.items) }
@@ -44,7 +44,7 @@ pub fn put_signed(text: &mut Vec<u8>, number: i32) -> Result<(), AllocError>
     put(text, signed.as_bytes())
 }
 
-/// Puts a number, and a text behind it.
+/// Puts a number, and a text after it.
 pub(crate) fn put_before(text: &mut Vec<u8>, number: u64, behind: &[u8]) -> Result<(), AllocError>
     ensures { OnOk result (text.new.items ≡ text.old.items ++ (decimal number ++ behind.now)) }
 {
@@ -54,7 +54,7 @@ pub(crate) fn put_before(text: &mut Vec<u8>, number: u64, behind: &[u8]) -> Resu
 
 /// Puts a number between two texts.
 ///
-/// Where memory is wanting the text is as it was, or has the first text behind it, or that and the
+/// Where memory is wanting the text is as it was, or has the first text after it, or that and the
 /// number.
 pub fn put_between(
     text: &mut Vec<u8>,
@@ -62,8 +62,10 @@ pub fn put_between(
     number: u64,
     after: &[u8],
 ) -> Result<(), AllocError>
-    ensures text { OnOk result (text.new.items ≡ text.old.items ++ (before.now ++ (decimal number ++ after.now))) }
-    ensures in_part { OnErr result (IsPutInPart text.old.items text.new.items (before.now ∷ decimal number ∷ after.now ∷ [])) }
+    ensures text { OnOk result (text.new.items
+        ≡ text.old.items ++ (before.now ++ (decimal number ++ after.now))) }
+    ensures in_part { OnErr result (IsPutInPart text.old.items text.new.items
+        (before.now ∷ decimal number ∷ after.now ∷ [])) }
     ensures full { OnErr result (HasNoRoom text.old (before.now ++ (decimal number ++ after.now))) }
     ensures room { vec_capacity text.old ≤ vec_capacity text.new }
 {

@@ -32,7 +32,8 @@ impl<K: Keeper> Bench<K> {
     /// Refusals are those of the edit, in order.
     pub fn apply(&mut self, edit: &Edit) -> Result<(), Refusal>
         ensures ok { OnOk result (edited_state self.old edit.now self.new.known ≡ Ok self.new) }
-        ensures kept { OnOk result (IsKeptBy self.old.instance edit.now self.old.known self.new.known) }
+        ensures kept { OnOk result (IsKeptBy self.old.instance edit.now self.old.known
+            self.new.known) }
         ensures refused { IfErr result (IsRefusal self.old.instance edit.now) }
         ensures unchanged { OnErr result (self.new ≡ self.old) }
     {
@@ -63,7 +64,8 @@ impl<K: Keeper> Bench<K> {
     ///
     /// Refusals in order: 2; 11 where it has none.
     pub fn clear_time(&mut self, event: EventId) -> Result<(), Refusal>
-        ensures result { result_map_both (λ done. self.new) (λ refusal. refusal) result ≡ untimed_state self.old event }
+        ensures result { result_map_both (λ done. self.new) (λ refusal. refusal) result
+            ≡ untimed_state self.old event }
         ensures unchanged { OnErr result (self.new ≡ self.old) }
     {
         if !self.instance().has_event(event) {

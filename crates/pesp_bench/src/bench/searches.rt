@@ -32,7 +32,8 @@ fn copy_of(alloc: Global, times: &Timetable) -> Result<Timetable, Memory>
 
 /// Makes the timetable that a search stopped with the candidate, where there is memory to copy it.
 fn keep_found(alloc: Global, found: &Option<Best>, candidate: &mut Option<Timetable>)
-    ensures { (candidate.new ≡ candidate.old) ⊎ IsSomeAnd found.now (λ best. candidate.new ≡ Some best.times) }
+    ensures { (candidate.new ≡ candidate.old)
+        ⊎ IsSomeAnd found.now (λ best. candidate.new ≡ Some best.times) }
 {
     if let Some(best) = found {
         if let Ok(copy) = copy_of(alloc, &best.times) {
@@ -82,11 +83,12 @@ impl<K: Keeper> Bench<K> {
         Ok(())
     }
 
-    /// The optimum, or want of memory: what [`Bench::find_optimum`] makes known, and a known one as it is. The working timetable stays.
+    /// The optimum, or out of memory: what [`Bench::find_optimum`] makes known, and a known one as it is. The working timetable stays.
     pub(crate) fn known_optimum(&mut self, alloc: Global) -> Result<&Answer, Memory>
         ensures* leaves { sem 𝓛 (follows_so (the_row K.row K.Keeper) (the_row K.row K.Keeper) self.entry.ghost_name none (λ _ _. ⊤) (λ after. IsSearched self.old after × (after.times ≡ self.old.times))) }
         ensures ok { IfOk result (λ answer. IsAnswer self.old.instance answer.now) }
-        ensures kept { IfSome self.old.known (λ known. IsOkAnd result (λ answer. answer.now ≡ known)) }
+        ensures kept { IfSome self.old.known
+            (λ known. IsOkAnd result (λ answer. answer.now ≡ known)) }
         ensures refused { IsErr result → self.old.known ≡ None }
     {
         if self.find_optimum(alloc).is_err() {

@@ -26,10 +26,13 @@ pub fn follow(
     restores: bool,
 )
     requires adds { adds edit.now ≡ false }
-    requires before { (I : Network) × WereFollowed I instance.now edit.now restores links.old supports.old }
+    requires before { (I : Network)
+        × WereFollowed I instance.now edit.now restores links.old supports.old }
     requires empty { back.old.pairs ≡ [] }
     requires room { length supports.old.rows * supports.old.period ≤ back.old.room }
-    ensures followed { (I : Network) → WereFollowed I instance.now edit.now restores links.old supports.old → IsLoosened I instance.now edit.now links.new supports.new back.new.pairs }
+    ensures followed { (I : Network)
+        → WereFollowed I instance.now edit.now restores links.old supports.old
+        → IsLoosened I instance.now edit.now links.new supports.new back.new.pairs }
     ensures shape { HaveSameShape supports.old supports.new }
     ensures room { back.new.room ≡ back.old.room }
     ensures worked { IsWorked links.new supports.old supports.new back.new.pairs }

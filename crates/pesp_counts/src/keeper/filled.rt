@@ -23,9 +23,12 @@ fn house_events(
     back: &mut Back,
     restored: &mut Vec<Pair>,
 ) -> Result<(), AllocError>
-    requires { AreFor (record instance.now { events = []; activities = [] }) links.old supports.old }
-    ensures ok { OnOk result (AreFor (record instance.now { activities = [] }) links.new supports.new) }
-    ensures room { HaveRoom supports.old back.old.room (vec_capacity restored.old) → HaveRoom supports.new back.new.room (vec_capacity restored.new) }
+    requires { AreFor (record instance.now { events = []; activities = [] }) links.old
+        supports.old }
+    ensures ok { OnOk result (AreFor (record instance.now { activities = [] }) links.new
+        supports.new) }
+    ensures room { HaveRoom supports.old back.old.room (vec_capacity restored.old)
+        → HaveRoom supports.new back.new.room (vec_capacity restored.new) }
     ensures restored { restored.new.items ≡ restored.old.items }
 {
     for event in instance.events() {
@@ -64,12 +67,15 @@ pub fn house(
 ) -> Result<(), AllocError>
     requires pushed { pushed.old.items ≡ [] }
     requires marks { marks.old.items ≡ [] }
-    requires start { AreFor (record instance.now { events = []; activities = [] }) links.old supports.old }
+    requires start { AreFor (record instance.now { events = []; activities = [] }) links.old
+        supports.old }
     ensures ok { OnOk result (AreFor instance.now links.new supports.new) }
-    ensures many { OnOk result ((length instance.now.events ≤ vec_capacity pushed.new) × (length instance.now.events ≤ vec_capacity marks.new)) }
+    ensures many { OnOk result ((length instance.now.events ≤ vec_capacity pushed.new)
+        × (length instance.now.events ≤ vec_capacity marks.new)) }
     ensures pushed { pushed.new.items ≡ [] }
     ensures marks { marks.new.items ≡ [] }
-    ensures room { HaveRoom supports.old back.old.room (vec_capacity restored.old) → HaveRoom supports.new back.new.room (vec_capacity restored.new) }
+    ensures room { HaveRoom supports.old back.old.room (vec_capacity restored.old)
+        → HaveRoom supports.new back.new.room (vec_capacity restored.new) }
     ensures restored { restored.new.items ≡ restored.old.items }
 {
     make_room(pushed, marks, instance.event_count())?;

@@ -30,10 +30,14 @@ pub fn house_event(
 ) -> Result<usize, AllocError>
     requires absent { place_of (links.old).events event ≡ None }
     ensures grown { IsRoomier supports.old supports.new }
-    ensures ok { OnOk result ((I : Network) → AreFor I links.old supports.old → AreFor (effect I (edits.AddEvent event)) links.new supports.new) }
+    ensures ok { OnOk result ((I : Network) → AreFor I links.old supports.old
+        → AreFor (effect I (edits.AddEvent event)) links.new supports.new) }
     ensures place { IfOk result (λ p. IsHousedAt links.old links.new event p) }
-    ensures back { OnErr result ((I J : Network) → IsNetwork I → edited I (edits.AddEvent event) ≡ Ok J → AreFor I links.old supports.old → AreFor I links.new supports.new × SeeSame links.old links.new) }
-    ensures room { HaveRoom supports.old back.old.room (vec_capacity restored.old) → HaveRoom supports.new back.new.room (vec_capacity restored.new) }
+    ensures back { OnErr result ((I J : Network) → IsNetwork I
+        → edited I (edits.AddEvent event) ≡ Ok J → AreFor I links.old supports.old
+        → AreFor I links.new supports.new × SeeSame links.old links.new) }
+    ensures room { HaveRoom supports.old back.old.room (vec_capacity restored.old)
+        → HaveRoom supports.new back.new.room (vec_capacity restored.new) }
     ensures listed { back.new.pairs ≡ back.old.pairs }
     ensures restored { restored.new.items ≡ restored.old.items }
 {
@@ -53,7 +57,8 @@ pub fn make_room(
 ) -> Result<(), AllocError>
     requires pushed { pushed.old.items ≡ [] }
     requires marks { marks.old.items ≡ [] }
-    ensures ok { OnOk result ((events ≤ vec_capacity pushed.new) × (events ≤ vec_capacity marks.new)) }
+    ensures ok { OnOk result ((events ≤ vec_capacity pushed.new)
+        × (events ≤ vec_capacity marks.new)) }
     ensures pushed { pushed.new.items ≡ [] }
     ensures marks { marks.new.items ≡ [] }
     ensures more_pushed { vec_capacity pushed.old ≤ vec_capacity pushed.new }
@@ -79,13 +84,16 @@ pub fn add_event(
     requires marks { marks.old.items ≡ [] }
     requires before { WereSettled instance.now (edits.AddEvent event) links.old supports.old }
     ensures ok { OnOk result (AreSettled instance.now [] links.new supports.new) }
-    ensures many { OnOk result ((length instance.now.events ≤ vec_capacity pushed.new) × (length instance.now.events ≤ vec_capacity marks.new)) }
+    ensures many { OnOk result ((length instance.now.events ≤ vec_capacity pushed.new)
+        × (length instance.now.events ≤ vec_capacity marks.new)) }
     ensures pushed { pushed.new.items ≡ [] }
     ensures marks { marks.new.items ≡ [] }
     ensures more_pushed { vec_capacity pushed.old ≤ vec_capacity pushed.new }
     ensures more_marks { vec_capacity marks.old ≤ vec_capacity marks.new }
-    ensures err { OnErr result ((I : Network) → edited I (edits.AddEvent event) ≡ Ok instance.now → AreSettled I [] links.old supports.old → AreSettled I [] links.new supports.new) }
-    ensures room { HaveRoom supports.old back.old.room (vec_capacity restored.old) → HaveRoom supports.new back.new.room (vec_capacity restored.new) }
+    ensures err { OnErr result ((I : Network) → edited I (edits.AddEvent event) ≡ Ok instance.now
+        → AreSettled I [] links.old supports.old → AreSettled I [] links.new supports.new) }
+    ensures room { HaveRoom supports.old back.old.room (vec_capacity restored.old)
+        → HaveRoom supports.new back.new.room (vec_capacity restored.new) }
     ensures listed { back.new.pairs ≡ back.old.pairs }
     ensures restored { restored.new.items ≡ restored.old.items }
     ensures worked { OnOk result (IsWorked links.new supports.old supports.new []) }
@@ -107,8 +115,10 @@ fn open_event(
 ) -> Result<(), AllocError>
     requires before { WereSettled instance.now (edits.AddEvent event) links.old supports.old }
     ensures ok { OnOk result (AreSettled instance.now [] links.new supports.new) }
-    ensures err { OnErr result ((I : Network) → edited I (edits.AddEvent event) ≡ Ok instance.now → AreSettled I [] links.old supports.old → AreSettled I [] links.new supports.new) }
-    ensures room { HaveRoom supports.old back.old.room (vec_capacity restored.old) → HaveRoom supports.new back.new.room (vec_capacity restored.new) }
+    ensures err { OnErr result ((I : Network) → edited I (edits.AddEvent event) ≡ Ok instance.now
+        → AreSettled I [] links.old supports.old → AreSettled I [] links.new supports.new) }
+    ensures room { HaveRoom supports.old back.old.room (vec_capacity restored.old)
+        → HaveRoom supports.new back.new.room (vec_capacity restored.new) }
     ensures listed { back.new.pairs ≡ back.old.pairs }
     ensures restored { restored.new.items ≡ restored.old.items }
     ensures worked { OnOk result (IsWorked links.new supports.old supports.new []) }
@@ -128,14 +138,21 @@ pub fn house_activity(
     supports: &mut Supports,
     activity: &Activity,
 ) -> Result<(), AllocError>
-    requires stands { (I : Network) × (J : Network) × (I.period ≡ period) × (edited I (edits.AddActivity activity.now) ≡ Ok J) × StandFor I links.old }
+    requires stands { (I : Network) × (J : Network) × (I.period ≡ period)
+        × (edited I (edits.AddActivity activity.now) ≡ Ok J) × StandFor I links.old }
     requires absent { place_of (links.old).activities (activity.now).id ≡ None }
     requires from { IsSome (place_of (links.old).events (activity.now).from) }
     requires to { IsSome (place_of (links.old).events (activity.now).to) }
     ensures grown { IsRoomier supports.old supports.new }
-    ensures ok { OnOk result ((I J : Network) → I.period ≡ period → edited I (edits.AddActivity activity.now) ≡ Ok J → AreFor I links.old supports.old → AreFor J links.new supports.new) }
-    ensures changed { OnOk result ((q : ℕ) × (place_of (links.new).activities (activity.now).id ≡ Some q) × IsChangedAt links.old links.new q) }
-    ensures back { OnErr result ((I J : Network) → I.period ≡ period → IsNetwork I → edited I (edits.AddActivity activity.now) ≡ Ok J → AreFor I links.old supports.old → AreFor I links.new supports.new × SeeSame links.old links.new) }
+    ensures ok { OnOk result ((I J : Network) → I.period ≡ period
+        → edited I (edits.AddActivity activity.now) ≡ Ok J → AreFor I links.old supports.old
+        → AreFor J links.new supports.new) }
+    ensures changed { OnOk result ((q : ℕ)
+        × (place_of (links.new).activities (activity.now).id ≡ Some q)
+        × IsChangedAt links.old links.new q) }
+    ensures back { OnErr result ((I J : Network) → I.period ≡ period → IsNetwork I
+        → edited I (edits.AddActivity activity.now) ≡ Ok J → AreFor I links.old supports.old
+        → AreFor I links.new supports.new × SeeSame links.old links.new) }
     ensures rows { length supports.new.rows ≡ length supports.old.rows }
 {
     links.add_activity(period, activity)?;
@@ -153,9 +170,12 @@ pub fn add_activity(
     supports: &mut Supports,
     activity: &Activity,
 ) -> Result<(), AllocError>
-    requires before { WereSettled instance.now (edits.AddActivity activity.now) links.old supports.old }
+    requires before { WereSettled instance.now (edits.AddActivity activity.now) links.old
+        supports.old }
     ensures ok { OnOk result (AreSettled instance.now [] links.new supports.new) }
-    ensures err { OnErr result ((I : Network) → edited I (edits.AddActivity activity.now) ≡ Ok instance.now → AreSettled I [] links.old supports.old → AreSettled I [] links.new supports.new) }
+    ensures err { OnErr result ((I : Network)
+        → edited I (edits.AddActivity activity.now) ≡ Ok instance.now
+        → AreSettled I [] links.old supports.old → AreSettled I [] links.new supports.new) }
     ensures period { supports.new.period ≡ supports.old.period }
     ensures rows { length supports.new.rows ≡ length supports.old.rows }
     ensures worked { OnOk result (IsWorked links.new supports.old supports.new []) }

@@ -22,9 +22,13 @@ pub fn limit_event(links: &Links, supports: &mut Supports, event: EventId, resid
     requires fit { Fit links.now supports.old }
     requires rest { AreAtRest links.now supports.old }
     requires place { IsSome (place_of (links.now).events event) }
-    requires housed { (p : ℕ) → place_of (links.now).events event ≡ Some p → p < length (supports.old).rows }
-    ensures narrowed { (p : ℕ) → place_of (links.now).events event ≡ Some p → IsNarrowed links.now p (λ r. r == residue) supports.old supports.new }
-    ensures probes { (supports.new).probes ≤ (supports.old).probes + (supports.old).period * ends_at links.now (drop (length (supports.old).trail) (supports.new).trail) }
+    requires housed { (p : ℕ) → place_of (links.now).events event ≡ Some p
+        → p < length (supports.old).rows }
+    ensures narrowed { (p : ℕ) → place_of (links.now).events event ≡ Some p
+        → IsNarrowed links.now p (λ r. r == residue) supports.old supports.new }
+    ensures probes { (supports.new).probes
+        ≤ (supports.old).probes + (supports.old).period
+        * ends_at links.now (drop (length (supports.old).trail) (supports.new).trail) }
 {
     if let Some(place) = links.event(event) {
         let mark = supports.mark();
@@ -37,7 +41,8 @@ pub fn limit_event(links: &Links, supports: &mut Supports, event: EventId, resid
 pub fn limit_at(instance: &Instance, supports: &mut Supports, event: EventId, place: usize)
     requires period { (supports.old).period ≡ (instance.now).period }
     requires place { place < length (supports.old).rows }
-    ensures rows { (p r : ℕ) → has_at (supports.new).rows p r ≡ narrowed_to (has_at (supports.old).rows) place (admits instance.now event) p r }
+    ensures rows { (p r : ℕ) → has_at (supports.new).rows p r
+        ≡ narrowed_to (has_at (supports.old).rows) place (admits instance.now event) p r }
     ensures taken { IsTaken supports.old supports.new }
     ensures keeps { Keeps supports.old supports.new }
     ensures probes { (supports.new).probes ≡ (supports.old).probes }
@@ -55,9 +60,13 @@ pub fn narrow_event(instance: &Instance, links: &Links, supports: &mut Supports,
     requires fit { Fit links.now supports.old }
     requires rest { AreAtRest links.now supports.old }
     requires place { IsSome (place_of (links.now).events event) }
-    requires housed { (p : ℕ) → place_of (links.now).events event ≡ Some p → p < length (supports.old).rows }
-    ensures narrowed { (p : ℕ) → place_of (links.now).events event ≡ Some p → IsNarrowed links.now p (admits instance.now event) supports.old supports.new }
-    ensures probes { (supports.new).probes ≤ (supports.old).probes + (supports.old).period * ends_at links.now (drop (length (supports.old).trail) (supports.new).trail) }
+    requires housed { (p : ℕ) → place_of (links.now).events event ≡ Some p
+        → p < length (supports.old).rows }
+    ensures narrowed { (p : ℕ) → place_of (links.now).events event ≡ Some p
+        → IsNarrowed links.now p (admits instance.now event) supports.old supports.new }
+    ensures probes { (supports.new).probes
+        ≤ (supports.old).probes + (supports.old).period
+        * ends_at links.now (drop (length (supports.old).trail) (supports.new).trail) }
 {
     if let Some(place) = links.event(event) {
         let mark = supports.mark();
@@ -69,7 +78,8 @@ pub fn narrow_event(instance: &Instance, links: &Links, supports: &mut Supports,
 /// Takes the residues out of the rows that are not in the windows of their events.
 pub fn limit_windows(instance: &Instance, links: &Links, supports: &mut Supports)
     requires fits { AreFor instance.now links.now supports.old }
-    requires full { (p r : ℕ) → has_at (supports.old).rows p r ≡ (nat_lt p (length (supports.old).rows) && nat_lt r (supports.old).period) }
+    requires full { (p r : ℕ) → has_at (supports.old).rows p r
+        ≡ (nat_lt p (length (supports.old).rows) && nat_lt r (supports.old).period) }
     ensures network { IsNetwork instance.now }
     ensures all { AreOpen instance.now [] (rows_of links.now supports.new) }
     ensures taken { IsTaken supports.old supports.new }

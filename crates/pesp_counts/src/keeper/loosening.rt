@@ -37,7 +37,8 @@ fn reopen(
     requires starts { All (λ p. p < length (supports.old).rows) starts.now }
     requires empty { (back.old).pairs ≡ [] }
     requires room { length (supports.old).rows * (supports.old).period ≤ (back.old).room }
-    ensures back { IsPutBack (λ S. S) instance.now links.now starts.now None supports.old supports.new (back.new).pairs }
+    ensures back { IsPutBack (λ S. S) instance.now links.now starts.now None supports.old
+        supports.new (back.new).pairs }
     ensures room { (back.new).room ≡ (back.old).room }
     ensures worked { IsWorked links.now supports.old supports.new (back.new).pairs }
 {
@@ -62,7 +63,8 @@ fn reopen_window(
     requires place { place < length (supports.old).rows }
     requires empty { (back.old).pairs ≡ [] }
     requires room { length (supports.old).rows * (supports.old).period ≤ (back.old).room }
-    ensures back { IsPutBack (λ S. narrowed_to S place (admits instance.now event)) instance.now links.now (place ∷ []) None supports.old supports.new (back.new).pairs }
+    ensures back { IsPutBack (λ S. narrowed_to S place (admits instance.now event)) instance.now
+        links.now (place ∷ []) None supports.old supports.new (back.new).pairs }
     ensures room { (back.new).room ≡ (back.old).room }
     ensures worked { IsWorked links.now supports.old supports.new (back.new).pairs }
 {
@@ -87,7 +89,8 @@ fn rejoin(
     requires starts { All (λ p. p < length (supports.old).rows) starts.now }
     requires empty { (back.old).pairs ≡ [] }
     requires room { length (supports.old).rows * (supports.old).period ≤ (back.old).room }
-    ensures back { IsPutBack (λ S. S) instance.now links.now starts.now (Some place) supports.old supports.new (back.new).pairs }
+    ensures back { IsPutBack (λ S. S) instance.now links.now starts.now (Some place) supports.old
+        supports.new (back.new).pairs }
     ensures room { (back.new).room ≡ (back.old).room }
     ensures worked { IsWorked links.now supports.old supports.new (back.new).pairs }
 {
@@ -103,10 +106,13 @@ fn rewindow(
     back: &mut Back,
     event: EventId,
 )
-    requires loose { (edit : SomeEdit) × (window : Option Interval) × IsOfWindow edit event window × (I : Network) × WereLoose I instance.now edit links.now supports.old }
+    requires loose { (edit : SomeEdit) × (window : Option Interval) × IsOfWindow edit event window
+        × (I : Network) × WereLoose I instance.now edit links.now supports.old }
     requires empty { (back.old).pairs ≡ [] }
     requires room { length (supports.old).rows * (supports.old).period ≤ (back.old).room }
-    ensures loosened { (edit : SomeEdit) (window : Option Interval) (I : Network) → IsOfWindow edit event window → WereLoose I instance.now edit links.now supports.old → IsLoosened I instance.now edit links.now supports.new (back.new).pairs }
+    ensures loosened { (edit : SomeEdit) (window : Option Interval) (I : Network)
+        → IsOfWindow edit event window → WereLoose I instance.now edit links.now supports.old
+        → IsLoosened I instance.now edit links.now supports.new (back.new).pairs }
     ensures shape { HaveSameShape supports.old supports.new }
     ensures room { (back.new).room ≡ (back.old).room }
     ensures worked { IsWorked links.now supports.old supports.new (back.new).pairs }
@@ -125,10 +131,14 @@ fn release(
     back: &mut Back,
     id: ActivityId,
 )
-    requires loose { (I : Network) × WereLoose I instance.now (edits.DropActivity id) links.old supports.old }
+    requires loose { (I : Network)
+        × WereLoose I instance.now (edits.DropActivity id) links.old supports.old }
     requires empty { (back.old).pairs ≡ [] }
     requires room { length (supports.old).rows * (supports.old).period ≤ (back.old).room }
-    ensures loosened { (I : Network) → WereLoose I instance.now (edits.DropActivity id) links.old supports.old → IsLoosened I instance.now (edits.DropActivity id) links.new supports.new (back.new).pairs }
+    ensures loosened { (I : Network)
+        → WereLoose I instance.now (edits.DropActivity id) links.old supports.old
+        → IsLoosened I instance.now (edits.DropActivity id) links.new supports.new
+        (back.new).pairs }
     ensures shape { HaveSameShape supports.old supports.new }
     ensures room { (back.new).room ≡ (back.old).room }
     ensures worked { IsWorked links.new supports.old supports.new (back.new).pairs }
@@ -151,10 +161,14 @@ fn loosen_span(
     id: ActivityId,
     span: Span,
 )
-    requires loose { (I : Network) × WereLoose I instance.now (edits.SetSpan id span) links.old supports.old }
+    requires loose { (I : Network)
+        × WereLoose I instance.now (edits.SetSpan id span) links.old supports.old }
     requires empty { (back.old).pairs ≡ [] }
     requires room { length (supports.old).rows * (supports.old).period ≤ (back.old).room }
-    ensures loosened { (I : Network) → WereLoose I instance.now (edits.SetSpan id span) links.old supports.old → IsLoosened I instance.now (edits.SetSpan id span) links.new supports.new (back.new).pairs }
+    ensures loosened { (I : Network)
+        → WereLoose I instance.now (edits.SetSpan id span) links.old supports.old
+        → IsLoosened I instance.now (edits.SetSpan id span) links.new supports.new
+        (back.new).pairs }
     ensures shape { HaveSameShape supports.old supports.new }
     ensures room { (back.new).room ≡ (back.old).room }
     ensures worked { IsWorked links.new supports.old supports.new (back.new).pairs }
@@ -178,10 +192,14 @@ fn move_ends(
     from: EventId,
     to: EventId,
 )
-    requires loose { (I : Network) × WereLoose I instance.now (edits.SetEnds id from to) links.old supports.old }
+    requires loose { (I : Network)
+        × WereLoose I instance.now (edits.SetEnds id from to) links.old supports.old }
     requires empty { (back.old).pairs ≡ [] }
     requires room { length (supports.old).rows * (supports.old).period ≤ (back.old).room }
-    ensures loosened { (I : Network) → WereLoose I instance.now (edits.SetEnds id from to) links.old supports.old → IsLoosened I instance.now (edits.SetEnds id from to) links.new supports.new (back.new).pairs }
+    ensures loosened { (I : Network)
+        → WereLoose I instance.now (edits.SetEnds id from to) links.old supports.old
+        → IsLoosened I instance.now (edits.SetEnds id from to) links.new supports.new
+        (back.new).pairs }
     ensures shape { HaveSameShape supports.old supports.new }
     ensures room { (back.new).room ≡ (back.old).room }
     ensures worked { IsWorked links.new supports.old supports.new (back.new).pairs }
@@ -206,7 +224,8 @@ pub fn loosen(
     requires loose { (I : Network) × WereLoose I instance.now edit.now links.old supports.old }
     requires empty { (back.old).pairs ≡ [] }
     requires room { length (supports.old).rows * (supports.old).period ≤ (back.old).room }
-    ensures loosened { (I : Network) → WereLoose I instance.now edit.now links.old supports.old → IsLoosened I instance.now edit.now links.new supports.new (back.new).pairs }
+    ensures loosened { (I : Network) → WereLoose I instance.now edit.now links.old supports.old
+        → IsLoosened I instance.now edit.now links.new supports.new (back.new).pairs }
     ensures shape { HaveSameShape supports.old supports.new }
     ensures room { (back.new).room ≡ (back.old).room }
     ensures worked { IsWorked links.new supports.old supports.new (back.new).pairs }

@@ -22,8 +22,11 @@ pub fn narrow_ends(links: &Links, supports: &mut Supports, tail: usize, back: &[
     ensures rest { AreAtRest links.now supports.new }
     ensures taken { IsTaken supports.old supports.new }
     ensures shape { HaveSameShape supports.old supports.new }
-    ensures probes { (supports.new).probes ≤ (supports.old).probes + 8 * (supports.old).period + ends_at links.now back.now + (supports.old).period * ends_at links.now (supports.new).trail }
-    ensures keeps { KeepsClosed (supports.old).period (links.now).ends (links.now).lists (has_at (supports.old).rows) (has_at (supports.new).rows) }
+    ensures probes { (supports.new).probes
+        ≤ (supports.old).probes + 8 * (supports.old).period + ends_at links.now back.now
+        + (supports.old).period * ends_at links.now (supports.new).trail }
+    ensures keeps { KeepsClosed (supports.old).period (links.now).ends (links.now).lists
+        (has_at (supports.old).rows) (has_at (supports.new).rows) }
 {
     let end = links.end(tail);
     let head = end.mate;

@@ -9,7 +9,11 @@ use pesp_domains::Pair;
 
 /// What an edit took: what came is in the list, and what went in the trail.
 pub fn work_of(back: &Back, supports: &Supports) -> Work
-    ensures { result ≡ record { restored = length (back.now).pairs; removed = length (supports.now).trail; probes = (supports.now).probes } }
+    ensures { result ≡ record {
+      restored = length (back.now).pairs;
+      removed = length (supports.now).trail;
+      probes = (supports.now).probes;
+    } }
 {
     Work {
         restored: back.len() as u64,
