@@ -1,11 +1,12 @@
 """What the optimum of drawn regions takes, of their pieces, and of networks in parts; and what solvers of others take where they are here."""
 
+import os
 import resource
 import shutil
 import subprocess
 import sys
+import tempfile
 
-from measuring.counting import peak
 from measuring.network import PERIOD, Numbers, text_of
 from tests.harness import TOP
 
@@ -60,16 +61,22 @@ def parts_of(count):
             yield 2 * part + name + 1, start, end, lower, lower + width, 1 + numbers.below(WEIGHTS)
 
 
-def seconds_of(words, given):
-    """The seconds of a processor that a run takes, and what it prints, or None where it does not end in time."""
-    before = resource.getrusage(resource.RUSAGE_CHILDREN)
-    try:
-        with open(given, "rb") as file:
-            done = subprocess.run(words, capture_output=True, text=True, check=False, stdin=file, timeout=2 * SECONDS)
-    except subprocess.TimeoutExpired:
-        return None, ""
-    after = resource.getrusage(resource.RUSAGE_CHILDREN)
-    return after.ru_utime + after.ru_stime - before.ru_utime - before.ru_stime, done.stdout
+def run_limited(words, given, told, most=SECONDS):
+    """What a run prints, its seconds of a processor, or None where these pass the most, and its memory in kB.
+
+    Seconds of a processor, and not of a clock, so that a busy machine tells the same. The memory is told by /usr/bin/time,
+    since a process that Python begins has at first that of Python.
+    """
+    timed = ["/usr/bin/time", "-q", "-f", "%M", "-o", told, *words]
+    with open(given, "rb") as file, tempfile.TemporaryFile() as out:
+        process = subprocess.Popen(timed, stdin=file, stdout=out, stderr=subprocess.DEVNULL, preexec_fn=lambda: resource.setrlimit(resource.RLIMIT_CPU, (most, most)))
+        _, status, used = os.wait4(process.pid, 0)
+        process.returncode = os.waitstatus_to_exitcode(status)
+        out.seek(0)
+        printed = out.read().decode()
+    if process.returncode != 0:
+        return printed, None, 0
+    return printed, used.ru_utime + used.ru_stime, int(told.read_text())
 
 
 def shown(seconds):
@@ -93,26 +100,28 @@ def write_model(rows, fixed, path):
 
 
 def measure_network(programs, folder, rows, fixed):
-    """The answer, its seconds with each program, its memory with the last one, and the seconds of solvers that are here."""
-    activities, times, lines, memory = (folder / name for name in ["activities", "fixed", "lines", "memory"])
+    """The answer, its seconds with each program, and its memory with the last one."""
+    activities, times, lines, told = (folder / name for name in ["activities", "fixed", "lines", "memory"])
     activities.write_text(text_of(rows))
     times.write_text(text_of(fixed))
     lines.write_text("optimum\n")
-    figures, answer = [], "none"
+    figures, answer, used = [], "none", 0
     for program in programs:
         words = [program, "--period", str(PERIOD), activities, "--fixed", times]
-        seconds, printed = seconds_of(["timeout", str(SECONDS), *map(str, words)], lines)
-        ended = printed.splitlines()[:1]
-        answer = " ".join(ended[0].split()[:2]) if ended else "none"
-        figures.append(shown(seconds if ended else None))
-    used = peak([*map(str, words)], memory, 0, lines) if answer != "none" else 0
-    model = folder / "model.lp"
-    write_model(rows, fixed, model)
-    for solver, command in SOLVERS.items():
-        if shutil.which(solver):
-            seconds, printed = seconds_of(command(str(model)), "/dev/null")
-            figures.append(shown(seconds if seconds and seconds < SECONDS else None))
+        printed, seconds, used = run_limited([*map(str, words)], lines, told)
+        answer = " ".join(printed.split()[:2]) if seconds else "none"
+        figures.append(shown(seconds))
     return answer, figures, used
+
+
+def solver_figures(solvers, folder, rows, fixed):
+    """The seconds of each solver for the same network as a whole-number program."""
+    model, figures = folder / "model.lp", []
+    write_model(rows, fixed, model)
+    for solver in solvers:
+        _, seconds, _ = run_limited(SOLVERS[solver](str(model)), "/dev/null", folder / "memory")
+        figures.append(shown(seconds if seconds and seconds < SECONDS - 1 else None))
+    return figures
 
 
 def networks():
@@ -130,13 +139,18 @@ def networks():
         yield f"{count} parts of two events", list(parts_of(count)), []
 
 
-def print_regions(programs, folder):
-    solvers = [solver for solver in SOLVERS if shutil.which(solver)]
+def print_regions(programs, folder, part="", with_solvers=False):
+    """The figures of the networks whose names have the part, with those of the solvers that are here where they are asked for."""
+    solvers = [solver for solver in SOLVERS if with_solvers and shutil.which(solver)]
     names = [*["before", "now"][-len(programs) :], *solvers]
-    print(f"\nseconds of a processor for the optimum, at most {SECONDS}" + ("" if solvers else "; neither cbc nor glpsol is here"))
+    missing = "; neither cbc nor glpsol is here" if with_solvers and not solvers else ""
+    print(f"\nseconds of a processor for the optimum, at most {SECONDS}{missing}")
     print(f"{'network':<52} {'events':>6} {'activities':>10} {'answer':>16}" + "".join(f" {name:>9}" for name in names) + f" {'peak kB':>9}")
     for name, rows, fixed in networks():
+        if part not in name:
+            continue
         answer, figures, used = measure_network(programs, folder, rows, fixed)
+        figures += solver_figures(solvers, folder, rows, fixed)
         events = len({event for row in rows for event in row[1:3]})
         shown_figures = "".join(f" {figure:>9}" for figure in figures)
         print(f"{name:<52} {events:>6} {len(rows):>10} {answer:>16}{shown_figures} {used:>9}", flush=True)

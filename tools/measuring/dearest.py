@@ -1,0 +1,68 @@
+"""What the dearest edits take: on the greatest network, on a star, on loops at one event and on activities between two events."""
+
+from measuring.network import PERIOD, Numbers, activity_rows, text_of
+from measuring.regions import run_limited
+from tests.limits import MOST_ACTIVITIES, MOST_EVENTS
+
+SECONDS = 300
+LONGER_PERIOD = 120
+
+
+def drawn(period):
+    numbers = Numbers(MOST_ACTIVITIES)
+    times = [numbers.below(period) for _ in range(MOST_EVENTS)]
+    return list(activity_rows(numbers, MOST_ACTIVITIES, times, True, period=period))
+
+
+def star():
+    """All activities lead from one event to others, and admit a third of all residues."""
+    return [(row + 1, 0, 1 + row % (MOST_EVENTS - 1), row % PERIOD, row % PERIOD + PERIOD // 3, 1) for row in range(MOST_ACTIVITIES)]
+
+
+def loops():
+    """All activities lead from one event to itself, and admit every residue."""
+    return [(row + 1, 0, 0, 0, PERIOD - 1, 1) for row in range(MOST_ACTIVITIES)]
+
+
+def between_two():
+    """All activities lead from one event to another, and admit the same half of the residues."""
+    return [(row + 1, 0, 1, 0, PERIOD // 2, 1) for row in range(MOST_ACTIVITIES)]
+
+
+def cases():
+    """Each network with its period, its rows and lists of lines, which are measured one more at a time."""
+    fixing = [("fix", ["fix 0 0"]), ("unfix", ["unfix 0"])]
+    yield f"drawn, period {LONGER_PERIOD}", LONGER_PERIOD, drawn(LONGER_PERIOD), fixing
+    yield f"drawn, period {PERIOD}", PERIOD, drawn(PERIOD), fixing
+    yield "a star", PERIOD, star(), fixing
+    yield "loops at one event", PERIOD, loops(), fixing
+    names = [row[0] for row in between_two()]
+    for order, ordered in [("ascending", names), ("descending", names[::-1])]:
+        yield "between two events", PERIOD, between_two(), [(f"drop all, {order}", [f"drop activity {name}" for name in ordered])]
+
+
+def seconds_of(program, folder, period, lines):
+    given = folder / "lines"
+    given.write_text("".join(f"{line}\n" for line in lines))
+    printed, seconds, memory = run_limited([str(program), "--period", str(period), str(folder / "rows")], given, folder / "memory", SECONDS)
+    if seconds is not None and printed != "ok\n" * len(lines):
+        raise SystemExit(f"tools/measure: a line of {lines[:3]} is refused")
+    return seconds, memory
+
+
+def print_dearest(programs, folder):
+    """Seconds of a processor of an opening and of edits after it, of each program beside the other."""
+    print(f"\nseconds of a processor, at most {SECONDS}, and kB, {MOST_ACTIVITIES} activities")
+    names = ["before", "now"][-len(programs) :]
+    print(f"{'network':<24} {'edit':<22}" + "".join(f" {name:>9} {'kB':>8}" for name in names))
+    for network, period, rows, edits in cases():
+        (folder / "rows").write_text(text_of(rows))
+        lines, spent = [], [0.0] * len(programs)
+        for edit, more in [("opening", []), *edits]:
+            lines += more
+            figures = []
+            for place, program in enumerate(programs):
+                seconds, memory = seconds_of(program, folder, period, lines)
+                figures.append(f" {'-' if seconds is None else f'{seconds - spent[place]:.2f}':>9} {memory:>8}")
+                spent[place] = seconds or spent[place]
+            print(f"{network:<24} {edit:<22}" + "".join(figures), flush=True)
