@@ -67,6 +67,8 @@ EVENT_FORMS = {
     "a header and a byte order mark, with commas": MARK + b"event,time\r\n1,0\r\n2,3\r\n",
     "a row that begins with a letter, as a header": b"O; 0\n" + TWO_TIMES,
     "a header and a byte order mark, and no last line end": MARK + b"event,time\n1,0\n2,3",
+    "a header, commas, line ends of Windows and no last one": MARK + b"event,time\r\n1,0\r\n2,3",
+    "a comment, quotes, an empty line, a sign and a separator at the end": b'# trains\n"1";"0"\n\n+02 ;" 3";\n',
     "comments": b"# times\n1; 0\n\t# 1; 1\n2; 3\n#",
     "a comment, an empty line and a line of one blank": b"# trains\n\n1; 0\n \n2; 3\n",
     "quotes": b'"1";"0"\n"2"; 3\n',

@@ -1,30 +1,68 @@
 """What documents say of the tree, held against it: their words, links and paths, the crates, the definition files of the
-theorem, the functions of the walks, and the wrong bodies."""
+theorem, the functions of the walks, and the wrong bodies. And that proofs do not say one thing twice."""
 
 import re
 
+from statements import proved_twice, statements
 from tests.harness import TOP
 from tests.shelves import MOST_ON_THE_FIRST
 
 # The words that a document should have; it may have a tenth more. HISTORY is only added to, and has no limit.
 TARGETS = {
     "README.md": 1500,
-    "docs/PROMISES.md": 1500,
+    "docs/PROMISES.md": 1400,
     "docs/ARCHITECTURE.md": 1300,
-    "docs/DECISIONS.md": 2500,
+    "docs/DECISIONS.md": 2300,
     "docs/MEASURES.md": 1500,
+    "docs/FORMATS.md": 3600,
+    "docs/RULES.md": 1500,
+    "page/README.md": 550,
+    "python/README.md": 450,
+    "crates/pesplib_reader/README.md": 220,
+    "crates/pesplib_writer/README.md": 170,
+    "crates/pesp_shell_io/README.md": 240,
+    "crates/pesp_shell_commands/README.md": 160,
+    "crates/pesp_shell_replies/README.md": 150,
+    "crates/pesp_shell/README.md": 220,
+    "crates/pesp_shell_main/README.md": 220,
+    "crates/pespbench/README.md": 60,
+    "crates/pesp_embedded/README.md": 160,
+    "crates/pesp_tests_core/README.md": 130,
+    "crates/pesp_tests_text/README.md": 70,
+    "crates/pesp_tests_shell/README.md": 70,
+    "crates/pesp_tests_memory/README.md": 150,
+    "crates/pesp_tests_keepers/README.md": 200,
     "docs/THEOREM.md": 600,
     "docs/GLOSSARY.md": 800,
     "docs/STYLE.md": 700,
     "docs/PROOFS.md": 700,
+    "crates/pesp_search/README.md": 900,
+    "crates/pesp_search_network/README.md": 800,
+    "crates/pesp_search_bounds/README.md": 450,
+    "crates/pesp_search_tables/README.md": 450,
+    "crates/pesp_search_least/README.md": 350,
+    "crates/pesp_search_dive/README.md": 250,
+    "crates/pesp_search_rows/README.md": 300,
+    "crates/pesp_bench/README.md": 450,
+    "crates/pesp_counts/README.md": 450,
+    "crates/pesp_counts_supports/README.md": 420,
+    "crates/pesp_counts_arcs/README.md": 300,
+    "crates/pesp_domains/README.md": 350,
+    "crates/pesp_instance/README.md": 300,
+    "crates/pesp_base/README.md": 250,
+    "crates/pesp_tension/README.md": 250,
 }
 
 FOLDERS = r"(?:crates|docs|tools|examples|python|embedded|page|man|completions|\.ci|\.github)"
 PATH = re.compile(rf"(?<![\w/.~-])({FOLDERS}/[\w./-]*[\w/])")
-LINK = re.compile(r"\]\(([^)#\s]+)(?:#[^)\s]*)?\)")
+LINK = re.compile(r"\]\(([^)#\s]*)(?:#([^)\s]*))?\)")
 # A file of a crate, named without its folder: in the crate's own page, or after the crate's path in the same line.
 PART = re.compile(r"(?<![\w/.~-])((?:src|specs|proofs)/[\w/]+\.(?:rt|antt))")
 STEP = re.compile(r"`(crates/[\w/]+\.rt)`: ((?:`\w+`(?:, | and | with )?)+)")
+
+# The most words of all documents together, HISTORY left out.
+MOST_WORDS = 26000
+COUNTED = ["README.md", "docs/*.md", "crates/*/README.md", "page/README.md", "python/README.md"]
 
 
 def pages():
@@ -41,6 +79,9 @@ def document_words(suite):
     for name, target in TARGETS.items():
         count = len(text_of(name).split())
         suite.holds(f"{name} has {count} words, and may have {target * 11 // 10}", 0 < count <= target * 11 // 10)
+    paths = {path for pattern in COUNTED for path in TOP.glob(pattern)} - {TOP / "docs/HISTORY.md"}
+    count = sum(len(path.read_text().split()) for path in paths)
+    suite.holds(f"all documents have {count} words, and may have {MOST_WORDS}", count <= MOST_WORDS)
 
 
 def numbers_told_once(suite):
@@ -54,8 +95,16 @@ def numbers_told_once(suite):
 
 
 def links_of(page):
-    """The files that a page links to."""
-    return [page.parent / link for link in LINK.findall(page.read_text()) if "://" not in link]
+    """The files that a page links to, each with a heading of it or none."""
+    found = [(link, heading) for link, heading in LINK.findall(page.read_text()) if "://" not in link]
+    return [(page.parent / link if link else page, heading) for link, heading in found]
+
+
+def headings_of(page):
+    """The headings of a page, as links name them."""
+    text = re.sub(r"^```.*?^```$", "", page.read_text(), flags=re.M | re.S)
+    titles = re.findall(r"^#+ (.*)$", text, re.M)
+    return [re.sub(r"[^\w -]", "", title.lower()).replace(" ", "-") for title in titles]
 
 
 def is_built(name):
@@ -84,9 +133,18 @@ def parts_of(page):
 def document_paths(suite):
     """Each link of a document leads to a file, and each path that it names is there."""
     for page in pages():
-        named = [*links_of(page), *paths_of(page), *parts_of(page)]
+        named = [*(path for path, _ in links_of(page)), *paths_of(page), *parts_of(page)]
         lost = sorted({str(path) for path in named if not path.exists()})
         suite.note(f"what {page.relative_to(TOP)} names is there", {"lost": []}, {"lost": lost})
+
+
+def document_headings(suite):
+    """Each link to a heading leads to one."""
+    asked = [(page, path, heading) for page in pages() for path, heading in links_of(page) if heading]
+    suite.holds("some links lead to headings", asked)
+    for page, path, heading in asked:
+        found = path.exists() and heading in headings_of(path)
+        suite.holds(f"{page.relative_to(TOP)} links to the heading {heading} of {path.name}", found)
 
 
 def document_crates(suite):
@@ -163,4 +221,67 @@ def promises(suite):
             suite.holds(f"{crate} has the wrong body {name}", list((TOP / "crates" / crate).glob(f"*/{name}.edit")))
 
 
-GROUPS = [document_words, numbers_told_once, document_paths, document_crates, theorem_files, walked_functions, promises]
+# Two files of proofs. What is said twice has other names in the second; all else only looks alike.
+FIRST_PROOFS = """use Rattle.std.proofs.Common.{◌≡◌, ℕ, ◌<◌, refl}
+
+pub record IsSmall (n : ℕ) : Type 0 where
+  pub below : n < 9
+
+same : (m n : ℕ) → m < n → m ≡ m
+same m n less = refl
+
+small : (n : ℕ) → IsSmall n → n ≡ n
+small n is = refl
+
+module _ (period : ℕ) where
+  pub Below : ℕ → Type 0
+  Below r = r < period
+
+  stays : (r : ℕ) → Below r → r < period
+  stays r below = below
+
+  module _ (some : 0 < period) where
+    is_some : 0 < period
+    is_some = some
+"""
+SECOND_PROOFS = """use Rattle.std.proofs.Common.{◌≡◌, ℕ, ◌<◌, arith, refl}
+use Rattle.drawn.proofs.First.{Below}
+
+pub record IsSmall (n : ℕ) : Type 0 where
+  pub below : n < 7
+
+alike : (first : ℕ) → (second : ℕ)
+    → first < second → first ≡ first
+alike first second below = refl
+
+small : (n : ℕ) → n < 9 → n ≡ n
+small n is = refl
+
+module _ (period : ℕ) (more : 1 < period) where
+  is_some : 0 < period
+  is_some = omega (arith, more)
+
+  half : ℕ → ℕ
+  half r = r / 2
+
+kept : (period r : ℕ) → Below period r → r < period
+kept period r below = below
+"""
+
+
+def statements_proved_once(suite):
+    """What one file of proofs says, others cite; and what is said twice in two files is found."""
+    found = statements(TOP)
+    suite.holds("there are statements", len(found) > 2000)
+    twice = [[f"{each.path.relative_to(TOP)}:{each.line}" for each in same] for same in proved_twice(found)]
+    suite.note("statements that are proved in more than one file", {"twice": []}, {"twice": twice})
+    folder = suite.folder / "crates/drawn/proofs"
+    folder.mkdir(parents=True)
+    (folder / "First.antt").write_text(FIRST_PROOFS)
+    (folder / "Second.antt").write_text(SECOND_PROOFS)
+    names = [[each.name for each in same] for same in proved_twice(statements(suite.folder))]
+    suite.note("what two files say", {"twice": [["same", "alike"], ["stays", "kept"]]}, {"twice": names})
+
+
+GROUPS = [document_words, numbers_told_once, document_paths, document_headings, document_crates]
+GROUPS += [theorem_files, walked_functions, promises, statements_proved_once]

@@ -1,0 +1,56 @@
+"""The text of the sources, held to docs/STYLE.md: clauses within their columns, and a word on each private field."""
+
+import re
+
+from tests.harness import TOP
+
+COLUMNS = 100
+# Of a hundred clauses so many may have a longer line.
+LONG_ONES = 5
+
+CLAUSE = re.compile(r"^\s*(?:requires|ensures)(?: \w+)? \{")
+STRUCT = re.compile(r"^(\s*)(?:pub(?:\(\w+\))? )?struct \w+.*\{$")
+FIELD = re.compile(r"^\s*(?:pub\(\w+\) )?(\w+): ")
+
+
+def sources():
+    return sorted(TOP.glob("crates/*/src/**/*.rt"))
+
+
+def clauses():
+    """The first line of each clause, with its place."""
+    for path in sources():
+        for number, line in enumerate(path.read_text().splitlines(), 1):
+            if CLAUSE.match(line):
+                yield f"{path.relative_to(TOP)}:{number}", line
+
+
+def clauses_within_columns(suite):
+    all_of_them = list(clauses())
+    long = [place for place, line in all_of_them if len(line) > COLUMNS]
+    suite.holds("there are clauses", len(all_of_them) > 2_000)
+    suite.holds(f"{len(long)} clauses pass {COLUMNS} columns: {long}", 100 * len(long) <= LONG_ONES * len(all_of_them))
+
+
+def silent_fields(path):
+    """The private fields of a file's types that have no comment above them; one may stand above fields that follow each other."""
+    end, told = None, False
+    for number, line in enumerate(path.read_text().splitlines(), 1):
+        head, field = STRUCT.match(line), FIELD.match(line)
+        if head:
+            end, told = f"{head[1]}}}", False
+        elif line == end:
+            end = None
+        elif end is not None and line.strip().startswith("//"):
+            told = True
+        elif end is not None and field and not told:
+            yield f"{path.relative_to(TOP)}:{number} {field[1]}"
+
+
+def private_fields(suite):
+    """A field that only its crate sees has a line that says what holds of it."""
+    silent = [field for path in sources() for field in silent_fields(path)]
+    suite.note("each private field has a comment", {"silent": []}, {"silent": silent})
+
+
+GROUPS = [clauses_within_columns, private_fields]
