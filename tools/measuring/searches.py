@@ -3,11 +3,14 @@
 import time
 
 from measuring.keeper import Network
+from measuring.regions import run_limited, shown
 
 EVENTS = [8, 10, 12, 14, 16, 20, 24, 30]
 SEEDS = [1, 2]
 ACTIVITIES_OF_AN_EVENT = 2
 WIDTHS = (2, 4)
+# The least width of a span, and how much wider it may be.
+WIDE = (8, 20)
 MOST_NODES = 2**17
 COUNTED_NODES = 2_000
 
@@ -50,6 +53,23 @@ def measure_search(program, folder, events, seed):
     return nodes, instructions / counted, seconds_of(network, nodes or MOST_NODES)
 
 
+def seconds_of_optimum(program, folder, events, seed):
+    rows = events * ACTIVITIES_OF_AN_EVENT
+    network = Network(program, folder, rows, events, lambda event: False, seed, WIDE)
+    network.lines.write_text("optimum\n")
+    _, seconds, _ = run_limited([*map(str, network.words)], network.lines, network.memory)
+    return shown(seconds)
+
+
+def print_wide(programs, folder):
+    """The seconds of each program for the optimum of the same networks with wide spans."""
+    print("\nseconds of a processor for the optimum, with spans of 8 to 27" + (", before and now" if programs[1:] else ""))
+    for events in EVENTS:
+        for seed in SEEDS:
+            figures = [seconds_of_optimum(program, folder, events, seed) for program in programs]
+            print(f"{events:>7} {seed:>5}" + "".join(f" {figure:>9}" for figure in figures), flush=True)
+
+
 def columns(nodes, figure, seconds):
     return f"{nodes or f'> {MOST_NODES}':>9} {figure:>9.0f} {seconds:>9.3f}"
 
@@ -70,3 +90,4 @@ def print_searches(programs, folder):
     if programs[1:]:
         shared = [(first, last) for first, last in zip(ended[0], ended[-1]) if first]
         print(f"of those that ended before: {sum(first for first, _ in shared)}, now {sum(last or 0 for _, last in shared)}")
+    print_wide(programs, folder)
