@@ -1,24 +1,26 @@
 -- What the keeper keeps after an edit.
-use Rattle.std.proofs.Common.{◌≡◌, ℕ, ◌≤◌, nat_lt, false, List, [], ◌∷◌, length, refl, sym, ap, subst, ◌∙◌, arith}
-use Rattle.std.proofs.lemmas.Bool.{false≢true, lt-ltb}
+use Rattle.std.proofs.Common.{◌≡◌, ℕ, ◌≤◌, false, List, [], ◌∷◌, Ok, length, refl, sym, ap, subst, ◌∙◌, arith}
 use Rattle.pesp_base.specs.declared.activity.Activity.{Activity}
 use Rattle.pesp_instance.specs.declared.edit.Edit.{Edit}
 use Rattle.pesp_instance.specs.declared.edit.Edit.TheVariants.{AddEvent, DropEvent, Fix, SetWindow, Unfix, AddActivity, DropActivity, SetSpan, SetWeight, SetEnds}
+use Rattle.pesp_instance.specs.Edited.{edited}
 use Rattle.pesp_instance.specs.Network.{Network}
 use Rattle.pesp_domains.specs.declared.pair.Pair.{Pair}
 use Rattle.pesp_domains.specs.Sweeps.{AreDomains}
 use Rattle.pesp_domains.proofs.Pushes.{pushed_none}
 use Rattle.pesp_counts_supports.specs.Counts.{has_at}
+use Rattle.pesp_counts_supports.specs.declared.trail.Placed.{Placed}
+use Rattle.pesp_counts.specs.Changes.{IsFollowed, WereSettled}
 use Rattle.pesp_counts.specs.Keeping.{AreSettled, IsKeeping, adds}
 use Rattle.pesp_counts_supports.specs.Resting.{HaveRoom}
 use Rattle.pesp_counts_arcs.specs.Links.{Links}
 use Rattle.pesp_counts_arcs.specs.Places.{numbered}
 use Rattle.pesp_counts_supports.specs.Supports.{HaveSameShape, Supports}
-use Rattle.pesp_counts.proofs.Keeping.{for_same}
+use Rattle.pesp_counts.proofs.Keeping.{for_same, room_same}
 use Rattle.pesp_counts.proofs.Remade.{out_none}
 
 -- what was taken out is forgotten
-pub forgotten : (I : Network) (links : Links) (s s' : Supports) → AreSettled I [] links s → s'.rows ≡ s.rows → s'.counted ≡ s.counted → s'.counts ≡ s.counts → s'.trail ≡ [] → HaveSameShape s s' → AreSettled I [] links s'
+forgotten : (I : Network) (links : Links) (s s' : Supports) → AreSettled I [] links s → s'.rows ≡ s.rows → s'.counted ≡ s.counted → s'.counts ≡ s.counts → s'.trail ≡ [] → HaveSameShape s s' → AreSettled I [] links s'
 forgotten I links s s' h rows counted counts trail shape =
     record {
       network = h.network;
@@ -38,10 +40,6 @@ pub none_of_length : {X : Type 0} (xs : List X) → length xs ≡ 0 → xs ≡ [
 none_of_length [] none = refl
 none_of_length (x ∷ xs) none = absurd (omega (arith, none))
 
-pub no_starts : (xs : List ℕ) → nat_lt 0 (length xs) ≡ false → xs ≡ []
-no_starts [] none = refl
-no_starts (x ∷ xs) none = absurd (false≢true (sym none ∙ lt-ltb 0 (length (x ∷ xs)) (omega arith)))
-
 pub not_adds : (edit : Edit) → ((e : ℕ) → edit ≡ AddEvent e → ⊥) → ((a : Activity) → edit ≡ AddActivity a → ⊥) → adds edit ≡ false
 not_adds (AddEvent e) a b = absurd (a e refl)
 not_adds (AddActivity x) a b = absurd (b x refl)
@@ -53,6 +51,19 @@ not_adds (DropActivity n) a b = refl
 not_adds (SetSpan n span) a b = refl
 not_adds (SetWeight n weight) a b = refl
 not_adds (SetEnds n from to) a b = refl
+
+-- what an edit finds: the domains of the instance before it, and room for what it puts back
+pub found : (I J : Network) (edit : Edit) (pushes : List Pair) (marks : List ℕ) (links : Links) (s s' : Supports) (for_pushed for_marks for_back for_restored : ℕ) → IsKeeping I pushes marks links s for_pushed for_marks for_back for_restored → pushes ≡ [] → edited I edit ≡ Ok J
+    → s'.rows ≡ s.rows → s'.counted ≡ s.counted → s'.counts ≡ s.counts → s'.trail ≡ [] → HaveSameShape s s' → WereSettled I J edit links s' × HaveRoom s' for_back for_restored
+found I J edit pushes marks links s s' for_pushed for_marks for_back for_restored h nothing made rows counted counts trail shape = (
+  record { made = made; settled = forgotten I links s s' (subst (λ xs. AreSettled I xs links s) nothing h.settled) rows counted counts trail shape; trail = trail },
+  room_same s s' for_back for_restored shape h.room_back,
+)
+
+-- an edit that is known was followed
+pub followed_as : (I J : Network) (edit known : Edit) (before after : Links) (s n : Supports) (back : List Placed) → edit ≡ known → (WereSettled I J known before s → IsFollowed I J known before after s n back) → WereSettled I J edit before s → IsFollowed I J edit before after s n back
+followed_as I J edit known before after s n back is then w =
+    subst (λ (d : Edit). IsFollowed I J d before after s n back) (sym is) (then (subst (λ (d : Edit). WereSettled I J d before s) is w))
 
 -- where nothing is pushed
 pub keeping_none : (I : Network) (pushes : List Pair) (marks : List ℕ) (links : Links) (s : Supports) (a b for_back for_restored : ℕ) → pushes ≡ [] → marks ≡ [] → AreSettled I [] links s → length I.events ≤ a → length I.events ≤ b → HaveRoom s for_back for_restored → IsKeeping I pushes marks links s a b for_back for_restored

@@ -20,9 +20,11 @@ use Rattle.pesp_instance.proofs.Rising.{All-found, IfSome-with_number, number-wi
 use Rattle.pesp_domains.specs.declared.side.Side.{Side}
 use Rattle.pesp_domains.specs.declared.side.Side.TheVariants.{Tail, Head}
 use Rattle.pesp_domains.specs.Domains.{Joins, other, own}
+use Rattle.pesp_domains.proofs.Edits.{effect_is}
 use Rattle.pesp_domains.proofs.Families.{here, there}
 use Rattle.pesp_counts.specs.Loosened.{AsksAgain, HasHeir}
 use Rattle.pesp_domains.specs.Loosening.{admits_anew, admits_more, is_looser}
+use Rattle.pesp_counts.specs.Changes.{limited_by}
 use Rattle.pesp_counts.specs.Reached.{ends_of, is_edited}
 use Rattle.pesp_domains.proofs.Anew.{anew_at}
 use Rattle.pesp_domains.proofs.Wider.{no_more_met}
@@ -93,19 +95,12 @@ other_same Head a b from to = from
 fixed_stays : (period : ℕ) (o p : Option Event) → p ≡ o → (r : ℕ) → IsTrue (agrees_with period (option_and_then (λ x. x.window) p) r) → IsTrue (agrees_with period (option_and_then (λ x. x.window) o) r)
 fixed_stays period o p same r h = subst (λ q. IsTrue (agrees_with period (option_and_then (λ x. x.window) q) r)) same h
 
-pub rewindowed_elsewhere : (I : Network) (n e : ℕ) (window : Option Interval) → e ≢ n → event_of (rewindowed I n window) e ≡ event_of I e
+rewindowed_elsewhere : (I : Network) (n e : ℕ) (window : Option Interval) → e ≢ n → event_of (rewindowed I n window) e ≡ event_of I e
 rewindowed_elsewhere I n e window apart = with_number-change_in number e n (λ x. record x { window = window }) (λ x. refl) I.events ∙ still (event_of I e) (λ x. number-with_number number e I.events x)
   where
     still : (o : Option Event) → ((x : Event) → o ≡ Some x → number x ≡ e) → option_map (λ x. cond (number x == n) (record x { window = window }) x) o ≡ o
     still None at = refl
     still (Some x) at = rw (ne_eqb (number x) n (λ same. apart (sym (at x refl) ∙ same))) refl
-
-pub rewindowed_here : (I : Network) (n : ℕ) (window : Option Interval) → IsTrue (has_event I n) → window_of (rewindowed I n window) n ≡ window
-rewindowed_here I n window event = ap (option_and_then (λ x. x.window)) (with_number-change_in number n n (λ x. record x { window = window }) (λ x. refl) I.events) ∙ at (event_of I n) event (λ x. number-with_number number n I.events x)
-  where
-    at : (o : Option Event) → IsTrue (is_some o) → ((x : Event) → o ≡ Some x → number x ≡ n) → option_and_then (λ x. x.window) (option_map (λ x. cond (number x == n) (record x { window = window }) x) o) ≡ window
-    at None event is = absurd (false≢true event)
-    at (Some x) event is = rw (eq-eqb (number x) n (is x refl)) refl
 
 -- what is admitted after was admitted before, or is a reason to begin at the event
 before_or_start : (I J : Network) (n e r : ℕ) → e ≡ n → r < I.period → IsTrue (admits J e r) → IsTrue (admits I e r) ⊎ Contains (if admits_anew I J n then n ∷ [] else []) e
@@ -252,3 +247,36 @@ asks_again I J (SetEnds n from to) network ok =
             | inr apart ↦ inr (itself I (SetEnds n from to) side a (others_stay I n set (λ b. refl) a network is apart) apart)
           ];
     }
+
+-- ---- windows that stay
+
+new_window : (o p : Option Event) → p ≡ o → option_and_then (λ (x : Event). x.window) p ≡ option_and_then (λ (x : Event). x.window) o
+new_window o p same = ap (option_and_then (λ (x : Event). x.window)) same
+
+-- an event that was there and stays keeps its window, but for one whose window the edit changes
+still_windowed : (I J : Network) (edit : Edit) (e : ℕ) → edited I edit ≡ Ok J → IsTrue (has_event I e) → IsTrue (has_event (effect I edit) e) → (limited_by edit ≡ Some e → ⊥) → window_of (effect I edit) e ≡ window_of I e
+still_windowed I J (AddEvent v) e ok was is unlimited =
+    let apart : v ≢ e = λ same. false≢true (sym (first_fails _ _ _ _ J ok) ∙ ap (has_event I) same ∙ was) in
+    new_window (event_of I e) (event_of (effect I (AddEvent v)) e) (with_number-put_in number e (record { id = v; window = None }) I.events ∙ rw (ne_eqb v e apart) refl)
+still_windowed I J (DropEvent n) e ok was is unlimited =
+    let found = with_number-take_out number e n I.events in
+    elim (cases_eq e n) [
+      | inl same ↦ let gone : event_of (effect I (DropEvent n)) e ≡ None = found ∙ rw (eq-eqb e n same) refl in absurd (false≢true (sym (ap is_some gone) ∙ is))
+      | inr apart ↦ new_window (event_of I e) (event_of (effect I (DropEvent n)) e) (found ∙ rw (ne_eqb e n apart) refl)
+    ]
+still_windowed I J (Fix n t) e ok was is unlimited = new_window (event_of I e) (event_of (effect I (Fix n t)) e) (rewindowed_elsewhere I n e (Some (at_time t)) (λ same. unlimited (ap Some (sym same))))
+still_windowed I J (SetWindow n first length) e ok was is unlimited = new_window (event_of I e) (event_of (effect I (SetWindow n first length)) e) (rewindowed_elsewhere I n e (Some (record { first = first; length = length })) (λ same. unlimited (ap Some (sym same))))
+still_windowed I J (Unfix n) e ok was is unlimited = new_window (event_of I e) (event_of (effect I (Unfix n)) e) (rewindowed_elsewhere I n e None (λ same. unlimited (ap Some (sym same))))
+still_windowed I J (AddActivity b) e ok was is unlimited = refl
+still_windowed I J (DropActivity n) e ok was is unlimited = refl
+still_windowed I J (SetSpan n span) e ok was is unlimited = refl
+still_windowed I J (SetWeight n weight) e ok was is unlimited = refl
+still_windowed I J (SetEnds n from to) e ok was is unlimited = refl
+
+-- so it admits what it did
+pub still_admits : (I J : Network) (edit : Edit) (e r : ℕ) → IsNetwork I → edited I edit ≡ Ok J → IsTrue (has_event I e) → IsTrue (has_event J e) → (limited_by edit ≡ Some e → ⊥) → IsTrue (admits I e r) → IsTrue (admits J e r)
+still_admits I J edit e r network ok was is unlimited agrees =
+    let same : J ≡ effect I edit = effect_is I J edit ok in
+    let window = still_windowed I J edit e ok was (subst (λ (K : Network). IsTrue (has_event K e)) same is) unlimited in
+    subst (λ (K : Network). IsTrue (admits K e r)) (sym same)
+    (ap (λ k. agrees_with k (window_of (effect I edit) e) r) (asks_again I J edit network ok).period ∙ ap (λ o. agrees_with I.period o r) window ∙ agrees)

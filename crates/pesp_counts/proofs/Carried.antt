@@ -1,9 +1,10 @@
 -- What is so of links, counts and rows as the links follow an edit.
-use Rattle.std.proofs.Common.{◌≡◌, ◌≢◌, ℕ, ◌+◌, ◌*◌, ◌<◌, IsTrue, false, List, [], Option, Some, None, is_some, Ok, IfSome, length, refl, sym, ap, subst, ◌∙◌, inl, inr, arith}
+use Rattle.std.proofs.Common.{◌≡◌, ◌≢◌, ℕ, ◌+◌, ◌*◌, ◌<◌, ◌==◌, IsTrue, false, Option, Some, None, is_some, option_map, Ok, IfSome, length, refl, sym, ap, subst, ◌∙◌, arith}
+use Rattle.std.proofs.Math.Bool.{or-true}
 use Rattle.std.specs.List.{Contains}
 use Rattle.std.proofs.lemmas.Bool.{eq-eqb, false≢true}
 use Rattle.pesp_instance.specs.declared.edit.Edit.{Edit}
-use Rattle.pesp_instance.specs.declared.edit.Edit.TheVariants.{AddEvent, DropEvent, Fix, SetWindow, Unfix, AddActivity, DropActivity, SetSpan, SetWeight, SetEnds}
+use Rattle.pesp_instance.specs.declared.edit.Edit.TheVariants.{DropEvent, DropActivity, SetSpan, SetEnds}
 use Rattle.pesp_instance.specs.Edited.{edited}
 use Rattle.pesp_instance.specs.Network.{IsNetwork, Network, activity_of, has_event}
 use Rattle.pesp_domains.proofs.Edits.{effect_is, has_out}
@@ -14,17 +15,15 @@ use Rattle.pesp_domains.specs.declared.side.Side.TheVariants.{Tail, Head}
 use Rattle.pesp_domains.specs.Sweeps.{Of}
 use Rattle.pesp_counts_arcs.specs.Ends.{end_at, ends_of}
 use Rattle.pesp_counts_supports.specs.Counts.{IsExactAt, IsLiveAt, has_at}
-use Rattle.pesp_counts.specs.Keeping.{AreAtRestBut, AreFor, adds}
+use Rattle.pesp_counts.specs.Keeping.{AreFor}
 use Rattle.pesp_counts_supports.specs.Resting.{AreAtRest}
-use Rattle.pesp_counts_arcs.specs.Links.{IsChangedAt, IsEndOf, IsEndOfPlace, Links, StandFor, end_number}
+use Rattle.pesp_counts_arcs.specs.Links.{IsEndOf, Links, StandFor, end_number}
 use Rattle.pesp_counts_arcs.specs.Places.{place_of}
+use Rattle.pesp_counts_supports.specs.Restoring.{is_spared}
 use Rattle.pesp_counts_supports.specs.Supports.{AreLevel, IsRoomier, Supports}
-use Rattle.pesp_domains.proofs.Families.{and_left}
-use Rattle.pesp_counts_supports.specs.declared.trail.Placed.{Placed}
 use Rattle.pesp_base.proofs.Tests.{same_value, some_from}
 use Rattle.pesp_counts.proofs.Asks.{asks_again, first_fails, found_in}
 use Rattle.pesp_counts.proofs.Bridge.{some_of}
-use Rattle.pesp_counts_arcs.proofs.StandLaws.{stands_fix, stands_unfix, stands_weight, stands_window}
 use Rattle.pesp_counts_supports.proofs.Supporters.{supporters_same}
 
 pub if_some : {X : Type 0} (P : X → Type 0) (o : Option X) (x : X) → o ≡ Some x → IfSome o P → P x
@@ -37,6 +36,10 @@ same_period I J edit network made = ap (λ (K : Network). K.period) (effect_is I
 -- an activity that is dropped or changed has a place
 pub place_dropped : (I J : Network) (links : Links) (n : ℕ) → StandFor I links → edited I (DropActivity n) ≡ Ok J → (q : ℕ) × (place_of links.activities n ≡ Some q)
 place_dropped I J links n stand made = some_of (place_of links.activities n) (stand.of_activities n ∙ some_from (activity_of I n) (first_fails _ _ _ _ J made))
+
+-- nor has one of which the ends are set
+pub place_moved : (I J : Network) (links : Links) (n from to : ℕ) → StandFor I links → edited I (SetEnds n from to) ≡ Ok J → (q : ℕ) × (place_of links.activities n ≡ Some q)
+place_moved I J links n from to stand made = some_of (place_of links.activities n) (stand.of_activities n ∙ some_from (activity_of I n) (first_fails _ _ _ _ J made))
 
 pub place_changed : (I J : Network) (links : Links) (n : ℕ) (span : _) → StandFor I links → edited I (SetSpan n span) ≡ Ok J → (q : ℕ) × (place_of links.activities n ≡ Some q)
 place_changed I J links n span stand made = some_of (place_of links.activities n) (stand.of_activities n ∙ some_from (activity_of I n) (first_fails _ _ _ _ J made))
@@ -64,26 +67,6 @@ dropped_not I J n made e stays same =
     let gone : has_event J n ≡ false = ap (λ (K : Network). has_event K n) (effect_is I J (DropEvent n) made) ∙ has_out I.events n n ∙ rw (eq-eqb n n refl) refl in
     false≢true (sym gone ∙ ap (has_event J) (sym same) ∙ stays)
 
--- a dropped event has no place
-pub places_dropped : (I J : Network) (links links' : Links) (n : ℕ) → edited I (DropEvent n) ≡ Ok J → StandFor J links' → ((e : ℕ) → e ≢ n → place_of links'.events e ≡ place_of links.events e) → (e p : ℕ) → place_of links'.events e ≡ Some p → (e ≢ n) × (place_of links.events e ≡ Some p)
-places_dropped I J links links' n made stand others e p at =
-    let gone : has_event J n ≡ false = ap (λ (K : Network). has_event K n) (effect_is I J (DropEvent n) made) ∙ has_out I.events n n ∙ rw (eq-eqb n n refl) refl in
-    let apart : e ≢ n = λ same. false≢true (sym gone ∙ sym (stand.of_events n) ∙ ap is_some (ap (place_of links'.events) (sym same) ∙ at)) in
-    (apart, sym (others e apart) ∙ at)
-
--- an edit that leaves the links
-pub stands_still : (I J : Network) (links : Links) (edit : Edit) → edited I edit ≡ Ok J → adds edit ≡ false → ((e : ℕ) → edit ≡ DropEvent e → ⊥) → ((n : ℕ) → edit ≡ DropActivity n → ⊥) → ((n : ℕ) (span : _) → edit ≡ SetSpan n span → ⊥) → ((n from to : ℕ) → edit ≡ SetEnds n from to → ⊥) → StandFor I links → StandFor J links
-stands_still I J links (AddEvent e) made adding a b c d stand = absurd (false≢true (sym adding))
-stands_still I J links (AddActivity x) made adding a b c d stand = absurd (false≢true (sym adding))
-stands_still I J links (DropEvent e) made adding a b c d stand = absurd (a e refl)
-stands_still I J links (Fix e t) made adding a b c d stand = stands_fix I J links e t made stand
-stands_still I J links (SetWindow e first length) made adding a b c d stand = stands_window I J links e first length made stand
-stands_still I J links (Unfix e) made adding a b c d stand = stands_unfix I J links e made stand
-stands_still I J links (DropActivity n) made adding a b c d stand = absurd (b n refl)
-stands_still I J links (SetSpan n span) made adding a b c d stand = absurd (c n span refl)
-stands_still I J links (SetWeight n weight) made adding a b c d stand = stands_weight I J links n weight made stand
-stands_still I J links (SetEnds n from to) made adding a b c d stand = absurd (d n from to refl)
-
 -- ---- the tail of an activity
 
 -- it is listed, under twice its place
@@ -99,6 +82,11 @@ tail_listed I links n q stand at =
 pub tail_low : (I : Network) (links : Links) (n q : ℕ) → StandFor I links → place_of links.activities n ≡ Some q → 2 * q < length links.ends
 tail_low I links n q stand at = let w = tail_listed I links n q stand at in stand.shared.within w.0 (2 * q) w.1
 
+-- what is twice a place
+pub twice_of : (o : Option ℕ) (n : ℕ) → option_map (λ k. 2 * k) o ≡ Some n → (k : ℕ) × (o ≡ Some k) × (n ≡ 2 * k)
+twice_of None n is = absurd (false≢true (ap is_some is))
+twice_of (Some k) n is = (k, refl, (let e : 2 * k ≡ n = cc in sym e))
+
 -- and its mate is the head
 pub tail_mate : (I : Network) (links : Links) (p q : ℕ) → StandFor I links → Contains (ends_of links.lists p) (2 * q) → (end_at links.ends (2 * q)).mate ≡ 2 * q + 1
 tail_mate I links p q stand is =
@@ -108,6 +96,13 @@ tail_mate I links p q stand is =
     by : (side : Side) (a : Activity) (place : ℕ) → 2 * q ≡ end_number side place → IsEndOf I.period links side a p place → (end_at links.ends (2 * q)).mate ≡ 2 * q + 1
     by Head a place number end = absurd (omega (arith, number))
     by Tail a place number end = ap (λ k. (end_at links.ends k).mate) number ∙ end.mate ∙ ap (λ k. k + 1) (sym number)
+
+-- an end that is not one of an activity
+pub spared_apart : (q k : ℕ) → is_spared (Some q) k ≡ false → (k ≢ 2 * q) × (k ≢ 2 * q + 1)
+spared_apart q k unspared = (
+  λ same. false≢true (sym unspared ∙ rw (eq-eqb k (2 * q) same) refl),
+  λ same. false≢true (sym unspared ∙ rw (eq-eqb k (2 * q + 1) same) (or-true (k == 2 * q))),
+)
 
 -- ---- counts and rows, as others come beside them
 
@@ -126,14 +121,14 @@ roomier_none s =
     }
 
 module _ (links links' : Links) (s s' : Supports) (more : IsRoomier s s') where
-  exact_at : (k : ℕ) → end_at links'.ends k ≡ end_at links.ends k → IsExactAt s.period links.ends s.counts (has_at s.counted) k → IsExactAt s'.period links'.ends s'.counts (has_at s'.counted) k
+  pub exact_at : (k : ℕ) → end_at links'.ends k ≡ end_at links.ends k → IsExactAt s.period links.ends s.counts (has_at s.counted) k → IsExactAt s'.period links'.ends s'.counts (has_at s'.counted) k
   exact_at k end exact =
       rw (more.period, end)
       (λ r rl.
       more.counts (k * s.period + r) ∙ exact r rl
       ∙ sym (supporters_same s.period (has_at s.counted (end_at links.ends k).looks_at) (has_at s'.counted (end_at links.ends k).looks_at) _ _ (λ x l. more.counted (end_at links.ends k).looks_at x) (λ x l. refl)))
 
-  live_at : (p k : ℕ) → IsLiveAt s.period s.counts (has_at s.rows) p k → IsLiveAt s'.period s'.counts (has_at s'.rows) p k
+  pub live_at : (p k : ℕ) → IsLiveAt s.period s.counts (has_at s.rows) p k → IsLiveAt s'.period s'.counts (has_at s'.rows) p k
   live_at p k live = rw more.period (λ r rl here. subst (λ n. 0 < n) (sym (more.counts (k * s.period + r))) (live r rl (sym (more.rows p r) ∙ here)))
 
   level_more : AreLevel s → AreLevel s'
@@ -157,16 +152,4 @@ module _ (links links' : Links) (s s' : Supports) (more : IsRoomier s s') where
               below = λ i d l. let w = h.out.below i d l in omega (arith, w, more.period);
               once = h.out.once;
             });
-      }
-
-  -- and but for the ends of one activity
-  pub rest_but : (q : ℕ) (back : List Placed) → AreAtRest links s → IsChangedAt links links' q → (end_at links'.ends (2 * q)).mate ≡ 2 * q + 1 → s.trail ≡ [] → AreAtRestBut links' s' (2 * q) back
-  rest_but q back h changed mate trail =
-      let other : (k : ℕ) → k ≢ 2 * q → k ≢ (end_at links'.ends (2 * q)).mate → IsEndOfPlace q k → ⊥ = λ k a b is. elim is [ inl same ↦ a same | inr same ↦ b (same ∙ sym mate) ] in
-      record {
-        exact = λ p k is a b. exact_at k (changed.ends k (other k a b)) (h.exact p k (changed.listed p k is (other k a b)));
-        live = λ p k is a b r rl i. live_at p k (h.live p k (changed.listed p k is (other k a b))) r rl (and_left _ _ i);
-        level = level_more h.level;
-        below = below_more h.below;
-        trail = more.trail ∙ trail;
       }

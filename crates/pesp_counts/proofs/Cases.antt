@@ -1,5 +1,5 @@
 -- Which edits may bring pairs back, and what they reach, by computation.
-use Rattle.std.proofs.Common.{◌≡◌, ℤ, pos, negsuc, refl, true, false, [], ◌∷◌, arith}
+use Rattle.std.proofs.Common.{◌≡◌, ℤ, pos, negsuc, refl, true, false, [], ◌∷◌, Some, None, arith}
 use Rattle.std.proofs.lemmas.Bool.{false≢true}
 use Rattle.pesp_base.specs.Bounds.{Bounds}
 use Rattle.pesp_base.proofs.Laws.{met_is}
@@ -11,6 +11,9 @@ use Rattle.pesp_domains.specs.declared.side.Side.TheVariants.{Head}
 use Rattle.pesp_domains.proofs.Families.{here, not_in_none}
 use Rattle.pesp_domains.proofs.Sweeps.{swept}
 use Rattle.pesp_domains.specs.Loosening.{admits_more}
+use Rattle.pesp_counts_arcs.specs.Links.{Links, no_links}
+use Rattle.pesp_counts.specs.declared.keeper.change.Starts.TheVariants.{AtBoth}
+use Rattle.pesp_counts.specs.Changes.{event_at, left, limited_by, places, recounted_by}
 use Rattle.pesp_counts.specs.Reached.{Reached, starts}
 use Rattle.pesp_counts.specs.Reached.Reached.{begins, follows}
 
@@ -62,6 +65,40 @@ wider_span = refl
 
 narrower_span : starts one_fixed (do_.SetSpan 1 (span (pos 3) (pos 4))) ≡ []
 narrower_span = refl
+
+-- ---- the change of an edit, by place
+
+-- activity 2 has place 0, and activity 1 place 1
+abbrev linked : Links
+linked = record no_links { activities = record { places = (1, 1) ∷ (2, 0) ∷ []; numbers = Some 2 ∷ Some 1 ∷ [] } }
+
+recounts_set : recounted_by linked (do_.SetSpan 2 (span (pos 3) (pos 6))) ≡ Some 0
+recounts_set = refl
+
+recounts_moved : recounted_by linked (do_.SetEnds 1 2 1) ≡ Some 1
+recounts_moved = refl
+
+recounts_dropped : recounted_by linked (do_.DropActivity 1) ≡ None
+recounts_dropped = refl
+
+limits_one : limited_by (do_.SetWindow 2 3 1) ≡ Some 2
+limits_one = refl
+
+limits_none : limited_by (do_.SetWeight 2 3) ≡ None
+limits_none = refl
+
+from_both : places (AtBoth 1 0) ≡ 1 ∷ 0 ∷ []
+from_both = refl
+
+-- residue 0 alone of the fixed event
+left_there : left one_fixed (Some (event_at 1 4)) (λ p r. true) 4 0 ≡ true
+left_there = refl
+
+gone_there : left one_fixed (Some (event_at 1 4)) (λ p r. true) 4 1 ≡ false
+gone_there = refl
+
+left_elsewhere : left one_fixed (Some (event_at 1 4)) (λ p r. true) 3 1 ≡ true
+left_elsewhere = refl
 
 -- ---- what is reached
 

@@ -1,28 +1,26 @@
--- Where chains begin, and which ends a pass leaves out, for each edit that brings pairs back.
-use Rattle.std.proofs.Common.{◌≡◌, ◌≢◌, ℕ, ◌*◌, ◌+◌, ◌==◌, nat_lt, if◌then◌else◌, Bool, true, false, not, List, [], ◌∷◌, length, Option, Some, None, Ok, refl, sym, ap, subst, ◌∙◌, inl, inr, arith, IsTrue}
+-- Where chains begin, and which ends a pass leaves out, for each edit.
+use Rattle.std.proofs.Common.{◌≡◌, ◌≢◌, ℕ, ◌*◌, ◌+◌, ◌==◌, if◌then◌else◌, Bool, true, false, [], ◌∷◌, Some, None, Ok, refl, sym, ap, subst, ◌∙◌, inl, inr, arith}
 use Rattle.std.proofs.Math.Bool.{or-true}
 use Rattle.std.specs.List.{Contains}
-use Rattle.std.specs.Result.{is_ok}
 use Rattle.std.proofs.lemmas.Bool.{eq-eqb, false≢true, ne_eqb}
 use Rattle.pesp_base.specs.declared.activity.Activity.{Activity}
-use Rattle.pesp_base.specs.declared.refusal.Refusal.{Refusal}
 use Rattle.pesp_base.specs.Numbered.{change_in}
-use Rattle.pesp_base.specs.Refusals.{unless_refused, when}
-use Rattle.pesp_base.specs.Windows.{Interval, at_time}
 use Rattle.pesp_instance.specs.declared.edit.Edit.{Edit}
-use Rattle.pesp_instance.specs.declared.edit.Edit.TheVariants.{AddEvent, DropEvent, Fix, SetWindow, Unfix, AddActivity, DropActivity, SetSpan, SetWeight, SetEnds}
-use Rattle.pesp_instance.specs.Edited.{edited, effect}
-use Rattle.pesp_instance.specs.Network.{Network, activity_of, has_event}
+use Rattle.pesp_instance.specs.declared.edit.Edit.TheVariants.{DropActivity}
+use Rattle.pesp_instance.specs.Edited.{edited}
+use Rattle.pesp_instance.specs.Network.{Network}
 use Rattle.pesp_instance.proofs.Numbers.{activity_number as id_of}
 use Rattle.pesp_domains.specs.declared.side.Side.{Side}
 use Rattle.pesp_domains.specs.declared.side.Side.TheVariants.{Tail, Head}
-use Rattle.pesp_domains.proofs.Edits.{effect_is, keeps_fix, keeps_unfix, keeps_window}
+use Rattle.pesp_domains.proofs.Edits.{effect_is}
 use Rattle.pesp_domains.proofs.Families.{here, here_or_there, not_in_none, there}
 use Rattle.pesp_counts_arcs.specs.Links.{Links, end_number}
-use Rattle.pesp_counts.specs.Loosening.{AreSpared, AreStarts}
 use Rattle.pesp_counts_arcs.specs.Places.{ArePlaces, place_of}
-use Rattle.pesp_domains.specs.Loosening.{admits_anew, is_looser}
-use Rattle.pesp_counts.specs.Reached.{IsOfWindow, ends_of, is_edited, starts}
+use Rattle.pesp_counts.specs.declared.keeper.change.Change.{Change}
+use Rattle.pesp_counts.specs.declared.keeper.change.PlacedEvent.{PlacedEvent}
+use Rattle.pesp_counts.specs.declared.keeper.change.Starts.TheVariants.{Nowhere, At, AtBoth}
+use Rattle.pesp_counts.specs.Changes.{AreSpared, AreStarts, IsChange, event_at, limited_by, places, recounted_by}
+use Rattle.pesp_counts.specs.Reached.{is_edited, starts}
 use Rattle.pesp_counts_supports.specs.Restoring.{is_spared}
 use Rattle.pesp_base.proofs.Tests.{same_value}
 use Rattle.pesp_counts_arcs.proofs.StandAround.{apart_places}
@@ -30,35 +28,13 @@ use Rattle.pesp_counts_arcs.proofs.StandMembers.{in_change_other, in_take_out, o
 
 -- ---- starts
 
-only_one : (b : Bool) (e : ℕ) → IsTrue (nat_lt 0 (length (if b then e ∷ [] else []))) → (if b then e ∷ [] else []) ≡ e ∷ []
-only_one true e some = refl
-only_one false e some = absurd (false≢true some)
-
--- an edit with starts has those of its kind
-pub starts_window : (I : Network) (edit : Edit) (e : ℕ) (window : Option Interval) → IsOfWindow edit e window → IsTrue (nat_lt 0 (length (starts I edit))) → starts I edit ≡ e ∷ []
-starts_window I edit e window of some =
-    of.begins I ∙ only_one (admits_anew I (effect I edit) e) e (subst (λ xs. IsTrue (nat_lt 0 (length xs))) (of.begins I) some)
-
--- the edits that give an event a window, and the one that takes it away
-first_fails : (b : Bool) (first : Refusal) (rest : List (Option Refusal)) (x J : Network) → unless_refused (when (not b) first ∷ rest) x ≡ Ok J → b ≡ true
-first_fails true first rest x J ok = refl
-first_fails false first rest x J ok = absurd (false≢true (ap is_ok ok))
-
-pub of_fix : (e t : ℕ) → IsOfWindow (Fix e t) e (Some (at_time t))
-of_fix e t = record { makes = λ I. refl; begins = λ I. refl; unedited = λ a. refl; keeps = λ I f. (keeps_fix e t I).1 f; there = λ I J made. first_fails (has_event I e) _ _ (effect I (Fix e t)) J made }
-
-pub of_window : (e first length : ℕ) → IsOfWindow (SetWindow e first length) e (Some (record { first = first; length = length }))
-of_window e first length = record { makes = λ I. refl; begins = λ I. refl; unedited = λ a. refl; keeps = λ I f. (keeps_window e first length I).1 f; there = λ I J made. first_fails (has_event I e) _ _ (effect I (SetWindow e first length)) J made }
-
-pub of_unfix : (e : ℕ) → IsOfWindow (Unfix e) e None
-of_unfix e = record { makes = λ I. refl; begins = λ I. refl; unedited = λ a. refl; keeps = λ I f. (keeps_unfix e I).1 f; there = λ I J made. first_fails (has_event I e) _ _ (effect I (Unfix e)) J made }
-
-pub starts_span : (I : Network) (n : ℕ) (span : _) → IsTrue (nat_lt 0 (length (starts I (SetSpan n span)))) → starts I (SetSpan n span) ≡ ends_of (activity_of I n)
-starts_span I n span =
-    elim (is_looser I n span) as (λ b. is_looser I n span ≡ b → IsTrue (nat_lt 0 (length (starts I (SetSpan n span)))) → starts I (SetSpan n span) ≡ ends_of (activity_of I n)) [
-      | true ↦ λ is some. rw is refl
-      | false ↦ λ is some. absurd (false≢true (rw is at some))
-    ] refl
+-- no chain begins
+pub no_start : (I : Network) (edit : Edit) (links : Links) → starts I edit ≡ [] → AreStarts I edit links []
+no_start I edit links none =
+    record {
+      each = λ e p i at. absurd (not_in_none e (subst (λ xs. Contains xs e) none i));
+      only = λ p i. absurd (not_in_none p i);
+    }
 
 pub one_start : (I : Network) (edit : Edit) (links : Links) (e p : ℕ) → starts I edit ≡ e ∷ [] → place_of links.events e ≡ Some p → AreStarts I edit links (p ∷ [])
 one_start I edit links e p is at =
@@ -98,18 +74,37 @@ two_starts I edit links e f p q is at at' =
           ];
     }
 
--- chains begin after these edits alone
-pub only_loose : (I : Network) (edit : Edit) → IsTrue (nat_lt 0 (length (starts I edit))) → ((e t : ℕ) → edit ≡ Fix e t → ⊥) → ((e first length : ℕ) → edit ≡ SetWindow e first length → ⊥) → ((e : ℕ) → edit ≡ Unfix e → ⊥) → ((n : ℕ) → edit ≡ DropActivity n → ⊥) → ((n : ℕ) (span : _) → edit ≡ SetSpan n span → ⊥) → ((n from to : ℕ) → edit ≡ SetEnds n from to → ⊥) → ⊥
-only_loose I (AddEvent e) some a w b c d f = false≢true some
-only_loose I (DropEvent e) some a w b c d f = false≢true some
-only_loose I (Fix e t) some a w b c d f = a e t refl
-only_loose I (SetWindow e first length) some a w b c d f = w e first length refl
-only_loose I (Unfix e) some a w b c d f = b e refl
-only_loose I (AddActivity x) some a w b c d f = false≢true some
-only_loose I (DropActivity n) some a w b c d f = c n refl
-only_loose I (SetSpan n span) some a w b c d f = d n span refl
-only_loose I (SetWeight n weight) some a w b c d f = false≢true some
-only_loose I (SetEnds n from to) some a w b c d f = f n from to refl
+pub window_starts : (I : Network) (edit : Edit) (links : Links) (e p : ℕ) (b : Bool) → starts I edit ≡ (if b then e ∷ [] else []) → place_of links.events e ≡ Some p → AreStarts I edit links (places (if b then At p else Nowhere))
+window_starts I edit links e p true is at = one_start I edit links e p is at
+window_starts I edit links e p false is at = no_start I edit links is
+
+pub both_starts : (I : Network) (edit : Edit) (links : Links) (e f p q : ℕ) (b : Bool) → starts I edit ≡ (if b then e ∷ f ∷ [] else []) → place_of links.events e ≡ Some p → place_of links.events f ≡ Some q → AreStarts I edit links (places (if b then AtBoth p q else Nowhere))
+both_starts I edit links e f p q true is at at' = two_starts I edit links e f p q is at at'
+both_starts I edit links e f p q false is at at' = no_start I edit links is
+
+some_same : (v w : PlacedEvent) → Some v ≡ Some w → v ≡ w
+some_same v w is = cc
+
+-- the change of a window
+pub of_window : (I : Network) (edit : Edit) (links : Links) (e p : ℕ) (b : Bool) (change : Change) → starts I edit ≡ (if b then e ∷ [] else []) → limited_by edit ≡ Some e → recounted_by links edit ≡ None → place_of links.events e ≡ Some p → change ≡ record { loosened = if b then At p else Nowhere; limited = Some (event_at e p); recounted = None } → IsChange I edit links change
+of_window I edit links e p b change begins limits recounts at is =
+    rw is
+    (record {
+      starts = window_starts I edit links e p b begins at;
+      window = sym limits;
+      limited = λ w same. subst (λ (v : PlacedEvent). place_of links.events v.event ≡ Some v.place) (some_same (event_at e p) w same) at;
+      recounted = sym recounts;
+    })
+
+-- that of an edit without a window
+pub of_rest : (I : Network) (edit : Edit) (links : Links) (change : Change) → AreStarts I edit links (places change.loosened) → change.limited ≡ None → limited_by edit ≡ None → change.recounted ≡ recounted_by links edit → IsChange I edit links change
+of_rest I edit links change begins none limits recounts =
+    record {
+      starts = begins;
+      window = rw none (sym limits);
+      limited = λ w same. let never : None ≡ Some w = sym none ∙ same in absurd (cc);
+      recounted = recounts;
+    }
 
 -- ---- ends that are left out
 

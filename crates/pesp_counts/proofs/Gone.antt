@@ -1,21 +1,22 @@
 -- The pairs that an edit took out, and the probes that it made.
-use Rattle.std.proofs.Common.{◌-◌, ◌≡◌, ℕ, ◌+◌, ◌*◌, ◌≤◌, ◌⊎◌, ◌==◌, ◌&&◌, ◌||◌, Bool, true, false, List, [], ◌∷◌, ◌++◌, Some, length, refl, sym, ap, subst, ◌∙◌, inl, inr, arith, IsTrue}
+use Rattle.std.proofs.Common.{◌-◌, ◌≡◌, ℕ, ◌+◌, ◌*◌, ◌≤◌, ◌⊎◌, ◌==◌, ◌&&◌, ◌||◌, Bool, true, false, List, [], ◌∷◌, ◌++◌, Option, Some, None, length, refl, sym, ap, subst, ◌∙◌, inl, inr, arith, IsTrue}
 use Rattle.std.specs.List.{Contains}
 use Rattle.std.proofs.lemmas.Bool.{and_from, and_parts, cases_eq, eq-eqb, false≢true, ne_eqb, eqb-true, or_cases}
 use Rattle.std.proofs.Math.Nat.{add-mul}
 use Rattle.pesp_instance.specs.Network.{Network}
 use Rattle.pesp_domains.specs.Domains.{own}
-use Rattle.pesp_domains.specs.Sweeps.{Of, Pairs, narrowed_to}
+use Rattle.pesp_domains.specs.Sweeps.{Of, Pairs}
 use Rattle.pesp_domains.proofs.Families.{here}
 use Rattle.pesp_counts_supports.specs.declared.trail.Placed.{Placed}
 use Rattle.pesp_counts_arcs.specs.Ends.{ends_of}
 use Rattle.pesp_counts_supports.specs.Counts.{IsClosed, KeepsClosed, has_at}
 use Rattle.pesp_counts_arcs.specs.Links.{Links, StandFor}
 use Rattle.pesp_counts_arcs.specs.Places.{place_of}
-use Rattle.pesp_counts_supports.specs.Supports.{IsTaken, Supports, is_in}
-use Rattle.pesp_counts.specs.Works.{IsWorked, KeepPlaces}
+use Rattle.pesp_counts_supports.specs.Supports.{IsRoomier, IsTaken, Supports, is_in}
+use Rattle.pesp_counts.specs.declared.keeper.change.PlacedEvent.{PlacedEvent}
+use Rattle.pesp_counts.specs.Changes.{left}
+use Rattle.pesp_counts.specs.Works.{IsWorked}
 use Rattle.pesp_counts_supports.specs.Spent.{ends_at}
-use Rattle.pesp_base.proofs.Tests.{or_alone}
 
 -- ---- only pairs at places of events go
 
@@ -45,12 +46,13 @@ gone_placed I links period before after stand keeps p r was out = by (ends_of li
         let l = stand.only p k (subst (λ xs. Contains xs k) (sym some) (here k ks)) in
         (own l.side l.activity, l.is_end.at)
 
--- nor where the residues at the place of an event that do not pass a test went first
-pub narrowed_placed : (I : Network) (links : Links) (period event place : ℕ) (test : ℕ → Bool) (before left after : Pairs) → StandFor I links → place_of links.events event ≡ Some place → ((p r : ℕ) → left p r ≡ narrowed_to before place test p r) → KeepsClosed period links.ends links.lists left after → (p r : ℕ) → Of before p r → after p r ≡ false → (e : ℕ) × (place_of links.events e ≡ Some p)
-narrowed_placed I links period event place test before left after stand at is keeps p r was out =
-    elim (cases_eq p place) [
-      | inl same ↦ (event, at ∙ ap Some (sym same))
-      | inr apart ↦ gone_placed I links period left after stand keeps p r (is p r ∙ rw (was, ne_eqb p place apart) refl) out
+-- nor where the residues that a window does not leave went first
+pub left_placed : (J : Network) (links : Links) (period : ℕ) (limited : Option PlacedEvent) (before after : Pairs) → StandFor J links → ((w : PlacedEvent) → limited ≡ Some w → place_of links.events w.event ≡ Some w.place) → KeepsClosed period links.ends links.lists (left J limited before) after → (p r : ℕ) → Of before p r → after p r ≡ false → (e : ℕ) × (place_of links.events e ≡ Some p)
+left_placed J links period None before after stand at keeps p r was out = gone_placed J links period before after stand keeps p r was out
+left_placed J links period (Some w) before after stand at keeps p r was out =
+    elim (cases_eq p w.place) [
+      | inl same ↦ (w.event, at w refl ∙ ap (λ q. Some q) (sym same))
+      | inr apart ↦ gone_placed J links period (left J (Some w) before) after stand keeps p r (rw (was, ne_eqb p w.place apart) refl) out
     ]
 
 -- ---- the trail of an edit
@@ -87,18 +89,6 @@ module _ (links : Links) (s m n : Supports) (back : List Placed) (empty : s.trai
         probes = probes;
       }
 
--- no pair came
-module _ (links : Links) (s n : Supports) (empty : s.trail ≡ []) (taken : IsTaken s n) where
-  pub worked_tight : ((p r : ℕ) → Of (has_at s.rows) p r → has_at n.rows p r ≡ false → (e : ℕ) × (place_of links.events e ≡ Some p))
-      → n.probes ≤ s.probes + 8 * s.period + s.period * ends_at links n.trail
-      → IsWorked links s n []
-  worked_tight placed probes =
-      worked_is links s s n [] empty refl (λ p r. or_alone (has_at s.rows p r)) taken placed
-      (let none = no_times (2 * s.period) in let nothing = no_times s.period in omega (arith, probes, none, nothing))
-    where
-      no_times : (n : ℕ) → n * 0 ≡ 0
-      no_times n = omega arith
-
 -- the rows have what they had, and nothing was taken out
 pub worked_none : (links : Links) (s n : Supports) → n.trail ≡ [] → ((p r : ℕ) → Of (has_at s.rows) p r → Of (has_at n.rows) p r) → n.probes ≤ s.probes → IsWorked links s n []
 worked_none links s n empty more probes =
@@ -112,16 +102,15 @@ worked_none links s n empty more probes =
       probes = omega (arith, probes);
     }
 
--- events have the places that they had
-pub keep_seen : (J : Network) (before after : Links) (trail : List Placed) → ((e : ℕ) → place_of after.events e ≡ place_of before.events e) → ((p r : ℕ) → IsTrue (is_in trail p r) → (e : ℕ) × (place_of after.events e ≡ Some p)) → KeepPlaces J before after trail
-keep_seen J before after trail same placed =
+-- where rows and counts came first, of which nothing is seen
+pub worked_grown : (links : Links) (s m n : Supports) (back : List Placed) → IsRoomier s m → IsWorked links m n back → IsWorked links s n back
+worked_grown links s m n back more w =
     record {
-      places = λ e p at stays. same e ∙ at;
-      placed = λ p r i. let w = placed p r i in (w.0, sym (same w.0) ∙ w.1, w.1);
+      gone = λ p r h out. w.gone p r (elim h [ inl was ↦ inl (more.rows p r ∙ was) | inr came ↦ inr came ]) out;
+      only = λ p r i. elim (w.only p r i) [ inl was ↦ inl (sym (more.rows p r) ∙ was) | inr came ↦ inr came ];
+      placed = w.placed;
+      probes = rw (← more.period, ← more.probes) w.probes;
     }
-
-pub keep_same : (J : Network) (before after : Links) (trail : List Placed) → after.events ≡ before.events → ((p r : ℕ) → IsTrue (is_in trail p r) → (e : ℕ) × (place_of after.events e ≡ Some p)) → KeepPlaces J before after trail
-keep_same J before after trail same = keep_seen J before after trail (λ e. ap (λ events. place_of events e) same)
 
 -- ---- probes
 
@@ -133,22 +122,13 @@ one_less T ends some =
     let b = add-mul (2 * T - 1) 1 ends in
     omega (arith, a, b)
 
--- no end was left out
-pub reopened_probes : (T U from mid to came many went : ℕ) → 1 ≤ T → U ≡ T → mid ≤ from + (2 * T - 1) * came + T * many → to ≤ mid + came + U * went → to ≤ from + 8 * T + 2 * T * came + T * many + T * went
-reopened_probes T U from mid to came many went some same first later =
-    let next : to ≤ mid + came + T * went = subst (λ n. to ≤ mid + came + n * went) same later in
+-- and of the ends that were counted anew
+pub all_probes : (T U from mid to came many went : ℕ) → 1 ≤ T → U ≡ T → mid ≤ from + (2 * T - 1) * came + T * many → to ≤ mid + 8 * T + came + U * went → to ≤ from + 8 * T + 2 * T * came + T * many + T * went
+all_probes T U from mid to came many went some same first later =
+    let next : to ≤ mid + 8 * T + came + T * went = subst (λ n. to ≤ mid + 8 * T + came + n * went) same later in
     let more = one_less T came some in
     omega (arith, first, next, more)
 
--- those of one activity were left out, and were counted anew
-pub rejoined_probes : (T U from mid to came many went : ℕ) → 1 ≤ T → U ≡ T → mid ≤ from + (2 * T - 1) * came + T * many → to ≤ mid + 8 * U + came + U * went → to ≤ from + 8 * T + 2 * T * came + T * many + T * went
-rejoined_probes T U from mid to came many went some same first later =
-    let next : to ≤ mid + 8 * T + came + T * went = subst (λ n. to ≤ mid + 8 * n + came + n * went) same later in
-    let more = one_less T came some in
-    omega (arith, first, next, more)
-
--- both ends are counted anew and looked through, and what has no partner goes
-pub narrowed_probes : (T a b d m : ℕ) (from first second third fourth to came went : ℕ) → a ≡ T → b ≡ a → d ≡ b → m ≡ d → first ≤ from + 3 * T → second ≤ first + 3 * a → third ≤ second + b → fourth ≤ third + d → to ≤ fourth + came + m * went → to ≤ from + 8 * T + came + T * went
-narrowed_probes T a b d m from first second third fourth to came went same-a same-b same-d same-m one two three four later =
-    let last : to ≤ fourth + came + T * went = subst (λ n. to ≤ fourth + came + n * went) (same-m ∙ same-d ∙ same-b ∙ same-a) later in
-    omega (arith, same-a, same-b, same-d, one, two, three, four, last)
+-- both ends are counted anew and looked through
+pub recounted_probes : (T a b d : ℕ) (from first second third fourth : ℕ) → a ≡ T → b ≡ a → d ≡ b → first ≤ from + 3 * T → second ≤ first + 3 * a → third ≤ second + b → fourth ≤ third + d → fourth ≤ from + 8 * T
+recounted_probes T a b d from first second third fourth same-a same-b same-d one two three four = omega (arith, same-a, same-b, same-d, one, two, three, four)

@@ -292,12 +292,6 @@ undone_activity I J K a answer network made ok err = by answer (dropped_activity
 pub activity_period : (I J : Network) (a : Activity) → edited I (AddActivity a) ≡ Ok J → J.period ≡ I.period
 activity_period I J a made = ap (λ (K : Network). K.period) (effect_is I J (AddActivity a) made)
 
--- the rows by number are as they were
-pub rows_seen : (links links' : Links) (s s' : Supports) → ((e : ℕ) → place_of links'.events e ≡ place_of links.events e) → IsRoomier s s' → (e r : ℕ) → rows_of links' s' e r ≡ rows_of links s e r
-rows_seen links links' s s' events more e r =
-    ap (λ o. option_map_or (λ p. has_at s'.rows p r) o false) (events e)
-    ∙ ap (λ (test : ℕ → Bool). option_map_or test (place_of links.events e) false) (λ i p. more.rows p r i)
-
 -- an event that had a place is not the added one
 pub opened_places : (I J : Network) (links : Links) (event e p : ℕ) → edited I (AddEvent event) ≡ Ok J → StandFor I links → place_of links.events e ≡ Some p → e ≢ event
 opened_places I J links event e p made stand is same =

@@ -50,9 +50,6 @@ for_linked I links s h = rw h.period (linked_from I links h.stand)
 pub room_same : (s n : Supports) (for_back for_restored : ℕ) → HaveSameShape s n → HaveRoom s for_back for_restored → HaveRoom n for_back for_restored
 room_same s n for_back for_restored shape room = record { back = rw (shape.rows, shape.period) room.back; restored = rw (shape.rows, shape.period) room.restored }
 
-none_and : (b : Bool) → false ≡ (false && b)
-none_and b = refl
-
 -- of one place alone residues pass a test where of one event alone they do
 pub narrowed_numbered : (places : Places) (S : Pairs) (event p : ℕ) (test : ℕ → Bool) → ArePlaces places → place_of places event ≡ Some p → (e r : ℕ) → numbered places (narrowed_to S p test) e r ≡ narrowed_to (numbered places S) event test e r
 narrowed_numbered places S event p test paired at e r =

@@ -1,8 +1,10 @@
 mod Cases
+pub mod Added
 pub mod Applied
 pub mod Asks
 pub mod Bridge
 pub mod Carried
+pub mod Changed
 pub mod Degrees
 pub mod EditStarts
 pub mod Filled
@@ -11,13 +13,11 @@ pub mod Gone
 pub mod Housed
 pub mod Keeping
 pub mod Loosened
-pub mod Narrowed
+pub mod Propagated
 pub mod ReachLaws
 pub mod Relinked
 pub mod Remade
-pub mod Reopened
 pub mod Supported
-pub mod Tightened
 pub mod Told
 pub mod Union
 pub mod Wider

@@ -1,123 +1,145 @@
--- What is settled after an edit that brings pairs back.
-use Rattle.std.proofs.Common.{◌≡◌, ℕ, List, [], ◌∷◌, Option, Some, None, Ok, refl, sym, ap, subst, ◌∙◌, inl, inr, IsTrue}
-use Rattle.std.specs.Option.{option_and_then}
-use Rattle.std.proofs.lemmas.Bool.{cases_Bool, cases_eq}
-use Rattle.pesp_base.specs.Windows.{Interval}
+-- What is settled after an edit that adds no event.
+use Rattle.std.proofs.Common.{◌≡◌, ℕ, List, [], Option, Some, None, is_some, option_map, refl, sym, ap, subst, ◌∙◌, inl, inr, IsTrue}
+use Rattle.std.specs.List.{Contains}
+use Rattle.std.proofs.lemmas.Bool.{cases_Bool, cases_eq, false≢true, or_cases, or_left}
 use Rattle.pesp_instance.specs.declared.edit.Edit.{Edit}
-use Rattle.pesp_instance.specs.declared.event.Event.{Event}
-use Rattle.pesp_instance.specs.Edited.{edited, rewindowed}
-use Rattle.pesp_instance.specs.Network.{IsNetwork, Network, admits, agrees_with, window_of, has_event}
+use Rattle.pesp_instance.specs.Network.{IsNetwork, Network, admits, has_event}
 use Rattle.pesp_domains.specs.Domains.{InDomains, IsAdmitted}
-use Rattle.pesp_domains.specs.Sweeps.{Of, Pairs, Settles, narrowed_to}
+use Rattle.pesp_domains.specs.Sweeps.{Of, Pairs, Settles}
 use Rattle.pesp_domains.proofs.Edits.{effect_is}
 use Rattle.pesp_domains.proofs.Families.{and_left}
 use Rattle.pesp_domains.proofs.Laws.{InDomains-admitted}
 use Rattle.pesp_domains.proofs.Pushes.{narrowed_keeps, narrowed_passes}
 use Rattle.pesp_counts_supports.specs.declared.trail.Placed.{Placed}
-use Rattle.pesp_counts_supports.specs.Counts.{KeepsClosed, has_at}
-use Rattle.pesp_counts.specs.Keeping.{AreFor, AreSettled, rows_of}
-use Rattle.pesp_counts_supports.specs.Resting.{AreAtRest}
+use Rattle.pesp_counts_supports.specs.Counts.{has_at}
+use Rattle.pesp_counts_supports.specs.Supports.{Supports, is_in}
 use Rattle.pesp_counts_arcs.specs.Links.{Links}
-use Rattle.pesp_counts.specs.Loosened.{IsReach}
-use Rattle.pesp_counts.specs.Reached.{IsOfWindow}
-use Rattle.pesp_counts.specs.Loosening.{AreReached, AreSpared, AreStarts, IsLoosened, IsPutBack, WereLoose}
-use Rattle.pesp_counts_arcs.specs.Places.{numbered, place_of}
-use Rattle.pesp_counts_supports.specs.Supports.{Supports}
-use Rattle.pesp_counts.proofs.Asks.{asks_again, rewindowed_elsewhere}
-use Rattle.pesp_counts.proofs.Bridge.{counts_settle}
+use Rattle.pesp_counts_arcs.specs.Places.{ArePlaces, Places, number_at, numbered, place_of}
+use Rattle.pesp_counts.specs.declared.keeper.change.Change.{Change}
+use Rattle.pesp_counts.specs.declared.keeper.change.PlacedEvent.{PlacedEvent}
+use Rattle.pesp_counts.specs.Changes.{AreReached, AreSpared, AreStarts, IsFollowed, IsPutBack, IsReady, IsRelinked, WereSettled, event_at, left, limited_by, places}
+use Rattle.pesp_counts.specs.Keeping.{AreFor, AreSettled, rows_of}
+use Rattle.pesp_counts.specs.Reached.{starts}
+use Rattle.pesp_counts.specs.Works.{IsWorked}
+use Rattle.pesp_base.proofs.Tests.{or_second, same_value}
+use Rattle.pesp_counts.proofs.Asks.{asks_again, still_admits}
+use Rattle.pesp_counts.proofs.Bridge.{counts_settle, numbered_at, place_is, test_of}
 use Rattle.pesp_counts.proofs.Carried.{same_period}
 use Rattle.pesp_counts.proofs.Followed.{still_admitted}
-use Rattle.pesp_counts.proofs.Keeping.{for_same, narrowed_numbered}
+use Rattle.pesp_counts.proofs.Keeping.{for_same}
 use Rattle.pesp_counts.proofs.ReachLaws.{outside_of, restored_reach, restored_reached}
-use Rattle.pesp_counts.proofs.EditStarts.{one_start, spared_none, starts_window}
-use Rattle.pesp_counts.proofs.Tightened.{admits_same, events_same}
+use Rattle.pesp_counts.proofs.Relinked.{had_place, stays}
 use Rattle.pesp_counts.proofs.Union.{reach_covers}
 
-module _ (I J : Network) (edit : Edit) (links links' : Links) (s s' n : Supports) (h : AreSettled I [] links s) (network : IsNetwork J) (made : edited I edit ≡ Ok J) (same : (e : ℕ) → has_event J e ≡ has_event I e) (reach : IsReach I edit (rows_of links s) (rows_of links' s')) (fits : AreFor J links' n) (rest : AreAtRest links' n) (M : Pairs) (closed : KeepsClosed n.period links'.ends links'.lists M (has_at n.rows)) where
-  -- what was put back is admitted, and so is what was there, where its event still admits it
-  admitted_now : (e r : ℕ) → Of (rows_of links' s') e r → (Of (rows_of links s) e r → IsTrue (admits J e r)) → IsAdmitted J [] e r
-  admitted_now e r there still =
-      elim (cases_Bool (rows_of links s e r)) [
+-- ---- what a window leaves
+
+left_fewer : (J : Network) (limited : Option PlacedEvent) (S : Pairs) (p r : ℕ) → Of (left J limited S) p r → Of S p r
+left_fewer J None S p r i = i
+left_fewer J (Some w) S p r i = and_left (S p r) _ i
+
+left_passes : (J : Network) (limited : Option PlacedEvent) (S : Pairs) (e p r : ℕ) → limited ≡ Some (event_at e p) → Of (left J limited S) p r → IsTrue (admits J e r)
+left_passes J limited S e p r is i = narrowed_passes S p (admits J e) p r (subst (λ o. Of (left J o S) p r) is i) refl
+
+left_keeps : (J : Network) (events : Places) (limited : Option PlacedEvent) (S : Pairs) (e p r : ℕ) → ArePlaces events → ((w : PlacedEvent) → limited ≡ Some w → place_of events w.event ≡ Some w.place) → place_of events e ≡ Some p → IsTrue (admits J e r) → Of S p r → Of (left J limited S) p r
+left_keeps J events None S e p r paired limits at agrees i = i
+left_keeps J events (Some w) S e p r paired limits at agrees i =
+    narrowed_keeps S w.place (admits J w.event) p r i
+    (λ same.
+    let here : place_of events w.event ≡ Some p = limits w refl ∙ ap (λ q. Some q) (sym same) in
+    let event : e ≡ w.event = same_value (number_at events p) e w.event ((paired.paired e p).0 at) ((paired.paired w.event p).0 here) in
+    subst (λ f. IsTrue (admits J f r)) event agrees)
+
+module _ (I J : Network) (edit : Edit) (links links' : Links) (s n : Supports) (change : Change) (back : List Placed) (w : WereSettled I J edit links s) (network : IsNetwork J) (relinked : IsRelinked J edit links links' change.recounted) (ready : IsReady J links' s change) (start : AreStarts I edit links' (places change.loosened)) (others : (f : ℕ) → Contains (starts I edit) f → AreSpared I J edit links' change.recounted) (window : option_map (λ (v : PlacedEvent). v.event) change.limited ≡ limited_by edit) (put : IsPutBack J links' change s n back) where
+  h : AreSettled I [] links s
+  h = w.settled
+
+  fits : AreFor J links' s
+  fits = ready.fits
+
+  had : (e p : ℕ) → place_of links'.events e ≡ Some p → place_of links.events e ≡ Some p
+  had = had_place I J edit links links' change.recounted w.made relinked
+
+  reached : AreReached I edit links' back
+  reached = restored_reached I J edit links links' s (places change.loosened) change.recounted h w.made fits.stand had start others put.middle back put.restored
+
+  abbrev remains : Pairs
+  remains = left J change.limited (has_at put.middle.rows)
+
+  before_at : (e p r : ℕ) → place_of links'.events e ≡ Some p → rows_of links s e r ≡ has_at s.rows p r
+  before_at e p r at = numbered_at links.events (has_at s.rows) e p r (had e p at)
+
+  was_event : (e p : ℕ) → place_of links'.events e ≡ Some p → IsTrue (has_event I e)
+  was_event e p at = sym (h.fits.stand.of_events e) ∙ ap is_some (had e p at)
+
+  is_event : (e p : ℕ) → place_of links'.events e ≡ Some p → IsTrue (has_event J e)
+  is_event e p at = sym (fits.stand.of_events e) ∙ ap is_some at
+
+  -- what was there and is left is in its event's window
+  still_in_window : (e p r : ℕ) → place_of links'.events e ≡ Some p → Of remains p r → IsTrue (admits I e r) → IsTrue (admits J e r)
+  still_in_window e p r at i agrees = by change.limited refl
+    where
+      by : (o : Option PlacedEvent) → change.limited ≡ o → IsTrue (admits J e r)
+      by None is = still_admits I J edit e r h.network w.made (was_event e p at) (is_event e p at) (λ same. false≢true (ap is_some (ap (option_map (λ (v : PlacedEvent). v.event)) (sym is) ∙ window ∙ same))) agrees
+      by (Some v) is =
+          elim (cases_eq v.event e) [
+            | inl same ↦
+                let there : v.place ≡ p = same_value (place_of links'.events e) v.place p (ap (place_of links'.events) (sym same) ∙ ready.limited v is) at in
+                left_passes J change.limited (has_at put.middle.rows) e p r (is ∙ ap (λ f. Some (event_at f v.place)) same ∙ ap (λ q. Some (event_at e q)) there) i
+            | inr apart ↦
+                still_admits I J edit e r h.network w.made (was_event e p at) (is_event e p at)
+                (λ same. let both : Some v.event ≡ Some e = ap (option_map (λ (v : PlacedEvent). v.event)) (sym is) ∙ window ∙ same in apart (cc)) agrees
+          ]
+
+  admitted : (e r : ℕ) → Of (numbered links'.events remains) e r → IsAdmitted J [] e r
+  admitted e r i =
+      let p = test_of (λ p. remains p r) (place_of links'.events e) i in
+      let there = left_fewer J change.limited (has_at put.middle.rows) p.0 r p.2 in
+      elim (cases_Bool (has_at s.rows p.0 r)) [
         | inl was ↦
-            let a = InDomains-admitted I [] e r ((h.domains.exact e r).0 was) in
-            still_admitted I J (rows_of links s) e r h.domains (same_period I J edit h.network made) was (same e ∙ a.of_event) (still was)
-        | inr new ↦ subst (λ (K : Network). IsAdmitted K [] e r) (sym (effect_is I J edit made)) (outside_of I edit e r (reach.only e r there new)).admitted
+            let b = before_at e p.0 r p.1 ∙ was in
+            let a = InDomains-admitted I [] e r ((h.domains.exact e r).0 b) in
+            still_admitted I J (rows_of links s) e r h.domains (same_period I J edit h.network w.made) b (is_event e p.0 p.1) (still_in_window e p.0 r p.1 p.2 a.window)
+        | inr new ↦
+            let came = or_second (has_at s.rows p.0 r) (is_in back p.0 r) (sym (put.restored.rows p.0 r) ∙ there) new in
+            let f = reached.only p.0 r came in
+            let same : f.0 ≡ e = same_value (number_at links'.events p.0) f.0 e ((fits.stand.events.paired f.0 p.0).0 f.1) ((fits.stand.events.paired e p.0).0 p.1) in
+            subst (λ g. IsAdmitted J [] g r) same (subst (λ (K : Network). IsAdmitted K [] f.0 r) (sym (effect_is I J edit w.made)) (outside_of I edit f.0 r f.2).admitted)
       ]
 
-  -- from the rows with the reached pairs, as far as they are still admitted, settling ends at the domains
-  pub loosened : ((e r : ℕ) → Of (numbered links'.events M) e r → Of (rows_of links' s') e r) → ((e r : ℕ) → Of (numbered links'.events M) e r → Of (rows_of links s) e r → IsTrue (admits J e r)) → ((e r : ℕ) → IsAdmitted J [] e r → Of (rows_of links' s') e r → Of (numbered links'.events M) e r) → AreSettled J [] links' n
-  loosened fewer still covers =
-      let settles : Settles J (numbered links'.events M) (rows_of links' n) = counts_settle J links' fits.stand M n fits.period rest closed in
+  covers : (e r : ℕ) → InDomains J [] e r → Of (numbered links'.events remains) e r
+  covers e r i =
+      let a = InDomains-admitted J [] e r i in
+      let p = place_is J links' fits.stand e a.of_event in
+      let reach = restored_reach I J edit links links' s (places change.loosened) change.recounted h w.made fits.stand had start others put.middle back put.restored in
+      let there : Of (has_at put.middle.rows) p.0 r =
+      elim (or_cases (rows_of links s e r) (rows_of links' put.middle e r) (reach_covers I edit (rows_of links s) _ h.network (asks_again I J edit h.network w.made) h.domains reach e r (was_event e p.0 p.1) (subst (λ (K : Network). InDomains K [] e r) (effect_is I J edit w.made) i))) [
+        | inl was ↦ put.restored.rows p.0 r ∙ or_left _ _ (sym (before_at e p.0 r p.1) ∙ was)
+        | inr now ↦ sym (numbered_at links'.events (has_at put.middle.rows) e p.0 r p.1) ∙ now
+      ]
+      in
+      numbered_at links'.events remains e p.0 r p.1 ∙ left_keeps J links'.events change.limited (has_at put.middle.rows) e p.0 r fits.stand.events ready.limited p.1 a.window there
+
+  settled : AreSettled J [] links' n
+  settled =
+      let fits' = for_same J links' s n put.shape fits in
+      let settles : Settles J (numbered links'.events remains) (rows_of links' n) = counts_settle J links' fits.stand remains n fits'.period put.rest put.keeps in
       record {
         network = network;
-        fits = fits;
-        rest = rest;
-        domains = settles.settles []
-            (record { each = λ e r i. admitted_now e r (fewer e r i) (still e r i) })
-            (record {
-              each = λ e r i.
-                  let a = InDomains-admitted J [] e r i in
-                  covers e r a (reach_covers I edit (rows_of links s) (rows_of links' s') h.network (asks_again I J edit h.network made) h.domains reach e r (sym (same e) ∙ a.of_event) (subst (λ (K : Network). InDomains K [] e r) (effect_is I J edit made) i));
-            });
+        fits = fits';
+        rest = put.rest;
+        domains = settles.settles [] (record { each = admitted }) (record { each = covers });
       }
 
--- an edit of activities: nothing of an event changes
-pub loosened_even : (I J : Network) (edit : Edit) (links links' : Links) (s s' n : Supports) → AreSettled I [] links s → IsNetwork J → edited I edit ≡ Ok J → J.events ≡ I.events → IsReach I edit (rows_of links s) (rows_of links' s') → AreFor J links' n → AreAtRest links' n → KeepsClosed n.period links'.ends links'.lists (has_at s'.rows) (has_at n.rows) → AreSettled J [] links' n
-loosened_even I J edit links links' s s' n h network made events reach fits rest closed =
-    loosened I J edit links links' s s' n h network made (λ e. events_same I J e events) reach fits rest (has_at s'.rows) closed
-    (λ e r i. i)
-    (λ e r i was. admits_same I J e r events (same_period I J edit h.network made) ∙ (InDomains-admitted I [] e r ((h.domains.exact e r).0 was)).window)
-    (λ e r a i. i)
-
-elsewhere : (I J : Network) (edit : Edit) (e r : ℕ) → IsNetwork I → edited I edit ≡ Ok J → window_of J e ≡ window_of I e → admits J e r ≡ admits I e r
-elsewhere I J edit e r network made same =
-    ap (λ k. agrees_with k (window_of J e) r) (same_period I J edit network made) ∙ ap (λ o. agrees_with I.period o r) same
-
--- an event has another window, or none: of its residues those of the window are left
-loosened_window : (I J : Network) (edit : Edit) (e p : ℕ) (window : Option Interval) (links : Links) (s s' n : Supports) → IsOfWindow edit e window → AreSettled I [] links s → IsNetwork J → edited I edit ≡ Ok J → place_of links.events e ≡ Some p → IsReach I edit (rows_of links s) (rows_of links s') → AreFor J links n → AreAtRest links n → KeepsClosed n.period links.ends links.lists (narrowed_to (has_at s'.rows) p (admits J e)) (has_at n.rows) → AreSettled J [] links n
-loosened_window I J edit e p window links s s' n of h network made at reach fits rest closed =
-    let is : J ≡ rewindowed I e window = effect_is I J edit made ∙ of.makes I in
-    let same : (f : ℕ) → has_event J f ≡ has_event I f = λ f. ap (λ (K : Network). has_event K f) (effect_is I J edit made) ∙ of.keeps I f in
-    let numbers = narrowed_numbered links.events (has_at s'.rows) e p (admits J e) h.fits.stand.events at in
-    loosened I J edit links links s s' n h network made same reach fits rest (narrowed_to (has_at s'.rows) p (admits J e)) closed
-    (λ f r i. and_left (rows_of links s' f r) _ (sym (numbers f r) ∙ i))
-    (λ f r i was.
-    let a = InDomains-admitted I [] f r ((h.domains.exact f r).0 was) in
-    elim (cases_eq f e) [
-      | inl here ↦ subst (λ k. IsTrue (admits J k r)) (sym here) (narrowed_passes (rows_of links s') e (admits J e) f r (sym (numbers f r) ∙ i) here)
-      | inr apart ↦ elsewhere I J edit f r h.network made (ap (λ (K : Network). window_of K f) is ∙ ap (option_and_then (λ (x : Event). x.window)) (rewindowed_elsewhere I e f window apart)) ∙ a.window
-    ])
-    (λ f r a i.
-    numbers f r ∙ narrowed_keeps (rows_of links s') e (admits J e) f r i
-    (λ here. subst (λ k. IsTrue (admits J k r)) here a.window))
-
--- ---- what is reached was put back
-
-module _ (I J : Network) (edit : Edit) (links links' : Links) (s n : Supports) (starts : List ℕ) (spared : Option ℕ) (back : List Placed) (w : WereLoose I J edit links s) (network : IsNetwork J) (fits : AreFor J links' s) (events : (e : ℕ) → place_of links'.events e ≡ place_of links.events e) (start : AreStarts I edit links' starts) (others : AreSpared I J edit links' spared) where
-  module _ (left : Pairs → Pairs) (put : IsPutBack left J links' starts spared s n back) where
-    put_reach : IsReach I edit (rows_of links s) (rows_of links' put.middle)
-    put_reach = restored_reach I J edit links links' s starts spared w.settled w.made fits.stand events start others put.middle back put.restored
-
-    put_reached : AreReached I edit links' back
-    put_reached = restored_reached I J edit links links' s starts spared w.settled w.made fits.stand events start others put.middle back put.restored
-
-  -- after an edit of activities
-  pub loosened_by : J.events ≡ I.events → IsPutBack (λ S. S) J links' starts spared s n back → IsLoosened I J edit links' n back
-  loosened_by events_stay put =
+  -- the rows are the domains after the edit
+  pub followed : IsWorked links' s n back → IsFollowed I J edit links links' s n back
+  followed worked =
       record {
-        settled = loosened_even I J edit links links' s put.middle n w.settled network w.made events_stay (put_reach (λ S. S) put) (for_same J links' s n put.shape fits) put.rest put.keeps;
-        reached = put_reached (λ S. S) put;
+        settled = settled;
+        reached = reached;
+        worked = worked;
+        places =
+            record {
+              places = λ e p at there. relinked.events e (stays I J edit links links' change.recounted w.made relinked e there) ∙ at;
+              placed = λ p r i. let v = worked.placed p r i in (v.0, had v.0 p v.1, v.1);
+            };
       }
-
--- after an event's window is gone, or another one
-pub loosened_by_window : (I J : Network) (edit : Edit) (e p : ℕ) (window : Option Interval) (links : Links) (s n : Supports) (back : List Placed) → IsOfWindow edit e window → WereLoose I J edit links s → IsNetwork J → AreFor J links s → place_of links.events e ≡ Some p → IsPutBack (λ S. narrowed_to S p (admits J e)) J links (p ∷ []) None s n back → IsLoosened I J edit links n back
-loosened_by_window I J edit e p window links s n back of w network fits at put =
-    let start = one_start I edit links e p (starts_window I edit e window of w.loose) at in
-    let others = spared_none I J edit links (ap (λ (K : Network). K.activities) (effect_is I J edit w.made ∙ of.makes I)) of.unedited in
-    let left : Pairs → Pairs = λ S. narrowed_to S p (admits J e) in
-    record {
-      settled = loosened_window I J edit e p window links s put.middle n of w.settled network w.made at
-          (put_reach I J edit links links s n (p ∷ []) None back w network fits (λ f. refl) start others left put)
-          (for_same J links s n put.shape fits) put.rest put.keeps;
-      reached = put_reached I J edit links links s n (p ∷ []) None back w network fits (λ f. refl) start others left put;
-    }

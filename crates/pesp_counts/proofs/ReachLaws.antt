@@ -1,5 +1,5 @@
 -- What a pass puts back by place is what the edit reaches.
-use Rattle.std.proofs.Common.{◌≡◌, ℕ, ◌<◌, ◌&&◌, nat_lt, false, List, [], Option, Some, is_some, Ok, sym, ap, subst, ◌∙◌, inl, inr, arith, IsTrue}
+use Rattle.std.proofs.Common.{◌≡◌, ℕ, ◌<◌, ◌&&◌, ◌||◌, nat_lt, false, List, [], Option, Some, is_some, Ok, sym, ap, subst, ◌∙◌, inl, inr, arith, IsTrue}
 use Rattle.std.specs.List.{Contains}
 use Rattle.std.specs.Option.{option_map_or}
 use Rattle.std.proofs.lemmas.Bool.{and_from, and_parts, cases_Bool, false≢true, lt-ltb, ltb-true, or_left, or_right}
@@ -16,9 +16,9 @@ use Rattle.pesp_counts_supports.specs.Counts.{has_at}
 use Rattle.pesp_counts.specs.Keeping.{AreSettled, rows_of}
 use Rattle.pesp_counts_arcs.specs.Links.{Links, StandFor, end_number}
 use Rattle.pesp_counts.specs.Loosened.{IsReach}
-use Rattle.pesp_counts.specs.Loosening.{AreReached, AreSpared, AreStarts}
+use Rattle.pesp_counts.specs.Changes.{AreReached, AreSpared, AreStarts}
 use Rattle.pesp_counts_arcs.specs.Places.{number_at, place_of}
-use Rattle.pesp_counts.specs.Reached.{IsOutside, Reached}
+use Rattle.pesp_counts.specs.Reached.{IsOutside, Reached, starts as begins_in}
 use Rattle.pesp_counts.specs.Reached.Reached.{begins, follows}
 use Rattle.pesp_counts_supports.specs.Restoring.{IsRestored, ReachedAt, admits_at, is_spared}
 use Rattle.pesp_counts_supports.specs.Restoring.ReachedAt.{begins as begins_at, follows as follows_at}
@@ -31,7 +31,12 @@ pub outside_of : (I : Network) (edit : Edit) (e r : ℕ) → Reached I edit e r 
 outside_of I edit _ _ (begins e r start out) = out
 outside_of I edit _ _ (follows side a r s before is unedited joins out) = out
 
-module _ (I J : Network) (edit : Edit) (links links' : Links) (s : Supports) (starts : List ℕ) (spared : Option ℕ) (h : AreSettled I [] links s) (made : edited I edit ≡ Ok J) (stand : StandFor J links') (events : (e : ℕ) → place_of links'.events e ≡ place_of links.events e) (start : AreStarts I edit links' starts) (others : AreSpared I J edit links' spared) where
+-- a chain begins somewhere
+its_start : (I : Network) (edit : Edit) (e r : ℕ) → Reached I edit e r → (f : ℕ) × Contains (begins_in I edit) f
+its_start I edit _ _ (begins e r start out) = (e, start)
+its_start I edit _ _ (follows side a r s before is unedited joins out) = its_start I edit (other side a) s before
+
+module _ (I J : Network) (edit : Edit) (links links' : Links) (s : Supports) (starts : List ℕ) (spared : Option ℕ) (h : AreSettled I [] links s) (made : edited I edit ≡ Ok J) (stand : StandFor J links') (events : (e p : ℕ) → place_of links'.events e ≡ Some p → place_of links.events e ≡ Some p) (start : AreStarts I edit links' starts) (others : (f : ℕ) → Contains (begins_in I edit) f → AreSpared I J edit links' spared) where
   abbrev At : ℕ → ℕ → Type 0
   At p r = ReachedAt s.period links' starts spared (admits_at J links') (has_at s.rows) p r
 
@@ -40,7 +45,7 @@ module _ (I J : Network) (edit : Edit) (links links' : Links) (s : Supports) (st
 
   -- the rows before the edit, by place and by number
   before_at : (e p r : ℕ) → place_of links'.events e ≡ Some p → rows_of links s e r ≡ has_at s.rows p r
-  before_at e p r at = numbered_at links.events (has_at s.rows) e p r (sym (events e) ∙ at)
+  before_at e p r at = numbered_at links.events (has_at s.rows) e p r (events e p at)
 
   admitted_after : (e r : ℕ) → IsOutside I edit e r → IsAdmitted J [] e r
   admitted_after e r o = subst (λ (K : Network). IsAdmitted K [] e r) (sym (effect_is I J edit made)) o.admitted
@@ -79,7 +84,9 @@ module _ (I J : Network) (edit : Edit) (links links' : Links) (s : Supports) (st
   reached_there : (e p r : ℕ) → place_of links'.events e ≡ Some p → Reached I edit e r → At p r
   reached_there _ p _ at (begins e r starts_here out) = begins_at p r (start.each e p starts_here at) (out_there e p r at out) (admitted_there e p r at out)
   reached_there _ p _ at (follows side a r t before is unedited joins out) =
-      let w = stand.all side a (others.stays a is unedited) in
+      let f = its_start I edit (other side a) t before in
+      let theirs = others f.0 f.1 in
+      let w = stand.all side a (theirs.stays a is unedited) in
       let same : w.0 ≡ p = same_value (place_of links'.events (own side a)) w.0 p w.2.at at in
       let k : ℕ = end_number side w.1 in
       let rl : r < s.period = (let l = (admitted_after (own side a) r out).below in omega (arith, l, periods)) in
@@ -87,7 +94,7 @@ module _ (I J : Network) (edit : Edit) (links links' : Links) (s : Supports) (st
       let joined : Joins side J.period a r t = subst (λ n. Joins side n a r t) (sym (same_period I J edit h.network made)) joins in
       let goes : IsTrue (passes J.period (end_at links'.ends k) r t) = (w.2.joins r t (omega (arith, rl, periods)) (omega (arith, tl, periods))).1 joined in
       follows_at p k r t (reached_there (other side a) (end_at links'.ends k).looks_at t w.2.looks before)
-      (subst (λ q. Contains (ends_of links'.lists q) k) same w.2.listed) (others.apart side a w.1 is unedited w.2.numbered) rl tl
+      (subst (λ q. Contains (ends_of links'.lists q) k) same w.2.listed) (theirs.apart side a w.1 is unedited w.2.numbered) rl tl
       (subst (λ n. IsTrue (passes n (end_at links'.ends k) r t)) (sym periods) goes) (out_there (own side a) p r at out) (admitted_there (own side a) p r at out)
 
   -- and the other way round
@@ -97,8 +104,9 @@ module _ (I J : Network) (edit : Edit) (links links' : Links) (s : Supports) (st
       (w.0, w.2, begins w.0 r w.1 (outside_back w.0 p r w.2 none admitted))
   reached_back _ _ (follows_at p k r t before listed unspared rl tl goes none admitted) =
       let l = stand.only p k listed in
-      let o = others.was l.side l.activity l.place l.there l.is_end.numbered (subst (λ j. is_spared spared j ≡ false) l.number unspared) in
       let w = reached_back (end_at links'.ends k).looks_at t before in
+      let f = its_start I edit w.0 t w.2 in
+      let o = (others f.0 f.1).was l.side l.activity l.place l.there l.is_end.numbered (subst (λ j. is_spared spared j ≡ false) l.number unspared) in
       let looks : place_of links'.events (other l.side l.activity) ≡ Some (end_at links'.ends k).looks_at = l.is_end.looks ∙ ap (λ j. Some (end_at links'.ends j).looks_at) (sym l.number) in
       let same : w.0 ≡ other l.side l.activity = same_value (number_at links'.events (end_at links'.ends k).looks_at) w.0 (other l.side l.activity) ((stand.events.paired w.0 _).0 w.1) ((stand.events.paired (other l.side l.activity) _).0 looks) in
       let goes' : IsTrue (passes J.period (end_at links'.ends (end_number l.side l.place)) r t) = subst (λ n. IsTrue (passes n (end_at links'.ends (end_number l.side l.place)) r t)) periods (subst (λ j. IsTrue (passes s.period (end_at links'.ends j) r t)) l.number goes) in
@@ -119,18 +127,17 @@ module _ (I J : Network) (edit : Edit) (links links' : Links) (s : Supports) (st
           once = restored.once;
         }
 
-    -- the rows are the domains before the edit, and just the reached pairs besides
-    pub restored_reach : IsReach I edit (rows_of links s) (rows_of links' s')
+    -- the rows are the domains before the edit, as far as their events stay, and just the reached pairs besides
+    pub restored_reach : IsReach I edit (rows_of links s) (λ e r. rows_of links s e r || rows_of links' s' e r)
     restored_reach =
         record {
-          more = λ e r i.
-              let p = test_of (λ p. has_at s.rows p r) (place_of links.events e) i in
-              numbered_at links'.events (has_at s'.rows) e p.0 r (events e ∙ p.1) ∙ restored.rows p.0 r ∙ or_left _ _ p.2;
+          more = λ e r i. or_left _ _ i;
           all = λ e r reached.
               let p = place_is J links' stand e (admitted_after e r (outside_of I edit e r reached)).of_event in
-              numbered_at links'.events (has_at s'.rows) e p.0 r p.1 ∙ restored.rows p.0 r ∙ or_right (has_at s.rows p.0 r) _ (restored.all p.0 r (reached_there e p.0 r p.1 reached));
+              or_right (rows_of links s e r) _
+              (numbered_at links'.events (has_at s'.rows) e p.0 r p.1 ∙ restored.rows p.0 r ∙ or_right (has_at s.rows p.0 r) _ (restored.all p.0 r (reached_there e p.0 r p.1 reached)));
           only = λ e r i none.
-              let p = test_of (λ p. has_at s'.rows p r) (place_of links'.events e) i in
+              let p = test_of (λ p. has_at s'.rows p r) (place_of links'.events e) (or_second (rows_of links s e r) (rows_of links' s' e r) i none) in
               let out : has_at s.rows p.0 r ≡ false = sym (before_at e p.0 r p.1) ∙ none in
               let there = or_second (has_at s.rows p.0 r) (is_in back p.0 r) (sym (restored.rows p.0 r) ∙ p.2) out in
               let w = reached_back p.0 r (restored.only p.0 r there) in

@@ -21,7 +21,7 @@ use Rattle.pesp_counts_supports.specs.declared.trail.Placed.{Placed}
 use Rattle.pesp_counts.specs.Keeping.{AreFor}
 use Rattle.pesp_counts_supports.specs.Resting.{HaveRoom}
 use Rattle.pesp_counts_arcs.specs.Links.{Links, StandFor}
-use Rattle.pesp_counts.specs.Loosening.{AreReached, IsLoosened}
+use Rattle.pesp_counts.specs.Changes.{AreReached, IsFollowed}
 use Rattle.pesp_counts_arcs.specs.Places.{number_at, place_of}
 use Rattle.pesp_counts.specs.Reached.{Reached, starts}
 use Rattle.pesp_counts.specs.Restores.{IsEventPlace, Restores, StaysWithin, numbered_pair}
@@ -189,14 +189,14 @@ within_told I J edit restored network made told e r i =
 
 -- ---- after an edit that was followed
 
-module _ (I J : Network) (edit : Edit) (links : Links) (s : Supports) (back : List Placed) (loosened : IsLoosened I J edit links s back) (made : edited I edit ≡ Ok J) where
+module _ (I J : Network) (edit : Edit) (before links : Links) (s0 s : Supports) (back : List Placed) (followed : IsFollowed I J edit before links s0 s back) (made : edited I edit ≡ Ok J) where
   pub told_places : All (λ x. IsEventPlace links x.place) back
-  told_places = back_places I J edit links back loosened.reached made loosened.settled.fits.stand loosened.settled.network
+  told_places = back_places I J edit links back followed.reached made followed.settled.fits.stand followed.settled.network
 
   pub told_room : (for_back for_restored : ℕ) → HaveRoom s for_back for_restored → length back ≤ for_restored
   told_room for_back for_restored room =
-      let few = back_few I J edit links back loosened.reached made loosened.settled.fits.stand s loosened.settled.fits in
+      let few = back_few I J edit links back followed.reached made followed.settled.fits.stand s followed.settled.fits in
       omega (arith, few, room.restored)
 
   pub told_restored : Restores I edit (map (numbered_pair links) back)
-  told_restored = restores_told I J edit links back loosened.reached made loosened.settled.fits.stand
+  told_restored = restores_told I J edit links back followed.reached made followed.settled.fits.stand

@@ -21,7 +21,7 @@ use Rattle.pesp_counts_arcs.specs.Ends.{ends_of}
 use Rattle.pesp_counts_supports.specs.Counts.{has_at}
 use Rattle.pesp_counts.specs.Keeping.{AreSettled}
 use Rattle.pesp_counts_arcs.specs.Links.{Links, StandFor}
-use Rattle.pesp_counts.specs.Loosening.{AreReached}
+use Rattle.pesp_counts.specs.Changes.{AreReached}
 use Rattle.pesp_counts_arcs.specs.Places.{ArePlaces, place_of}
 use Rattle.pesp_counts.specs.Restores.{AreThePairs, numbered_pair}
 use Rattle.pesp_counts_supports.specs.Supports.{Supports, is_in}

@@ -1,21 +1,19 @@
 -- What a keeper by counts keeps.
-use Rattle.std.specs.Prelude.{◌≡◌, ◌≢◌, ℕ, ◌<◌, ◌≤◌, Bool, true, false, ◌||◌, List, [], Some, Ok, length, slice_index_or, take, drop}
+use Rattle.std.specs.Prelude.{◌≡◌, ◌≢◌, ℕ, ◌<◌, ◌≤◌, Bool, true, false, ◌||◌, List, Some, length, slice_index_or, take, drop}
 use Rattle.std.specs.List.{Contains}
 use Rattle.pesp_instance.specs.declared.edit.Edit.{Edit}
 use Rattle.pesp_instance.specs.declared.edit.Edit.TheVariants.{AddEvent, DropEvent, Fix, SetWindow, Unfix, AddActivity, DropActivity, SetSpan, SetWeight, SetEnds}
-use Rattle.pesp_instance.specs.Edited.{edited}
 use Rattle.pesp_instance.specs.Network.{IsNetwork, Network}
 use Rattle.pesp_domains.specs.declared.pair.Pair.{Pair}
 use Rattle.pesp_domains.specs.Kept.{ArePushed}
-use Rattle.pesp_domains.specs.Sweeps.{AreDomains, Of, Pairs}
+use Rattle.pesp_domains.specs.Sweeps.{AreDomains, Pairs}
 use Rattle.pesp_counts_supports.specs.declared.trail.Placed.{Placed}
 use Rattle.pesp_counts_arcs.specs.Ends.{end_at, ends_of}
-use Rattle.pesp_counts_supports.specs.Counts.{IsExactAt, IsLiveAt, has_at}
+use Rattle.pesp_counts_supports.specs.Counts.{has_at}
 use Rattle.pesp_counts_arcs.specs.Links.{Links, StandFor}
 use Rattle.pesp_counts_arcs.specs.Places.{numbered, place_of}
-use Rattle.pesp_counts.specs.Reached.{starts}
 use Rattle.pesp_counts_supports.specs.Resting.{AreAtRest, HaveRoom}
-use Rattle.pesp_counts_supports.specs.Supports.{AreLevel, Fit, Supports, is_in, without_those}
+use Rattle.pesp_counts_supports.specs.Supports.{Fit, Supports, is_in}
 
 -- the ends stand for the instance, and there are rows and counts for them
 pub record AreFor (I : Network) (links : Links) (s : Supports) : Type 0 where
@@ -37,14 +35,6 @@ pub record AreSettled (I : Network) (pushes : List Pair) (links : Links) (s : Su
   pub rest : AreAtRest links s
   pub domains : AreDomains I pushes (rows_of links s)
 
--- at each listed end but one and its mate nothing waits to be counted out, and nothing was taken out yet; but pairs of a list may have counts of 0
-pub record AreAtRestBut (links : Links) (s : Supports) (end : ℕ) (back : List Placed) : Type 0 where
-  pub exact : (p k : ℕ) → Contains (ends_of links.lists p) k → k ≢ end → k ≢ (end_at links.ends end).mate → IsExactAt s.period links.ends s.counts (has_at s.counted) k
-  pub live : (p k : ℕ) → Contains (ends_of links.lists p) k → k ≢ end → k ≢ (end_at links.ends end).mate → IsLiveAt s.period s.counts (without_those (has_at s.rows) back) p k
-  pub level : AreLevel s
-  pub below : (p r : ℕ) → Of (has_at s.rows) p r → r < s.period
-  pub trail : s.trail ≡ []
-
 -- whether the edit adds an event or an activity
 abbrev pub adds : Edit → Bool
 adds (AddEvent e) = true
@@ -57,18 +47,6 @@ adds (DropActivity n) = false
 adds (SetSpan n span) = false
 adds (SetWeight n weight) = false
 adds (SetEnds n from to) = false
-
--- the rows were the domains of an instance of which the edit made this one, and nothing is known any more of what was taken out
-pub record WereSettled (J : Network) (edit : Edit) (links : Links) (s : Supports) : Type 0 where
-  pub before : Network
-  pub made : edited before edit ≡ Ok J
-  pub settled : AreSettled before [] links s
-  pub trail : s.trail ≡ []
-
--- and the edit brings no pair back
-pub record WereTight (J : Network) (edit : Edit) (links : Links) (s : Supports) : Type 0 where
-  pub were : WereSettled J edit links s
-  pub tight : starts were.before edit ≡ []
 
 -- events and listed ends are as before
 pub record SeeSame (before after : Links) : Type 0 where

@@ -1,6 +1,6 @@
 pub mod Keeping
 pub mod Loosened
-pub mod Loosening
+pub mod Changes
 pub mod Reached
 pub mod Restores
 pub mod Support

@@ -1,12 +1,11 @@
 -- The pairs that an edit may bring back into the domains.
-use Rattle.std.specs.Prelude.{◌≡◌, ℕ, Bool, false, ◌==◌, if◌then◌else◌, List, [], ◌∷◌, Option, Some, None, Ok, true}
+use Rattle.std.specs.Prelude.{◌≡◌, ℕ, Bool, false, ◌==◌, if◌then◌else◌, List, [], ◌∷◌, Option, Some, None}
 use Rattle.std.specs.List.{Contains}
 use Rattle.pesp_base.specs.declared.activity.Activity.{Activity}
-use Rattle.pesp_base.specs.Windows.{Interval}
 use Rattle.pesp_instance.specs.declared.edit.Edit.{Edit}
 use Rattle.pesp_instance.specs.declared.edit.Edit.TheVariants.{AddEvent, DropEvent, Fix, SetWindow, Unfix, AddActivity, DropActivity, SetSpan, SetWeight, SetEnds}
-use Rattle.pesp_instance.specs.Edited.{edited, effect, rewindowed}
-use Rattle.pesp_instance.specs.Network.{Network, activity_of, has_event}
+use Rattle.pesp_instance.specs.Edited.{effect}
+use Rattle.pesp_instance.specs.Network.{Network, activity_of}
 use Rattle.pesp_domains.specs.declared.side.Side.{Side}
 use Rattle.pesp_domains.specs.Domains.{InDomains, IsAdmitted, Joins, other, own}
 use Rattle.pesp_domains.specs.Loosening.{admits_anew, is_looser}
@@ -41,14 +40,6 @@ is_edited (SetWindow e first length) a = false
 is_edited (Unfix e) a = false
 is_edited (AddActivity b) a = false
 is_edited (SetWeight n weight) a = false
-
--- the edit gives the event a window, or takes its window away
-pub record IsOfWindow (edit : Edit) (e : ℕ) (window : Option Interval) : Type 0 where
-  pub makes : (I : Network) → effect I edit ≡ rewindowed I e window
-  pub begins : (I : Network) → starts I edit ≡ (if admits_anew I (effect I edit) e then e ∷ [] else [])
-  pub unedited : (a : Activity) → is_edited edit a ≡ false
-  pub keeps : (I : Network) (f : ℕ) → has_event (effect I edit) f ≡ has_event I f
-  pub there : (I J : Network) → edited I edit ≡ Ok J → has_event I e ≡ true
 
 -- the pair is outside the domains before the edit, and in its event's window after it
 pub record IsOutside (I : Network) (edit : Edit) (e r : ℕ) : Type 0 where

@@ -9,20 +9,22 @@ ghost use Rattle.pesp_counts.specs.Restores.{Restores, StaysWithin};
 ghost use Rattle.pesp_counts.specs.Support.{IsSupportAnswer};
 ghost use Rattle.pesp_counts.specs.Works.{IsWork};
 
-mod edits;
+mod change;
+mod counted;
 mod filled;
+mod following;
 mod grown;
 mod limits;
-mod loosening;
 mod numbering;
+mod propagating;
 mod remake;
-mod restores;
-mod spans;
 mod told;
 
 use crate::work::Work;
-use edits::follow;
+use change::Change;
+use counted::Counted;
 use filled::house;
+use following::follow;
 use grown::{add_activity, add_event, take_back};
 use limits::limit_event;
 use numbering::number_pairs;
@@ -32,7 +34,6 @@ use pesp_counts_supports::{Back, Supports};
 use pesp_domains::{Keeper, NoRoom, Pair, Row, Side};
 use pesp_instance::{Edit, Instance};
 use remake::remake;
-use restores::restores;
 use std::alloc::Global;
 use std::marker::Model;
 use told::work_of;
@@ -50,14 +51,8 @@ pub struct CountKeeper {
     pushed: Vec<Pair>,
     // Where the trail stood before each push.
     marks: Vec<usize>,
-    // They stand for the instance.
-    links: Links,
-    // The rows are the domains under the pushed pairs, and nothing waits to be counted out.
-    supports: Supports,
-    // What the last edit put back, by place; forgotten at the next edit.
-    back: Back,
-    // The same by number, of the last edit that was accepted.
-    restored: Vec<Pair>,
+    // By place, and what the last accepted edit put back.
+    counted: Counted,
     // That of the last edit that was accepted.
     work: Work,
     // Where an edit takes its memory from.
@@ -71,9 +66,16 @@ impl Model for CountKeeper {
 
     ghost Value = { Seen };
 
-    ghost view = { λ k. record { network = k.instance; pushes = k.pushed.items; restored = k.restored.items; work = k.work } };
+    ghost view = { λ k. record {
+      network = k.instance;
+      pushes = k.pushed.items;
+      restored = k.counted.restored.items;
+      work = k.work;
+    } };
 
-    ghost invariant = { λ k. IsKeeping k.instance k.pushed.items k.marks.items k.links k.supports (vec_capacity k.pushed) (vec_capacity k.marks) k.back.room (vec_capacity k.restored) };
+    ghost invariant = { λ k. IsKeeping k.instance k.pushed.items k.marks.items k.counted.links
+        k.counted.supports (vec_capacity k.pushed) (vec_capacity k.marks) k.counted.back.room
+        (vec_capacity k.counted.restored) };
 }
 
 impl CountKeeper {
@@ -87,12 +89,12 @@ impl CountKeeper {
         if !self.holds(side.own(activity), residue) {
             return None;
         }
-        let tail = self.links.tail(activity.id)?;
+        let tail = self.counted.links.tail(activity.id)?;
         let end = match side {
             Side::Tail => tail,
-            Side::Head => self.links.end(tail).mate,
+            Side::Head => self.counted.links.end(tail).mate,
         };
-        Some(self.supports.count(end, residue))
+        Some(self.counted.supports.count(end, residue))
     }
 }
 
@@ -111,33 +113,25 @@ impl Keeper for CountKeeper {
     {
         let mut pushed = Vec::new(alloc);
         let mut marks = Vec::new(alloc);
-        let mut links = Links::new(alloc);
-        let mut supports = Supports::new(alloc, instance.period());
-        let mut back = Back::new(alloc);
-        let mut restored = Vec::new(alloc);
-        if house(
-            alloc,
-            &instance,
-            &mut pushed,
-            &mut marks,
-            &mut links,
-            &mut supports,
-            &mut back,
-            &mut restored,
-        )
-        .is_err()
-        {
-            return Err(NoRoom { instance });
-        }
-        remake(&instance, &links, &mut supports);
-        Ok(CountKeeper {
-            instance,
-            pushed,
-            marks,
+        let links = Links::new(alloc);
+        let supports = Supports::new(alloc, instance.period());
+        let back = Back::new(alloc);
+        let restored = Vec::new(alloc);
+        let mut counted = Counted {
             links,
             supports,
             back,
             restored,
+        };
+        if house(alloc, &instance, &mut pushed, &mut marks, &mut counted).is_err() {
+            return Err(NoRoom { instance });
+        }
+        remake(&instance, &counted.links, &mut counted.supports);
+        Ok(CountKeeper {
+            instance,
+            pushed,
+            marks,
+            counted,
             work: Work::none(),
             alloc,
         })
@@ -148,15 +142,15 @@ impl Keeper for CountKeeper {
     }
 
     fn holds(&self, event: EventId, residue: u16) -> bool {
-        match self.links.event(event) {
-            Some(place) => self.supports.holds(place, residue),
+        match self.counted.links.event(event) {
+            Some(place) => self.counted.supports.holds(place, residue),
             None => false,
         }
     }
 
     fn row(&self, event: EventId) -> Option<&Row> {
-        match self.links.event(event) {
-            Some(place) => Some(self.supports.row(place)),
+        match self.counted.links.event(event) {
+            Some(place) => Some(self.counted.supports.row(place)),
             None => None,
         }
     }
@@ -174,37 +168,26 @@ impl Keeper for CountKeeper {
             × ((self.new).work ≡ (self.old).work)) }
         ensures pushes { (self.new).pushes ≡ [] }
     {
-        let restores = restores(&self.instance, edit);
+        let change = Change::of(&self.instance, &self.counted.links, edit);
         self.instance.apply(edit)?;
-        self.supports.forget();
-        self.back.clear();
+        self.counted.supports.forget();
+        self.counted.back.clear();
         let followed = match *edit {
             Edit::AddEvent(event) => add_event(
                 self.alloc,
                 &self.instance,
                 &mut self.pushed,
                 &mut self.marks,
-                &mut self.links,
-                &mut self.supports,
-                &mut self.back,
-                &mut self.restored,
+                &mut self.counted,
                 event,
             ),
             Edit::AddActivity(activity) => add_activity(
                 &self.instance,
-                &mut self.links,
-                &mut self.supports,
+                &mut self.counted,
                 &activity,
             ),
             _ => {
-                follow(
-                    &self.instance,
-                    &mut self.links,
-                    &mut self.supports,
-                    &mut self.back,
-                    edit,
-                    restores,
-                );
+                follow(&self.instance, &mut self.counted, edit, &change);
                 Ok(())
             }
         };
@@ -212,8 +195,12 @@ impl Keeper for CountKeeper {
             take_back(&mut self.instance, edit);
             return Err(Refusal::Memory);
         }
-        number_pairs(&self.links, self.back.pairs(), &mut self.restored);
-        self.work = work_of(&self.back, &self.supports);
+        number_pairs(
+            &self.counted.links,
+            self.counted.back.pairs(),
+            &mut self.counted.restored,
+        );
+        self.work = work_of(&self.counted.back, &self.counted.supports);
         Ok(())
     }
 
@@ -227,10 +214,15 @@ impl Keeper for CountKeeper {
         ensures restored { (self.new).restored ≡ (self.old).restored }
         ensures work { (self.new).work ≡ (self.old).work }
     {
-        let mark = self.supports.mark();
+        let mark = self.counted.supports.mark();
         self.pushed.push_reserved(Pair { event, residue });
         self.marks.push_reserved(mark);
-        limit_event(&self.links, &mut self.supports, event, residue);
+        limit_event(
+            &self.counted.links,
+            &mut self.counted.supports,
+            event,
+            residue,
+        );
     }
 
     fn pop_fix(&mut self)
@@ -242,7 +234,7 @@ impl Keeper for CountKeeper {
     {
         self.pushed.pop();
         if let Some(mark) = self.marks.pop() {
-            self.supports.put_back(&self.links, mark);
+            self.counted.supports.put_back(&self.counted.links, mark);
         }
     }
 }

@@ -8,7 +8,7 @@ use Rattle.pesp_counts_arcs.specs.declared.lists.Neighbours.{Neighbours}
 use Rattle.pesp_counts_arcs.specs.Lists.{AreRings, AreShared, afters, befores, first_of, items_at, last_of, lists_of, steps}
 use Rattle.pesp_counts_arcs.proofs.ListLaws.{lists_read, resized, shared_more, shared_room, shared_same}
 use Rattle.pesp_counts_arcs.proofs.RingLaws.{round_less, round_read, round_same}
-use Rattle.pesp_counts_arcs.proofs.RingStores.{come_front, gone_behind, gone_front, length-afters, length-befores, no_neighbours, round_back, round_there}
+use Rattle.pesp_counts_arcs.proofs.RingStores.{come_front, gone_not_first, gone_front, length-afters, length-befores, no_neighbours, round_back, round_there}
 use Rattle.pesp_counts_arcs.proofs.StandLists.{all_but, list_there, shared_less}
 
 -- ---- more room
@@ -62,7 +62,7 @@ rings_same items lists after same h =
 module _ (items after : List Neighbours) (heads : List Head) (p item : ℕ) (head : Head) (within : p < length heads) (is : (d : Head) → head ≡ get_or heads p d) (rings : AreRings items (lists_of (afters items) heads))
     (low : item < length items) (out : (q : ℕ) → Contains (items_at (lists_of (afters items) heads) q) item → ⊥)
     (ahead : afters after ≡ set (set (afters items) (last_of (befores items) head item) item) item (first_of head item))
-    (behind : befores after ≡ set (set (befores items) item (last_of (befores items) head item)) (first_of head item) item) where
+    (back : befores after ≡ set (set (befores items) item (last_of (befores items) head item)) (first_of head item) item) where
   there : p < length (lists_of (afters items) heads)
   there = let many = length-map heads (λ (h : Head). steps (afters items) h.first h.count) in omega (arith, within, many)
 
@@ -78,8 +78,8 @@ module _ (items after : List Neighbours) (heads : List Head) (p item : ℕ) (hea
       (record {
         few = (let few = rings.few in omega (arith, many, few));
         shared = subst (λ n. AreShared n lists) (sym many) (shared_more (lists_of (afters items) heads) p item there (length items) low out rings.shared);
-        forward = rw (ahead, behind) (round_there (afters items) (befores items) heads p (length items) head within is rings.shared item there low (sym (length-afters items)) (sym (length-befores items)) out rings.forward rings.backward);
-        backward = rw (ahead, behind) (round_back (afters items) (befores items) heads p (length items) head within is rings.shared item there low (sym (length-afters items)) (sym (length-befores items)) out rings.forward rings.backward);
+        forward = rw (ahead, back) (round_there (afters items) (befores items) heads p (length items) head within is rings.shared item there low (sym (length-afters items)) (sym (length-befores items)) out rings.forward rings.backward);
+        backward = rw (ahead, back) (round_back (afters items) (befores items) heads p (length items) head within is rings.shared item there low (sym (length-afters items)) (sym (length-befores items)) out rings.forward rings.backward);
       })
 
 -- ---- an item less
@@ -87,7 +87,7 @@ module _ (items after : List Neighbours) (heads : List Head) (p item : ℕ) (hea
 module _ (items after : List Neighbours) (heads : List Head) (p item first : ℕ) (head : Head) (within : p < length heads) (is : (d : Head) → head ≡ get_or heads p d) (rings : AreRings items (lists_of (afters items) heads))
     (there_is : Contains (items_at (lists_of (afters items) heads) p) item)
     (ahead : afters after ≡ set (afters items) (get_or (befores items) item 0) (get_or (afters items) item 0))
-    (behind : befores after ≡ set (befores items) (get_or (afters items) item 0) (get_or (befores items) item 0))
+    (back : befores after ≡ set (befores items) (get_or (afters items) item 0) (get_or (befores items) item 0))
     (front : ((head.first ≡ item) × (first ≡ get_or (afters items) item 0)) ⊎ ((head.first ≢ item) × (first ≡ head.first))) where
   pub lists_less : lists_of (afters after) (set heads p (record { first = first; count = head.count - 1 })) ≡ set (lists_of (afters items) heads) p (all_but item (items_at (lists_of (afters items) heads) p))
   lists_less =
@@ -98,7 +98,7 @@ module _ (items after : List Neighbours) (heads : List Head) (p item first : ℕ
             ∙ gone_front (afters items) (befores items) heads p (length items) head within is rings.shared item there_is (sym (length-afters items)) rings.forward rings.backward at.0
         | inr apart ↦
             ap (λ j. lists_of (set (afters items) (get_or (befores items) item 0) (get_or (afters items) item 0)) (set heads p (record { first = j; count = head.count - 1 }))) apart.1
-            ∙ gone_behind (afters items) (befores items) heads p (length items) head within is rings.shared item there_is (sym (length-afters items)) rings.forward rings.backward apart.0
+            ∙ gone_not_first (afters items) (befores items) heads p (length items) head within is rings.shared item there_is (sym (length-afters items)) rings.forward rings.backward apart.0
       ]
 
   pub rings_less : length after ≡ length items → AreRings after (lists_of (afters after) (set heads p (record { first = first; count = head.count - 1 })))
@@ -111,6 +111,6 @@ module _ (items after : List Neighbours) (heads : List Head) (p item first : ℕ
       (record {
         few = (let few = rings.few in omega (arith, many, few));
         shared = subst (λ n. AreShared n less) (sym many) (shared_less lists p item (list_there lists p item there_is) (length items) there_is rings.shared);
-        forward = rw (ahead, behind) (round_less (afters items) (befores items) lists p item (length items) there_is rings.shared rings.forward rings.backward low low');
-        backward = rw (ahead, behind) (round_less (befores items) (afters items) lists p item (length items) there_is rings.shared rings.backward rings.forward low' low);
+        forward = rw (ahead, back) (round_less (afters items) (befores items) lists p item (length items) there_is rings.shared rings.forward rings.backward low low');
+        backward = rw (ahead, back) (round_less (befores items) (afters items) lists p item (length items) there_is rings.shared rings.backward rings.forward low' low);
       })

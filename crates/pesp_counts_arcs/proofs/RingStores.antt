@@ -69,8 +69,8 @@ module _ (A B : List ℕ) (heads : List Head) (p items : ℕ) (head : Head) (wit
         ∙ gone_first next heads p item head within is (subst (λ xs. Contains (items_at xs p) item) (sym same) there_is) shared' first
         ∙ ap (λ xs. set xs p (all_but item (items_at xs p))) same
 
-    pub gone_behind : head.first ≢ item → lists_of (set A (get_or B item 0) (get_or A item 0)) (set heads p (record { first = head.first; count = head.count - 1 })) ≡ set (lists_of A heads) p (all_but item (items_at (lists_of A heads) p))
-    gone_behind apart =
+    pub gone_not_first : head.first ≢ item → lists_of (set A (get_or B item 0) (get_or A item 0)) (set heads p (record { first = head.first; count = head.count - 1 })) ≡ set (lists_of A heads) p (all_but item (items_at (lists_of A heads) p))
+    gone_not_first apart =
         let there = subst (λ xs. Contains xs item) walked there_is in
         let low = there.1 in
         let before = led_before A B head.first head.count item there.0

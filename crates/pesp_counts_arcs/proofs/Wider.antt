@@ -8,12 +8,12 @@ use Rattle.pesp_counts_arcs.specs.Ends.{passes, passes_more}
 use Rattle.pesp_base.proofs.Ranges.{some_below}
 use Rattle.pesp_counts_arcs.proofs.EndRanges.{far_above, far_below, mod_below}
 
--- how far a residue is behind the first one of a window
-abbrev behind : ℕ → ℕ → ℕ → ℕ
-behind T first s = (s + (T - first)) % T
+-- how far a residue is above the first one of a window
+abbrev above : ℕ → ℕ → ℕ → ℕ
+above T first s = (s + (T - first)) % T
 
-behind_is : (T first s : ℕ) → first < T → s < T → (first ≤ s × (behind T first s ≡ s - first)) ⊎ (s < first × (behind T first s ≡ s + (T - first)))
-behind_is T first s fl sl =
+above_either : (T first s : ℕ) → first < T → s < T → (first ≤ s × (above T first s ≡ s - first)) ⊎ (s < first × (above T first s ≡ s + (T - first)))
+above_either T first s fl sl =
     elim (cases_lt s first) [
       | inl low ↦ inr (low, far_below T first s fl low)
       | inr high ↦ inl (omega (arith, high), far_above T first s fl sl (omega (arith, high)))
@@ -28,18 +28,18 @@ not_true false is t = false≢true is
 
 module _ (T old old_width new new_width : ℕ) (old_first : old < T) (new_first : new < T) (some : 0 < new_width) (width : new_width ≤ T) (old_within : old_width ≤ T) where
   abbrev test : ℕ → Bool
-  test s = nat_lt (behind T new s) new_width && not (nat_lt (behind T old s) old_width)
+  test s = nat_lt (above T new s) new_width && not (nat_lt (above T old s) old_width)
 
   abbrev apart : ℕ
-  apart = behind T old new
+  apart = above T old new
 
-  both : (s : ℕ) → behind T new s < new_width → old_width ≤ behind T old s → test s ≡ true
+  both : (s : ℕ) → above T new s < new_width → old_width ≤ above T old s → test s ≡ true
   both s near far = and_from _ _ (lt-ltb _ _ near) (ap not (is_above _ _ far))
 
-  -- so far behind the first one of the new window
-  at : (k s : ℕ) → k < T → s < T → (s ≡ new + k) ⊎ (s + T ≡ new + k) → behind T new s ≡ k
+  -- so far above the first one of the new window
+  at : (k s : ℕ) → k < T → s < T → (s ≡ new + k) ⊎ (s + T ≡ new + k) → above T new s ≡ k
   at k s kl sl is =
-      elim (behind_is T new s new_first sl) [
+      elim (above_either T new s new_first sl) [
         | inl a ↦ elim is [
           | inl e ↦ omega (arith, a.1, e)
           | inr e ↦ omega (arith, a.0, a.1, e, kl)
@@ -51,10 +51,10 @@ module _ (T old old_width new new_width : ℕ) (old_first : old < T) (new_first 
       ]
 
   -- where it is in the old one, if that is not passed by the period's end
-  at_old : (k s : ℕ) → k < T → s < T → (s ≡ new + k) ⊎ (s + T ≡ new + k) → apart + k < T → behind T old s ≡ apart + k
+  at_old : (k s : ℕ) → k < T → s < T → (s ≡ new + k) ⊎ (s + T ≡ new + k) → apart + k < T → above T old s ≡ apart + k
   at_old k s kl sl is within =
-      elim (behind_is T old s old_first sl) [
-        | inl a ↦ elim (behind_is T old new old_first new_first) [
+      elim (above_either T old s old_first sl) [
+        | inl a ↦ elim (above_either T old new old_first new_first) [
           | inl b ↦ elim is [
             | inl e ↦ omega (arith, a.0, a.1, b.0, b.1, e)
             | inr e ↦ omega (arith, a.0, a.1, b.0, b.1, e, within, kl, new_first)
@@ -64,7 +64,7 @@ module _ (T old old_width new new_width : ℕ) (old_first : old < T) (new_first 
             | inr e ↦ omega (arith, a.0, a.1, b.0, b.1, e, within, old_first, kl)
           ]
         ]
-        | inr a ↦ elim (behind_is T old new old_first new_first) [
+        | inr a ↦ elim (above_either T old new old_first new_first) [
           | inl b ↦ elim is [
             | inl e ↦ omega (arith, a.0, a.1, b.0, b.1, e)
             | inr e ↦ omega (arith, a.0, a.1, b.0, b.1, e, within, old_first, new_first)
@@ -92,7 +92,7 @@ module _ (T old old_width new new_width : ℕ) (old_first : old < T) (new_first 
 
   apart_below : apart < T
   apart_below =
-      elim (behind_is T old new old_first new_first) [
+      elim (above_either T old new old_first new_first) [
         | inl b ↦ omega (arith, b.1, new_first)
         | inr b ↦ omega (arith, b.0, b.1, old_first)
       ]
@@ -105,24 +105,24 @@ module _ (T old old_width new new_width : ℕ) (old_first : old < T) (new_first 
       ]
 
   -- steps from the first residue of the new window
-  steps : (s : ℕ) → s < T → (s ≡ new + behind T new s) ⊎ (s + T ≡ new + behind T new s)
+  steps : (s : ℕ) → s < T → (s ≡ new + above T new s) ⊎ (s + T ≡ new + above T new s)
   steps s sl =
-      elim (behind_is T new s new_first sl) [
+      elim (above_either T new s new_first sl) [
         | inl a ↦ inl (omega (arith, a.0, a.1))
         | inr a ↦ inr (omega (arith, a.0, a.1, new_first))
       ]
 
-  behind_below : (first s : ℕ) → first < T → s < T → behind T first s < T
-  behind_below first s fl sl =
-      elim (behind_is T first s fl sl) [
+  above_below : (first s : ℕ) → first < T → s < T → above T first s < T
+  above_below first s fl sl =
+      elim (above_either T first s fl sl) [
         | inl a ↦ omega (arith, a.1, sl)
         | inr a ↦ omega (arith, a.0, a.1, fl)
       ]
 
-  inside_old : (old_width ≡ T) ⊎ (apart + new_width ≤ old_width) → (s : ℕ) → s < T → behind T new s < new_width → behind T old s < old_width
-  inside_old (inl full) s sl near = let l = behind_below old s old_first sl in omega (arith, full, l)
+  inside_old : (old_width ≡ T) ⊎ (apart + new_width ≤ old_width) → (s : ℕ) → s < T → above T new s < new_width → above T old s < old_width
+  inside_old (inl full) s sl near = let l = above_below old s old_first sl in omega (arith, full, l)
   inside_old (inr fits) s sl near =
-      let e = at_old (behind T new s) s (behind_below new s new_first sl) sl (steps s sl) (omega (arith, near, fits, old_within)) in
+      let e = at_old (above T new s) s (above_below new s new_first sl) sl (steps s sl) (omega (arith, near, fits, old_within)) in
       omega (arith, e, near, fits)
 
   no_more : (old_width ≡ T) ⊎ (apart + new_width ≤ old_width) → list_any test (range_with_len 0 T) ≡ false
@@ -131,8 +131,8 @@ module _ (T old old_width new new_width : ℕ) (old_first : old < T) (new_first 
         | inl some ↦
             let x = passing test (range_with_len 0 T) some in
             let sl : x.0 < T = let l = of_range 0 T x.0 x.1 in omega (arith, l.1) in
-            let near : behind T new x.0 < new_width = ltb-true (behind T new x.0) new_width (and_left _ _ x.2) in
-            absurd (not_true (nat_lt (behind T old x.0) old_width) (lt-ltb _ _ (inside_old fits x.0 sl near)) (and_right (nat_lt (behind T new x.0) new_width) _ x.2))
+            let near : above T new x.0 < new_width = ltb-true (above T new x.0) new_width (and_left _ _ x.2) in
+            absurd (not_true (nat_lt (above T old x.0) old_width) (lt-ltb _ _ (inside_old fits x.0 sl near)) (and_right (nat_lt (above T new x.0) new_width) _ x.2))
         | inr none ↦ none
       ]
 

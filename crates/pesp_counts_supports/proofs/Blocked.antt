@@ -1,19 +1,21 @@
--- A block is counted in at one end after another, but for the spared ones.
-use Rattle.std.proofs.Common.{◌≡◌, ◌≢◌, ℕ, zero, suc, ◌+◌, ◌<◌, ◌≤◌, ◌==◌, ◌&&◌, ◌||◌, Bool, true, false, if◌then◌else◌, Option, List, [], ◌∷◌, refl, sym, ap, subst, ◌∙◌, inl, inr, arith, IsTrue, filter}
+-- A block is counted in at one end after another, and but for the spared ones.
+use Rattle.std.proofs.Common.{◌≡◌, ◌≢◌, ℕ, zero, suc, ◌+◌, ◌<◌, ◌==◌, ◌&&◌, ◌||◌, cond, Bool, true, false, Option, List, [], ◌∷◌, refl, sym, ap, subst, ◌∙◌, arith, IsTrue, filter}
 use Rattle.std.proofs.Math.Bool.{or-false}
 use Rattle.std.specs.List.{Contains}
-use Rattle.std.proofs.lemmas.Bool.{cases_Bool, cases_eq, eq-eqb, ne_eqb, false≢true, eqb-true as eqb_is}
+use Rattle.std.proofs.lemmas.Bool.{eq-eqb, ne_eqb, false≢true}
 use Rattle.pesp_domains.specs.Sweeps.{Pairs}
-use Rattle.pesp_domains.proofs.Families.{here, of_filter, passing, found_equal}
+use Rattle.pesp_domains.proofs.Families.{of_filter}
 use Rattle.pesp_counts_arcs.specs.declared.end.End.{End}
 use Rattle.pesp_counts_arcs.specs.Ends.{AreLinked, end_at, ends_of, passes}
 use Rattle.pesp_counts_supports.specs.Blocks.{joined_block}
-use Rattle.pesp_counts_supports.specs.Counts.{IsExactAt, count_at, supporters}
+use Rattle.pesp_counts_supports.specs.Counts.{IsExactAt, supporters}
+use Rattle.pesp_counts_supports.specs.Leaving.{partners}
 use Rattle.pesp_counts_supports.specs.Restoring.{is_spared}
+use Rattle.pesp_counts_supports.specs.Returning.{CanRise, RiseBy}
 use Rattle.pesp_counts_supports.proofs.Grown.{supporters_le}
-use Rattle.pesp_counts_supports.proofs.Raised.{is_to_come}
+use Rattle.pesp_counts_supports.proofs.Moving.{AreMoving, moving_more, moving_next, moving_start}
 use Rattle.pesp_counts_supports.proofs.Sparing.{is_kept, keep_none, keep_one, kept, kept_at, kept_in, kept_linked, kept_of}
-use Rattle.pesp_counts_supports.proofs.Supporters.{one, supporters_same}
+use Rattle.pesp_counts_supports.proofs.Supporters.{one}
 
 -- those of a set and of a block that it lacks
 pub supporters_block : (n : ℕ) (S S' D f : ℕ → Bool) → ((s : ℕ) → s < n → S' s ≡ (S s || D s)) → ((s : ℕ) → s < n → IsTrue (D s) → S s ≡ false) → supporters n S' f ≡ supporters n S f + supporters n D f
@@ -31,142 +33,77 @@ supporters_block (suc n) S S' D f comes apart =
     by false true false h = refl
     by false false c h = refl
 
--- each listed end is exact: those to come by the old set, all others by the set with the block
-abbrev pub AreBlocked : ℕ → List End → List (List ℕ) → Pairs → ℕ → (ℕ → Bool) → List ℕ → List ℕ → Type 0
-AreBlocked period ends lists S p D counts rest = (q k : ℕ) → Contains (ends_of lists q) k → IsExactAt period ends counts (if is_to_come ends rest k then S else joined_block S p D) k
+-- a set with a block is the set but at the place of the block
+pub block_elsewhere : (S : Pairs) (p : ℕ) (D : ℕ → Bool) (q s : ℕ) → q ≢ p → joined_block S p D q s ≡ S q s
+block_elsewhere S p D q s apart = rw (ne_eqb p q (λ e. apart (sym e))) (or-false (S q s))
 
--- the same, of the ends that are not spared
-abbrev pub AreBlockedBut : ℕ → List End → List (List ℕ) → Option ℕ → Pairs → ℕ → (ℕ → Bool) → List ℕ → List ℕ → Type 0
-AreBlockedBut T ends lists spared S p D counts rest = AreBlocked T ends (kept spared lists) S p D counts (filter (is_kept spared) rest)
+module _ (T : ℕ) (ends : List End) (lists : List (List ℕ)) (linked : AreLinked T ends lists) (S : Pairs) (p : ℕ) (D : ℕ → Bool) (new : (s : ℕ) → IsTrue (D s) → S p s ≡ false) (counts : List ℕ) (m : ℕ) (rest : List ℕ) (listed : Contains (ends_of lists p) m) (so_far : AreMoving T ends lists S (joined_block S p D) counts (m ∷ rest)) where
+  abbrev k : ℕ
+  k = (end_at ends m).mate
 
-module _ (period : ℕ) (ends : List End) (lists : List (List ℕ)) (linked : AreLinked period ends lists) (S : Pairs) (p : ℕ) (D : ℕ → Bool) (apart : (s : ℕ) → s < period → IsTrue (D s) → S p s ≡ false) where
-  abbrev pub all : Pairs
-  all = joined_block S p D
-
-  -- how many of the block a residue has as partners at an end
-  abbrev pub gained : ℕ → ℕ → ℕ
-  gained k r = supporters period D (passes period (end_at ends k) r)
-
-  -- at an end that looks at the place
-  block_here : (k r : ℕ) → (end_at ends k).looks_at ≡ p → supporters period (all (end_at ends k).looks_at) (passes period (end_at ends k) r) ≡ supporters period (S (end_at ends k).looks_at) (passes period (end_at ends k) r) + gained k r
-  block_here k r looks =
+  -- the partners that a residue has then
+  with_block : (r : ℕ) → supporters T (joined_block S p D (end_at ends k).looks_at) (passes T (end_at ends k) r) ≡ supporters T (S (end_at ends k).looks_at) (passes T (end_at ends k) r) + partners T ends m D r
+  with_block r =
       let at : ℕ = (end_at ends k).looks_at in
-      supporters_block period (S at) (all at) D (passes period (end_at ends k) r)
+      let looks : at ≡ p = (linked.each p m listed).mate_looks in
+      supporters_block T (S at) (joined_block S p D at) D (passes T (end_at ends k) r)
       (λ q ql. rw (eq-eqb p at (sym looks)) refl)
-      (λ q ql h. ap (λ e. S e q) looks ∙ apart q ql h)
+      (λ q ql h. ap (λ e. S e q) looks ∙ new q h)
 
-  -- at an end that looks elsewhere
-  block_elsewhere : (k r : ℕ) → (end_at ends k).looks_at ≢ p → supporters period (all (end_at ends k).looks_at) (passes period (end_at ends k) r) ≡ supporters period (S (end_at ends k).looks_at) (passes period (end_at ends k) r)
-  block_elsewhere k r looks =
-      let at : ℕ = (end_at ends k).looks_at in
-      supporters_same period (S at) (all at) _ _ (λ q ql. rw (ne_eqb p at (λ e. looks (sym e))) (or-false (S at q))) (λ q ql. refl)
+  exact_before : IsExactAt T ends counts S k
+  exact_before = moving_next T ends lists linked S (joined_block S p D) p (λ q s apart sl. block_elsewhere S p D q s apart) counts m rest listed so_far
 
-  -- a count has room for the block
-  block_low : (counts : List ℕ) (k r : ℕ) → (end_at ends k).looks_at ≡ p → r < period → IsExactAt period ends counts S k → count_at period counts k r + gained k r ≤ period
-  block_low counts k r looks rl exact =
-      let few = supporters_le period (all (end_at ends k).looks_at) (passes period (end_at ends k) r) in
-      let more = block_here k r looks in
-      omega (arith, few, more, exact r rl)
+  -- the counts at the next end have room for the block
+  pub rise_low : CanRise T ends m D counts
+  rise_low r rl =
+      let few = supporters_le T (joined_block S p D (end_at ends k).looks_at) (passes T (end_at ends k) r) in
+      omega (arith, few, with_block r, exact_before r rl)
 
-  -- an end whose mate is at the place looks at it
-  looks_here : (q k : ℕ) → Contains (ends_of lists q) k → Contains (ends_of lists p) (end_at ends k).mate → (end_at ends k).looks_at ≡ p
-  looks_here q k is mate =
-      let at = linked.each q k is in
-      let w = linked.each p (end_at ends k).mate mate in
-      sym (ap (λ j. (end_at ends j).looks_at) at.mate_back) ∙ w.mate_looks
+  -- the block is counted in at one end more
+  pub rise_more : (changed : List ℕ) → (Contains rest m → ⊥) → RiseBy T ends m D counts changed → AreMoving T ends lists S (joined_block S p D) changed rest
+  rise_more changed once rise =
+      moving_more T ends lists linked S (joined_block S p D) p (λ q s apart sl. block_elsewhere S p D q s apart) counts changed m rest listed once
+      (λ r rl.
+      let here : cond (k == k) (partners T ends m D r) 0 ≡ partners T ends m D r = rw (eq-eqb k k refl) refl in
+      omega (arith, rise k r rl, here, exact_before r rl, with_block r))
+      (λ j r apart rl.
+      let none : cond (j == k) (partners T ends m D r) 0 ≡ 0 = rw (ne_eqb j k apart) refl in
+      omega (arith, rise j r rl, none))
+      so_far
 
-  -- before the first end
-  block_start : (counts : List ℕ) → ((q k : ℕ) → Contains (ends_of lists q) k → IsExactAt period ends counts S k) → AreBlocked period ends lists S p D counts (ends_of lists p)
-  block_start counts exact q k is =
-      elim (is_to_come ends (ends_of lists p) k) as (λ b. is_to_come ends (ends_of lists p) k ≡ b → IsExactAt period ends counts (if b then S else all) k) [
-        | true ↦ λ ahead. exact q k is
-        | false ↦ λ done r rl.
-            let looks : (end_at ends k).looks_at ≢ p =
-            λ same.
-            let mate : Contains (ends_of lists p) (end_at ends k).mate = subst (λ e. Contains (ends_of lists e) (end_at ends k).mate) same (linked.each q k is).mate_there in
-            false≢true (sym done ∙ found_equal (end_at ends k).mate (end_at ends k).mate (ends_of lists p) mate refl)
-            in
-            exact q k is r rl ∙ sym (block_elsewhere k r looks)
-      ] refl
+-- ---- the same, but for the spared ends
 
-  -- the mate of the next end is still exact by the old set
-  block_next : (counts : List ℕ) (m : ℕ) (rest : List ℕ) → Contains (ends_of lists p) m → AreBlocked period ends lists S p D counts (m ∷ rest) → IsExactAt period ends counts S (end_at ends m).mate
-  block_next counts m rest listed spread =
-      let at = linked.each p m listed in
-      let k : ℕ = (end_at ends m).mate in
-      let was : is_to_come ends (m ∷ rest) k ≡ true = found_equal (end_at ends k).mate m (m ∷ rest) (here m rest) at.mate_back in
-      subst (λ b. IsExactAt period ends counts (if b then S else all) k) was (spread (end_at ends m).looks_at k at.mate_there)
+-- each end that is not spared is exact: those to come by the old set, all others by the set with the block
+abbrev pub AreBlockedBut : ℕ → List End → List (List ℕ) → Option ℕ → Pairs → ℕ → (ℕ → Bool) → List ℕ → List ℕ → Type 0
+AreBlockedBut T ends lists spared S p D counts rest = AreMoving T ends (kept spared lists) S (joined_block S p D) counts (filter (is_kept spared) rest)
 
-  -- one end more
-  block_more : (counts changed : List ℕ) (m : ℕ) (rest : List ℕ) → Contains (ends_of lists p) m → (Contains rest m → ⊥)
-      → ((r : ℕ) → r < period → count_at period changed (end_at ends m).mate r ≡ count_at period counts (end_at ends m).mate r + gained (end_at ends m).mate r)
-      → ((k r : ℕ) → k ≢ (end_at ends m).mate → r < period → count_at period changed k r ≡ count_at period counts k r)
-      → AreBlocked period ends lists S p D counts (m ∷ rest) → AreBlocked period ends lists S p D changed rest
-  block_more counts changed m rest listed once rose stay spread q k is =
-      elim (cases_eq k (end_at ends m).mate) [
-        | inl same ↦
-            let back : (end_at ends k).mate ≡ m = ap (λ j. (end_at ends j).mate) same ∙ (linked.each p m listed).mate_back in
-            let looks : (end_at ends k).looks_at ≡ p = looks_here q k is (subst (Contains (ends_of lists p)) (sym back) listed) in
-            let over : is_to_come ends rest k ≡ false =
-            elim (cases_Bool (is_to_come ends rest k)) [
-              | inr none ↦ none
-              | inl found ↦
-                  let w = passing (λ x. (end_at ends k).mate == x) rest found in
-                  absurd (once (subst (Contains rest) (sym (eqb_is (end_at ends k).mate w.0 w.2) ∙ back) w.1))
-            ]
-            in
-            let before : IsExactAt period ends counts S k = subst (λ j. IsExactAt period ends counts S j) (sym same) (block_next counts m rest listed spread) in
-            let rose_here : (r : ℕ) → r < period → count_at period changed k r ≡ count_at period counts k r + gained k r =
-            subst (λ j. (r : ℕ) → r < period → count_at period changed j r ≡ count_at period counts j r + gained j r) (sym same) rose
-            in
-            subst (λ b. IsExactAt period ends changed (if b then S else all) k) (sym over)
-            (λ r rl. let more = block_here k r looks in omega (arith, rose_here r rl, more, before r rl))
-        | inr other_end ↦
-            let other : ((end_at ends k).mate == m) ≡ false =
-            ne_eqb (end_at ends k).mate m (λ e. other_end (sym (linked.each q k is).mate_back ∙ ap (λ j. (end_at ends j).mate) e))
-            in
-            let so_far : is_to_come ends (m ∷ rest) k ≡ is_to_come ends rest k = rw other refl in
-            let before = subst (λ b. IsExactAt period ends counts (if b then S else all) k) so_far (spread q k is) in
-            λ r rl. stay k r other_end rl ∙ before r rl
-      ]
-
--- the same, but for the spared ends
-module _ (T : ℕ) (ends : List End) (lists : List (List ℕ)) (spared : Option ℕ) (linked : AreLinked T ends lists) (together : (p k : ℕ) → Contains (ends_of lists p) k → is_spared spared (end_at ends k).mate ≡ is_spared spared k) (S : Pairs) (p : ℕ) (D : ℕ → Bool) (apart : (s : ℕ) → s < T → IsTrue (D s) → S p s ≡ false) where
+module _ (T : ℕ) (ends : List End) (lists : List (List ℕ)) (spared : Option ℕ) (linked : AreLinked T ends lists) (together : (p k : ℕ) → Contains (ends_of lists p) k → is_spared spared (end_at ends k).mate ≡ is_spared spared k) (S : Pairs) (p : ℕ) (D : ℕ → Bool) (new : (s : ℕ) → IsTrue (D s) → S p s ≡ false) where
   linked_kept : AreLinked T ends (kept spared lists)
   linked_kept = kept_linked T ends lists spared linked together
 
   pub blocked_start : (counts : List ℕ) → ((q k : ℕ) → Contains (ends_of lists q) k → is_spared spared k ≡ false → IsExactAt T ends counts S k) → AreBlockedBut T ends lists spared S p D counts (ends_of lists p)
   blocked_start counts exact =
-      subst (λ xs. AreBlocked T ends (kept spared lists) S p D counts xs) (kept_at spared lists p)
-      (block_start T ends (kept spared lists) linked_kept S p D apart counts
+      subst (λ xs. AreMoving T ends (kept spared lists) S (joined_block S p D) counts xs) (kept_at spared lists p)
+      (moving_start T ends (kept spared lists) linked_kept S (joined_block S p D) p (λ q s apart sl. block_elsewhere S p D q s apart) counts
       (λ q k is. let w = kept_of spared lists q k is in exact q k w.0 w.1))
 
   module _ (counts : List ℕ) (m : ℕ) (rest : List ℕ) (listed : Contains (ends_of lists p) m) (free : is_spared spared m ≡ false) (so_far : AreBlockedBut T ends lists spared S p D counts (m ∷ rest)) where
     listed_kept : Contains (ends_of (kept spared lists) p) m
     listed_kept = kept_in spared lists p m listed free
 
-    blocked_kept : AreBlocked T ends (kept spared lists) S p D counts (m ∷ filter (is_kept spared) rest)
-    blocked_kept = subst (λ xs. AreBlocked T ends (kept spared lists) S p D counts xs) (keep_one spared m rest free) so_far
+    blocked_kept : AreMoving T ends (kept spared lists) S (joined_block S p D) counts (m ∷ filter (is_kept spared) rest)
+    blocked_kept = subst (λ xs. AreMoving T ends (kept spared lists) S (joined_block S p D) counts xs) (keep_one spared m rest free) so_far
 
-    exact_kept : IsExactAt T ends counts S (end_at ends m).mate
-    exact_kept = block_next T ends (kept spared lists) linked_kept S p D apart counts m (filter (is_kept spared) rest) listed_kept blocked_kept
+    pub blocked_low : CanRise T ends m D counts
+    blocked_low = rise_low T ends (kept spared lists) linked_kept S p D new counts m (filter (is_kept spared) rest) listed_kept blocked_kept
 
-    pub blocked_low : (r : ℕ) → r < T → count_at T counts (end_at ends m).mate r + supporters T D (passes T (end_at ends (end_at ends m).mate) r) ≤ T
-    blocked_low r rl =
-        let at = linked.each p m listed in
-        block_low T ends (kept spared lists) linked_kept S p D apart counts (end_at ends m).mate r at.mate_looks rl exact_kept
-
-    pub blocked_more : (changed : List ℕ) → (Contains rest m → ⊥)
-        → ((r : ℕ) → r < T → count_at T changed (end_at ends m).mate r ≡ count_at T counts (end_at ends m).mate r + supporters T D (passes T (end_at ends (end_at ends m).mate) r))
-        → ((k r : ℕ) → k ≢ (end_at ends m).mate → r < T → count_at T changed k r ≡ count_at T counts k r)
-        → AreBlockedBut T ends lists spared S p D changed rest
-    blocked_more changed once rose stay =
-        block_more T ends (kept spared lists) linked_kept S p D apart counts changed m (filter (is_kept spared) rest) listed_kept
-        (λ is. once (of_filter (is_kept spared) rest m is).0)
-        rose stay blocked_kept
+    pub blocked_more : (changed : List ℕ) → (Contains rest m → ⊥) → RiseBy T ends m D counts changed → AreBlockedBut T ends lists spared S p D changed rest
+    blocked_more changed once rise =
+        rise_more T ends (kept spared lists) linked_kept S p D new counts m (filter (is_kept spared) rest) listed_kept blocked_kept changed
+        (λ is. once (of_filter (is_kept spared) rest m is).0) rise
 
   pub blocked_passed : (counts : List ℕ) (m : ℕ) (rest : List ℕ) → is_spared spared m ≡ true → AreBlockedBut T ends lists spared S p D counts (m ∷ rest) → AreBlockedBut T ends lists spared S p D counts rest
-  blocked_passed counts m rest out so_far = subst (λ xs. AreBlocked T ends (kept spared lists) S p D counts xs) (keep_none spared m rest out) so_far
+  blocked_passed counts m rest out so_far = subst (λ xs. AreMoving T ends (kept spared lists) S (joined_block S p D) counts xs) (keep_none spared m rest out) so_far
 
   pub blocked_end : (counts : List ℕ) → AreBlockedBut T ends lists spared S p D counts [] → (q k : ℕ) → Contains (ends_of lists q) k → is_spared spared k ≡ false → IsExactAt T ends counts (joined_block S p D) k
   blocked_end counts so_far q k is free = so_far q k (kept_in spared lists q k is free)

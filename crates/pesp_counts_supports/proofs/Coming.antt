@@ -330,25 +330,6 @@ module _ (I : Network) (links : Links) (starts : List ℕ) (spared : Option ℕ)
           or_or false false true = refl
           or_or false false false = refl
 
-  -- ---- the next pair alone
-
-  module _ (lone : has_at now.counted x.place x.residue ≡ false) where
-    pub coming_one : (mid after : Supports) (back' : Back) → AreLinked before.period links.ends links.lists → AreSparedTogether links spared
-        → IsBrought (of_ends before.period I links spared x.residue (ends_of links.lists x.place)) now mid back back'
-        → AreExactBut links spared mid (joined (has_at now.counted) x.place x.residue)
-        → ((p r : ℕ) → has_at after.counted p r ≡ joined (has_at mid.counted) x.place x.residue p r)
-        → after.rows ≡ mid.rows → after.counts ≡ mid.counts → after.trail ≡ mid.trail → HaveSameShape mid after
-        → AreComing I links starts spared before after back' (next + 1)
-    coming_one mid after back' linked together came exact counted rows counts trail shape =
-        coming_more (λ r. x.residue == r) (eq-eqb x.residue x.residue refl)
-        (λ d h. rw (← eqb_is x.residue d h) next_there)
-        (λ d h. rw (← eqb_is x.residue d h) lone)
-        (of_ends before.period I links spared x.residue (ends_of links.lists x.place))
-        mid after back' linked together
-        (λ p r h. (x.residue, eq-eqb x.residue x.residue refl, h))
-        (λ d p r h goes_with. rw (eqb_is x.residue d h) goes_with)
-        came exact counted rows counts trail shape
-
 -- ---- with none left
 
 module _ (I : Network) (links : Links) (starts : List ℕ) (spared : Option ℕ) (before now : Supports) (back : Back) (next : ℕ) (over : length back.pairs ≤ next) (so_far : AreComing I links starts spared before now back next) where

@@ -5,13 +5,16 @@ pub mod Brought
 pub mod Coming
 pub mod Grown
 pub mod Parted
+pub mod Known
 pub mod Looked
 pub mod Marks
 pub mod Meeting
+pub mod Moving
 pub mod PutBack
 pub mod Raised
 pub mod Ranges
 pub mod Reached
+pub mod Returned
 pub mod Rows
 pub mod Settled
 pub mod Sparing

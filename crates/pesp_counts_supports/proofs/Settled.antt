@@ -4,8 +4,8 @@ use Rattle.std.specs.List.{Contains}
 use Rattle.std.proofs.lemmas.Bool.{eq-eqb, not-true}
 use Rattle.pesp_domains.specs.Sweeps.{Of}
 use Rattle.pesp_domains.proofs.Families.{and_left, and_right}
-use Rattle.pesp_counts_supports.specs.declared.leaving.Leaving.{Leaving}
-use Rattle.pesp_counts_supports.specs.declared.leaving.Leaving.TheVariants.{One, Block}
+use Rattle.pesp_counts_supports.specs.declared.leaving.Moved.{Moved}
+use Rattle.pesp_counts_supports.specs.declared.leaving.Moved.TheVariants.{One, Block}
 use Rattle.pesp_counts_supports.specs.declared.trail.Placed.{Placed}
 use Rattle.pesp_counts_arcs.specs.Ends.{ends_of}
 use Rattle.pesp_counts_arcs.specs.Links.{Links}
@@ -20,25 +20,25 @@ use Rattle.pesp_counts_supports.proofs.Waiting.{pending_then}
 -- ---- which residues leave
 
 -- the sums that were made do not say which
-pub leaves_kept : (s : Supports) (sums : List ℕ) (p : ℕ) (l : Leaving) → leaves_of (record s { sums = sums }) p l ≡ leaves_of s p l
+pub leaves_kept : (s : Supports) (sums : List ℕ) (p : ℕ) (l : Moved) → leaves_of (record s { sums = sums }) p l ≡ leaves_of s p l
 leaves_kept s sums p (One residue) = refl
 leaves_kept s sums p Block = refl
 
 module _ (s : Supports) (p q : ℕ) where
   -- the pair that they leave with is among them
-  pub leaves_too : (l : Leaving) → ((residue : ℕ) → l ≡ One residue → residue ≡ q) → Of (has_at s.counted) p q → has_at s.rows p q ≡ false → IsTrue (leaves_of s p l q)
+  pub leaves_too : (l : Moved) → ((residue : ℕ) → l ≡ One residue → residue ≡ q) → Of (has_at s.counted) p q → has_at s.rows p q ≡ false → IsTrue (leaves_of s p l q)
   leaves_too (One residue) alone here out = eq-eqb q residue (sym (alone residue refl))
   leaves_too Block alone here out = rw (here, out) refl
 
   -- they are counted
-  pub leaves_here : (l : Leaving) → ((residue : ℕ) → l ≡ One residue → residue ≡ q) → Of (has_at s.counted) p q → (r : ℕ) → IsTrue (leaves_of s p l r) → Of (has_at s.counted) p r
+  pub leaves_here : (l : Moved) → ((residue : ℕ) → l ≡ One residue → residue ≡ q) → Of (has_at s.counted) p q → (r : ℕ) → IsTrue (leaves_of s p l r) → Of (has_at s.counted) p r
   leaves_here (One residue) alone here r h =
       let same : q ≡ r = sym (alone residue refl) ∙ sym (eqb_is r residue h) in
       subst (λ n. Of (has_at s.counted) p n) same here
   leaves_here Block alone here r h = and_left (has_at s.counted p r) (not (has_at s.rows p r)) h
 
   -- and the rows do not hold them
-  pub leaves_gone : (l : Leaving) → ((residue : ℕ) → l ≡ One residue → residue ≡ q) → has_at s.rows p q ≡ false → (r : ℕ) → IsTrue (leaves_of s p l r) → has_at s.rows p r ≡ false
+  pub leaves_gone : (l : Moved) → ((residue : ℕ) → l ≡ One residue → residue ≡ q) → has_at s.rows p q ≡ false → (r : ℕ) → IsTrue (leaves_of s p l r) → has_at s.rows p r ≡ false
   leaves_gone (One residue) alone out r h =
       let same : q ≡ r = sym (alone residue refl) ∙ sym (eqb_is r residue h) in
       subst (λ n. has_at s.rows p n ≡ false) same out
@@ -47,11 +47,11 @@ module _ (s : Supports) (p q : ℕ) where
 -- ---- they pay
 
 -- how many ends at the place are paid for
-abbrev pub times : Leaving → ℕ → ℕ
+abbrev pub times : Moved → ℕ → ℕ
 times (One residue) d = d
 times Block d = 2 * d
 
-looks_times : (l : Leaving) (period d : ℕ) → looks_for period l * d ≡ period * times l d
+looks_times : (l : Moved) (period d : ℕ) → looks_for period l * d ≡ period * times l d
 looks_times (One residue) period d = refl
 looks_times Block period d = omega arith
 
@@ -60,7 +60,7 @@ module _ (links : Links) (s : Supports) (next : ℕ) (pair : Placed) (within : n
   waits : (p r : ℕ) → Of (has_at s.counted) p r → has_at s.rows p r ≡ false → Contains (drop next s.trail) (record { place = p; residue = r })
   waits p r seen out = let w = waiting p r seen out in stands_from s.trail next w.0 (record { place = p; residue = r }) w.1 w.2 w.3
 
-  pub owed_less : (l : Leaving) → ((residue : ℕ) → l ≡ One residue → residue ≡ pair.residue) → has_at s.rows pair.place pair.residue ≡ false → (l ≡ Block → 2 ≤ sum_below s.period (gone_at s pair.place) s.period)
+  pub owed_less : (l : Moved) → ((residue : ℕ) → l ≡ One residue → residue ≡ pair.residue) → has_at s.rows pair.place pair.residue ≡ false → (l ≡ Block → 2 ≤ sum_below s.period (gone_at s pair.place) s.period)
       → owed links (without_block (has_at s.counted) pair.place (leaves_of s pair.place l)) (drop next s.trail) + times l (length (ends_of links.lists pair.place)) ≤ owed links (has_at s.counted) (drop next s.trail)
   owed_less (One residue) alone out many =
       owed_one links (has_at s.counted) pair.place pair.residue (leaves_of s pair.place (One residue)) (drop next s.trail) (waits pair.place pair.residue here out) here (eq-eqb pair.residue residue (sym (alone residue refl)))
@@ -73,7 +73,7 @@ module _ (links : Links) (s : Supports) (next : ℕ) (pair : Placed) (within : n
 
 -- ---- a step
 
-module _ (links : Links) (next : ℕ) (pair : Placed) (l : Leaving) (mid now last : Supports) (pending : ArePending mid.period links.ends links.lists mid.counts (has_at mid.counted) (has_at mid.rows) mid.trail next)
+module _ (links : Links) (next : ℕ) (pair : Placed) (l : Moved) (mid now last : Supports) (pending : ArePending mid.period links.ends links.lists mid.counts (has_at mid.counted) (has_at mid.rows) mid.trail next)
     (within : next < length mid.trail) (at : (d : Placed) → get_or mid.trail next d ≡ pair) (here : Of (has_at mid.counted) pair.place pair.residue) (out : has_at mid.rows pair.place pair.residue ≡ false)
     (alone : (residue : ℕ) → l ≡ One residue → residue ≡ pair.residue) (counted : now.counted ≡ mid.counted) (taken : IsTaken mid now) (shape : HaveSameShape mid now)
     (goes : (p r : ℕ) → has_at last.counted p r ≡ without_block (has_at now.counted) pair.place (leaves_of mid pair.place l) p r) (same : last ≡ record now { counted = last.counted }) where

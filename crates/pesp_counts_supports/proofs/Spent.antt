@@ -16,9 +16,9 @@ use Rattle.pesp_counts_supports.proofs.Taken.{taken_same}
 pub at_most : (old more most new : ℕ) → new ≡ min (old + more) most → new ≤ old + more
 at_most old more most new is = omega (arith, is)
 
--- an end more is behind
-pub end_behind : (period now after bound number : ℕ) (rest all : List ℕ) → all ≡ number ∷ rest → now + period * length all ≤ bound → after ≤ now + period → after + period * length rest ≤ bound
-end_behind period now after bound number rest all is so_far step =
+-- an end more is passed
+pub end_passed : (period now after bound number : ℕ) (rest all : List ℕ) → all ≡ number ∷ rest → now + period * length all ≤ bound → after ≤ now + period → after + period * length rest ≤ bound
+end_passed period now after bound number rest all is so_far step =
     let long : length all ≡ 1 + length rest = omega (arith, ap length is) in
     let parts : period * length all ≡ period * 1 + period * length rest = ap (λ n. period * n) long ∙ mul-add period 1 (length rest) in
     omega (arith, parts, so_far, step)

@@ -1,19 +1,20 @@
 -- Residues of a place are counted out at one end after another.
-use Rattle.std.proofs.Common.{◌≡◌, ◌≢◌, ℕ, suc, ◌+◌, ◌*◌, ◌<◌, ◌≤◌, ◌==◌, cond, Bool, true, false, if◌then◌else◌, List, [], ◌∷◌, ◌++◌, AllPairs, length, get_or, refl, sym, ap, subst, ◌∙◌, inl, inr, arith, IsTrue, mul-suc, mul_comm}
-use Rattle.std.specs.List.{Contains, list_any}
+use Rattle.std.proofs.Common.{◌≡◌, ◌≢◌, ℕ, suc, ◌+◌, ◌*◌, ◌<◌, ◌≤◌, ◌==◌, cond, Bool, true, false, List, [], ◌∷◌, ◌++◌, AllPairs, length, get_or, refl, sym, ap, subst, ◌∙◌, inl, inr, arith, IsTrue, mul-suc, mul_comm}
+use Rattle.std.specs.List.{Contains}
 use Rattle.std.proofs.Math.Nat.{mul-le-mul_right}
 use Rattle.std.proofs.Math.Bool.{and-true}
-use Rattle.std.proofs.lemmas.Bool.{cases_Bool, cases_eq, cases_lt, eq-eqb, ne_eqb, false≢true, eqb-true as eqb_is}
+use Rattle.std.proofs.lemmas.Bool.{cases_Bool, cases_eq, cases_lt, eq-eqb, ne_eqb, false≢true}
 use Rattle.pesp_domains.specs.Sweeps.{Of, Pairs}
 use Rattle.std.proofs.lemmas.List.{get_or-append-add, length-append}
 use Rattle.std.proofs.lemmas.List.Elements.{Contains-append_right}
-use Rattle.pesp_domains.proofs.Families.{here, passing, found_equal}
+use Rattle.pesp_domains.proofs.Families.{here}
 use Rattle.pesp_counts_arcs.specs.declared.end.End.{End}
 use Rattle.pesp_counts_arcs.specs.Ends.{AreLinked, end_at, ends_of, passes}
 use Rattle.pesp_counts_supports.specs.Counts.{IsExactAt, IsLiveAt, KeepsClosed, count_at, supporters}
 use Rattle.pesp_counts_supports.specs.Leaving.{without_block}
+use Rattle.pesp_counts_supports.proofs.Moving.{AreMoving, moving_more, moving_next, moving_start}
 use Rattle.pesp_counts_supports.proofs.Parted.{supporters_parted}
-use Rattle.pesp_counts_supports.proofs.Supporters.{supporters_none, supporters_same}
+use Rattle.pesp_counts_supports.proofs.Supporters.{supporters_none}
 
 -- ---- blocks of counts
 
@@ -40,84 +41,20 @@ module _ (period : ℕ) (ends : List End) (counts changed : List ℕ) (counted :
       let parted = supporters_parted period (counted (end_at ends k).looks_at) (without_block counted p D (end_at ends k).looks_at) D (passes period (end_at ends k) r) (λ q. rw (eq-eqb (end_at ends k).looks_at p looks) refl) (λ q h. subst (λ e. Of counted e q) (sym looks) (seen q h)) in
       omega (arith, fell r rl, parted, exact r rl)
 
-  -- an end that looks elsewhere, whose counts stay
-  pub exact_elsewhere : (k : ℕ) → (end_at ends k).looks_at ≢ p → ((r : ℕ) → r < period → count_at period changed k r ≡ count_at period counts k r) → IsExactAt period ends counts counted k → IsExactAt period ends changed (without_block counted p D) k
-  exact_elsewhere k looks same exact r rl =
-      same r rl ∙ exact r rl
-      ∙ supporters_same period (without_block counted p D (end_at ends k).looks_at) (counted (end_at ends k).looks_at) _ _
-      (λ q ql. sym (rw (ne_eqb (end_at ends k).looks_at p looks) (and-true (counted (end_at ends k).looks_at q)))) (λ q ql. refl)
-
 -- ---- all ends at a place
-
--- whether the end is one that is still to be counted down: its mate is among the ends to come
-abbrev pub is_ahead : List End → List ℕ → ℕ → Bool
-is_ahead ends rest k = list_any (λ m. (end_at ends k).mate == m) rest
 
 -- each listed end is exact: those ahead by the old set, all others by the set without what leaves
 abbrev pub AreSpread : ℕ → List End → List (List ℕ) → List ℕ → Pairs → ℕ → (ℕ → Bool) → List ℕ → Type 0
-AreSpread period ends lists counts counted p D rest =
-    (q k : ℕ) → Contains (ends_of lists q) k → IsExactAt period ends counts (if is_ahead ends rest k then counted else without_block counted p D) k
+AreSpread period ends lists counts counted p D rest = AreMoving period ends lists counted (without_block counted p D) counts rest
+
+-- the sets hold the same but at the place
+without_elsewhere : (S : Pairs) (p : ℕ) (D : ℕ → Bool) (q s : ℕ) → q ≢ p → without_block S p D q s ≡ S q s
+without_elsewhere S p D q s apart = rw (ne_eqb q p apart) (and-true (S q s))
 
 module _ (period : ℕ) (ends : List End) (lists : List (List ℕ)) (linked : AreLinked period ends lists) (counted : Pairs) (p : ℕ) (D : ℕ → Bool) where
-  -- an end whose mate is at the place looks at it
-  looks_here : (q k : ℕ) → Contains (ends_of lists q) k → Contains (ends_of lists p) (end_at ends k).mate → (end_at ends k).looks_at ≡ p
-  looks_here q k is mate =
-      let at = linked.each q k is in
-      let w = linked.each p (end_at ends k).mate mate in
-      sym (ap (λ j. (end_at ends j).looks_at) at.mate_back) ∙ w.mate_looks
-
-  -- an end that has been counted down is not ahead
-  not_ahead : (m : ℕ) (rest : List ℕ) → Contains (ends_of lists p) m → (Contains rest m → ⊥) → is_ahead ends rest (end_at ends m).mate ≡ false
-  not_ahead m rest listed once =
-      elim (cases_Bool (is_ahead ends rest (end_at ends m).mate)) [
-        | inr none ↦ none
-        | inl found ↦
-            let w = passing (λ x. (end_at ends (end_at ends m).mate).mate == x) rest found in
-            absurd (once (subst (Contains rest) (sym (eqb_is (end_at ends (end_at ends m).mate).mate w.0 w.2) ∙ (linked.each p m listed).mate_back) w.1))
-      ]
-
-  -- before the first end
   pub spread_start : (counts : List ℕ) → ((q k : ℕ) → Contains (ends_of lists q) k → IsExactAt period ends counts counted k) → AreSpread period ends lists counts counted p D (ends_of lists p)
-  spread_start counts exact q k is =
-      elim (is_ahead ends (ends_of lists p) k) as (λ b. is_ahead ends (ends_of lists p) k ≡ b → IsExactAt period ends counts (if b then counted else without_block counted p D) k) [
-        | true ↦ λ ahead. exact q k is
-        | false ↦ λ done.
-            let looks : (end_at ends k).looks_at ≢ p =
-            λ same.
-            let mate : Contains (ends_of lists p) (end_at ends k).mate = subst (λ e. Contains (ends_of lists e) (end_at ends k).mate) same (linked.each q k is).mate_there in
-            false≢true (sym done ∙ found_equal (end_at ends k).mate (end_at ends k).mate (ends_of lists p) mate refl)
-            in
-            exact_elsewhere period ends counts counts counted p D k looks (λ r rl. refl) (exact q k is)
-      ] refl
+  spread_start = moving_start period ends lists linked counted (without_block counted p D) p (λ q s apart sl. without_elsewhere counted p D q s apart)
 
-  -- one end more
-  pub spread_more : (counts changed : List ℕ) (m : ℕ) (rest : List ℕ) → ((s : ℕ) → IsTrue (D s) → Of counted p s) → Contains (ends_of lists p) m → (Contains rest m → ⊥)
-      → ((r : ℕ) → r < period → count_at period changed (end_at ends m).mate r + supporters period D (passes period (end_at ends (end_at ends m).mate) r) ≡ count_at period counts (end_at ends m).mate r)
-      → ((k r : ℕ) → k ≢ (end_at ends m).mate → r < period → count_at period changed k r ≡ count_at period counts k r)
-      → AreSpread period ends lists counts counted p D (m ∷ rest) → AreSpread period ends lists changed counted p D rest
-  spread_more counts changed m rest seen listed once fell stay spread q k is =
-      elim (cases_eq k (end_at ends m).mate) [
-        | inl same ↦
-            let back : (end_at ends k).mate ≡ m = ap (λ j. (end_at ends j).mate) same ∙ (linked.each p m listed).mate_back in
-            let looks : (end_at ends k).looks_at ≡ p = looks_here q k is (subst (Contains (ends_of lists p)) (sym back) listed) in
-            let was : is_ahead ends (m ∷ rest) k ≡ true = found_equal (end_at ends k).mate m (m ∷ rest) (here m rest) back in
-            let over : is_ahead ends rest k ≡ false = ap (is_ahead ends rest) same ∙ not_ahead m rest listed once in
-            let before : IsExactAt period ends counts counted k = subst (λ b. IsExactAt period ends counts (if b then counted else without_block counted p D) k) was (spread q k is) in
-            let fell_here : (r : ℕ) → r < period → count_at period changed k r + supporters period D (passes period (end_at ends k) r) ≡ count_at period counts k r =
-            subst (λ j. (r : ℕ) → r < period → count_at period changed j r + supporters period D (passes period (end_at ends j) r) ≡ count_at period counts j r) (sym same) fell
-            in
-            subst (λ b. IsExactAt period ends changed (if b then counted else without_block counted p D) k) (sym over)
-            (exact_after period ends counts changed counted p D k looks seen fell_here before)
-        | inr apart ↦
-            let other : ((end_at ends k).mate == m) ≡ false =
-            ne_eqb (end_at ends k).mate m (λ e. apart (sym (linked.each q k is).mate_back ∙ ap (λ j. (end_at ends j).mate) e))
-            in
-            let so_far : is_ahead ends (m ∷ rest) k ≡ is_ahead ends rest k = rw other refl in
-            let before = subst (λ b. IsExactAt period ends counts (if b then counted else without_block counted p D) k) so_far (spread q k is) in
-            λ r rl. stay k r apart rl ∙ before r rl
-      ]
-
-  -- after the last end
   pub spread_end : (counts : List ℕ) → AreSpread period ends lists counts counted p D [] → (q k : ℕ) → Contains (ends_of lists q) k → IsExactAt period ends counts (without_block counted p D) k
   spread_end counts spread q k is = spread q k is
 
@@ -134,6 +71,12 @@ once_after done rest m once (k, l, e) =
 -- each end of the list is at the place
 pub listed_after : (done rest : List ℕ) (m : ℕ) → Contains (done ++ m ∷ rest) m
 listed_after done rest m = Contains-append_right done (m ∷ rest) m (here m rest)
+
+-- the next end of a list that has each once is in it, and not among those after it
+pub next_end : (done rest : List ℕ) (m : ℕ) (all these : List ℕ) → these ≡ m ∷ rest → done ++ these ≡ all → AllPairs (λ a b. a ≢ b) all → Contains all m × (Contains rest m → ⊥)
+next_end done rest m all these steps walked once =
+    let is = ap (λ xs. done ++ xs) (sym steps) ∙ walked in
+    (subst (λ xs. Contains xs m) is (listed_after done rest m), once_after done rest m (subst (AllPairs (λ a b. a ≢ b)) (sym is) once))
 
 module _ (T : ℕ) (ends : List End) (lists : List (List ℕ)) (linked : AreLinked T ends lists) (counted start : Pairs) (p : ℕ) (D : ℕ → Bool) (seen : (s : ℕ) → IsTrue (D s) → Of counted p s) (gone : (s : ℕ) → IsTrue (D s) → start p s ≡ false) (within : (q r : ℕ) → Of start q r → Of counted q r) (counts : List ℕ) (rows : Pairs) (m : ℕ) (rest : List ℕ) (listed : Contains (ends_of lists p) m) (once : Contains rest m → ⊥) (spread : AreSpread T ends lists counts counted p D (m ∷ rest)) where
   abbrev k : ℕ
@@ -152,9 +95,7 @@ module _ (T : ℕ) (ends : List End) (lists : List (List ℕ)) (linked : AreLink
   there = (linked.each p m listed).mate_there
 
   exact_before : IsExactAt T ends counts counted k
-  exact_before =
-      let was : is_ahead ends (m ∷ rest) k ≡ true = found_equal (end_at ends k).mate m (m ∷ rest) (here m rest) back in
-      subst (λ b. IsExactAt T ends counts (if b then counted else without_block counted p D) k) was (spread far k there)
+  exact_before = moving_next T ends lists linked counted (without_block counted p D) p (λ q s apart sl. without_elsewhere counted p D q s apart) counts m rest listed spread
 
   -- no count is to fall by more than it is
   pub some_left : (r : ℕ) → r < T → supporters T D (passes T (end_at ends k) r) ≤ count_at T counts k r
@@ -173,12 +114,12 @@ module _ (T : ℕ) (ends : List End) (lists : List (List ℕ)) (linked : AreLink
         let same : cond (k == k) (supporters T D (passes T (end_at ends k) r)) 0 ≡ supporters T D (passes T (end_at ends k) r) = rw (eq-eqb k k refl) refl in
         omega (arith, fell k r rl, same)
 
-    pub spread_then : AreSpread T ends lists changed counted p D rest
-    spread_then = spread_more T ends lists linked counted p D counts changed m rest seen listed once falls stays spread
-
     exact_now : IsExactAt T ends changed (without_block counted p D) k
-    exact_now =
-        subst (λ b. IsExactAt T ends changed (if b then counted else without_block counted p D) k) (not_ahead T ends lists linked counted p D m rest listed once) (spread_then far k there)
+    exact_now = exact_after T ends counts changed counted p D k looks seen falls exact_before
+
+    pub spread_then : AreSpread T ends lists changed counted p D rest
+    spread_then =
+        moving_more T ends lists linked counted (without_block counted p D) p (λ q s apart sl. without_elsewhere counted p D q s apart) counts changed m rest listed once exact_now stays spread
 
     -- what is left in the rows has its counts above 0, as it has at the end
     pub live_then : (long : (q r : ℕ) → Of rows q r → r < T) → ((q r : ℕ) → Of after q r → Of rows q r) → IsLiveAt T changed after far k → ((q j : ℕ) → Contains (ends_of lists q) j → IsLiveAt T counts rows q j) → (q j : ℕ) → Contains (ends_of lists q) j → IsLiveAt T changed after q j

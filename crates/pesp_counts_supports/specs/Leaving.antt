@@ -1,13 +1,13 @@
 -- What leaves the counts together, and what is owed for the pairs that wait to leave.
 use Rattle.std.specs.Prelude.{◌≡◌, ℕ, ◌+◌, ◌*◌, ◌<◌, ◌≤◌, Bool, false, ◌==◌, ◌&&◌, not, cond, List, length, sum_by}
 use Rattle.pesp_domains.specs.Sweeps.{Of, Pairs}
-use Rattle.pesp_counts_supports.specs.declared.leaving.Leaving.{Leaving}
-use Rattle.pesp_counts_supports.specs.declared.leaving.Leaving.TheVariants.{One, Block}
+use Rattle.pesp_counts_supports.specs.declared.leaving.Moved.{Moved}
+use Rattle.pesp_counts_supports.specs.declared.leaving.Moved.TheVariants.{One, Block}
 use Rattle.pesp_counts_supports.specs.declared.trail.Placed.{Placed}
 use Rattle.pesp_counts_arcs.specs.declared.end.End.{End}
 use Rattle.pesp_counts_arcs.specs.Ends.{end_at, ends_of, passes}
 use Rattle.pesp_counts_arcs.specs.Links.{Links}
-use Rattle.pesp_counts_supports.specs.Blocks.{AreSums, gone_at}
+use Rattle.pesp_counts_supports.specs.Blocks.{AreSums, come_at, gone_at}
 use Rattle.pesp_counts_supports.specs.Counts.{count_at, supporters}
 use Rattle.pesp_counts_supports.specs.Supports.{Supports}
 
@@ -16,14 +16,19 @@ abbrev pub without_block : Pairs → ℕ → (ℕ → Bool) → Pairs
 without_block S place leaves p r = S p r && not (p == place && leaves r)
 
 -- the residues that leave are the one, which is below the period, or those that the sums are of
-abbrev pub IsLeaving : ℕ → Leaving → List ℕ → (ℕ → Bool) → Type 0
-IsLeaving period (One residue) sums leaves = (residue < period) × ((r : ℕ) → leaves r ≡ (r == residue))
-IsLeaving period Block sums leaves = AreSums period leaves sums
+abbrev pub IsMoved : ℕ → Moved → List ℕ → (ℕ → Bool) → Type 0
+IsMoved period (One residue) sums leaves = (residue < period) × ((r : ℕ) → leaves r ≡ (r == residue))
+IsMoved period Block sums leaves = AreSums period leaves sums
 
 -- of a place one residue leaves, or all that the counts have seen and the rows do not hold
-abbrev pub leaves_of : Supports → ℕ → Leaving → ℕ → Bool
+abbrev pub leaves_of : Supports → ℕ → Moved → ℕ → Bool
 leaves_of s p (One residue) r = r == residue
 leaves_of s p Block r = gone_at s p r
+
+-- to a place one residue comes, or all that the rows hold and the counts have not seen
+abbrev pub comes_of : Supports → ℕ → Moved → ℕ → Bool
+comes_of s p (One residue) r = r == residue
+comes_of s p Block r = come_at s p r
 
 -- how many partners a residue at the far end of an activity has among those that leave the near one
 abbrev pub partners : ℕ → List End → ℕ → (ℕ → Bool) → ℕ → ℕ
@@ -45,7 +50,7 @@ GoAlone period ends near counts before after =
     (p r : ℕ) → r < period → Of before p r → after p r ≡ false → (p ≡ (end_at ends near).looks_at) × (count_at period counts (end_at ends near).mate r ≡ 0)
 
 -- at most so many residues are looked at for it along an end
-abbrev pub looks_for : ℕ → Leaving → ℕ
+abbrev pub looks_for : ℕ → Moved → ℕ
 looks_for period (One residue) = period
 looks_for period Block = 2 * period
 

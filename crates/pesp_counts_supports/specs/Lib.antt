@@ -7,5 +7,6 @@ pub mod Ranges
 pub mod Resting
 pub mod Restored
 pub mod Restoring
+pub mod Returning
 pub mod Spent
 pub mod Supports

@@ -1,15 +1,14 @@
 //! Blocks come in, and bring what goes with them.
 
 ghost use Rattle.std.specs.Prelude.{◌≡◌, ◌<◌, ◌≤◌, ◌*◌, ◌+◌, ◌-◌, ◌==◌, ℕ, Bool, [], cond, IsTrue, length};
-ghost use Rattle.pesp_counts_arcs.specs.Ends.{AreLinked, end_at, ends_of, passes};
-ghost use Rattle.pesp_counts_supports.specs.Blocks.{AreSums, come_at, is_met, is_moved, joined_block, of_block, of_blocks, of_met, of_window};
+ghost use Rattle.pesp_counts_arcs.specs.Ends.{end_at, passes};
+ghost use Rattle.pesp_counts_supports.specs.Blocks.{AreSums, is_met, is_moved, joined_block, of_block, of_met, of_window};
 ghost use Rattle.pesp_counts_supports.specs.Counts.{count_at, has_at, supporters};
-ghost use Rattle.pesp_counts_supports.specs.Restored.{AreExactBut, AreSparedTogether, HasRoom, IsBrought, of_pair, of_range, of_start};
-ghost use Rattle.pesp_counts_supports.specs.Supports.{Fit, HaveSameShape};
+ghost use Rattle.pesp_counts_supports.specs.Restored.{HasRoom, IsBrought, of_pair, of_range, of_start};
+ghost use Rattle.pesp_counts_supports.specs.Supports.{HaveSameShape};
 
 use crate::back::Back;
 use crate::bringing::{Admitted, admitted_at, residue_after};
-use crate::restoring::is_spared_end;
 use crate::supports::Supports;
 use pesp_base::Window;
 use pesp_counts_arcs::{End, Links};
@@ -132,7 +131,13 @@ impl Supports {
     }
 
     /// Counts a block in along an activity, at whose near end it stands, and brings what goes with it at the far one.
-    fn reach_block(&mut self, instance: &Instance, links: &Links, end: End, back: &mut Back)
+    pub(crate) fn reach_block(
+        &mut self,
+        instance: &Instance,
+        links: &Links,
+        end: End,
+        back: &mut Back,
+    )
         requires period { (self.old).period ≡ (instance.now).period }
         requires mate { end.mate < length (links.now).ends }
         requires first { (end_at (links.now).ends end.mate).first < (self.old).period }
@@ -168,42 +173,6 @@ impl Supports {
         let mate = links.end(end.mate);
         self.count_block_in(end.mate, mate);
         self.bring_block(instance, links, end.looks_at, mate, back);
-    }
-
-    /// Counts a block in at each end that looks at its place, but for the spared ones, and brings what goes with it.
-    pub(crate) fn reach_block_around(
-        &mut self,
-        instance: &Instance,
-        links: &Links,
-        spared: Option<usize>,
-        place: usize,
-        back: &mut Back,
-    )
-        requires linked { AreLinked (self.old).period (links.now).ends (links.now).lists }
-        requires fit { Fit links.now self.old }
-        requires period { (self.old).period ≡ (instance.now).period }
-        requires mates { AreSparedTogether links.now spared }
-        requires exact { AreExactBut links.now spared self.old (has_at (self.old).counted) }
-        requires sums { AreSums (self.old).period (come_at self.old place) (self.old).sums }
-        requires some { (r : ℕ) × (r < (self.old).period) × IsTrue (come_at self.old place r) }
-        requires trail { (self.old).trail ≡ [] }
-        requires room { HasRoom self.old back.old }
-        ensures exact { AreExactBut links.now spared self.new
-            (joined_block (has_at (self.old).counted) place (come_at self.old place)) }
-        ensures sums { (self.new).sums ≡ (self.old).sums }
-        ensures brought { IsBrought (of_blocks (self.old).period instance.now links.now spared
-            (come_at self.old place) (ends_of (links.now).lists place)) self.old self.new back.old
-            back.new }
-        ensures probes { (self.new).probes + (self.old).period * length back.old.pairs
-            ≤ (self.old).probes + (2 * (self.old).period - 1)
-            * length (ends_of (links.now).lists place) + (self.old).period * length back.new.pairs }
-    {
-        for number in links.at(place) {
-            if !is_spared_end(spared, number) {
-                let end = links.end(number);
-                self.reach_block(instance, links, end, back);
-            }
-        }
     }
 
     /// Puts the residues of the block with the sums into what is counted at a place.

@@ -1,18 +1,22 @@
 //! Pairs that an edit reaches are put back, with the counts for them.
 
-ghost use Rattle.std.specs.Prelude.{◌≡◌, ◌≢◌, ◌<◌, ◌≤◌, ◌*◌, ◌+◌, ◌-◌, ◌⊎◌, cond, ℕ, [], false, All, IsTrue, length, slice_index_or};
+ghost use Rattle.std.specs.Prelude.{◌≡◌, ◌≢◌, ◌<◌, ◌≤◌, ◌*◌, ◌+◌, ◌-◌, ◌⊎◌, cond, ℕ, Bool, [], false, All, IsTrue, length, slice_index_or};
 ghost use Rattle.std.specs.List.{Contains};
 ghost use Rattle.pesp_domains.specs.Domains.{holds};
 ghost use Rattle.pesp_counts_arcs.specs.Ends.{AreLinked, end_at, ends_of, is_from_to, passes};
+ghost use Rattle.pesp_counts_supports.specs.Blocks.{joined_block, of_block, of_blocks};
 ghost use Rattle.pesp_counts_supports.specs.Counts.{IsExactAt, count_at, has_at};
-ghost use Rattle.pesp_counts_supports.specs.Restored.{AreExactBut, AreSparedTogether, HasRoom, IsBrought, in_ranges, of_end, of_ends, of_starts};
+ghost use Rattle.pesp_counts_supports.specs.Leaving.{IsMoved, comes_of, partners};
+ghost use Rattle.pesp_counts_supports.specs.Restored.{AreExactBut, AreSparedTogether, HasRoom, IsBrought, in_ranges, of_end, of_starts};
 ghost use Rattle.pesp_counts_supports.specs.Restoring.{IsRestored, is_spared};
+ghost use Rattle.pesp_counts_supports.specs.Returning.{CanRise, RiseBy};
 ghost use Rattle.pesp_counts_supports.specs.Supports.{AreLevel, Fit, HaveSameShape, joined};
 ghost use Rattle.pesp_counts_supports.specs.Spent.{ends_at};
 
 use crate::Placed;
 use crate::back::Back;
 use crate::counts::Counts;
+use crate::leaving::Moved;
 use crate::probes::Probes;
 use crate::supports::Supports;
 use pesp_counts_arcs::{End, Links, Ranges};
@@ -104,7 +108,14 @@ fn begins_block(back: &Back, next: usize, period: u16) -> bool
 
 impl Supports {
     /// Counts a residue in along an activity, at whose near end it stands, and brings what goes with it at the far one.
-    fn reach(&mut self, instance: &Instance, links: &Links, end: End, residue: u16, back: &mut Back)
+    fn reach_one(
+        &mut self,
+        instance: &Instance,
+        links: &Links,
+        end: End,
+        residue: u16,
+        back: &mut Back,
+    )
         requires period { (self.old).period ≡ (instance.now).period }
         requires residue { residue < (self.old).period }
         requires first { end.first < (self.old).period }
@@ -140,13 +151,57 @@ impl Supports {
         }
     }
 
-    /// Counts a pair in at each end that looks at its place, but for the spared ones, and brings what goes with it.
+    /// Counts what comes to the place of an end in along its activity, and brings what goes with it at the far one.
+    fn reach_along(
+        &mut self,
+        instance: &Instance,
+        links: &Links,
+        number: usize,
+        coming: Moved,
+        back: &mut Back,
+    )
+        requires linked { AreLinked (self.old).period (links.now).ends (links.now).lists }
+        requires fit { Fit links.now self.old }
+        requires period { (self.old).period ≡ (instance.now).period }
+        requires listed { (p : ℕ) × Contains (ends_of (links.now).lists p) number }
+        requires some { (comes : ℕ → Bool)
+            × IsMoved (self.old).period coming (self.old).sums comes
+            × CanRise (self.old).period (links.now).ends number comes (self.old).counts
+            × ((r : ℕ) × (r < (self.old).period)
+            × (0 < partners (self.old).period (links.now).ends number comes r)) }
+        requires trail { (self.old).trail ≡ [] }
+        requires room { HasRoom self.old back.old }
+        ensures counts { (comes : ℕ → Bool)
+            → IsMoved (self.old).period coming (self.old).sums comes
+            → RiseBy (self.old).period (links.now).ends number comes
+            (self.old).counts (self.new).counts }
+        ensures coming { (comes : ℕ → Bool)
+            → IsMoved (self.old).period coming (self.old).sums comes
+            → IsMoved (self.old).period coming (self.new).sums comes }
+        ensures brought { (comes : ℕ → Bool)
+            → IsMoved (self.old).period coming (self.old).sums comes
+            → IsBrought (of_block (self.old).period instance.now links.now comes
+            (end_at (links.now).ends (end_at (links.now).ends number).mate)
+            (end_at (links.now).ends number).looks_at) self.old self.new back.old back.new }
+        ensures probes { (self.new).probes + (self.old).period * length back.old.pairs
+            ≤ (self.old).probes + (2 * (self.old).period - 1) + (self.old).period
+            * length back.new.pairs }
+    {
+        let end = links.end(number);
+        match coming {
+            Moved::One(residue) => self.reach_one(instance, links, end, residue, back),
+            Moved::Block => self.reach_block(instance, links, end, back),
+        }
+    }
+
+    /// Counts what comes to a place in at each end that looks there, but for the spared ones, and brings what goes with it.
     fn reach_around(
         &mut self,
         instance: &Instance,
         links: &Links,
         spared: Option<usize>,
-        pair: Placed,
+        place: usize,
+        coming: Moved,
         back: &mut Back,
     )
         requires linked { AreLinked (self.old).period (links.now).ends (links.now).lists }
@@ -154,25 +209,67 @@ impl Supports {
         requires period { (self.old).period ≡ (instance.now).period }
         requires mates { AreSparedTogether links.now spared }
         requires exact { AreExactBut links.now spared self.old (has_at (self.old).counted) }
-        requires residue { pair.residue < (self.old).period }
-        requires absent { has_at (self.old).counted pair.place pair.residue ≡ false }
+        requires coming { IsMoved (self.old).period coming (self.old).sums
+            (comes_of self.old place coming) }
+        requires absent { (r : ℕ) → IsTrue (comes_of self.old place coming r)
+            → has_at (self.old).counted place r ≡ false }
+        requires some { (r : ℕ) × (r < (self.old).period)
+            × IsTrue (comes_of self.old place coming r) }
         requires trail { (self.old).trail ≡ [] }
         requires room { HasRoom self.old back.old }
         ensures exact { AreExactBut links.now spared self.new
-            (joined (has_at (self.old).counted) pair.place pair.residue) }
-        ensures brought { IsBrought (of_ends (self.old).period instance.now links.now spared
-            pair.residue (ends_of (links.now).lists pair.place)) self.old self.new back.old
-            back.new }
+            (joined_block (has_at (self.old).counted) place (comes_of self.old place coming)) }
+        ensures coming { IsMoved (self.old).period coming (self.new).sums
+            (comes_of self.old place coming) }
+        ensures brought { IsBrought (of_blocks (self.old).period instance.now links.now spared
+            (comes_of self.old place coming) (ends_of (links.now).lists place))
+            self.old self.new back.old back.new }
         ensures probes { (self.new).probes + (self.old).period * length back.old.pairs
             ≤ (self.old).probes + (2 * (self.old).period - 1)
-            * length (ends_of (links.now).lists pair.place) + (self.old).period
-            * length back.new.pairs }
+            * length (ends_of (links.now).lists place) + (self.old).period * length back.new.pairs }
     {
-        for number in links.at(pair.place as usize) {
+        for number in links.at(place) {
             if !is_spared_end(spared, number) {
-                let end = links.end(number);
-                self.reach(instance, links, end, pair.residue, back);
+                self.reach_along(instance, links, number, coming, back);
             }
+        }
+    }
+
+    /// What comes with a pair that is not counted yet: it alone, or all residues of its place that are not.
+    fn coming_with(&mut self, pair: Placed, at_once: bool) -> Moved
+        requires place { pair.place < length (self.old).rows }
+        requires residue { pair.residue < (self.old).period }
+        ensures coming { IsMoved (self.old).period result (self.new).sums
+            (comes_of self.old pair.place result) }
+        ensures alone { (residue : ℕ) → result ≡ Moved.One residue → residue ≡ pair.residue }
+        ensures same { self.new ≡ record self.old { sums = (self.new).sums } }
+    {
+        if !at_once {
+            return Moved::One(pair.residue);
+        }
+        self.sum_come(pair.place as usize);
+        Moved::Block
+    }
+
+    /// Puts what came to a place into what is counted.
+    fn count_moved(&mut self, place: usize, coming: Moved)
+        requires place { place < length (self.old).rows }
+        requires coming { (comes : ℕ → Bool)
+            × IsMoved (self.old).period coming (self.old).sums comes }
+        ensures counted { (comes : ℕ → Bool)
+            → IsMoved (self.old).period coming (self.old).sums comes
+            → ((r : ℕ) → IsTrue (comes r) → r < (self.old).period) → (p r : ℕ)
+            → has_at (self.new).counted p r
+            ≡ joined_block (has_at (self.old).counted) place comes p r }
+        ensures rows { (self.new).rows ≡ (self.old).rows }
+        ensures counts { (self.new).counts ≡ (self.old).counts }
+        ensures trail { (self.new).trail ≡ (self.old).trail }
+        ensures shape { HaveSameShape self.old self.new }
+        ensures probes { (self.new).probes ≡ (self.old).probes }
+    {
+        match coming {
+            Moved::One(residue) => self.count_pair(place, residue),
+            Moved::Block => self.count_block(place),
         }
     }
 
@@ -251,14 +348,9 @@ impl Supports {
             let at_once = begins_block(back, next, self.period.get());
             next += 1;
             if !self.has_counted(place, pair.residue) {
-                if at_once {
-                    self.sum_come(place);
-                    self.reach_block_around(instance, links, spared, place, back);
-                    self.count_block(place);
-                } else {
-                    self.reach_around(instance, links, spared, pair, back);
-                    self.count_pair(place, pair.residue);
-                }
+                let coming = self.coming_with(pair, at_once);
+                self.reach_around(instance, links, spared, place, coming, back);
+                self.count_moved(place, coming);
             }
         }
     }

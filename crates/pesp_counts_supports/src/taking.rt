@@ -70,8 +70,9 @@ impl Supports {
         let pair = self.trail[next];
         let place = pair.place as usize;
         if self.has_counted(place, pair.residue) && !self.holds(place, pair.residue) {
-            let leaving = self.leaving_with(next, pair);
-            self.spread(links, place, leaving);
+            let in_run = self.begins_run(next, pair.place);
+            let leaving = self.leaving_with(pair, in_run);
+            self.count_out_around(links, place, leaving);
             self.uncount(place, leaving);
         }
     }
@@ -85,7 +86,7 @@ impl Supports {
 
     /// Counts a residue out along an activity, at whose near end it stood, and takes the pairs at the far one out that have no
     /// partner left.
-    pub(crate) fn count_out(&mut self, end: End, residue: u16)
+    pub(crate) fn count_one_out(&mut self, end: End, residue: u16)
         requires residue { residue < (self.old).period }
         requires first { end.first < (self.old).period }
         requires width { end.width ≤ (self.old).period }
@@ -111,12 +112,12 @@ impl Supports {
         let ranges = end.ranges(self.period.get(), residue);
         let place = end.looks_at;
         let mate = end.mate;
-        self.lower(place, mate, ranges.start, ranges.end);
-        self.lower(place, mate, 0, ranges.wrapped);
+        self.count_range_out(place, mate, ranges.start, ranges.end);
+        self.count_range_out(place, mate, 0, ranges.wrapped);
     }
 
     /// Counts one partner out for each residue of a range at an end of the place, and takes those out that have none left.
-    fn lower(&mut self, place: usize, end: usize, low: u16, high: u16)
+    fn count_range_out(&mut self, place: usize, end: usize, low: u16, high: u16)
         requires order { low ≤ high }
         requires high { high ≤ (self.old).period }
         requires block { end * (self.old).period + (self.old).period ≤ length (self.old).counts }
@@ -246,7 +247,7 @@ impl Supports {
     }
 
     /// Takes a pair out of the rows. It then stands at the end of the trail.
-    // Few of the counts that fall take a pair out. In line in the loop of `lower`, packing the pair costs each of them an instruction.
+    // Few of the counts that fall take a pair out. In line in the loop of `count_range_out`, packing the pair costs each of them an instruction.
     #[cold]
     #[inline(never)]
     fn take_out(&mut self, place: usize, residue: u16)

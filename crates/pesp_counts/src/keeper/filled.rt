@@ -7,32 +7,27 @@ ghost use Rattle.pesp_counts_supports.specs.Resting.{HaveRoom};
 ghost use Rattle.pesp_counts_arcs.specs.Links.{no_links};
 ghost use Rattle.pesp_counts_supports.specs.Supports.{Supports};
 
+use super::counted::Counted;
 use super::grown::{house_activity, house_event, make_room};
 use pesp_counts_arcs::Links;
-use pesp_counts_supports::{Back, Supports};
+use pesp_counts_supports::Supports;
 use pesp_domains::Pair;
 use pesp_instance::Instance;
 use std::alloc::{AllocError, Global};
 
 /// Gives each event a place and empty rows.
-fn house_events(
-    alloc: Global,
-    instance: &Instance,
-    links: &mut Links,
-    supports: &mut Supports,
-    back: &mut Back,
-    restored: &mut Vec<Pair>,
-) -> Result<(), AllocError>
-    requires { AreFor (record instance.now { events = []; activities = [] }) links.old
-        supports.old }
-    ensures ok { OnOk result (AreFor (record instance.now { activities = [] }) links.new
-        supports.new) }
-    ensures room { HaveRoom supports.old back.old.room (vec_capacity restored.old)
-        → HaveRoom supports.new back.new.room (vec_capacity restored.new) }
-    ensures restored { restored.new.items ≡ restored.old.items }
+fn house_events(alloc: Global, instance: &Instance, counted: &mut Counted) -> Result<(), AllocError>
+    requires { AreFor (record instance.now { events = []; activities = [] }) counted.old.links
+        counted.old.supports }
+    ensures ok { OnOk result (AreFor (record instance.now { activities = [] }) counted.new.links
+        counted.new.supports) }
+    ensures room { HaveRoom counted.old.supports counted.old.back.room
+        (vec_capacity counted.old.restored)
+        → HaveRoom counted.new.supports counted.new.back.room (vec_capacity counted.new.restored) }
+    ensures restored { counted.new.restored.items ≡ counted.old.restored.items }
 {
     for event in instance.events() {
-        house_event(alloc, links, supports, back, restored, event.id)?;
+        house_event(alloc, counted, event.id)?;
     }
     Ok(())
 }
@@ -60,25 +55,23 @@ pub fn house(
     instance: &Instance,
     pushed: &mut Vec<Pair>,
     marks: &mut Vec<usize>,
-    links: &mut Links,
-    supports: &mut Supports,
-    back: &mut Back,
-    restored: &mut Vec<Pair>,
+    counted: &mut Counted,
 ) -> Result<(), AllocError>
     requires pushed { pushed.old.items ≡ [] }
     requires marks { marks.old.items ≡ [] }
-    requires start { AreFor (record instance.now { events = []; activities = [] }) links.old
-        supports.old }
-    ensures ok { OnOk result (AreFor instance.now links.new supports.new) }
+    requires start { AreFor (record instance.now { events = []; activities = [] }) counted.old.links
+        counted.old.supports }
+    ensures ok { OnOk result (AreFor instance.now counted.new.links counted.new.supports) }
     ensures many { OnOk result ((length instance.now.events ≤ vec_capacity pushed.new)
         × (length instance.now.events ≤ vec_capacity marks.new)) }
     ensures pushed { pushed.new.items ≡ [] }
     ensures marks { marks.new.items ≡ [] }
-    ensures room { HaveRoom supports.old back.old.room (vec_capacity restored.old)
-        → HaveRoom supports.new back.new.room (vec_capacity restored.new) }
-    ensures restored { restored.new.items ≡ restored.old.items }
+    ensures room { HaveRoom counted.old.supports counted.old.back.room
+        (vec_capacity counted.old.restored)
+        → HaveRoom counted.new.supports counted.new.back.room (vec_capacity counted.new.restored) }
+    ensures restored { counted.new.restored.items ≡ counted.old.restored.items }
 {
     make_room(pushed, marks, instance.event_count())?;
-    house_events(alloc, instance, links, supports, back, restored)?;
-    house_activities(instance, links, supports)
+    house_events(alloc, instance, counted)?;
+    house_activities(instance, &mut counted.links, &mut counted.supports)
 }

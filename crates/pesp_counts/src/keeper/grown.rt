@@ -1,20 +1,22 @@
 //! Events and activities that are added.
 
-ghost use Rattle.std.specs.Prelude.{◌≡◌, ◌≤◌, ℕ, None, Some, Ok, IsSome, [], true, length, IfOk, OnOk, OnErr, vec_capacity};
+ghost use Rattle.std.specs.Prelude.{◌≡◌, ◌≤◌, ◌*◌, ℕ, None, Some, Ok, IsSome, [], true, length, IfOk, OnOk, OnErr, vec_capacity};
 ghost use Rattle.pesp_instance.specs.declared.edit.Edit.TheVariants as edits;
 ghost use Rattle.pesp_instance.specs.Edited.{edited, effect};
 ghost use Rattle.pesp_instance.specs.Network.{IsNetwork, Network};
-ghost use Rattle.pesp_counts.specs.Keeping.{AreFor, AreSettled, IsHousedAt, SeeSame, WereSettled, adds};
+ghost use Rattle.pesp_counts.specs.Keeping.{AreFor, AreSettled, IsHousedAt, SeeSame, adds};
+ghost use Rattle.pesp_counts.specs.Changes.{IsFollowed, WereSettled};
 ghost use Rattle.pesp_counts_supports.specs.Resting.{HaveRoom};
 ghost use Rattle.pesp_counts_arcs.specs.Links.{IsChangedAt, StandFor};
 ghost use Rattle.pesp_counts_arcs.specs.Places.{place_of};
 ghost use Rattle.pesp_counts_supports.specs.Supports.{IsRoomier};
-ghost use Rattle.pesp_counts.specs.Works.{IsWorked, KeepPlaces};
 
-use super::spans::narrow_ends;
+use super::change::{Change, Starts};
+use super::counted::Counted;
+use super::propagating::propagate;
 use pesp_base::{Activity, EventId, Period};
 use pesp_counts_arcs::Links;
-use pesp_counts_supports::{Back, Supports};
+use pesp_counts_supports::Supports;
 use pesp_domains::Pair;
 use pesp_instance::{Edit, Instance};
 use std::alloc::{AllocError, Global};
@@ -22,28 +24,32 @@ use std::alloc::{AllocError, Global};
 /// Gives a new event a place and empty rows. Without the memory for it, all that stood for something does.
 pub fn house_event(
     alloc: Global,
-    links: &mut Links,
-    supports: &mut Supports,
-    back: &mut Back,
-    restored: &mut Vec<Pair>,
+    counted: &mut Counted,
     event: EventId,
 ) -> Result<usize, AllocError>
-    requires absent { place_of (links.old).events event ≡ None }
-    ensures grown { IsRoomier supports.old supports.new }
-    ensures ok { OnOk result ((I : Network) → AreFor I links.old supports.old
-        → AreFor (effect I (edits.AddEvent event)) links.new supports.new) }
-    ensures place { IfOk result (λ p. IsHousedAt links.old links.new event p) }
+    requires absent { place_of (counted.old.links).events event ≡ None }
+    ensures grown { IsRoomier counted.old.supports counted.new.supports }
+    ensures ok { OnOk result ((I : Network) → AreFor I counted.old.links counted.old.supports
+        → AreFor (effect I (edits.AddEvent event)) counted.new.links counted.new.supports) }
+    ensures place { IfOk result (λ p. IsHousedAt counted.old.links counted.new.links event p) }
     ensures back { OnErr result ((I J : Network) → IsNetwork I
-        → edited I (edits.AddEvent event) ≡ Ok J → AreFor I links.old supports.old
-        → AreFor I links.new supports.new × SeeSame links.old links.new) }
-    ensures room { HaveRoom supports.old back.old.room (vec_capacity restored.old)
-        → HaveRoom supports.new back.new.room (vec_capacity restored.new) }
-    ensures listed { back.new.pairs ≡ back.old.pairs }
-    ensures restored { restored.new.items ≡ restored.old.items }
+        → edited I (edits.AddEvent event) ≡ Ok J → AreFor I counted.old.links counted.old.supports
+        → AreFor I counted.new.links counted.new.supports
+        × SeeSame counted.old.links counted.new.links) }
+    ensures room { HaveRoom counted.old.supports counted.old.back.room
+        (vec_capacity counted.old.restored)
+        → HaveRoom counted.new.supports counted.new.back.room (vec_capacity counted.new.restored) }
+    ensures listed { counted.new.back.pairs ≡ counted.old.back.pairs }
+    ensures restored { counted.new.restored.items ≡ counted.old.restored.items }
 {
-    let place = links.add_event(event)?;
-    if let Err(fault) = supports.make_rows(alloc, links.places(), back, restored) {
-        links.drop_event(event);
+    let place = counted.links.add_event(event)?;
+    if let Err(fault) = counted.supports.make_rows(
+        alloc,
+        counted.links.places(),
+        &mut counted.back,
+        &mut counted.restored,
+    ) {
+        counted.links.drop_event(event);
         return Err(fault);
     }
     Ok(place)
@@ -74,59 +80,62 @@ pub fn add_event(
     instance: &Instance,
     pushed: &mut Vec<Pair>,
     marks: &mut Vec<usize>,
-    links: &mut Links,
-    supports: &mut Supports,
-    back: &mut Back,
-    restored: &mut Vec<Pair>,
+    counted: &mut Counted,
     event: EventId,
 ) -> Result<(), AllocError>
     requires pushed { pushed.old.items ≡ [] }
     requires marks { marks.old.items ≡ [] }
-    requires before { WereSettled instance.now (edits.AddEvent event) links.old supports.old }
-    ensures ok { OnOk result (AreSettled instance.now [] links.new supports.new) }
+    requires before { (I : Network)
+        × WereSettled I instance.now (edits.AddEvent event) counted.old.links counted.old.supports }
+    requires empty { counted.old.back.pairs ≡ [] }
+    ensures ok { OnOk result ((I : Network)
+        → WereSettled I instance.now (edits.AddEvent event) counted.old.links counted.old.supports
+        → IsFollowed I instance.now (edits.AddEvent event) counted.old.links counted.new.links
+        counted.old.supports counted.new.supports counted.new.back.pairs) }
     ensures many { OnOk result ((length instance.now.events ≤ vec_capacity pushed.new)
         × (length instance.now.events ≤ vec_capacity marks.new)) }
     ensures pushed { pushed.new.items ≡ [] }
     ensures marks { marks.new.items ≡ [] }
     ensures more_pushed { vec_capacity pushed.old ≤ vec_capacity pushed.new }
     ensures more_marks { vec_capacity marks.old ≤ vec_capacity marks.new }
-    ensures err { OnErr result ((I : Network) → edited I (edits.AddEvent event) ≡ Ok instance.now
-        → AreSettled I [] links.old supports.old → AreSettled I [] links.new supports.new) }
-    ensures room { HaveRoom supports.old back.old.room (vec_capacity restored.old)
-        → HaveRoom supports.new back.new.room (vec_capacity restored.new) }
-    ensures listed { back.new.pairs ≡ back.old.pairs }
-    ensures restored { restored.new.items ≡ restored.old.items }
-    ensures worked { OnOk result (IsWorked links.new supports.old supports.new []) }
-    ensures places { OnOk result (KeepPlaces instance.now links.old links.new supports.new.trail) }
+    ensures err { OnErr result ((I : Network)
+        → WereSettled I instance.now (edits.AddEvent event) counted.old.links counted.old.supports
+        → AreSettled I [] counted.new.links counted.new.supports) }
+    ensures room { HaveRoom counted.old.supports counted.old.back.room
+        (vec_capacity counted.old.restored)
+        → HaveRoom counted.new.supports counted.new.back.room (vec_capacity counted.new.restored) }
+    ensures restored { counted.new.restored.items ≡ counted.old.restored.items }
 {
     make_room(pushed, marks, instance.event_count())?;
-    open_event(alloc, instance, links, supports, back, restored, event)
+    open_event(alloc, instance, counted, event)
 }
 
 /// Gives an added event a place, and rows of all residues.
 fn open_event(
     alloc: Global,
     instance: &Instance,
-    links: &mut Links,
-    supports: &mut Supports,
-    back: &mut Back,
-    restored: &mut Vec<Pair>,
+    counted: &mut Counted,
     event: EventId,
 ) -> Result<(), AllocError>
-    requires before { WereSettled instance.now (edits.AddEvent event) links.old supports.old }
-    ensures ok { OnOk result (AreSettled instance.now [] links.new supports.new) }
-    ensures err { OnErr result ((I : Network) → edited I (edits.AddEvent event) ≡ Ok instance.now
-        → AreSettled I [] links.old supports.old → AreSettled I [] links.new supports.new) }
-    ensures room { HaveRoom supports.old back.old.room (vec_capacity restored.old)
-        → HaveRoom supports.new back.new.room (vec_capacity restored.new) }
-    ensures listed { back.new.pairs ≡ back.old.pairs }
-    ensures restored { restored.new.items ≡ restored.old.items }
-    ensures worked { OnOk result (IsWorked links.new supports.old supports.new []) }
-    ensures places { OnOk result (KeepPlaces instance.now links.old links.new supports.new.trail) }
+    requires before { (I : Network)
+        × WereSettled I instance.now (edits.AddEvent event) counted.old.links counted.old.supports }
+    requires empty { counted.old.back.pairs ≡ [] }
+    ensures ok { OnOk result ((I : Network)
+        → WereSettled I instance.now (edits.AddEvent event) counted.old.links counted.old.supports
+        → IsFollowed I instance.now (edits.AddEvent event) counted.old.links counted.new.links
+        counted.old.supports counted.new.supports counted.new.back.pairs) }
+    ensures err { OnErr result ((I : Network)
+        → WereSettled I instance.now (edits.AddEvent event) counted.old.links counted.old.supports
+        → AreSettled I [] counted.new.links counted.new.supports) }
+    ensures room { HaveRoom counted.old.supports counted.old.back.room
+        (vec_capacity counted.old.restored)
+        → HaveRoom counted.new.supports counted.new.back.room (vec_capacity counted.new.restored) }
+    ensures restored { counted.new.restored.items ≡ counted.old.restored.items }
 {
+    // That this is a network is known of an instance that was read.
     let _period = instance.period();
-    let place = house_event(alloc, links, supports, back, restored, event)?;
-    supports.open(place);
+    let place = house_event(alloc, counted, event)?;
+    counted.supports.open(place);
     Ok(())
 }
 
@@ -166,25 +175,47 @@ pub fn house_activity(
 /// Follows an edit that adds an activity. Without the memory for it, the rows are still the domains of the instance before.
 pub fn add_activity(
     instance: &Instance,
-    links: &mut Links,
-    supports: &mut Supports,
+    counted: &mut Counted,
     activity: &Activity,
 ) -> Result<(), AllocError>
-    requires before { WereSettled instance.now (edits.AddActivity activity.now) links.old
-        supports.old }
-    ensures ok { OnOk result (AreSettled instance.now [] links.new supports.new) }
+    requires before { (I : Network)
+        × WereSettled I instance.now (edits.AddActivity activity.now) counted.old.links
+        counted.old.supports }
+    requires empty { counted.old.back.pairs ≡ [] }
+    requires room { length counted.old.supports.rows * counted.old.supports.period
+        ≤ counted.old.back.room }
+    ensures ok { OnOk result ((I : Network)
+        → WereSettled I instance.now (edits.AddActivity activity.now) counted.old.links
+        counted.old.supports
+        → IsFollowed I instance.now (edits.AddActivity activity.now) counted.old.links
+        counted.new.links counted.old.supports counted.new.supports counted.new.back.pairs) }
     ensures err { OnErr result ((I : Network)
-        → edited I (edits.AddActivity activity.now) ≡ Ok instance.now
-        → AreSettled I [] links.old supports.old → AreSettled I [] links.new supports.new) }
-    ensures period { supports.new.period ≡ supports.old.period }
-    ensures rows { length supports.new.rows ≡ length supports.old.rows }
-    ensures worked { OnOk result (IsWorked links.new supports.old supports.new []) }
-    ensures places { OnOk result (KeepPlaces instance.now links.old links.new supports.new.trail) }
+        → WereSettled I instance.now (edits.AddActivity activity.now) counted.old.links
+        counted.old.supports
+        → AreSettled I [] counted.new.links counted.new.supports) }
+    ensures period { counted.new.supports.period ≡ counted.old.supports.period }
+    ensures rows { length counted.new.supports.rows ≡ length counted.old.supports.rows }
+    ensures room { counted.new.back.room ≡ counted.old.back.room }
+    ensures restored { counted.new.restored ≡ counted.old.restored }
 {
-    house_activity(instance.period(), links, supports, activity)?;
-    if let Some(tail) = links.tail(activity.id) {
-        narrow_ends(links, supports, tail, &[]);
-    }
+    house_activity(
+        instance.period(),
+        &mut counted.links,
+        &mut counted.supports,
+        activity,
+    )?;
+    let change = Change {
+        loosened: Starts::Nowhere,
+        limited: None,
+        recounted: counted.links.activity(activity.id),
+    };
+    propagate(
+        &change,
+        instance,
+        &counted.links,
+        &mut counted.supports,
+        &mut counted.back,
+    );
     Ok(())
 }
 

@@ -53,28 +53,6 @@ pub fn limit_at(instance: &Instance, supports: &mut Supports, event: EventId, pl
     }
 }
 
-/// Takes the residues of an event out that are not in its window, and of the other pairs those that are left without a partner.
-pub fn narrow_event(instance: &Instance, links: &Links, supports: &mut Supports, event: EventId)
-    requires period { (supports.old).period ≡ (instance.now).period }
-    requires linked { AreLinked (supports.old).period (links.now).ends (links.now).lists }
-    requires fit { Fit links.now supports.old }
-    requires rest { AreAtRest links.now supports.old }
-    requires place { IsSome (place_of (links.now).events event) }
-    requires housed { (p : ℕ) → place_of (links.now).events event ≡ Some p
-        → p < length (supports.old).rows }
-    ensures narrowed { (p : ℕ) → place_of (links.now).events event ≡ Some p
-        → IsNarrowed links.now p (admits instance.now event) supports.old supports.new }
-    ensures probes { (supports.new).probes
-        ≤ (supports.old).probes + (supports.old).period
-        * ends_at links.now (drop (length (supports.old).trail) (supports.new).trail) }
-{
-    if let Some(place) = links.event(event) {
-        let mark = supports.mark();
-        limit_at(instance, supports, event, place);
-        supports.settle(links, mark);
-    }
-}
-
 /// Takes the residues out of the rows that are not in the windows of their events.
 pub fn limit_windows(instance: &Instance, links: &Links, supports: &mut Supports)
     requires fits { AreFor instance.now links.now supports.old }

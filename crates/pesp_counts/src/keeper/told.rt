@@ -28,7 +28,7 @@ impl CountKeeper {
     pub fn restored(&self) -> &[Pair]
         ensures { result.now ≡ (self.now).restored }
     {
-        &self.restored
+        &self.counted.restored
     }
 
     /// What the last accepted edit took.

@@ -9,20 +9,19 @@ use Rattle.pesp_counts_supports.specs.Counts.{count_at}
 use Rattle.pesp_counts_arcs.specs.Links.{end_number}
 use Rattle.pesp_counts_arcs.specs.Places.{place_of}
 use Rattle.pesp_counts.specs.Support.{IsSupport}
-use Rattle.pesp_counts.proofs.Carried.{tail_listed, tail_low, tail_mate}
+use Rattle.pesp_counts.proofs.Carried.{tail_listed, tail_low, tail_mate, twice_of}
 use Rattle.pesp_counts.proofs.Supported.{activity_id, end_of, is_support, no_tail}
-use Rattle.pesp_counts.proofs.Tightened.{twice_of}
 use Rattle.pesp_counts.proofs.keeper.CountKeeper.support.Goals as goal
 use Rattle.pesp_counts.proofs.keeper.CountKeeper.support.Goals.{in-Tail, in-Head}
 
 pub tail-requires : goal.tail-requires
-tail-requires c q at = tail_low c.self.inside.instance c.self.inside.links c.in_ok-activity.activity.now.id q c.self.invariant.settled.fits.stand at
+tail-requires c q at = tail_low c.self.inside.instance c.self.inside.counted.links c.in_ok-activity.activity.now.id q c.self.invariant.settled.fits.stand at
 
 pub returns-in_err-tail : goal.returns-in_err-tail
 returns-in_err-tail c =
     let i = c.self.inside in
     let I = i.instance in
-    let links = i.links in
+    let links = i.counted.links in
     let a = c.in_ok-activity.activity.now in
     let n = c.args.activity in
     let stand = c.self.invariant.settled.fits.stand in
@@ -34,7 +33,7 @@ pub end-requires : goal.end-requires
 end-requires c =
     let i = c.self.inside in
     let I = i.instance in
-    let links = i.links in
+    let links = i.counted.links in
     let a = c.in_ok-activity.activity.now in
     let n = c.args.activity in
     let stand = c.self.invariant.settled.fits.stand in
@@ -47,7 +46,7 @@ pub count-requires-clause-end : goal.count-requires-clause-end
 count-requires-clause-end c =
     let i = c.self.inside in
     let I = i.instance in
-    let links = i.links in
+    let links = i.counted.links in
     let a = c.in_ok-activity.activity.now in
     let n = c.args.activity in
     let stand = c.self.invariant.settled.fits.stand in
@@ -63,13 +62,13 @@ count-requires-clause-end c =
           w.end-is ∙ ap (λ (x : End). x.mate) (w.end.ensures ∙ ap (end_at links.ends) q.2) ∙ tail_mate I links listed.0 q.0 stand listed.1 ∙ ap (λ side. end_number side q.0) (sym w.in-Head.is)
     ]
     in
-    subst (λ k. k * i.supports.period + i.supports.period ≤ length i.supports.counts) (sym number) (c.self.invariant.settled.fits.fit.counts end.0 (end_number c.args.side q.0) end.1.listed)
+    subst (λ k. k * i.counted.supports.period + i.counted.supports.period ≤ length i.counted.supports.counts) (sym number) (c.self.invariant.settled.fits.fit.counts end.0 (end_number c.args.side q.0) end.1.listed)
 
 pub returns : goal.returns
 returns c =
     let i = c.self.inside in
     let I = i.instance in
-    let links = i.links in
+    let links = i.counted.links in
     let a = c.in_ok-activity.activity.now in
     let n = c.args.activity in
     let stand = c.self.invariant.settled.fits.stand in
@@ -90,5 +89,5 @@ returns c =
     (subst (λ (k : Seen). InDomains k.network k.pushes c.own.result c.args.residue) (sym c.self.view_is) (c.holds.ensures.0 c.if-not-holds.false))
     in
     subst (λ (k : Seen). IsSupport k.network k.pushes n c.args.side c.args.residue c.count.result) c.self.view_is
-    (subst (λ x. IsSupport I i.pushed.items n c.args.side c.args.residue x) (sym (c.count.ensures ∙ ap (λ k. count_at i.supports.period i.supports.counts k c.args.residue) number))
-    (is_support I i.pushed.items links i.supports n q.0 end.0 c.args.residue c.args.side a c.self.invariant.settled named end.1 here))
+    (subst (λ x. IsSupport I i.pushed.items n c.args.side c.args.residue x) (sym (c.count.ensures ∙ ap (λ k. count_at i.counted.supports.period i.counted.supports.counts k c.args.residue) number))
+    (is_support I i.pushed.items links i.counted.supports n q.0 end.0 c.args.residue c.args.side a c.self.invariant.settled named end.1 here))

@@ -26,16 +26,16 @@ push_reserved-requires-2 c =
     omega (arith, room, long)
 
 pub limit_event-requires-clause-linked : goal.limit_event-requires-clause-linked
-limit_event-requires-clause-linked c = for_linked c.self.inside.instance c.self.inside.links c.self.inside.supports c.self.invariant.settled.fits
+limit_event-requires-clause-linked c = for_linked c.self.inside.instance c.self.inside.counted.links c.self.inside.counted.supports c.self.invariant.settled.fits
 
 pub invariant_of-self : goal.invariant_of-self
 invariant_of-self c =
     let I = c.self.inside.instance in
     let x : Pair = record { event = c.args.event; residue = c.args.residue } in
     let event : IsTrue (has_event I c.args.event) = subst (λ (k : Seen). IsTrue (has_event k.network c.args.event)) (sym c.self.view_is) c.requires.event in
-    let p = place_is I c.self.inside.links c.self.invariant.settled.fits.stand c.args.event event in
+    let p = place_is I c.self.inside.counted.links c.self.invariant.settled.fits.stand c.args.event event in
     rw (c.push_reserved.ensures.items, c.push_reserved-2.ensures.items, c.mark-mark.ensures, c.push_reserved.ensures.capacity, c.push_reserved-2.ensures.capacity)
-    (keeping_push I c.self.inside.pushed.items x c.self.inside.links c.self.inside.supports c.limit_event.new.supports c.self.inside.marks.items p.0 (vec_capacity c.self.inside.pushed) (vec_capacity c.self.inside.marks) c.self.inside.back.room (vec_capacity c.self.inside.restored) c.self.invariant event
+    (keeping_push I c.self.inside.pushed.items x c.self.inside.counted.links c.self.inside.counted.supports c.limit_event.new.supports c.self.inside.marks.items p.0 (vec_capacity c.self.inside.pushed) (vec_capacity c.self.inside.marks) c.self.inside.counted.back.room (vec_capacity c.self.inside.counted.restored) c.self.invariant event
     (λ r i. c.requires.free r (subst (λ (k : Seen). In k.pushes c.args.event r) c.self.view_is i)) p.1 (c.limit_event.ensures.narrowed p.0 p.1))
 
 pub returns-clause-work : goal.returns-clause-work

@@ -9,7 +9,7 @@ abbrev pub invariant-loop-event : goal.invariant-loop-event
 invariant-loop-event l = record {
   can_next : (goal.iterator-loop-event).can_next l.event-iterator;
   is_finite : (goal.iterator-loop-event).is_finite l.event-iterator;
-  done : (housed : List Event) × (housed ++ l.event-iterator ≡ l.instance.events) × AreFor (record { period = l.instance.period; events = housed; activities = [] }) l.links l.supports;
-  room : HaveRoom l.fn.supports l.fn.back.room (vec_capacity l.fn.restored) → HaveRoom l.supports l.back.room (vec_capacity l.restored);
-  restored : l.restored.items ≡ l.fn.restored.items;
+  done : (housed : List Event) × (housed ++ l.event-iterator ≡ l.instance.events) × AreFor (record { period = l.instance.period; events = housed; activities = [] }) l.counted.links l.counted.supports;
+  room : HaveRoom l.fn.counted.supports l.fn.counted.back.room (vec_capacity l.fn.counted.restored) → HaveRoom l.counted.supports l.counted.back.room (vec_capacity l.counted.restored);
+  restored : l.counted.restored.items ≡ l.fn.counted.restored.items;
 }

@@ -14,9 +14,9 @@ use Rattle.pesp_counts.proofs.keeper.grown.house_event.Goals as goal
 
 pub returns-in_err-place-clause-back : goal.returns-in_err-place-clause-back
 returns-in_err-place-clause-back c =
-    let links = c.args.links.now in
+    let links = c.args.counted.now.links in
     let after = c.add_event.new.self in
-    let s = c.args.supports.now in
+    let s = c.args.counted.now.supports in
     let same = c.in_err-place.ensures.err in
     always_err c.from_residual.result (λ I J network made h. (
       for_seen I links after s s h (stands_same I links after same h.stand) (look_seen links after same) (roomier_none s) h.even,
@@ -25,10 +25,10 @@ returns-in_err-place-clause-back c =
 
 pub returns-in-Err-clause-back : goal.returns-in-Err-clause-back
 returns-in-Err-clause-back c I J network made h =
-    let links = c.args.links.now in
+    let links = c.args.counted.now.links in
     let middle = c.add_event.new.self in
     let after = c.drop_event.new.self in
-    let s = c.args.supports.now in
+    let s = c.args.counted.now.supports in
     let e = c.args.event in
     let a = c.in_ok-place.ensures in
     let at : IsHousedAt links middle e c.in_ok-place.place = record { place = a.place; fresh = a.fresh; others = a.others; ends = a.ends; lists = a.lists } in
@@ -39,9 +39,9 @@ returns-in-Err-clause-back c I J network made h =
 
 pub returns-clause-ok : goal.returns-clause-ok
 returns-clause-ok c I h =
-    let links = c.args.links.now in
+    let links = c.args.counted.now.links in
     let middle = c.add_event.new.self in
-    let s = c.args.supports.now in
+    let s = c.args.counted.now.supports in
     let e = c.args.event in
     let a = c.in_ok-place.ensures in
     let at : IsHousedAt links middle e c.in_ok-place.place = record { place = a.place; fresh = a.fresh; others = a.others; ends = a.ends; lists = a.lists } in

@@ -10,6 +10,7 @@ use Rattle.pesp_counts_arcs.proofs.ListLaws.{items_written, length-steps, list_w
 use Rattle.pesp_counts_arcs.proofs.RingEdits.{lists_more, rings_more}
 use Rattle.pesp_counts_arcs.proofs.RingStores.{first_low, last_low, length-afters, length-befores, walked}
 use Rattle.pesp_counts_arcs.proofs.lists.Lists.add.Goals as goal
+use Rattle.pesp_counts_arcs.proofs.lists.Lists.add.Goals.{After-index-head, After-put_in_front}
 
 -- what is known of the store, the heads, the item that comes, and the head of its list
 record Known (items : List Neighbours) (heads : List Head) (list item : ℕ) (head : Head) : Type 0 where
@@ -54,32 +55,34 @@ module _ (items : List Neighbours) (heads : List Head) (list item : ℕ) (head :
       let all = k.rings.few in
       omega (arith, most, long, walk, length-steps (afters items) head.first head.count, all)
 
+facts : (c : After-index-head) → Known c.self.inside.items.items c.self.inside.heads.items c.args.list c.args.item c.index-head.result.now
+facts c = known c.self.inside.items.items c.self.inside.heads.items c.args.self.now c.args.list c.args.item c.index-head.result.now c.self.view_is c.self.invariant c.requires.list c.requires.item c.requires.free c.index-head.ensures
+
+-- the links as they were written
+put : (c : After-put_in_front) → let items = c.self.inside.items.items in let after = c.put_in_front.new.items in let head = c.index-head.result.now in let item = c.args.item in
+    (afters after ≡ slice_set (slice_set (afters items) (last_of (befores items) head item) item) item (first_of head item))
+    × (befores after ≡ slice_set (slice_set (befores items) item (last_of (befores items) head item)) (first_of head item) item)
+    × (length after ≡ length items)
+put c =
+    let head : Head = c.index-head.result.now in
+    let item = c.args.item in (
+      c.put_in_front.ensures.afters ∙ ap (λ (xs : List Neighbours). slice_set (slice_set (afters xs) (last_of (befores xs) head item) item) item (first_of head item)) c.deref_mut.ensures.value,
+      c.put_in_front.ensures.befores ∙ ap (λ (xs : List Neighbours). slice_set (slice_set (befores xs) item (last_of (befores xs) head item)) (first_of head item) item) c.deref_mut.ensures.value,
+      c.put_in_front.auto.items ∙ ap length c.deref_mut.ensures.value,
+    )
+
 pub put_in_front-requires-clause-first : goal.put_in_front-requires-clause-first
 put_in_front-requires-clause-first c =
-    let items = c.self.inside.items.items in
-    let heads = c.self.inside.heads.items in
-    let head : Head = c.index-head.result.now in
-    let k = known items heads c.args.self.now c.args.list c.args.item head c.self.view_is c.self.invariant c.requires.list c.requires.item c.requires.free c.index-head.ensures in
-    subst (λ (xs : List Neighbours). first_of head c.args.item < length xs) (sym c.deref_mut.ensures.value)
-    (first_within items heads c.args.list c.args.item head k)
+    subst (λ (xs : List Neighbours). first_of c.index-head.result.now c.args.item < length xs) (sym c.deref_mut.ensures.value)
+    (first_within _ _ _ _ _ (facts (goal.at.put_in_front-requires-clause-first c).After-index-head))
 
 pub put_in_front-requires-clause-last : goal.put_in_front-requires-clause-last
 put_in_front-requires-clause-last c =
-    let items = c.self.inside.items.items in
-    let heads = c.self.inside.heads.items in
-    let head : Head = c.index-head.result.now in
-    let k = known items heads c.args.self.now c.args.list c.args.item head c.self.view_is c.self.invariant c.requires.list c.requires.item c.requires.free c.index-head.ensures in
-    subst (λ (xs : List Neighbours). last_of (befores xs) head c.args.item < length xs) (sym c.deref_mut.ensures.value)
-    (last_within items heads c.args.list c.args.item head k)
+    subst (λ (xs : List Neighbours). last_of (befores xs) c.index-head.result.now c.args.item < length xs) (sym c.deref_mut.ensures.value)
+    (last_within _ _ _ _ _ (facts (goal.at.put_in_front-requires-clause-last c).After-index-head))
 
 pub overflow_add-head : goal.overflow_add-head
-overflow_add-head c =
-    let items = c.self.inside.items.items in
-    let heads = c.self.inside.heads.items in
-    let head : Head = c.index-head.result.now in
-    let k = known items heads c.args.self.now c.args.list c.args.item head c.self.view_is c.self.invariant c.requires.list c.requires.item c.requires.free c.index-head.ensures in
-    let most = few items heads c.args.list c.args.item head k in
-    omega (arith, most)
+overflow_add-head c = let most = few _ _ _ _ _ (facts (goal.at.overflow_add-head c).After-index-head) in omega (arith, most)
 
 pub invariant_of-self : goal.invariant_of-self
 invariant_of-self c =
@@ -87,13 +90,11 @@ invariant_of-self c =
     let heads = c.self.inside.heads.items in
     let head : Head = c.index-head.result.now in
     let after : List Neighbours = c.put_in_front.new.items in
-    let k = known items heads c.args.self.now c.args.list c.args.item head c.self.view_is c.self.invariant c.requires.list c.requires.item c.requires.free c.index-head.ensures in
-    let ahead = c.put_in_front.ensures.afters ∙ ap (λ (xs : List Neighbours). slice_set (slice_set (afters xs) (last_of (befores xs) head c.args.item) c.args.item) c.args.item (first_of head c.args.item)) c.deref_mut.ensures.value in
-    let behind = c.put_in_front.ensures.befores ∙ ap (λ (xs : List Neighbours). slice_set (slice_set (befores xs) c.args.item (last_of (befores xs) head c.args.item)) (first_of head c.args.item) c.args.item) c.deref_mut.ensures.value in
-    let many : length after ≡ length items = c.put_in_front.auto.items ∙ ap length c.deref_mut.ensures.value in
+    let k = facts (goal.at.invariant_of-self c).After-index-head in
+    let (ahead, back, many) = put (goal.at.invariant_of-self c).After-put_in_front in
     subst (λ xs. AreRings xs (lists_of (afters xs) (slice_set heads c.args.list (record { first = c.args.item; count = head.count + 1 }))))
     (sym (items_written after items c.self.inside.items.len c.self.inside.items.ok.0 many))
-    (rings_more items after heads c.args.list c.args.item head k.within k.is k.rings k.low k.out ahead behind many)
+    (rings_more items after heads c.args.list c.args.item head k.within k.is k.rings k.low k.out ahead back many)
 
 pub returns-clause-lists : goal.returns-clause-lists
 returns-clause-lists c =
@@ -101,13 +102,11 @@ returns-clause-lists c =
     let heads = c.self.inside.heads.items in
     let head : Head = c.index-head.result.now in
     let after : List Neighbours = c.put_in_front.new.items in
-    let k = known items heads c.args.self.now c.args.list c.args.item head c.self.view_is c.self.invariant c.requires.list c.requires.item c.requires.free c.index-head.ensures in
-    let ahead = c.put_in_front.ensures.afters ∙ ap (λ (xs : List Neighbours). slice_set (slice_set (afters xs) (last_of (befores xs) head c.args.item) c.args.item) c.args.item (first_of head c.args.item)) c.deref_mut.ensures.value in
-    let behind = c.put_in_front.ensures.befores ∙ ap (λ (xs : List Neighbours). slice_set (slice_set (befores xs) c.args.item (last_of (befores xs) head c.args.item)) (first_of head c.args.item) c.args.item) c.deref_mut.ensures.value in
-    let many : length after ≡ length items = c.put_in_front.auto.items ∙ ap length c.deref_mut.ensures.value in
+    let k = facts (goal.at.returns-clause-lists c).After-index-head in
+    let (ahead, back, many) = put (goal.at.returns-clause-lists c).After-put_in_front in
     ap (λ (xs : List Neighbours). lists_of (afters xs) (slice_set heads c.args.list (record { first = c.args.item; count = head.count + 1 })))
     (items_written after items c.self.inside.items.len c.self.inside.items.ok.0 many)
-    ∙ lists_more items after heads c.args.list c.args.item head k.within k.is k.rings k.low k.out ahead behind
+    ∙ lists_more items after heads c.args.list c.args.item head k.within k.is k.rings k.low k.out ahead back
     ∙ ap (λ (s : Shared). slice_set s.lists c.args.list (c.args.item ∷ items_at s.lists c.args.list)) c.self.view_is
 
 pub returns-clause-shared : goal.returns-clause-shared

@@ -10,7 +10,7 @@ use Rattle.pesp_counts_arcs.proofs.ListLaws.{items_written, list_within}
 use Rattle.pesp_counts_arcs.proofs.RingEdits.{lists_less, rings_less}
 use Rattle.pesp_counts_arcs.proofs.StandLists.{all_but, list_there}
 use Rattle.pesp_counts_arcs.proofs.lists.Lists.remove.Goals as goal
-use Rattle.pesp_counts_arcs.proofs.lists.Lists.remove.Goals.{else-head-item, then-head-item}
+use Rattle.pesp_counts_arcs.proofs.lists.Lists.remove.Goals.{After-index-around, else-head-item, then-head-item}
 
 -- what is known of the store, the heads, the item that goes, the head of its list and what stands around it
 record Known (items : List Neighbours) (heads : List Head) (list item : ℕ) (head : Head) (around : Neighbours) : Type 0 where
@@ -48,7 +48,7 @@ module _ (items : List Neighbours) (heads : List Head) (list item : ℕ) (head :
 
   module _ (joined after : List Neighbours) (first : ℕ) (was : joined ≡ items)
       (ahead : afters after ≡ slice_set (afters joined) around.before around.after)
-      (behind : befores after ≡ slice_set (befores joined) around.after around.before)
+      (back : befores after ≡ slice_set (befores joined) around.after around.before)
       (front : ((head.first ≡ item) × (first ≡ around.after)) ⊎ ((head.first ≢ item) × (first ≡ head.first))) where
     ahead_is : afters after ≡ slice_set (afters items) (slice_index_or (befores items) item 0) (slice_index_or (afters items) item 0)
     ahead_is =
@@ -57,9 +57,9 @@ module _ (items : List Neighbours) (heads : List Head) (list item : ℕ) (head :
         ∙ ap (λ j. slice_set (afters items) j around.after) k.before
         ∙ ap (slice_set (afters items) (slice_index_or (befores items) item 0)) k.after
 
-    behind_is : befores after ≡ slice_set (befores items) (slice_index_or (afters items) item 0) (slice_index_or (befores items) item 0)
-    behind_is =
-        behind
+    back_is : befores after ≡ slice_set (befores items) (slice_index_or (afters items) item 0) (slice_index_or (befores items) item 0)
+    back_is =
+        back
         ∙ ap (λ (xs : List Neighbours). slice_set (befores xs) around.after around.before) was
         ∙ ap (λ j. slice_set (befores items) j around.before) k.after
         ∙ ap (slice_set (befores items) (slice_index_or (afters items) item 0)) k.before
@@ -68,10 +68,14 @@ module _ (items : List Neighbours) (heads : List Head) (list item : ℕ) (head :
     front_is = elim front [ inl at ↦ inl (at.0, at.1 ∙ k.after) | inr apart ↦ inr apart ]
 
     lists_left : lists_of (afters after) (slice_set heads list (record { first = first; count = head.count - 1 })) ≡ slice_set (lists_of (afters items) heads) list (all_but item (items_at (lists_of (afters items) heads) list))
-    lists_left = lists_less items after heads list item first head k.within k.is k.rings k.there_is ahead_is behind_is front_is
+    lists_left = lists_less items after heads list item first head k.within k.is k.rings k.there_is ahead_is back_is front_is
 
     rings_left : length after ≡ length joined → AreRings after (lists_of (afters after) (slice_set heads list (record { first = first; count = head.count - 1 })))
-    rings_left many = rings_less items after heads list item first head k.within k.is k.rings k.there_is ahead_is behind_is front_is (many ∙ ap length was)
+    rings_left many = rings_less items after heads list item first head k.within k.is k.rings k.there_is ahead_is back_is front_is (many ∙ ap length was)
+
+facts : (c : After-index-around) → Known c.self.inside.items.items c.self.inside.heads.items c.args.list c.args.item c.index-head.result.now c.index-around.result.now
+facts c =
+    known c.self.inside.items.items c.self.inside.heads.items c.args.self.now c.args.list c.args.item c.index-head.result.now c.index-around.result.now c.self.view_is c.self.invariant c.requires c.index-head.ensures c.index-around.ensures
 
 pub index-around-requires : goal.index-around-requires
 index-around-requires c =
@@ -82,19 +86,13 @@ index-around-requires c =
 
 pub join-requires-clause-before : goal.join-requires-clause-before
 join-requires-clause-before c =
-    let items = c.self.inside.items.items in
-    let heads = c.self.inside.heads.items in
-    let k = known items heads c.args.self.now c.args.list c.args.item c.index-head.result.now c.index-around.result.now c.self.view_is c.self.invariant c.requires c.index-head.ensures c.index-around.ensures in
     subst (λ (xs : List Neighbours). c.index-around.result.now.before < length xs) (sym c.deref_mut.ensures.value)
-    (before_within items heads c.args.list c.args.item c.index-head.result.now c.index-around.result.now k)
+    (before_within _ _ _ _ _ _ (facts (goal.at.join-requires-clause-before c).After-index-around))
 
 pub join-requires-clause-after : goal.join-requires-clause-after
 join-requires-clause-after c =
-    let items = c.self.inside.items.items in
-    let heads = c.self.inside.heads.items in
-    let k = known items heads c.args.self.now c.args.list c.args.item c.index-head.result.now c.index-around.result.now c.self.view_is c.self.invariant c.requires c.index-head.ensures c.index-around.ensures in
     subst (λ (xs : List Neighbours). c.index-around.result.now.after < length xs) (sym c.deref_mut.ensures.value)
-    (after_within items heads c.args.list c.args.item c.index-head.result.now c.index-around.result.now k)
+    (after_within _ _ _ _ _ _ (facts (goal.at.join-requires-clause-after c).After-index-around))
 
 pub invariant_of-self : goal.invariant_of-self
 invariant_of-self c =
@@ -103,7 +101,7 @@ invariant_of-self c =
     let head : Head = c.index-head.result.now in
     let around : Neighbours = c.index-around.result.now in
     let after : List Neighbours = c.join.new.items in
-    let k = known items heads c.args.self.now c.args.list c.args.item head around c.self.view_is c.self.invariant c.requires c.index-head.ensures c.index-around.ensures in
+    let k = facts (goal.at.invariant_of-self c).After-index-around in
     let front : ((head.first ≡ c.args.item) × (c.if-head-item.first ≡ around.after)) ⊎ ((head.first ≢ c.args.item) × (c.if-head-item.first ≡ head.first)) =
     elim c.if-head-item.branch [
       | then-head-item w ↦ inl (w.if-head-item.true, w.first-is)
@@ -121,7 +119,7 @@ returns-clause-lists c =
     let head : Head = c.index-head.result.now in
     let around : Neighbours = c.index-around.result.now in
     let after : List Neighbours = c.join.new.items in
-    let k = known items heads c.args.self.now c.args.list c.args.item head around c.self.view_is c.self.invariant c.requires c.index-head.ensures c.index-around.ensures in
+    let k = facts (goal.at.returns-clause-lists c).After-index-around in
     let front : ((head.first ≡ c.args.item) × (c.if-head-item.first ≡ around.after)) ⊎ ((head.first ≢ c.args.item) × (c.if-head-item.first ≡ head.first)) =
     elim c.if-head-item.branch [
       | then-head-item w ↦ inl (w.if-head-item.true, w.first-is)

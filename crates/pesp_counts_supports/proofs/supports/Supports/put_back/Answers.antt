@@ -1,57 +1,41 @@
--- The last pair of the trail comes back.
-use Rattle.std.proofs.Common.{◌≤◌, length, subst, sym, ap, ◌∙◌, arith}
+-- All of them wait, and one after another comes back.
+use Rattle.std.proofs.Common.{◌≤◌, length, ap, arith}
 use Rattle.pesp_counts_supports.specs.Supports.{Supports}
-use Rattle.pesp_counts_supports.proofs.Raised.{AreBack, back_end, back_more, last_below, last_out, last_row}
-use Rattle.pesp_counts_supports.proofs.supports.Supports.put_back.Goals as goal
+use Rattle.pesp_counts_supports.proofs.Returned.{back_exact, back_level, back_more, back_rows, back_start, back_trail}
 use Rattle.pesp_counts_supports.proofs.Taken.{fit_then}
+use Rattle.pesp_counts_supports.proofs.supports.Supports.put_back.Goals as goal
 
-pub put_in-requires-clause-fit : goal.put_in-requires-clause-fit
-put_in-requires-clause-fit c =
-    let so_far = subst (AreBack c.args.links.now c.args.mark c.args.self.now) (sym c.self.view_is) c.loop-self.invariant in
-    let h = so_far.shape in
-    fit_then c.args.links.now c.args.self.now _ (record { period = h.period; counts = h.counts; counted = h.counted; rows = h.rows; room = c.take_last-pair.ensures.capacity ∙ h.room }) c.requires.fit
+pub loop-self-init : goal.loop-self-init
+loop-self-init c =
+    let r = c.requires in
+    let e = c.announce.ensures in
+    back_start c.args.links.now c.args.mark c.args.self.now c.announce.new.self r.mark r.exact r.level r.out e.counted e.long e.same
 
-pub put_in-requires-clause-exact : goal.put_in-requires-clause-exact
-put_in-requires-clause-exact c =
-    let so_far = subst (AreBack c.args.links.now c.args.mark c.args.self.now) (sym c.self.view_is) c.loop-self.invariant in
-    so_far.exact
+pub put_last-requires-clause-linked : goal.put_last-requires-clause-linked
+put_last-requires-clause-linked c = rw c.loop-self.invariant.shape.period c.requires.linked
 
-pub put_in-requires-clause-rows : goal.put_in-requires-clause-rows
-put_in-requires-clause-rows c =
-    let so_far = subst (AreBack c.args.links.now c.args.mark c.args.self.now) (sym c.self.view_is) c.loop-self.invariant in
-    let more : c.args.mark ≤ length c.take_last-pair.new.self.items = omega (arith, c.loop-self-test.true, c.len.ensures, c.take_last-pair.ensures.len) in
-    last_row c.args.links.now c.args.mark c.args.self.now _ so_far c.take_last-pair.new.self.items c.take_last-pair.result c.take_last-pair.ensures.items more
-
-pub put_in-requires-clause-counted : goal.put_in-requires-clause-counted
-put_in-requires-clause-counted c =
-    let so_far = subst (AreBack c.args.links.now c.args.mark c.args.self.now) (sym c.self.view_is) c.loop-self.invariant in
-    let more : c.args.mark ≤ length c.take_last-pair.new.self.items = omega (arith, c.loop-self-test.true, c.len.ensures, c.take_last-pair.ensures.len) in
-    let row = last_row c.args.links.now c.args.mark c.args.self.now _ so_far c.take_last-pair.new.self.items c.take_last-pair.result c.take_last-pair.ensures.items more in
-    omega (arith, row, c.self.invariant.even)
-
-pub put_in-requires-clause-residue : goal.put_in-requires-clause-residue
-put_in-requires-clause-residue c =
-    let so_far = subst (AreBack c.args.links.now c.args.mark c.args.self.now) (sym c.self.view_is) c.loop-self.invariant in
-    let more : c.args.mark ≤ length c.take_last-pair.new.self.items = omega (arith, c.loop-self-test.true, c.len.ensures, c.take_last-pair.ensures.len) in
-    last_below c.args.links.now c.args.mark c.args.self.now _ so_far c.take_last-pair.new.self.items c.take_last-pair.result c.take_last-pair.ensures.items more
-
-pub put_in-requires-clause-absent : goal.put_in-requires-clause-absent
-put_in-requires-clause-absent c =
-    let so_far = subst (AreBack c.args.links.now c.args.mark c.args.self.now) (sym c.self.view_is) c.loop-self.invariant in
-    let more : c.args.mark ≤ length c.take_last-pair.new.self.items = omega (arith, c.loop-self-test.true, c.len.ensures, c.take_last-pair.ensures.len) in
-    last_out c.args.links.now c.args.mark c.args.self.now _ so_far c.take_last-pair.new.self.items c.take_last-pair.result c.take_last-pair.ensures.items more
+pub put_last-requires-clause-fit : goal.put_last-requires-clause-fit
+put_last-requires-clause-fit c = fit_then c.args.links.now c.args.self.now c.loop-self.self c.loop-self.invariant.shape c.requires.fit
 
 pub loop-self-preserved : goal.loop-self-preserved
 loop-self-preserved c =
-    let so_far = subst (AreBack c.args.links.now c.args.mark c.args.self.now) (sym c.self.view_is) c.loop-self.invariant in
-    let more : c.args.mark ≤ length c.take_last-pair.new.self.items = omega (arith, c.loop-self-test.true, c.len.ensures, c.take_last-pair.ensures.len) in
-    let e = c.put_in.ensures in
-    let h = e.shape in
-    back_more c.args.links.now c.args.mark c.args.self.now _ so_far c.take_last-pair.new.self.items c.take_last-pair.result c.take_last-pair.ensures.items more
-    c.put_in.new.self e.rows e.exact e.level e.trail (record { period = h.period; counts = h.counts; counted = h.counted; rows = h.rows; room = h.room ∙ c.take_last-pair.ensures.capacity })
+    let e = c.put_last.ensures in
+    let (last, trail, rows) = e.last in
+    let long = ap (λ (s : Supports). length s.trail) c.self.view_is in
+    back_more c.args.links.now c.args.mark c.args.self.now c.loop-self.self c.put_last.new.self last c.loop-self.invariant (omega (arith, c.loop-self-test.true, c.len.ensures, long)) trail rows e.returning e.shape
 
-pub returns-clause-rows : goal.returns-clause-rows
-returns-clause-rows c =
+pub returns : goal.returns
+returns c =
     let long = ap (λ (s : Supports). length s.trail) c.self.view_is in
     let over : length c.loop-self.self.trail ≤ c.args.mark = omega (arith, long, c.len.ensures, c.loop-self-test.false) in
-    (back_end c.args.links.now c.args.mark c.args.self.now c.loop-self.self over c.loop-self.invariant).1
+    let links = c.args.links.now in
+    let start = c.args.self.now in
+    let now = c.loop-self.self in
+    let so_far = c.loop-self.invariant in
+    record {
+      rows = back_rows links c.args.mark start now over so_far;
+      exact = back_exact links c.args.mark start now over so_far;
+      level = back_level links c.args.mark start now over so_far;
+      trail = back_trail links c.args.mark start now over so_far;
+      shape = so_far.shape;
+    }

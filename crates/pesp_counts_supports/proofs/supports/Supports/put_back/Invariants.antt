@@ -1,6 +1,6 @@
 -- The pairs of the trail's end are back.
 use Rattle.std.proofs.Common.{length}
-use Rattle.pesp_counts_supports.proofs.Raised.{AreBack}
+use Rattle.pesp_counts_supports.proofs.Returned.{AreBack}
 use Rattle.pesp_counts_supports.proofs.supports.Supports.put_back.Given as goal
 
 abbrev pub invariant-loop-self : goal.invariant-loop-self

@@ -1,10 +1,11 @@
--- The mates of the ends to come are exact by the old set, and all others but the spared ones by the set with the pair.
-use Rattle.std.proofs.Common.{◌≡◌, ◌≤◌, ◌+◌, ◌-◌, ◌*◌, ◌++◌, ℕ, List, length, filter}
+-- The mates of the ends to come are exact by the old set, and all others but the spared ones by the set with what comes.
+use Rattle.std.proofs.Common.{◌≡◌, ◌≤◌, ◌+◌, ◌-◌, ◌*◌, ◌++◌, ℕ, List, length}
 use Rattle.pesp_counts_arcs.specs.Ends.{ends_of}
+use Rattle.pesp_counts_supports.specs.Blocks.{of_blocks}
 use Rattle.pesp_counts_supports.specs.Counts.{has_at}
-use Rattle.pesp_counts_supports.specs.Restored.{IsBrought, of_ends}
-use Rattle.pesp_counts_supports.proofs.Raised.{AreJoined}
-use Rattle.pesp_counts_supports.proofs.Sparing.{is_kept, kept}
+use Rattle.pesp_counts_supports.specs.Leaving.{IsMoved, comes_of}
+use Rattle.pesp_counts_supports.specs.Restored.{IsBrought}
+use Rattle.pesp_counts_supports.proofs.Blocked.{AreBlockedBut}
 use Rattle.pesp_counts_supports.proofs.supports.Supports.reach_around.Given as goal
 
 abbrev pub invariant-loop-number : goal.invariant-loop-number
@@ -12,7 +13,8 @@ invariant-loop-number l =
     record {
       can_next : (goal.iterator-loop-number).can_next l.number-iterator;
       is_finite : (goal.iterator-loop-number).is_finite l.number-iterator;
-      walked : (done : List ℕ) × (done ++ l.number-iterator ≡ ends_of l.links.lists l.pair.place) × IsBrought (of_ends l.fn.self.period l.instance l.links l.spared l.pair.residue done) l.fn.self l.self l.fn.back l.back;
-      joined : AreJoined l.fn.self.period l.links.ends (kept l.spared l.links.lists) l.self.counts (has_at l.fn.self.counted) l.pair.place l.pair.residue (filter (is_kept l.spared) l.number-iterator);
-      probes : l.self.probes + l.fn.self.period * length l.fn.back.pairs + (2 * l.fn.self.period - 1) * length l.number-iterator ≤ l.fn.self.probes + (2 * l.fn.self.period - 1) * length (ends_of l.links.lists l.pair.place) + l.fn.self.period * length l.back.pairs;
+      walked : (done : List ℕ) × (done ++ l.number-iterator ≡ ends_of l.links.lists l.place) × IsBrought (of_blocks l.fn.self.period l.instance l.links l.spared (comes_of l.fn.self l.place l.coming) done) l.fn.self l.self l.fn.back l.back;
+      blocked : AreBlockedBut l.fn.self.period l.links.ends l.links.lists l.spared (has_at l.fn.self.counted) l.place (comes_of l.fn.self l.place l.coming) l.self.counts l.number-iterator;
+      moved : IsMoved l.fn.self.period l.coming l.self.sums (comes_of l.fn.self l.place l.coming);
+      probes : l.self.probes + l.fn.self.period * length l.fn.back.pairs + (2 * l.fn.self.period - 1) * length l.number-iterator ≤ l.fn.self.probes + (2 * l.fn.self.period - 1) * length (ends_of l.links.lists l.place) + l.fn.self.period * length l.back.pairs;
     }

@@ -1,26 +1,23 @@
 -- The next pair of the list is followed, alone or with its block, until none is left.
-use Rattle.std.proofs.Common.{◌≡◌, ◌<◌, ◌≤◌, ◌+◌, ◌-◌, ◌*◌, not, ℕ, false, true, IsTrue, length, refl, sym, ap, subst, ◌∙◌, arith, rules}
-use Rattle.std.proofs.lemmas.Bool.{and_from as and_both}
+use Rattle.std.proofs.Common.{◌≡◌, ◌<◌, ◌≤◌, ◌+◌, ◌-◌, ◌*◌, ℕ, Bool, false, true, IsTrue, length, sym, ap, subst, ◌∙◌, arith, rules}
 use Rattle.std.proofs.lemmas.List.{take_all}
-use Rattle.pesp_domains.proofs.Families.{and_left}
 use Rattle.pesp_counts_arcs.specs.Ends.{ends_of}
-use Rattle.pesp_counts_supports.specs.Blocks.{AreSums, come_at, joined_block, of_blocks}
+use Rattle.pesp_counts_supports.specs.Blocks.{joined_block, of_blocks}
 use Rattle.pesp_counts_supports.specs.Counts.{has_at}
-use Rattle.pesp_counts_supports.specs.Restored.{AreExactBut, HasRoom, IsBrought, of_ends}
+use Rattle.pesp_counts_supports.specs.Leaving.{IsMoved, comes_of}
+use Rattle.pesp_counts_supports.specs.Restored.{AreExactBut, HasRoom, IsBrought}
 use Rattle.pesp_counts_supports.specs.Spent.{ends_at}
-use Rattle.pesp_counts_supports.specs.Supports.{HaveSameShape, Supports}
+use Rattle.pesp_counts_supports.specs.Supports.{Supports}
 use Rattle.pesp_counts_supports.proofs.AlongEnds.{brought_from}
-use Rattle.pesp_counts_supports.proofs.Coming.{block_below, coming_end, coming_more, coming_one, coming_passed, coming_start, is_not, next_below, next_there}
+use Rattle.pesp_counts_supports.proofs.Coming.{block_below, coming_end, coming_more, coming_passed, coming_start, next_below, next_there}
 use Rattle.pesp_counts_supports.proofs.Looked.{ends_more, ends_passed}
-use Rattle.pesp_counts_supports.proofs.Meeting.{not_counted}
+use Rattle.pesp_counts_supports.proofs.Meeting.{came_itself, came_with, comes_same}
+use Rattle.pesp_counts_supports.proofs.Returned.{resummed}
 use Rattle.pesp_counts_supports.proofs.Reached.{block_brings, block_goes}
 use Rattle.pesp_counts_supports.proofs.Rows.{within_rows}
 use Rattle.pesp_counts_supports.proofs.Taken.{fit_then, shape_then}
 use Rattle.pesp_counts_supports.proofs.supports.Supports.restore.Goals as goal
-
--- other sums, and nothing else
-resummed : (now one : Supports) → one ≡ record now { sums = one.sums } → HaveSameShape now one
-resummed now one same = subst (HaveSameShape now) (sym same) (record { period = refl; counts = refl; counted = refl; rows = refl; room = refl })
+use Rattle.pesp_counts_supports.proofs.supports.Supports.restore.Goals.{After-get-pair}
 
 pub loop-next-init : goal.loop-next-init
 loop-next-init c =
@@ -34,222 +31,145 @@ loop-next-init c =
       probes = omega (arith, c.bring_starts.ensures.probes);
     }
 
--- ---- a block
+-- ---- a pair that is not counted yet
 
-pub sum_come-requires : goal.sum_come-requires
-sum_come-requires c =
+-- it is below the period, and its row holds it
+facts : (c : After-get-pair) → let now = c.loop-next.self in let x = c.get-pair.result in
+    (c.loop-next.next < length c.loop-next.back.pairs) × (x.residue < now.period) × IsTrue (has_at now.rows x.place x.residue)
+facts c =
+    let within : c.loop-next.next < length c.loop-next.back.pairs = omega (arith, c.loop-next-test.true, c.len.ensures.count) in
+    let coming = c.loop-next.invariant.coming in
     let I = c.args.instance.now in
-    let links = c.args.links.now in
-    let starts = c.args.starts.now in
-    let spared = c.args.spared in
-    let start = c.args.self.now in
+    let links = c.args.links.now in (
+      within,
+      next_below I links c.args.starts.now c.args.spared c.args.self.now c.loop-next.self c.loop-next.back c.loop-next.next c.get-pair.result within c.get-pair.ensures c.requires.period coming,
+      next_there I links c.args.starts.now c.args.spared c.args.self.now c.loop-next.self c.loop-next.back c.loop-next.next c.get-pair.result within c.get-pair.ensures c.requires.period coming,
+    )
+
+pub coming_with-coming-requires : goal.coming_with-coming-requires
+coming_with-coming-requires c =
+    let (within, below, there) = facts (goal.at.coming_with-coming-requires c).After-get-pair in
+    record { place = within_rows c.loop-next.self.rows c.get-pair.result.place c.get-pair.result.residue there; residue = below }
+
+pub reach_around-requires-clause-fit : goal.reach_around-requires-clause-fit
+reach_around-requires-clause-fit c =
     let now = c.loop-next.self in
-    let back = c.loop-next.back in
-    let next = c.loop-next.next in
+    let one = c.coming_with-coming.new.self in
+    fit_then c.args.links.now c.args.self.now one (shape_then c.args.self.now now one c.loop-next.invariant.coming.shape (resummed now one c.coming_with-coming.ensures.same)) c.requires.fit
+
+pub reach_around-requires-clause-exact : goal.reach_around-requires-clause-exact
+reach_around-requires-clause-exact c =
+    subst (λ (s : Supports). AreExactBut c.args.links.now c.args.spared s (has_at s.counted)) (sym c.coming_with-coming.ensures.same) c.loop-next.invariant.coming.exact
+
+pub reach_around-requires-clause-coming : goal.reach_around-requires-clause-coming
+reach_around-requires-clause-coming c =
+    let made = c.coming_with-coming.ensures in
+    let now = c.loop-next.self in
+    let one = c.coming_with-coming.new.self in
+    let l = c.coming_with-coming.result in
+    rw (ap (λ (s : Supports). s.period) made.same) (subst (IsMoved now.period l one.sums) (sym (comes_same now one c.get-pair.result.place l made.same)) made.coming)
+
+pub reach_around-requires-clause-absent : goal.reach_around-requires-clause-absent
+reach_around-requires-clause-absent c =
+    let made = c.coming_with-coming.ensures in
+    let now = c.loop-next.self in
+    let one = c.coming_with-coming.new.self in
     let x = c.get-pair.result in
-    let inv = c.loop-next.invariant in
-    let within : next < length back.pairs = omega (arith, c.loop-next-test.true, c.len.ensures.count) in
-    record { place = within_rows now.rows x.place x.residue (next_there I links starts spared start now back next x within c.get-pair.ensures c.requires.period inv.coming) }
-
-pub reach_block_around-requires-clause-fit : goal.reach_block_around-requires-clause-fit
-reach_block_around-requires-clause-fit c =
-    let now = c.loop-next.self in
-    let one = c.sum_come.new.self in
-    fit_then c.args.links.now c.args.self.now one (shape_then c.args.self.now now one c.loop-next.invariant.coming.shape (resummed now one c.sum_come.ensures.same)) c.requires.fit
-
-pub reach_block_around-requires-clause-exact : goal.reach_block_around-requires-clause-exact
-reach_block_around-requires-clause-exact c =
-    subst (λ (s : Supports). AreExactBut c.args.links.now c.args.spared s (has_at s.counted)) (sym c.sum_come.ensures.same) c.loop-next.invariant.coming.exact
-
-pub reach_block_around-requires-clause-some : goal.reach_block_around-requires-clause-some
-reach_block_around-requires-clause-some c =
-    let I = c.args.instance.now in
-    let links = c.args.links.now in
-    let starts = c.args.starts.now in
-    let spared = c.args.spared in
-    let start = c.args.self.now in
-    let now = c.loop-next.self in
-    let back = c.loop-next.back in
-    let next = c.loop-next.next in
-    let x = c.get-pair.result in
-    let inv = c.loop-next.invariant in
-    let within : next < length back.pairs = omega (arith, c.loop-next-test.true, c.len.ensures.count) in
+    let l = c.coming_with-coming.result in
+    let known = facts (goal.at.reach_around-requires-clause-absent c).After-get-pair in
     let lone : has_at now.counted x.place x.residue ≡ false = sym c.has_counted.ensures ∙ c.if-not-has_counted.true in
-    let there = next_there I links starts spared start now back next x within c.get-pair.ensures c.requires.period inv.coming in
-    let mine : IsTrue (come_at now x.place x.residue) = and_both (has_at now.rows x.place x.residue) (not (has_at now.counted x.place x.residue)) there (is_not (has_at now.counted x.place x.residue) lone) in
-    let below = next_below I links starts spared start now back next x within c.get-pair.ensures c.requires.period inv.coming in
-    subst (λ (s : Supports). (r : ℕ) × (r < s.period) × IsTrue (come_at s x.place r)) (sym c.sum_come.ensures.same) (x.residue, below, mine)
+    subst (λ (D : ℕ → Bool). (r : ℕ) → IsTrue (D r) → has_at one.counted x.place r ≡ false) (sym (comes_same now one x.place l made.same))
+    (λ r h. ap (λ (s : Supports). has_at s.counted x.place r) made.same ∙ (came_with now x.place x.residue l known.2 lone made.alone r h).1)
 
-pub count_block-requires : goal.count_block-requires
-count_block-requires c =
-    let I = c.args.instance.now in
-    let links = c.args.links.now in
-    let starts = c.args.starts.now in
-    let spared = c.args.spared in
-    let start = c.args.self.now in
+pub reach_around-requires-clause-some : goal.reach_around-requires-clause-some
+reach_around-requires-clause-some c =
+    let made = c.coming_with-coming.ensures in
     let now = c.loop-next.self in
-    let back = c.loop-next.back in
-    let next = c.loop-next.next in
+    let one = c.coming_with-coming.new.self in
     let x = c.get-pair.result in
-    let inv = c.loop-next.invariant in
-    let within : next < length back.pairs = omega (arith, c.loop-next-test.true, c.len.ensures.count) in
-    let one = c.sum_come.new.self in
-    let row = within_rows now.rows x.place x.residue (next_there I links starts spared start now back next x within c.get-pair.ensures c.requires.period inv.coming) in
-    let shape = resummed now one c.sum_come.ensures.same in
-    record { place = rw (c.reach_block_around.ensures.brought.shape.rows, shape.rows) row }
-
-pub loop-next-preserved-then-at_once : goal.loop-next-preserved-then-at_once
-loop-next-preserved-then-at_once c =
-    let I = c.args.instance.now in
-    let links = c.args.links.now in
-    let starts = c.args.starts.now in
-    let spared = c.args.spared in
-    let start = c.args.self.now in
-    let now = c.loop-next.self in
-    let back = c.loop-next.back in
-    let next = c.loop-next.next in
-    let x = c.get-pair.result in
-    let inv = c.loop-next.invariant in
-    let within : next < length back.pairs = omega (arith, c.loop-next-test.true, c.len.ensures.count) in
+    let l = c.coming_with-coming.result in
+    let known = facts (goal.at.reach_around-requires-clause-some c).After-get-pair in
     let lone : has_at now.counted x.place x.residue ≡ false = sym c.has_counted.ensures ∙ c.if-not-has_counted.true in
-    let one = c.sum_come.new.self in
-    let same : one ≡ record now { sums = one.sums } = c.sum_come.ensures.same in
+    subst (λ (D : ℕ → Bool). (r : ℕ) × (r < one.period) × IsTrue (D r)) (sym (comes_same now one x.place l made.same))
+    (x.residue, rw (ap (λ (s : Supports). s.period) made.same) known.1, came_itself now x.place x.residue l known.2 lone made.alone)
+
+pub count_moved-requires : goal.count_moved-requires
+count_moved-requires c =
+    let now = c.loop-next.self in
+    let one = c.coming_with-coming.new.self in
+    let x = c.get-pair.result in
+    let known = facts (goal.at.count_moved-requires c).After-get-pair in
+    let e = c.reach_around.ensures in
+    record {
+      place = rw (e.brought.shape.rows, (resummed now one c.coming_with-coming.ensures.same).rows) (within_rows now.rows x.place x.residue known.2);
+      coming = (comes_of one x.place c.coming_with-coming.result, rw e.brought.shape.period e.coming);
+    }
+
+pub loop-next-preserved-then-not-has_counted : goal.loop-next-preserved-then-not-has_counted
+loop-next-preserved-then-not-has_counted c =
+    let I = c.args.instance.now in
+    let links = c.args.links.now in
+    let starts = c.args.starts.now in
+    let spared = c.args.spared in
+    let start = c.args.self.now in
+    let now = c.loop-next.self in
+    let back = c.loop-next.back in
+    let next = c.loop-next.next in
+    let x = c.get-pair.result in
+    let inv = c.loop-next.invariant in
+    let (within, residue, there) = facts (goal.at.loop-next-preserved-then-not-has_counted c).After-get-pair in
+    let lone : has_at now.counted x.place x.residue ≡ false = sym c.has_counted.ensures ∙ c.if-not-has_counted.true in
+    let one = c.coming_with-coming.new.self in
+    let l = c.coming_with-coming.result in
+    let made = c.coming_with-coming.ensures in
     let T = start.period in
     let place = x.place in
     let ends = ends_of links.lists place in
-    let mid = c.reach_block_around.new.self in
-    let after = c.count_block.new.self in
-    let back' = c.reach_block_around.new.back in
-    let D = come_at now place in
-    let there = next_there I links starts spared start now back next x within c.get-pair.ensures c.requires.period inv.coming in
-    let mine : IsTrue (come_at now x.place x.residue) = and_both (has_at now.rows x.place x.residue) (not (has_at now.counted x.place x.residue)) there (is_not (has_at now.counted x.place x.residue) lone) in
-    let held : (d : ℕ) → IsTrue (D d) → IsTrue (has_at now.rows place d) = λ d h. and_left (has_at now.rows place d) (not (has_at now.counted place d)) h in
-    let absent : (d : ℕ) → IsTrue (D d) → has_at now.counted place d ≡ false = λ d h. not_counted now place d h in
+    let e = c.reach_around.ensures in
+    let mid = c.reach_around.new.self in
+    let after = c.count_moved.new.self in
+    let back' = c.reach_around.new.back in
+    let D : ℕ → Bool = comes_of now place l in
+    let same_D : comes_of one place l ≡ D = comes_same now one place l made.same in
+    let mine = came_itself now place x.residue l there lone made.alone in
+    let held : (d : ℕ) → IsTrue (D d) → IsTrue (has_at now.rows place d) = λ d h. (came_with now place x.residue l there lone made.alone d h).0 in
+    let absent : (d : ℕ) → IsTrue (D d) → has_at now.counted place d ≡ false = λ d h. (came_with now place x.residue l there lone made.alone d h).1 in
     let below = block_below I links starts spared start now back next x within c.get-pair.ensures c.requires.period inv.coming D mine held absent in
     let low : (d : ℕ) → IsTrue (D d) → d < T = λ d h. subst (λ n. d < n) inv.coming.shape.period (below d h) in
     let may = of_blocks T I links spared D ends in
-    let other : Supports = record now { sums = one.sums } in
-    let brought = subst (λ (s : Supports). IsBrought (of_blocks s.period I links spared (come_at s place) ends) s mid back back') same c.reach_block_around.ensures.brought in
-    let came = subst (λ n. IsBrought (of_blocks n I links spared D ends) now mid back back') inv.coming.shape.period
-    (brought_from (of_blocks now.period I links spared D ends) now other mid back back' refl refl refl (record { period = refl; counts = refl; counted = refl; rows = refl; room = refl }) brought)
+    let period_is : one.period ≡ T = ap (λ (s : Supports). s.period) made.same ∙ inv.coming.shape.period in
+    let came : IsBrought may now mid back back' =
+    brought_from may now one mid back back' (ap (λ (s : Supports). s.rows) made.same) (ap (λ (s : Supports). s.counted) made.same) (ap (λ (s : Supports). s.trail) made.same) (resummed now one made.same)
+    (subst (λ (E : ℕ → Bool). IsBrought (of_blocks T I links spared E ends) one mid back back') same_D (subst (λ n. IsBrought (of_blocks n I links spared (comes_of one place l) ends) one mid back back') period_is e.brought))
     in
-    let exact = subst (λ (s : Supports). AreExactBut links spared mid (joined_block (has_at s.counted) place (come_at s place))) same c.reach_block_around.ensures.exact in
-    let are : AreSums mid.period D mid.sums = rw (came.shape.period, c.reach_block_around.ensures.sums) c.sum_come.ensures.sums in
-    let counted = c.count_block.ensures.counted D are (λ d h. rw came.shape.period (below d h)) in
-    let looked = subst (λ n. mid.probes + n * length back.pairs ≤ now.probes + (2 * n - 1) * length ends + n * length back'.pairs) inv.coming.shape.period
-    (subst (λ (s : Supports). mid.probes + s.period * length back.pairs ≤ s.probes + (2 * s.period - 1) * length ends + s.period * length back'.pairs) same c.reach_block_around.ensures.probes)
+    let exact = subst (λ (E : ℕ → Bool). AreExactBut links spared mid (joined_block (has_at now.counted) place E)) same_D
+    (subst (λ xs. AreExactBut links spared mid (joined_block (has_at xs) place (comes_of one place l))) (ap (λ (s : Supports). s.counted) made.same) e.exact)
+    in
+    let moved : IsMoved mid.period l mid.sums D = subst (IsMoved mid.period l mid.sums) same_D (rw e.brought.shape.period e.coming) in
+    let counted = c.count_moved.ensures.counted D moved (λ d h. rw came.shape.period (below d h)) in
+    let looked = subst (λ n. mid.probes + n * length back.pairs ≤ now.probes + (2 * n - 1) * length ends + n * length back'.pairs) period_is
+    (subst (λ m. mid.probes + one.period * length back.pairs ≤ m + (2 * one.period - 1) * length ends + one.period * length back'.pairs) (ap (λ (s : Supports). s.probes) made.same) e.probes)
     in
     let paid = ap (λ n. (2 * T - 1) * n) (ends_more links back.pairs came.more back'.pairs next x came.listed within c.get-pair.ensures) in
     record {
       coming = coming_more I links starts spared start now back next x within c.get-pair.ensures c.requires.period inv.coming D mine held absent
           may mid after back' c.requires.linked c.requires.mates
           (block_goes T I links spared c.requires.linked c.requires.period place D low) (block_brings T I links spared c.requires.linked c.requires.period place D low)
-          came exact counted c.count_block.ensures.rows c.count_block.ensures.counts c.count_block.ensures.trail c.count_block.ensures.shape;
+          came exact counted c.count_moved.ensures.rows c.count_moved.ensures.counts c.count_moved.ensures.trail c.count_moved.ensures.shape;
       room = came.room ∙ inv.room;
-      probes = omega (arith, c.count_block.ensures.probes, looked, paid, inv.probes);
-    }
-
--- ---- a pair alone
-
-pub reach_around-requires-clause-fit : goal.reach_around-requires-clause-fit
-reach_around-requires-clause-fit c = fit_then c.args.links.now c.args.self.now c.loop-next.self c.loop-next.invariant.coming.shape c.requires.fit
-
-pub reach_around-requires-clause-residue : goal.reach_around-requires-clause-residue
-reach_around-requires-clause-residue c =
-    let I = c.args.instance.now in
-    let links = c.args.links.now in
-    let starts = c.args.starts.now in
-    let spared = c.args.spared in
-    let start = c.args.self.now in
-    let now = c.loop-next.self in
-    let back = c.loop-next.back in
-    let next = c.loop-next.next in
-    let x = c.get-pair.result in
-    let inv = c.loop-next.invariant in
-    let within : next < length back.pairs = omega (arith, c.loop-next-test.true, c.len.ensures.count) in
-    next_below I links starts spared start now back next x within c.get-pair.ensures c.requires.period inv.coming
-
-pub count_pair-requires-clause-place : goal.count_pair-requires-clause-place
-count_pair-requires-clause-place c =
-    let I = c.args.instance.now in
-    let links = c.args.links.now in
-    let starts = c.args.starts.now in
-    let spared = c.args.spared in
-    let start = c.args.self.now in
-    let now = c.loop-next.self in
-    let back = c.loop-next.back in
-    let next = c.loop-next.next in
-    let x = c.get-pair.result in
-    let inv = c.loop-next.invariant in
-    let within : next < length back.pairs = omega (arith, c.loop-next-test.true, c.len.ensures.count) in
-    let row = within_rows now.rows x.place x.residue (next_there I links starts spared start now back next x within c.get-pair.ensures c.requires.period inv.coming) in
-    rw c.reach_around.ensures.brought.shape.rows row
-
-pub count_pair-requires-clause-residue : goal.count_pair-requires-clause-residue
-count_pair-requires-clause-residue c =
-    let I = c.args.instance.now in
-    let links = c.args.links.now in
-    let starts = c.args.starts.now in
-    let spared = c.args.spared in
-    let start = c.args.self.now in
-    let now = c.loop-next.self in
-    let back = c.loop-next.back in
-    let next = c.loop-next.next in
-    let x = c.get-pair.result in
-    let inv = c.loop-next.invariant in
-    let within : next < length back.pairs = omega (arith, c.loop-next-test.true, c.len.ensures.count) in
-    let below = next_below I links starts spared start now back next x within c.get-pair.ensures c.requires.period inv.coming in
-    rw c.reach_around.ensures.brought.shape.period below
-
-pub loop-next-preserved-else-at_once : goal.loop-next-preserved-else-at_once
-loop-next-preserved-else-at_once c =
-    let I = c.args.instance.now in
-    let links = c.args.links.now in
-    let starts = c.args.starts.now in
-    let spared = c.args.spared in
-    let start = c.args.self.now in
-    let now = c.loop-next.self in
-    let back = c.loop-next.back in
-    let next = c.loop-next.next in
-    let x = c.get-pair.result in
-    let inv = c.loop-next.invariant in
-    let within : next < length back.pairs = omega (arith, c.loop-next-test.true, c.len.ensures.count) in
-    let lone : has_at now.counted x.place x.residue ≡ false = sym c.has_counted.ensures ∙ c.if-not-has_counted.true in
-    let T = start.period in
-    let mid = c.reach_around.new.self in
-    let back' = c.reach_around.new.back in
-    let ends = ends_of links.lists x.place in
-    let came = subst (λ n. IsBrought (of_ends n I links spared x.residue ends) now mid back back') inv.coming.shape.period c.reach_around.ensures.brought in
-    let looked = subst (λ n. mid.probes + n * length back.pairs ≤ now.probes + (2 * n - 1) * length ends + n * length back'.pairs) inv.coming.shape.period c.reach_around.ensures.probes in
-    let paid = ap (λ n. (2 * T - 1) * n) (ends_more links back.pairs came.more back'.pairs next x came.listed within c.get-pair.ensures) in
-    record {
-      coming = coming_one I links starts spared start now back next x within c.get-pair.ensures c.requires.period inv.coming lone
-          mid c.count_pair.new.self back' c.requires.linked c.requires.mates came c.reach_around.ensures.exact
-          c.count_pair.ensures.counted c.count_pair.ensures.rows c.count_pair.ensures.counts c.count_pair.ensures.trail c.count_pair.ensures.shape;
-      room = c.reach_around.ensures.brought.room ∙ inv.room;
-      probes = omega (arith, c.count_pair.ensures.probes, looked, paid, inv.probes);
+      probes = omega (arith, c.count_moved.ensures.probes, looked, paid, inv.probes);
     }
 
 -- ---- a pair that is counted already
 
 pub loop-next-preserved : goal.loop-next-preserved
 loop-next-preserved c =
-    let I = c.args.instance.now in
-    let links = c.args.links.now in
-    let starts = c.args.starts.now in
-    let spared = c.args.spared in
-    let start = c.args.self.now in
-    let now = c.loop-next.self in
-    let back = c.loop-next.back in
-    let next = c.loop-next.next in
-    let x = c.get-pair.result in
+    let within = (facts (goal.at.loop-next-preserved c).After-get-pair).0 in
     let inv = c.loop-next.invariant in
-    let within : next < length back.pairs = omega (arith, c.loop-next-test.true, c.len.ensures.count) in
-    let T = start.period in
-    let seen : has_at now.counted x.place x.residue ≡ true = sym c.has_counted.ensures ∙ c.if-not-has_counted.false in
-    let paid = ends_passed T links back.pairs next x within c.get-pair.ensures in
+    let seen : has_at c.loop-next.self.counted c.get-pair.result.place c.get-pair.result.residue ≡ true = sym c.has_counted.ensures ∙ c.if-not-has_counted.false in
+    let paid = ends_passed c.args.self.now.period c.args.links.now c.loop-next.back.pairs c.loop-next.next c.get-pair.result within c.get-pair.ensures in
     record {
-      coming = coming_passed I links starts spared start now back next x within c.get-pair.ensures c.requires.period inv.coming seen;
+      coming = coming_passed c.args.instance.now c.args.links.now c.args.starts.now c.args.spared c.args.self.now c.loop-next.self c.loop-next.back c.loop-next.next c.get-pair.result within c.get-pair.ensures c.requires.period inv.coming seen;
       room = inv.room;
       probes = omega (arith, paid, inv.probes);
     }

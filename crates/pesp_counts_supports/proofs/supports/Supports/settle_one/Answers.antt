@@ -4,12 +4,12 @@ use Rattle.std.proofs.lemmas.Bool.{false≢true}
 use Rattle.std.proofs.lemmas.List.{get_or_default}
 use Rattle.std.proofs.lemmas.List.Elements.{All-get_or}
 use Rattle.pesp_domains.specs.Sweeps.{Of}
-use Rattle.pesp_counts_supports.specs.declared.leaving.Leaving.TheVariants.{Block}
+use Rattle.pesp_counts_supports.specs.declared.leaving.Moved.TheVariants.{Block}
 use Rattle.pesp_counts_supports.specs.declared.trail.Placed.{Placed}
 use Rattle.pesp_counts_arcs.specs.declared.end.End.{End}
 use Rattle.pesp_counts_supports.specs.Blocks.{gone_at, sum_below}
 use Rattle.pesp_counts_supports.specs.Counts.{ArePending, has_at}
-use Rattle.pesp_counts_supports.specs.Leaving.{IsLeaving, leaves_of, owed}
+use Rattle.pesp_counts_supports.specs.Leaving.{IsMoved, leaves_of, owed}
 use Rattle.pesp_counts_supports.specs.Spent.{ends_at}
 use Rattle.pesp_counts_supports.specs.Supports.{AreExact, HaveSameShape, IsTaken, Supports}
 use Rattle.pesp_counts_supports.proofs.Parted.{paid}
@@ -67,14 +67,14 @@ leaving_with-leaving-requires-clause-residue c =
     let long = subst (λ (s : Supports). All (λ row. length row ≡ s.period) s.counted) c.self.view_is c.self.invariant.counted in
     below_long start.counted start.period pair.place pair.residue long (sym c.has_counted.ensures ∙ c.if-has_counted.true)
 
-pub spread-requires-clause-fit : goal.spread-requires-clause-fit
-spread-requires-clause-fit c =
+pub count_out_around-requires-clause-fit : goal.count_out_around-requires-clause-fit
+count_out_around-requires-clause-fit c =
     let start = c.args.self.now in
     let mid = c.leaving_with-leaving.new.self in
     fit_then c.args.links.now start mid (sums_shape start mid c.leaving_with-leaving.ensures.same) c.requires.fit
 
-pub spread-requires-clause-exact : goal.spread-requires-clause-exact
-spread-requires-clause-exact c = subst (λ (s : Supports). AreExact c.args.links.now s (has_at s.counted)) (sym c.leaving_with-leaving.ensures.same) c.requires.pending.exact
+pub count_out_around-requires-clause-exact : goal.count_out_around-requires-clause-exact
+count_out_around-requires-clause-exact c = subst (λ (s : Supports). AreExact c.args.links.now s (has_at s.counted)) (sym c.leaving_with-leaving.ensures.same) c.requires.pending.exact
 
 -- The others wait still, and those that left paid for the looks.
 step : (c : After-uncount) → ArePending c.args.self.now.period c.args.links.now.ends c.args.links.now.lists c.uncount.new.self.counts (has_at c.uncount.new.self.counted) (has_at c.uncount.new.self.rows) c.uncount.new.self.trail (c.args.next + 1)
@@ -87,8 +87,8 @@ step c =
     let mid = c.leaving_with-leaving.new.self in
     let l = c.leaving_with-leaving.result in
     let made = c.leaving_with-leaving.ensures in
-    let now = c.spread.new.self in
-    let spread = c.spread.ensures in
+    let now = c.count_out_around.new.self in
+    let spread = c.count_out_around.ensures in
     let last = c.uncount.new.self in
     let D : ℕ → Bool = leaves_of mid pair.place l in
     let pending = subst (λ (s : Supports). ArePending s.period links.ends links.lists s.counts (has_at s.counted) (has_at s.rows) s.trail next) (sym made.same) c.requires.pending in
@@ -100,7 +100,7 @@ step c =
     let here : Of (has_at mid.counted) pair.place pair.residue = ap (λ (s : Supports). has_at s.counted pair.place pair.residue) made.same ∙ sym c.has_counted.ensures ∙ c.if-has_counted.true in
     let out : has_at mid.rows pair.place pair.residue ≡ false = ap (λ (s : Supports). has_at s.rows pair.place pair.residue) made.same ∙ sym c.holds.ensures ∙ c.if-not-holds.true in
     let within : next < length mid.trail = subst (λ (s : Supports). next < length s.trail) (sym made.same) c.requires.next in
-    let goes = c.uncount.ensures.counted D (subst (λ n. IsLeaving n l now.sums D) (sym spread.shape.period) spread.leaving) in
+    let goes = c.uncount.ensures.counted D (subst (λ n. IsMoved n l now.sums D) (sym spread.shape.period) spread.leaving) in
     let many = λ (e : l ≡ Block). subst (λ (s : Supports). 2 ≤ sum_below s.period (gone_at s pair.place) s.period) (sym made.same) (made.many e) in (
       subst (λ n. ArePending n links.ends links.lists last.counts (has_at last.counted) (has_at last.rows) last.trail (next + 1)) (ap (λ (s : Supports). s.period) made.same)
           (step_pending links next pair l mid now last pending within at here out made.alone spread.counted spread.taken spread.shape goes c.uncount.ensures.same spread.exact spread.live),
@@ -118,11 +118,11 @@ pub returns-then-not-holds-clause-taken : goal.returns-then-not-holds-clause-tak
 returns-then-not-holds-clause-taken c =
     let start = c.args.self.now in
     let mid = c.leaving_with-leaving.new.self in
-    let now = c.spread.new.self in
+    let now = c.count_out_around.new.self in
     let last = c.uncount.new.self in
     let kept = c.uncount.ensures.same in
     taken_then start mid last (sums_taken start mid c.leaving_with-leaving.ensures.same)
-    (taken_then mid now last c.spread.ensures.taken (taken_same now last (ap (λ (s : Supports). s.trail) kept) (λ p r. ap (λ (s : Supports). has_at s.rows p r) kept)))
+    (taken_then mid now last c.count_out_around.ensures.taken (taken_same now last (ap (λ (s : Supports). s.trail) kept) (λ p r. ap (λ (s : Supports). has_at s.rows p r) kept)))
 
 pub returns-else-has_counted-clause-probes : goal.returns-else-has_counted-clause-probes
 returns-else-has_counted-clause-probes c =

@@ -1,0 +1,1 @@
+-- The window leaves what it admits, and with none all is left.

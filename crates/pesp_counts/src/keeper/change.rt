@@ -1,0 +1,178 @@
+//! What an edit asks of rows and counts, found once.
+
+ghost use Rattle.std.specs.Prelude.{◌≡◌, ◌+◌, ◌*◌, ◌<◌, if◌then◌else◌, ℕ, None, Some, Ok, length};
+ghost use Rattle.pesp_instance.specs.Edited.{edited};
+ghost use Rattle.pesp_instance.specs.Network.{Network};
+ghost use Rattle.pesp_domains.specs.Loosening.{admits_more, is_looser};
+ghost use Rattle.pesp_counts_arcs.specs.Ends.{end_at};
+ghost use Rattle.pesp_counts_arcs.specs.Links.{StandFor};
+ghost use Rattle.pesp_counts_arcs.specs.Places.{place_of};
+ghost use Rattle.pesp_counts.specs.Changes.{IsChange, event_at};
+ghost use Rattle.pesp_counts.specs.declared.keeper.change.Starts.TheVariants as starts;
+
+use pesp_base::{ActivityId, EventId, Period, Span};
+use pesp_counts_arcs::{End, Links};
+use pesp_domains::{is_limited, window_admits_anew};
+use pesp_instance::{Edit, Instance};
+
+/// The places of the events at which pairs may begin to come back.
+#[derive(Drop)]
+pub enum Starts {
+    Nowhere,
+    At(usize),
+    AtBoth(usize, usize),
+}
+
+/// An event with its place.
+#[derive(Drop)]
+pub struct PlacedEvent {
+    pub event: EventId,
+    pub place: usize,
+}
+
+/// What an edit asks of rows and counts.
+#[derive(Drop)]
+pub struct Change {
+    /// Nowhere, where the edit only tightens.
+    pub loosened: Starts,
+    /// The event whose window changes.
+    pub limited: Option<PlacedEvent>,
+    /// The place of the activity whose ends are counted anew. They are left out while pairs come back.
+    pub recounted: Option<usize>,
+}
+
+impl Change {
+    /// That of an edit of which rows and counts see nothing.
+    pub fn none() -> Change
+        ensures { result ≡ record { loosened = starts.Nowhere; limited = None; recounted = None } }
+    {
+        Change {
+            loosened: Starts::Nowhere,
+            limited: None,
+            recounted: None,
+        }
+    }
+
+    /// That of an edit, from the instance before it. What the edit adds has no place yet.
+    pub fn of(instance: &Instance, links: &Links, edit: &Edit) -> Change
+        requires { StandFor instance.now links.now }
+        ensures { (J : Network) → edited instance.now edit.now ≡ Ok J
+            → IsChange instance.now edit.now links.now result }
+    {
+        match *edit {
+            Edit::Fix(event, time) => {
+                Change::of_window(links, event, window_admits_anew(instance, event, time, 1))
+            }
+            Edit::SetWindow(event, first, length) => {
+                Change::of_window(
+                    links,
+                    event,
+                    window_admits_anew(instance, event, first, length),
+                )
+            }
+            Edit::Unfix(event) => Change::of_window(links, event, is_limited(instance, event)),
+            Edit::SetSpan(id, span) => {
+                Change::of_activity(links, id, is_looser(instance, id, span))
+            }
+            Edit::SetEnds(id, _, _) => Change::of_activity(links, id, true),
+            Edit::DropActivity(id) => Change::of_drop(links, id),
+            _ => Change::none(),
+        }
+    }
+
+    /// That of a window, of which is known whether it admits residues anew.
+    fn of_window(links: &Links, event: EventId, loosens: bool) -> Change
+        ensures { (p : ℕ) → place_of (links.now).events event ≡ Some p → result ≡ record {
+          loosened = if loosens then starts.At p else starts.Nowhere;
+          limited = Some (event_at event p);
+          recounted = None;
+        } }
+    {
+        match links.event(event) {
+            Some(place) => Change {
+                loosened: if loosens {
+                    Starts::At(place)
+                } else {
+                    Starts::Nowhere
+                },
+                limited: Some(PlacedEvent { event, place }),
+                recounted: None,
+            },
+            None => Change::none(),
+        }
+    }
+
+    /// That of an activity that changes, of which is known whether it joins pairs anew.
+    fn of_activity(links: &Links, id: ActivityId, loosens: bool) -> Change
+        requires { (I : Network) × StandFor I links.now }
+        ensures { (q : ℕ) → place_of (links.now).activities id ≡ Some q → result ≡ record {
+          loosened = if loosens
+              then starts.AtBoth (end_at (links.now).ends (2 * q + 1)).looks_at
+              (end_at (links.now).ends (2 * q)).looks_at
+              else starts.Nowhere;
+          limited = None;
+          recounted = Some q;
+        } }
+    {
+        match links.activity(id) {
+            Some(place) => Change {
+                loosened: if loosens {
+                    at_both(links, place)
+                } else {
+                    Starts::Nowhere
+                },
+                limited: None,
+                recounted: Some(place),
+            },
+            None => Change::none(),
+        }
+    }
+
+    /// That of an activity that goes.
+    fn of_drop(links: &Links, id: ActivityId) -> Change
+        requires { (I : Network) × StandFor I links.now }
+        ensures { (q : ℕ) → place_of (links.now).activities id ≡ Some q → result ≡ record {
+          loosened = starts.AtBoth (end_at (links.now).ends (2 * q + 1)).looks_at
+              (end_at (links.now).ends (2 * q)).looks_at;
+          limited = None;
+          recounted = None;
+        } }
+    {
+        match links.activity(id) {
+            Some(place) => Change {
+                loosened: at_both(links, place),
+                limited: None,
+                recounted: None,
+            },
+            None => Change::none(),
+        }
+    }
+}
+
+/// The places of both events of the activity at a place.
+fn at_both(links: &Links, place: usize) -> Starts
+    requires { 2 * place + 1 < length (links.now).ends }
+    ensures { result ≡ starts.AtBoth (end_at (links.now).ends (2 * place + 1)).looks_at
+        (end_at (links.now).ends (2 * place)).looks_at }
+{
+    let (from, to) = links.events_of(place);
+    Starts::AtBoth(from, to)
+}
+
+/// Whether the second span admits a pair of residues that the first one does not.
+fn admits_more(period: Period, old: Span, new: Span) -> bool
+    ensures { result ≡ admits_more period old new }
+{
+    let (old, new) = (End::tail(period, old, 0, 0), End::tail(period, new, 0, 0));
+    new.passes_more(period.get(), old)
+}
+
+/// Whether the span admits a pair of residues that the activity's own does not.
+fn is_looser(instance: &Instance, id: ActivityId, span: Span) -> bool
+    ensures { result ≡ is_looser instance.now id span }
+{
+    match instance.activity(id) {
+        Some(activity) => admits_more(instance.period(), activity.span, span),
+        None => false,
+    }
+}
