@@ -25,5 +25,5 @@ not_missing xs x i around is =
     elim (cases_order is.0 i) [
       | inl at ↦ omega (arith, at, around.2 is.0 (omega (arith, at)) is.1, same, is.2)
       | inr (inl before) ↦ omega (arith, around.1 is.0 before, same, is.2)
-      | inr (inr behind) ↦ omega (arith, around.2 is.0 (omega (arith, behind)) is.1, same, is.2)
+      | inr (inr after) ↦ omega (arith, around.2 is.0 (omega (arith, after)) is.1, same, is.2)
     ]

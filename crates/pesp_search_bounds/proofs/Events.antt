@@ -1,4 +1,4 @@
--- Events by number and by place.
+-- Events by number and by index.
 use Rattle.std.proofs.Common.{◌≡◌, ℕ, zero, suc, ◌<◌, ◌==◌, true, false, cond, IsTrue, is_some, Some, List, [], ◌∷◌, map, length, slice_index, refl, arith}
 use Rattle.std.specs.List.{Contains}
 use Rattle.std.proofs.lemmas.Bool.{eqb-true, eq-eqb, false≢true}
@@ -14,7 +14,7 @@ among_ids e (x ∷ es) is =
       | false ↦ λ _ later. let rest = among_ids e es later in (suc rest.0, omega (arith, rest.1), rest.2)
     ] refl is
 
--- at each place stands an event
+-- at each index stands an event
 pub event_at : (es : List Event) (k : ℕ) → k < length (map (λ x. x.id) es) → IsTrue (is_some (with_number (λ x. x.id) (slice_index (map (λ x. x.id) es) k) es))
 event_at [] k h = absurd (omega (arith, h))
 event_at (x ∷ es) zero h = rw (eq-eqb x.id x.id refl) refl

@@ -5,14 +5,14 @@ use Rattle.std.proofs.lemmas.List.{get_or_append_left, get_or-append-add}
 use Rattle.pesp_search_bounds.specs.Rows.{holds_at}
 
 -- a row has residues below the period alone
-pub held : (T : ℕ) (tests : List Bool) (place r : ℕ) → IsTrue (holds_at T tests place r) → (r < T) × IsTrue (slice_index_or tests (place * T + r) false)
-held T tests place r h =
-    let both = and_parts (nat_lt r T) (slice_index_or tests (place * T + r) false) h in
+pub held : (T : ℕ) (tests : List Bool) (index r : ℕ) → IsTrue (holds_at T tests index r) → (r < T) × IsTrue (slice_index_or tests (index * T + r) false)
+held T tests index r h =
+    let both = and_parts (nat_lt r T) (slice_index_or tests (index * T + r) false) h in
     (ltb-true r T both.0, both.1)
 
 -- the entries of the tail stand first
-pub behind : (T r s n : ℕ) (tails heads : List ℕ) → length tails ≡ T → r < T → slice_index tails r + slice_index heads s ≤ n → slice_index (tails ++ heads) r + slice_index (tails ++ heads) (T + s) ≤ n
-behind T r s n tails heads long below low =
+pub both_ends : (T r s n : ℕ) (tails heads : List ℕ) → length tails ≡ T → r < T → slice_index tails r + slice_index heads s ≤ n → slice_index (tails ++ heads) r + slice_index (tails ++ heads) (T + s) ≤ n
+both_ends T r s n tails heads long below low =
     let first = get_or_append_left tails heads 0 r (omega arith) in
     let second = ap (λ k. slice_index (tails ++ heads) (k + s)) (sym long) ∙ get_or-append-add tails heads s 0 in
     omega (arith, first, second, low)

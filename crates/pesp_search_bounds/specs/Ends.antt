@@ -1,11 +1,11 @@
--- Ends of arcs by place.
+-- Ends of arcs by event.
 use Rattle.std.specs.Prelude.{ℕ, ◌<◌, ◌≤◌}
 use Rattle.pesp_search_bounds.specs.declared.ends.End.{End}
 use Rattle.pesp_search_bounds.specs.declared.ends.Part.{Part}
 
--- for how many places ends are kept, and of how many arcs
+-- for how many events ends are kept, and of how many arcs
 pub record Shape : Type 0 where
-  pub places : ℕ
+  pub event_count : ℕ
   pub arcs : ℕ
 
 -- the end is of one of so many arcs

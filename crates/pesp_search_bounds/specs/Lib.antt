@@ -1,5 +1,5 @@
 pub mod Arcs
+pub mod DualBounds
 pub mod Ends
 pub mod Rows
-pub mod Sights
 pub mod Tables

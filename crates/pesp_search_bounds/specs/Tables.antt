@@ -1,4 +1,4 @@
--- Tables of entries at both ends of arcs, their sums by event, and what residues of places cost along arcs.
+-- Tables of entries at both ends of arcs, their sums by event, and what residues of events cost along arcs.
 use Rattle.std.specs.Prelude.{◌≡◌, ℕ, zero, suc, ◌+◌, ◌*◌, ◌<◌, ◌⊎◌, Bool, IsTrue, List, length, slice_index_or, sum_by}
 use Rattle.pesp_base.specs.Bounds.{Bounds}
 use Rattle.pesp_base.specs.Tensions.{IsMet, slack_of}
@@ -17,16 +17,16 @@ abbrev pub most_entries : ℕ
 most_entries = 8388608
 
 -- the greatest number of events for which there are tables
-abbrev pub most_places : ℕ
-most_places = 1024
+abbrev pub most_events : ℕ
+most_events = 1024
 
 -- there are too many events for tables, or tables of all activities would have too many entries
 abbrev pub AreTooLarge : Network → Type 0
-AreTooLarge I = (most_places < length (event_ids I)) ⊎ (most_entries < length (event_ids I) * (length I.activities * (2 * I.period)))
+AreTooLarge I = (most_events < length (event_ids I)) ⊎ (most_entries < length (event_ids I) * (length I.activities * (2 * I.period)))
 
 -- ---- arcs
 
--- with the residues x of all places the arc is met
+-- with the residues x of all events the arc is met
 abbrev pub IsMetAt : ℕ → (ℕ → ℕ) → Arc → Type 0
 IsMetAt T x arc = IsMet T arc.span (x arc.tail) (x arc.head)
 
@@ -38,9 +38,9 @@ arc_cost T x arc = arc.weight * slack_of T arc.span (x arc.tail) (x arc.head)
 abbrev pub arcs_cost : ℕ → (ℕ → ℕ) → List Arc → ℕ
 arcs_cost T x arcs = sum_by (arc_cost T x) arcs
 
--- each place has a residue of its row
+-- each event has a residue of its row
 abbrev pub AreWithin : ℕ → List Bool → ℕ → (ℕ → ℕ) → Type 0
-AreWithin T tests places x = (p : ℕ) → p < places → IsTrue (holds_at T tests p (x p))
+AreWithin T tests event_count x = (p : ℕ) → p < event_count → IsTrue (holds_at T tests p (x p))
 
 -- ---- one arc, from one of its ends
 
@@ -61,7 +61,7 @@ IsStepsFrom Head T first k here = (here ≡ first + k) ⊎ (here + T ≡ first +
 
 -- ---- sums
 
--- what the sums of the first places tell of the residues x
+-- what the sums of the first events tell of the residues x
 abbrev pub total_of : ℕ → List ℕ → (ℕ → ℕ) → ℕ → ℕ
 total_of T sums x zero = 0
-total_of T sums x (suc places) = total_of T sums x places + slice_index_or sums (places * T + x places) 0
+total_of T sums x (suc event_count) = total_of T sums x event_count + slice_index_or sums (event_count * T + x event_count) 0

@@ -1,8 +1,8 @@
-//! Activities by place.
+//! Activities between events by index.
 
 use pesp_base::{Span, Weight};
 
-/// An activity between two events, which are told by their places.
+/// An activity between two events, which are told by their indices.
 #[derive(Clone, Copy)]
 pub struct Arc {
     pub tail: usize,

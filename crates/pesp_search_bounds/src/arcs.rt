@@ -1,4 +1,4 @@
-//! The activities of an instance by place.
+//! The activities of an instance, between events by index.
 
 ghost use Rattle.std.specs.Prelude.{◌≡◌, ◌≢◌, ◌+◌, ◌*◌, ◌-◌, ◌<◌, ◌≤◌, IfOk, length, slice_index};
 ghost use Rattle.std.specs.List.{Contains};
@@ -7,23 +7,23 @@ ghost use Rattle.pesp_base.specs.Limits.{greatest_period, greatest_weight};
 ghost use Rattle.pesp_base.specs.Tensions.{slack_of};
 ghost use Rattle.pesp_instance.specs.Network.{event_ids};
 ghost use Rattle.pesp_search_bounds.specs.Arcs.{IsArcOf};
-ghost use Rattle.pesp_search_bounds.specs.Sights.{AreArcs};
+ghost use Rattle.pesp_search_bounds.specs.DualBounds.{AreArcs};
 
 use crate::Arc;
 use pesp_base::{Activity, EventId, Period, slack};
 use pesp_instance::Instance;
 use std::alloc::{AllocError, Global};
 
-/// The place of an event among ascending ones, of which it is one.
-fn place_of(events: &[EventId], event: EventId) -> usize
+/// The index of an event among ascending ones, of which it is one.
+fn index_of(events: &[EventId], event: EventId) -> usize
     requires rises { IsStrictlyIncreasing events.now }
     requires among { Contains events.now event }
-    ensures place { result < length events.now }
+    ensures index { result < length events.now }
     ensures event { slice_index events.now result ≡ event }
 {
     match events.binary_search(&event) {
-        Ok(place) => place,
-        Err(place) => place,
+        Ok(index) => index,
+        Err(index) => index,
     }
 }
 
@@ -35,8 +35,8 @@ fn arc_of(events: &[EventId], activity: &Activity) -> Arc
     ensures { IsArcOf events.now activity.now result }
 {
     Arc {
-        tail: place_of(events, activity.from),
-        head: place_of(events, activity.to),
+        tail: index_of(events, activity.from),
+        head: index_of(events, activity.to),
         span: activity.span,
         weight: activity.weight,
     }

@@ -22,18 +22,24 @@ pub(crate) fn least_between(sums: &[u64], tests: &[bool], from: usize, to: usize
 }
 
 /// The least sums of the rows of all events but one.
-fn least_of_others(period: Period, sums: &[u64], tests: &[bool], places: usize, place: usize) -> u64
-    requires place { place < places }
-    requires sums { length sums.now ≡ places * period }
-    requires tests { length tests.now ≡ places * period }
-    ensures { (x : ℕ → ℕ) → AreWithin period tests.now places x
-        → result + slice_index sums.now (place * period + x place)
-        ≤ total_of period sums.now x places }
+fn least_of_others(
+    period: Period,
+    sums: &[u64],
+    tests: &[bool],
+    event_count: usize,
+    index: usize,
+) -> u64
+    requires index { index < event_count }
+    requires sums { length sums.now ≡ event_count * period }
+    requires tests { length tests.now ≡ event_count * period }
+    ensures { (x : ℕ → ℕ) → AreWithin period tests.now event_count x
+        → result + slice_index sums.now (index * period + x index)
+        ≤ total_of period sums.now x event_count }
 {
     let period = usize::from(period.get());
     let mut rest: u64 = 0;
-    for other in 0..places {
-        if other != place {
+    for other in 0..event_count {
+        if other != index {
             let from = other * period;
             rest = rest.saturating_add(least_between(sums, tests, from, from + period));
         }
@@ -56,29 +62,29 @@ fn write_bounds(bounds: &mut [u64], sums: &[u64], from: usize, to: usize, known:
     }
 }
 
-/// Tells what the residues of the event at the place leave at least of what is known and what the sums tell.
+/// Tells what the residues of the event leave at least of what is known and what the sums tell.
 pub(crate) fn tell_bounds(
     period: Period,
     sums: &[u64],
     tests: &[bool],
-    places: usize,
-    place: usize,
+    event_count: usize,
+    index: usize,
     known: u64,
     owed: u64,
     bounds: &mut [u64],
 )
-    requires place { place < places }
-    requires sums { length sums.now ≡ places * period }
-    requires tests { length tests.now ≡ places * period }
-    requires bounds { length bounds.old ≡ places * period }
-    ensures told { (x : ℕ → ℕ) → AreWithin period tests.now places x
-        → slice_index bounds.new (place * period + x place)
-        ≤ known + total_of period sums.now x places - owed }
-    ensures others { (k r : ℕ) → (k ≡ place → ⊥) → r < period
+    requires index { index < event_count }
+    requires sums { length sums.now ≡ event_count * period }
+    requires tests { length tests.now ≡ event_count * period }
+    requires bounds { length bounds.old ≡ event_count * period }
+    ensures told { (x : ℕ → ℕ) → AreWithin period tests.now event_count x
+        → slice_index bounds.new (index * period + x index)
+        ≤ known + total_of period sums.now x event_count - owed }
+    ensures others { (k r : ℕ) → (k ≡ index → ⊥) → r < period
         → slice_index bounds.new (k * period + r) ≡ slice_index bounds.old (k * period + r) }
 {
-    let rest = least_of_others(period, sums, tests, places, place);
-    let from = place * usize::from(period.get());
+    let rest = least_of_others(period, sums, tests, event_count, index);
+    let from = index * usize::from(period.get());
     let to = from + usize::from(period.get());
     write_bounds(bounds, sums, from, to, known.saturating_add(rest), owed);
 }

@@ -1,4 +1,4 @@
-//! The arcs at each place.
+//! The arcs at each event.
 
 ghost use Rattle.std.specs.Prelude.{◌≡◌, ◌<◌, ◌≤◌, All, IfOk, length};
 ghost use Rattle.pesp_search_bounds.specs.Ends.{IsEndOf, IsPartOf};
@@ -7,16 +7,16 @@ use crate::Arc;
 use std::alloc::{AllocError, Global};
 use std::marker::Model;
 
-/// An end of an arc: the place where it is, and the index of the arc.
+/// An end of an arc: the event where it is, and the index of the arc.
 #[derive(Clone, Copy, PartialEq, Eq, PartialOrd, Ord)]
 pub(crate) struct End {
-    // First, since ends are sorted by place, and at one place by arc.
-    pub(crate) place: usize,
+    // First, since ends are sorted by event, and at one event by arc.
+    pub(crate) event: usize,
     // Its index among the arcs.
     pub(crate) arc: usize,
 }
 
-/// The ends at a place, among those of all: from one on and before another.
+/// The ends at an event, among those of all: from one on and before another.
 #[derive(Clone, Copy)]
 struct Part {
     // At most `to`.
@@ -25,14 +25,14 @@ struct Part {
     to: usize,
 }
 
-/// The ends of arcs by place.
+/// The ends of arcs by event.
 #[derive(Drop)]
 pub(crate) struct Ends {
     // How many arcs there are.
     count: usize,
-    // For each place where its ends stand.
+    // For each event where its ends stand.
     parts: Vec<Part>,
-    // By place, and at one place by arc.
+    // By event, and at one event by arc.
     ends: Vec<End>,
 }
 
@@ -42,23 +42,23 @@ impl Model for Ends {
 
     ghost Value = { Shape };
 
-    ghost view = { λ a. record { places = length a.parts.items; arcs = a.count } };
+    ghost view = { λ a. record { event_count = length a.parts.items; arcs = a.count } };
 
     ghost invariant = { λ a. All (IsPartOf (length a.ends.items)) a.parts.items × All (IsEndOf a.count) a.ends.items };
 }
 
-/// The ends of all arcs, by place.
+/// The ends of all arcs, by event.
 fn ends_of(alloc: Global, arcs: &[Arc]) -> Result<Vec<End>, AllocError>
     ensures { IfOk result (λ ends. All (IsEndOf (length arcs.now)) ends.items) }
 {
     let mut ends = Vec::new(alloc);
     for (k, arc) in arcs.iter().enumerate() {
         ends.push(End {
-            place: arc.tail,
+            event: arc.tail,
             arc: k,
         })?;
         ends.push(End {
-            place: arc.head,
+            event: arc.head,
             arc: k,
         })?;
     }
@@ -66,29 +66,29 @@ fn ends_of(alloc: Global, arcs: &[Arc]) -> Result<Vec<End>, AllocError>
     Ok(ends)
 }
 
-/// Where the ends at the place end that begin here.
-fn end_of_part(ends: &[End], from: usize, place: usize) -> usize
+/// Where the ends at the event end that begin here.
+fn end_of_part(ends: &[End], from: usize, event: usize) -> usize
     requires { from ≤ length ends.now }
     ensures from { from ≤ result }
     ensures within { result ≤ length ends.now }
 {
     for k in from..ends.len() {
-        if ends[k].place != place {
+        if ends[k].event != event {
             return k;
         }
     }
     ends.len()
 }
 
-/// Where the ends of each place stand.
-fn parts_of(alloc: Global, places: usize, ends: &[End]) -> Result<Vec<Part>, AllocError>
-    ensures long { IfOk result (λ parts. length parts.items ≡ places) }
+/// Where the ends of each event stand.
+fn parts_of(alloc: Global, event_count: usize, ends: &[End]) -> Result<Vec<Part>, AllocError>
+    ensures long { IfOk result (λ parts. length parts.items ≡ event_count) }
     ensures within { IfOk result (λ parts. All (IsPartOf (length ends.now)) parts.items) }
 {
-    let mut parts = Vec::with_capacity(alloc, places)?;
+    let mut parts = Vec::with_capacity(alloc, event_count)?;
     let mut from = 0;
-    for place in 0..places {
-        let to = end_of_part(ends, from, place);
+    for event in 0..event_count {
+        let to = end_of_part(ends, from, event);
         parts.push(Part { from, to })?;
         from = to;
     }
@@ -96,13 +96,13 @@ fn parts_of(alloc: Global, places: usize, ends: &[End]) -> Result<Vec<Part>, All
 }
 
 impl Ends {
-    /// The ends of the arcs at so many places.
-    pub(crate) fn new(alloc: Global, places: usize, arcs: &[Arc]) -> Result<Ends, AllocError>
-        ensures places { IfOk result (λ ends. ends.places ≡ places) }
+    /// The ends of the arcs at so many events.
+    pub(crate) fn new(alloc: Global, event_count: usize, arcs: &[Arc]) -> Result<Ends, AllocError>
+        ensures event_count { IfOk result (λ ends. ends.event_count ≡ event_count) }
         ensures arcs { IfOk result (λ ends. ends.arcs ≡ length arcs.now) }
     {
         let ends = ends_of(alloc, arcs)?;
-        let parts = parts_of(alloc, places, &ends)?;
+        let parts = parts_of(alloc, event_count, &ends)?;
         Ok(Ends {
             count: arcs.len(),
             parts,
@@ -110,12 +110,12 @@ impl Ends {
         })
     }
 
-    /// The ends at a place.
-    pub(crate) fn at(&self, place: usize) -> &[End]
-        requires { place < self.now.places }
+    /// The ends at an event.
+    pub(crate) fn at(&self, event: usize) -> &[End]
+        requires { event < self.now.event_count }
         ensures { All (IsEndOf self.now.arcs) result.now }
     {
-        let part = self.parts[place];
+        let part = self.parts[event];
         &self.ends[part.from..part.to]
     }
 }

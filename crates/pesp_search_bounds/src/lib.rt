@@ -1,13 +1,13 @@
-//! Lower bounds (dual bounds) on what timetables cost that are still possible: tables that see ahead in a search.
+//! Lower bounds (dual bounds) on what timetables cost that are still possible: tables of dual variables, between which messages go.
 #![tactic(auto)]
 
-mod ahead;
 mod arc;
 mod arcs;
 mod bounds;
 mod ends;
 mod entry;
-mod lower;
+mod lower_bounds;
+mod messages;
 mod rows;
 mod size;
 mod step;
@@ -15,6 +15,6 @@ mod sums;
 mod sweep;
 mod tables;
 
-pub use ahead::Ahead;
 pub use arc::Arc;
+pub use lower_bounds::LowerBounds;
 pub use rows::fill_rows;

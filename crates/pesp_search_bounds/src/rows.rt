@@ -1,4 +1,4 @@
-//! Rows of residues by place.
+//! Rows of residues by the index of their event.
 
 ghost use Rattle.std.specs.Prelude.{◌≡◌, ℕ, ◌+◌, ◌*◌, ◌<◌, ◌≤◌, ◌⊎◌, false, length, slice_index_or};
 ghost use Rattle.pesp_instance.specs.Network.{event_ids};
@@ -22,7 +22,7 @@ fn copy_row(period: Period, row: &Row, from: usize, tests: &mut [bool])
     }
 }
 
-/// Gives the row at each place the domain of its event.
+/// Gives the row of each event its domain.
 pub fn fill_rows<K: Keeper>(keeper: &K, events: &[EventId], tests: &mut [bool])
     requires events { events.now ≡ event_ids (K.network keeper.now) }
     requires long { length tests.old ≡ length events.now * (K.network keeper.now).period }
@@ -30,8 +30,8 @@ pub fn fill_rows<K: Keeper>(keeper: &K, events: &[EventId], tests: &mut [bool])
     ensures domains { AreDomains (K.network keeper.now) (K.pushes keeper.now) tests.new }
 {
     let period = keeper.instance().period();
-    for (place, event) in events.iter().enumerate() {
+    for (index, event) in events.iter().enumerate() {
         let row = keeper.row(*event).unwrap();
-        copy_row(period, row, place * usize::from(period.get()), tests);
+        copy_row(period, row, index * usize::from(period.get()), tests);
     }
 }

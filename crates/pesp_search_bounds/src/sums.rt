@@ -1,12 +1,12 @@
 //! Sums of entries by event.
 
 ghost use Rattle.std.specs.Prelude.{◌≡◌, ℕ, ◌+◌, ◌*◌, ◌<◌, ◌≤◌, ◌⊎◌, All, length, slice_index};
-ghost use Rattle.pesp_search_bounds.specs.Sights.{IsBetween};
+ghost use Rattle.pesp_search_bounds.specs.DualBounds.{IsBetween};
 ghost use Rattle.pesp_search_bounds.specs.Tables.{AreWithin, IsMetAt, arc_cost, arcs_cost, pair, total_of};
 
 use crate::Arc;
 use crate::entry::Entry;
-use crate::lower::renew;
+use crate::messages::renew;
 use pesp_base::Period;
 use pesp_domains::Side;
 
@@ -30,10 +30,10 @@ fn add_arc(period: Period, arc: &Arc, entries: &[Entry], sums: &mut [u64])
     requires tail { arc.now.tail * period + period ≤ length sums.old }
     requires head { arc.now.head * period + period ≤ length sums.old }
     requires long { length entries.now ≡ 2 * period }
-    ensures { (places : ℕ) (x : ℕ → ℕ) → ((p : ℕ) → p < places → x p < period)
-        → arc.now.tail < places → arc.now.head < places
-        → total_of period sums.new x places
-        ≤ total_of period sums.old x places + slice_index entries.now (x arc.now.tail)
+    ensures { (event_count : ℕ) (x : ℕ → ℕ) → ((p : ℕ) → p < event_count → x p < period)
+        → arc.now.tail < event_count → arc.now.head < event_count
+        → total_of period sums.new x event_count
+        ≤ total_of period sums.old x event_count + slice_index entries.now (x arc.now.tail)
         + slice_index entries.now (period + x arc.now.head) }
 {
     let period = usize::from(period.get());
@@ -41,7 +41,7 @@ fn add_arc(period: Period, arc: &Arc, entries: &[Entry], sums: &mut [u64])
     add_entries(sums, arc.head * period, &entries[period..]);
 }
 
-/// The end of the arc at the later place.
+/// The end of the arc at the later event.
 fn later_end(arc: &Arc) -> Side {
     if arc.tail < arc.head {
         Side::Head
@@ -55,16 +55,18 @@ pub(crate) fn renew_all(
     period: Period,
     arcs: &[Arc],
     tests: &[bool],
-    places: usize,
+    event_count: usize,
     entries: &mut [Entry],
     sums: &mut [u64],
 )
-    requires between { All (IsBetween places) arcs.now }
-    requires tests { length tests.now ≡ places * period }
-    requires sums { length sums.old ≡ places * period }
+    requires between { All (IsBetween event_count) arcs.now }
+    requires tests { length tests.now ≡ event_count * period }
+    requires sums { length sums.old ≡ event_count * period }
     requires entries { length entries.old ≡ length arcs.now * (2 * period) }
-    ensures { (x : ℕ → ℕ) → AreWithin period tests.now places x → All (IsMetAt period x) arcs.now
-        → total_of period sums.new x places ≤ length arcs.now * pair + arcs_cost period x arcs.now }
+    ensures { (x : ℕ → ℕ) → AreWithin period tests.now event_count x
+        → All (IsMetAt period x) arcs.now
+        → total_of period sums.new x event_count
+        ≤ length arcs.now * pair + arcs_cost period x arcs.now }
 {
     sums.fill(0);
     let width = 2 * usize::from(period.get());

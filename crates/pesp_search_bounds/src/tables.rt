@@ -4,14 +4,14 @@ ghost use Rattle.std.specs.Prelude.{◌≡◌, ◌≢◌, ℕ, ◌*◌, ◌<◌,
 ghost use Rattle.pesp_instance.specs.Network.{event_ids};
 ghost use Rattle.pesp_search_bounds.specs.Rows.{InRows};
 ghost use Rattle.pesp_search_bounds.specs.Tables.{AreTooLarge};
-ghost use Rattle.pesp_search_bounds.specs.Sights.{IsBetween, IsSightOf, IsSound, bound_at};
+ghost use Rattle.pesp_search_bounds.specs.DualBounds.{AreBoundsOf, IsBetween, IsSound, bound_at};
 
 use crate::Arc;
 use crate::arcs::arcs_of;
 use crate::bounds::tell_bounds;
 use crate::ends::Ends;
 use crate::entry::{Entry, PAIR};
-use crate::size::{MOST_PLACES, size_of};
+use crate::size::{MOST_EVENTS, size_of};
 use crate::sums::renew_all;
 use crate::sweep::Sweep;
 use pesp_base::{EventId, Period};
@@ -19,36 +19,36 @@ use pesp_instance::Instance;
 use std::alloc::{AllocError, Global};
 use std::marker::Model;
 
-/// Entries at both ends of each arc for each place, their sums, and what they told.
+/// Entries at both ends of each arc for each event, their sums, and what they told.
 #[derive(Drop)]
 pub(crate) struct Tables {
     // That of all rows of numbers below.
     period: Period,
     // How many events there are.
-    places: usize,
+    event_count: usize,
     // The activities that are no loops, at most 100,000.
     arcs: Vec<Arc>,
-    // The arcs at each place.
+    // The arcs at each event.
     ends: Ends,
     // What loops cost.
     loops: u64,
-    // For each place, for each arc, the entries of its tail and then those of its head, by residue.
+    // For each event, for each arc, the entries of its tail and then those of its head, by residue.
     entries: Vec<Entry>,
     // The sums of the entries that were renewed last, by event and residue.
     sums: Vec<u64>,
-    // What was told last of each place, by residue.
+    // What was told last of each event, by residue.
     bounds: Vec<u64>,
 }
 
 impl Model for Tables {
     ghost use Rattle.std.specs.Prelude.{◌≡◌, ◌*◌, ◌≤◌, length};
-    ghost use Rattle.pesp_search_bounds.specs.Sights.{Sight};
+    ghost use Rattle.pesp_search_bounds.specs.DualBounds.{DualBounds};
 
-    ghost Value = { Sight };
+    ghost Value = { DualBounds };
 
-    ghost view = { λ a. record { period = a.period; places = a.places; arcs = a.arcs.items; loops = a.loops; bounds = a.bounds.items } };
+    ghost view = { λ a. record { period = a.period; event_count = a.event_count; arcs = a.arcs.items; loops = a.loops; bounds = a.bounds.items } };
 
-    ghost invariant = { λ a. (length a.arcs.items ≤ 100000) × (length a.entries.items ≡ a.places * (length a.arcs.items * (2 * a.period))) × (length a.sums.items ≡ a.places * a.period) × (length a.bounds.items ≡ a.places * a.period) × (a.ends.places ≡ a.places) × (a.ends.arcs ≡ length a.arcs.items) };
+    ghost invariant = { λ a. (length a.arcs.items ≤ 100000) × (length a.entries.items ≡ a.event_count * (length a.arcs.items * (2 * a.period))) × (length a.sums.items ≡ a.event_count * a.period) × (length a.bounds.items ≡ a.event_count * a.period) × (a.ends.event_count ≡ a.event_count) × (a.ends.arcs ≡ length a.arcs.items) };
 }
 
 impl Tables {
@@ -59,23 +59,23 @@ impl Tables {
         events: &[EventId],
     ) -> Result<Option<Tables>, AllocError>
         requires events { events.now ≡ event_ids instance.now }
-        ensures of { IfOk result (λ tables. IfSome tables (IsSightOf instance.now)) }
+        ensures of { IfOk result (λ tables. IfSome tables (AreBoundsOf instance.now)) }
         ensures none { IfOk result (λ tables. IfNone tables (AreTooLarge instance.now)) }
     {
         let period = instance.period();
-        let places = events.len();
-        if places > MOST_PLACES {
+        let event_count = events.len();
+        if event_count > MOST_EVENTS {
             return Ok(None);
         }
         let (arcs, loops) = arcs_of(alloc, instance, events)?;
-        let Some(size) = size_of(period, arcs.len(), places) else {
+        let Some(size) = size_of(period, arcs.len(), event_count) else {
             return Ok(None);
         };
-        let cells = places * usize::from(period.get());
-        let ends = Ends::new(alloc, places, &arcs)?;
+        let cells = event_count * usize::from(period.get());
+        let ends = Ends::new(alloc, event_count, &arcs)?;
         Ok(Some(Tables {
             period,
-            places,
+            event_count,
             arcs,
             ends,
             loops,
@@ -92,60 +92,60 @@ impl Tables {
         &self.arcs
     }
 
-    /// Begins the tables of the place with those of the place before.
-    fn descend(&mut self, place: usize)
-        requires { place < self.old.places }
+    /// Begins the tables of the event with those of the event before.
+    fn copy_previous(&mut self, index: usize)
+        requires { index < self.old.event_count }
         ensures { self.new ≡ self.old }
     {
         let size = self.arcs.len() * (2 * usize::from(self.period.get()));
-        if place > 0 {
-            let (before, here) = self.entries.split_at_mut(place * size);
-            here[..size].copy_from_slice(&before[(place - 1) * size..]);
+        if index > 0 {
+            let (before, here) = self.entries.split_at_mut(index * size);
+            here[..size].copy_from_slice(&before[(index - 1) * size..]);
         }
     }
 
-    /// Sweeps over the tables of the place.
-    fn settle(&mut self, tests: &[bool], place: usize)
-        requires place { place < self.old.places }
-        requires tests { length tests.now ≡ self.old.places * self.old.period }
-        requires between { All (IsBetween self.old.places) self.old.arcs }
+    /// Moves what the tables of the event tell, by sweeps.
+    fn reparametrise(&mut self, tests: &[bool], index: usize)
+        requires index { index < self.old.event_count }
+        requires tests { length tests.now ≡ self.old.event_count * self.old.period }
+        requires between { All (IsBetween self.old.event_count) self.old.arcs }
         ensures { self.new ≡ self.old }
     {
         let sweep = Sweep {
             period: self.period,
-            places: self.places,
-            first: place,
+            event_count: self.event_count,
+            first: index,
             arcs: &self.arcs,
             ends: &self.ends,
             tests,
         };
         let size = self.arcs.len() * (2 * usize::from(self.period.get()));
-        let from = place * size;
+        let from = index * size;
         sweep.run(&mut self.entries[from..from + size], &mut self.sums);
     }
 
-    /// Looks ahead within these rows from the event at the place.
-    pub(crate) fn look(&mut self, instance: &Instance, tests: &[bool], place: usize)
-        requires of { IsSightOf instance.now self.old }
+    /// Bounds the residues of the event within these rows.
+    pub(crate) fn update(&mut self, instance: &Instance, tests: &[bool], index: usize)
+        requires of { AreBoundsOf instance.now self.old }
         requires long { length tests.now ≡ length (event_ids instance.now) * instance.now.period }
-        requires place { place < length (event_ids instance.now) }
-        ensures of { IsSightOf instance.now self.new }
+        requires index { index < length (event_ids instance.now) }
+        ensures of { AreBoundsOf instance.now self.new }
         ensures arcs { self.new.arcs ≡ self.old.arcs }
         ensures sound { IsSound instance.now (InRows instance.now tests.now)
-            (slice_index (event_ids instance.now) place) (bound_at self.new place) }
-        ensures others { (k r : ℕ) → k ≢ place → r < instance.now.period
+            (slice_index (event_ids instance.now) index) (bound_at self.new index) }
+        ensures others { (k r : ℕ) → k ≢ index → r < instance.now.period
             → bound_at self.new k r ≡ bound_at self.old k r }
     {
-        self.descend(place);
-        self.settle(tests, place);
+        self.copy_previous(index);
+        self.reparametrise(tests, index);
         let size = self.arcs.len() * (2 * usize::from(self.period.get()));
-        let from = place * size;
+        let from = index * size;
         let sums: &mut [u64] = &mut self.sums;
         renew_all(
             self.period,
             &self.arcs,
             tests,
-            self.places,
+            self.event_count,
             &mut self.entries[from..from + size],
             sums,
         );
@@ -154,22 +154,22 @@ impl Tables {
             self.period,
             sums,
             tests,
-            self.places,
-            place,
+            self.event_count,
+            index,
             self.loops,
             owed,
             &mut self.bounds,
         );
     }
 
-    /// What was told last of the residue of the event at the place.
-    pub(crate) fn bound(&self, place: usize, residue: u16) -> u64
+    /// What was told last of the residue of the event.
+    pub(crate) fn bound(&self, index: usize, residue: u16) -> u64
         requires { residue < self.now.period }
-        ensures { result ≡ bound_at self.now place residue }
+        ensures { result ≡ bound_at self.now index residue }
     {
-        if place >= self.places {
+        if index >= self.event_count {
             return 0;
         }
-        self.bounds[place * usize::from(self.period.get()) + usize::from(residue)]
+        self.bounds[index * usize::from(self.period.get()) + usize::from(residue)]
     }
 }

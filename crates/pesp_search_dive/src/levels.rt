@@ -2,9 +2,9 @@
 
 ghost use Rattle.std.specs.Prelude.{◌≡◌, ◌+◌, ◌*◌, ◌<◌, ◌≤◌, All, IfOk, IfSome, length};
 ghost use Rattle.pesp_instance.specs.Network.{event_ids};
-ghost use Rattle.pesp_search_bounds.specs.Sights.{IsBetween};
+ghost use Rattle.pesp_search_bounds.specs.DualBounds.{IsBetween};
 
-use crate::rows::{narrow, row_at, settle};
+use crate::rows::{assign, narrow, row_at};
 use pesp_base::{EventId, Memory, Period};
 use pesp_domains::Keeper;
 use pesp_search_bounds::{Arc, fill_rows};
@@ -13,39 +13,39 @@ use std::alloc::Global;
 /// A dive whose rows would have more tests than this is not made. A test is a byte.
 const MOST_TESTS: usize = 64_000_000;
 
-/// For each depth the rows of all events. At the depth of a place the places before it are settled.
+/// For each depth the rows of all events. At the depth of an event the events before it are assigned.
 #[derive(Drop)]
 pub(crate) struct Levels {
     // That of each row.
     period: Period,
     // How many events there are, and as many depths; at least one.
-    places: usize,
-    // By depth; there, for each place, for each residue, whether it is left.
+    event_count: usize,
+    // By depth; there, for each event, for each residue, whether it is left.
     rows: Vec<Vec<bool>>,
-    ghost long: { length rows.items ≡ places },
-    ghost whole: { All (λ tests. length tests.items ≡ places * period) rows.items },
+    ghost long: { length rows.items ≡ event_count },
+    ghost whole: { All (λ tests. length tests.items ≡ event_count * period) rows.items },
 }
 
-/// How many tests the rows of so many places have, where those of as many depths are not too many.
-fn test_count(places: usize, period: Period) -> Option<usize>
-    ensures { IfSome result (λ count. count ≡ places * period) }
+/// How many tests the rows of so many events have, where those of as many depths are not too many.
+fn test_count(event_count: usize, period: Period) -> Option<usize>
+    ensures { IfSome result (λ count. count ≡ event_count * period) }
 {
-    let count = places.checked_mul(usize::from(period.get()))?;
-    if count.checked_mul(places)? > MOST_TESTS {
+    let count = event_count.checked_mul(usize::from(period.get()))?;
+    if count.checked_mul(event_count)? > MOST_TESTS {
         return None;
     }
     Some(count)
 }
 
-/// As many lists of tests as there are places.
-fn make_rows(alloc: Global, places: usize, count: usize) -> Result<Vec<Vec<bool>>, Memory>
-    ensures long { IfOk result (λ rows. length rows.items ≡ places) }
+/// As many lists of tests as there are events.
+fn make_rows(alloc: Global, event_count: usize, count: usize) -> Result<Vec<Vec<bool>>, Memory>
+    ensures long { IfOk result (λ rows. length rows.items ≡ event_count) }
     ensures whole { IfOk result (λ rows. All (λ tests. length tests.items ≡ count) rows.items) }
 {
-    let Ok(mut rows) = Vec::with_capacity(alloc, places) else {
+    let Ok(mut rows) = Vec::with_capacity(alloc, event_count) else {
         return Err(Memory);
     };
-    for _place in 0..places {
+    for _depth in 0..event_count {
         let Ok(tests) = vec![in alloc; false; count] else {
             return Err(Memory);
         };
@@ -56,9 +56,15 @@ fn make_rows(alloc: Global, places: usize, count: usize) -> Result<Vec<Vec<bool>
     Ok(rows)
 }
 
-/// Makes the rows of the next depth those of this one, where the event that is next here takes the residue.
+/// Makes the rows of the next depth those of this one, where the event that is next here has the residue.
 /// Says whether each neighbour has something left.
-fn take(rows: &mut [Vec<bool>], period: Period, depth: usize, residue: u16, arcs: &[Arc]) -> bool
+fn assign_next(
+    rows: &mut [Vec<bool>],
+    period: Period,
+    depth: usize,
+    residue: u16,
+    arcs: &[Arc],
+) -> bool
     requires depth { depth + 1 < length rows.old }
     requires residue { residue < period }
     requires between { All (IsBetween (length rows.old)) arcs.now }
@@ -69,7 +75,7 @@ fn take(rows: &mut [Vec<bool>], period: Period, depth: usize, residue: u16, arcs
     let (above, below) = rows.split_at_mut(depth + 1);
     let tests = &mut below[0];
     tests.copy_from_slice(&above[depth]);
-    settle(tests, period, depth, residue);
+    assign(tests, period, depth, residue);
     narrow(tests, period, arcs, depth, residue)
 }
 
@@ -83,51 +89,52 @@ impl Levels {
         requires events { events.now ≡ event_ids (K.network keeper.now) }
         ensures period { IfOk result (λ levels.
             IfSome levels (λ some. some.period ≡ (K.network keeper.now).period)) }
-        ensures places { IfOk result (λ levels.
-            IfSome levels (λ some. some.places ≡ length events.now)) }
-        ensures some { IfOk result (λ levels. IfSome levels (λ some. 0 < some.places)) }
+        ensures event_count { IfOk result (λ levels.
+            IfSome levels (λ some. some.event_count ≡ length events.now)) }
+        ensures some { IfOk result (λ levels. IfSome levels (λ some. 0 < some.event_count)) }
     {
         let period = keeper.instance().period();
-        let places = events.len();
-        if places == 0 {
+        let event_count = events.len();
+        if event_count == 0 {
             return Ok(None);
         }
-        let Some(count) = test_count(places, period) else {
+        let Some(count) = test_count(event_count, period) else {
             return Ok(None);
         };
-        let mut rows = make_rows(alloc, places, count)?;
+        let mut rows = make_rows(alloc, event_count, count)?;
         fill_rows(keeper, events, &mut rows[0]);
         Ok(Some(Levels {
             period,
-            places,
+            event_count,
             rows,
         }))
     }
 
     /// The rows at a depth.
     pub(crate) fn rows(&self, depth: usize) -> &[bool]
-        requires { depth < self.now.places }
-        ensures { length result.now ≡ self.now.places * self.now.period }
+        requires { depth < self.now.event_count }
+        ensures { length result.now ≡ self.now.event_count * self.now.period }
     {
         &self.rows[depth]
     }
 
     /// The row at a depth of the event that is next there.
     pub(crate) fn row(&self, depth: usize) -> &[bool]
-        requires { depth < self.now.places }
+        requires { depth < self.now.event_count }
         ensures { length result.now ≡ self.now.period }
     {
         row_at(&self.rows[depth], self.period, depth)
     }
 
-    /// Makes the rows of the next depth, where the event that is next at this one takes the residue.
+    /// Makes the rows of the next depth, where the event that is next at this one has the residue.
     /// Says whether each of its neighbours has something left there.
-    pub(crate) fn descend(&mut self, depth: usize, residue: u16, arcs: &[Arc]) -> bool
-        requires depth { depth + 1 < self.old.places }
+    pub(crate) fn assign(&mut self, depth: usize, residue: u16, arcs: &[Arc]) -> bool
+        requires depth { depth + 1 < self.old.event_count }
         requires residue { residue < self.old.period }
-        requires between { All (IsBetween self.old.places) arcs.now }
-        ensures { (self.new.period ≡ self.old.period) × (self.new.places ≡ self.old.places) }
+        requires between { All (IsBetween self.old.event_count) arcs.now }
+        ensures { (self.new.period ≡ self.old.period)
+            × (self.new.event_count ≡ self.old.event_count) }
     {
-        take(&mut self.rows, self.period, depth, residue, arcs)
+        assign_next(&mut self.rows, self.period, depth, residue, arcs)
     }
 }

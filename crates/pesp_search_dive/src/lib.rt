@@ -4,7 +4,7 @@
 //! Nothing is promised of the times that are found: who calls it checks them.
 #![tactic(auto)]
 
-mod choice;
+mod branch;
 mod dives;
 mod levels;
 mod neighbour;

@@ -1,17 +1,17 @@
 //! What is at the other end of an arc.
 
 ghost use Rattle.std.specs.Prelude.{◌<◌, ℕ, IfSome};
-ghost use Rattle.pesp_search_bounds.specs.Sights.{IsBetween};
+ghost use Rattle.pesp_search_bounds.specs.DualBounds.{IsBetween};
 
 use pesp_base::{Period, Span, allows};
 use pesp_domains::Side;
 use pesp_search_bounds::Arc;
 
-/// The place at the other end of an arc, with the arc's span.
+/// The event at the other end of an arc, with the arc's span.
 #[derive(Clone, Copy)]
 pub(crate) struct Neighbour {
     // That of the neighbour.
-    pub(crate) place: usize,
+    pub(crate) event: usize,
     // From the tail of the arc to its head, whichever the neighbour is.
     span: Span,
     // The end of the arc at which the neighbour is.
@@ -19,21 +19,22 @@ pub(crate) struct Neighbour {
 }
 
 impl Neighbour {
-    /// The neighbour of a place along the arc, where that is one of its ends.
-    pub(crate) fn of(arc: &Arc, place: usize) -> Option<Neighbour>
+    /// The neighbour of an event along the arc, where that is one of its ends.
+    pub(crate) fn of(arc: &Arc, event: usize) -> Option<Neighbour>
         ensures { IfSome result
-            (λ neighbour. (places : ℕ) → IsBetween places arc.now → neighbour.place < places) }
+            (λ neighbour. (event_count : ℕ) → IsBetween event_count arc.now
+            → neighbour.event < event_count) }
     {
-        if arc.tail == place {
+        if arc.tail == event {
             return Some(Neighbour {
-                place: arc.head,
+                event: arc.head,
                 span: arc.span,
                 side: Side::Head,
             });
         }
-        if arc.head == place {
+        if arc.head == event {
             return Some(Neighbour {
-                place: arc.tail,
+                event: arc.tail,
                 span: arc.span,
                 side: Side::Tail,
             });

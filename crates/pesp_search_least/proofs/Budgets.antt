@@ -1,6 +1,6 @@
 -- Budgets that are only spent.
 use Rattle.std.proofs.Common.{ℕ, Option, Some, None, refl, arith}
-use Rattle.pesp_search_least.specs.Spending.{OnlySpends, TakesUnit}
+use Rattle.pesp_search_least.specs.Spending.{OnlySpends, SpendsUnit}
 
 -- what does not change is only spent
 pub spends_none : (old : Option ℕ) → OnlySpends old old
@@ -15,29 +15,29 @@ spends_on (Some l) None new first second = absurd first
 spends_on (Some l) (Some m) None first second = absurd second
 spends_on (Some l) (Some m) (Some n) first second = omega (arith, first, second)
 
--- where a unit is taken, it is only spent
-pub takes_spends : (old new : Option ℕ) → TakesUnit old new → OnlySpends old new
-takes_spends None new takes = takes
-takes_spends (Some l) None takes = absurd takes
-takes_spends (Some l) (Some n) takes = omega (arith, takes)
+-- where a unit is spent, nothing is put back
+pub unit_spends : (old new : Option ℕ) → SpendsUnit old new → OnlySpends old new
+unit_spends None new spends = spends
+unit_spends (Some l) None spends = absurd spends
+unit_spends (Some l) (Some n) spends = omega (arith, spends)
 
--- what is spent behind a unit
-pub takes_on : (old mid new : Option ℕ) → TakesUnit old mid → OnlySpends mid new → TakesUnit old new
-takes_on None None new first second = second
-takes_on None (Some m) new first second = cc
-takes_on (Some l) None new first second = absurd first
-takes_on (Some l) (Some m) None first second = absurd second
-takes_on (Some l) (Some m) (Some n) first second = omega (arith, first, second)
+-- what is spent after a unit
+pub unit_before : (old mid new : Option ℕ) → SpendsUnit old mid → OnlySpends mid new → SpendsUnit old new
+unit_before None None new first second = second
+unit_before None (Some m) new first second = cc
+unit_before (Some l) None new first second = absurd first
+unit_before (Some l) (Some m) None first second = absurd second
+unit_before (Some l) (Some m) (Some n) first second = omega (arith, first, second)
 
--- a unit that is taken behind what is spent
-pub takes_behind : (old mid new : Option ℕ) → OnlySpends old mid → TakesUnit mid new → TakesUnit old new
-takes_behind None None new first second = second
-takes_behind None (Some m) new first second = cc
-takes_behind (Some l) None new first second = absurd first
-takes_behind (Some l) (Some m) None first second = absurd second
-takes_behind (Some l) (Some m) (Some n) first second = omega (arith, first, second)
+-- a unit that is spent after others
+pub unit_after : (old mid new : Option ℕ) → OnlySpends old mid → SpendsUnit mid new → SpendsUnit old new
+unit_after None None new first second = second
+unit_after None (Some m) new first second = cc
+unit_after (Some l) None new first second = absurd first
+unit_after (Some l) (Some m) None first second = absurd second
+unit_after (Some l) (Some m) (Some n) first second = omega (arith, first, second)
 
--- nothing can be taken where nothing is left
-pub takes_none : (new : Option ℕ) → TakesUnit (Some 0) new → ⊥
-takes_none None takes = takes
-takes_none (Some n) takes = omega (arith, takes)
+-- no unit can be spent where nothing is left
+pub unit_none : (new : Option ℕ) → SpendsUnit (Some 0) new → ⊥
+unit_none None spends = spends
+unit_none (Some n) spends = omega (arith, spends)

@@ -1,7 +1,7 @@
 pub mod Along
 pub mod Budgets
+pub mod Expanded
 pub mod Lines
 pub mod Outcomes
 pub mod Stack
 pub mod Underway
-pub mod Visited

@@ -1,4 +1,4 @@
--- A stack of nodes: what sums it has, and the most nodes that may yet be visited.
+-- A stack of nodes: what sums it has, and the most nodes that may yet be expanded.
 use Rattle.std.proofs.Common.{◌≡◌, ℕ, zero, suc, ◌+◌, ◌<◌, ◌≤◌, ◌⊎◌, List, [], ◌∷◌, ◌++◌, inl, inr, arith}
 use Rattle.pesp_search_least.specs.Sums.{InSome, Sums}
 
@@ -45,13 +45,13 @@ tree-halves a b (suc n) first second =
     let right : tree b ≤ tree n = tree-mono b n (omega (arith, second)) in
     omega (arith, left, right)
 
--- the most nodes that may yet be visited from these
-pub to_visit : {R : Type 0} → (R → ℕ) → List R → ℕ
-to_visit {R} size [] = 0
-to_visit {R} size (r ∷ rs) = tree (size r) + to_visit size rs
+-- the most nodes that may yet be expanded from these
+pub to_expand : {R : Type 0} → (R → ℕ) → List R → ℕ
+to_expand {R} size [] = 0
+to_expand {R} size (r ∷ rs) = tree (size r) + to_expand size rs
 
 -- one more on top
-pub to_visit-push : {R : Type 0} (size : R → ℕ) (rs : List R) (r : R) → to_visit size (rs ++ r ∷ []) ≡ to_visit size rs + tree (size r)
-unfolding to_visit
-to_visit-push {R} size [] r = omega arith
-to_visit-push {R} size (q ∷ rs) r = omega (arith, to_visit-push size rs r)
+pub to_expand-push : {R : Type 0} (size : R → ℕ) (rs : List R) (r : R) → to_expand size (rs ++ r ∷ []) ≡ to_expand size rs + tree (size r)
+unfolding to_expand
+to_expand-push {R} size [] r = omega arith
+to_expand-push {R} size (q ∷ rs) r = omega (arith, to_expand-push size rs r)

@@ -1,14 +1,14 @@
--- How far a search has come: what its stack still has, what it found, and what it took from the budget.
+-- How far a search has come: what its stack still has, what it found, and what it spent of the budget.
 use Rattle.std.proofs.Common.{◌≡◌, ◌≢◌, ℕ, ◌<◌, ◌≤◌, ◌⊎◌, max, sym, ◌∙◌, List, [], ◌∷◌, ◌++◌, Option, Some, None, IfSome, inl, inr, arith}
 use Rattle.std.proofs.lemmas.Bool.{cases_lt}
 use Rattle.pesp_search_least.specs.declared.outcome.Candidate.{Candidate}
 use Rattle.pesp_search_least.specs.declared.outcome.Outcome.TheVariants.{Spent}
-use Rattle.pesp_search_least.specs.Spending.{OnlySpends, TakesUnit}
+use Rattle.pesp_search_least.specs.Spending.{OnlySpends, SpendsUnit}
 use Rattle.pesp_search_least.specs.Sums.{AreHalvesBelow, InSome, IsBelow, IsLowerBound, IsOutcome, IsWithin, Sums}
-use Rattle.pesp_search_least.specs.Visits.{IsBetter, limit_of, outcome_of}
-use Rattle.pesp_search_least.proofs.Budgets.{spends_none, takes_behind, takes_none, takes_spends}
+use Rattle.pesp_search_least.specs.Expansions.{IsBetter, limit_of, outcome_of}
+use Rattle.pesp_search_least.proofs.Budgets.{spends_none, unit_after, unit_none, unit_spends}
 use Rattle.pesp_search_least.proofs.Stack.{in_some_pop, in_some_push}
-use Rattle.pesp_search_least.proofs.Visited.{better_limit}
+use Rattle.pesp_search_least.proofs.Expanded.{better_limit}
 
 -- every sum of the root below the limit is in some open node, and these have no others; the best is below the cap
 pub record IsUnderway {R : Type 0} (sums : R → Sums) (root : Sums) (nodes : List R) (cap : ℕ) (best : Option Candidate) : Type 0 where
@@ -26,7 +26,7 @@ underway_start {R} sums root cap =
     }
 
 -- the limit is at most the cap
-limit_under : (root : Sums) (cap : ℕ) (best : Option Candidate) → IfSome best (IsBelow root cap) → limit_of cap best ≤ cap
+pub limit_under : (root : Sums) (cap : ℕ) (best : Option Candidate) → IfSome best (IsBelow root cap) → limit_of cap best ≤ cap
 limit_under root cap None is = omega arith
 limit_under root cap (Some c) is = omega (arith, is.1)
 
@@ -40,7 +40,7 @@ found_on part root cap old new within is (inr (c, new_is, has, less)) =
 top_within : {R : Type 0} (sums : R → Sums) (root : Sums) (ns : List R) (n : R) → IsWithin (InSome sums (ns ++ n ∷ [])) root → IsWithin (sums n) root
 top_within {R} sums root ns n within map sum has = within map sum (in_some_push sums ns n map sum (inr has))
 
--- behind a node that has nothing below the limit
+-- after a node that has nothing below the limit
 pub underway_closed : {R : Type 0} (sums : R → Sums) (root : Sums) (ns : List R) (n : R) (cap : ℕ) (old new : Option Candidate) → IsUnderway sums root (ns ++ n ∷ []) cap old → IsBetter (sums n) cap old new → IsLowerBound (sums n) (limit_of cap new) → IsUnderway sums root ns cap new
 underway_closed {R} sums root ns n cap old new is better bound =
     record {
@@ -53,7 +53,7 @@ underway_closed {R} sums root ns n cap old new is better bound =
       found = found_on (sums n) root cap old new (top_within sums root ns n is.within) is.found better;
     }
 
--- with both halves in a node's place
+-- with both halves in place of a node
 pub underway_halves : {R : Type 0} (sums : R → Sums) (root : Sums) (ns : List R) (n a b : R) (cap : ℕ) (old new : Option Candidate) → IsUnderway sums root (ns ++ n ∷ []) cap old → IsBetter (sums n) cap old new → AreHalvesBelow (limit_of cap new) (sums n) (sums a) (sums b) → IsUnderway sums root ((ns ++ b ∷ []) ++ a ∷ []) cap new
 underway_halves {R} sums root ns n a b cap old new is better halves =
     record {
@@ -74,21 +74,21 @@ underway_halves {R} sums root ns n a b cap old new is better halves =
       found = found_on (sums n) root cap old new (top_within sums root ns n is.within) is.found better;
     }
 
--- at a stop, with a bound on the node that was taken, on all the others and on the root
-pub underway_stop : {R : Type 0} (sums : R → Sums) (root : Sums) (ns : List R) (n : R) (cap bound lower floor : ℕ) (best : Option Candidate) → IsUnderway sums root (ns ++ n ∷ []) cap best → IsLowerBound (sums n) bound → bound ≤ limit_of cap best → IsLowerBound (InSome sums ns) lower → lower ≤ bound → IsLowerBound root floor → IsOutcome root cap (Spent best (max lower floor))
-underway_stop {R} sums root ns n cap bound lower floor best is here small there less under = (is.found, bounded)
+-- at a stop, with a bound on the node that was popped, on all the others and on the root
+pub underway_stop : {R : Type 0} (sums : R → Sums) (root : Sums) (ns : List R) (n : R) (cap bound lower_bound floor : ℕ) (best : Option Candidate) → IsUnderway sums root (ns ++ n ∷ []) cap best → IsLowerBound (sums n) bound → bound ≤ limit_of cap best → IsLowerBound (InSome sums ns) lower_bound → lower_bound ≤ bound → IsLowerBound root floor → IsOutcome root cap (Spent best (max lower_bound floor))
+underway_stop {R} sums root ns n cap bound lower_bound floor best is here small there less under = (is.found, bounded)
   where
-    lower_holds : (map : List ℕ) (sum : ℕ) → root map sum → lower ≤ sum
-    lower_holds map sum has =
+    lower_bound_holds : (map : List ℕ) (sum : ℕ) → root map sum → lower_bound ≤ sum
+    lower_bound_holds map sum has =
         elim (cases_lt sum (limit_of cap best)) [
           | inl below ↦ elim (in_some_pop sums ns n map sum (is.left map sum has below)) [ inl other ↦ there map sum other | inr one ↦ omega (arith, here map sum one, less) ]
           | inr over ↦ omega (arith, over, small, less)
         ]
 
-    bounded : (map : List ℕ) (sum : ℕ) → root map sum → sum < cap → max lower floor ≤ sum
-    bounded map sum has below = omega (arith, lower_holds map sum has, under map sum has)
+    bounded : (map : List ℕ) (sum : ℕ) → root map sum → sum < cap → max lower_bound floor ≤ sum
+    bounded map sum has below = omega (arith, lower_bound_holds map sum has, under map sum has)
 
--- where no sum is below the limit, what was found is the answer
+-- where no sum is below the limit, what was found is the outcome
 found_is_outcome : (root : Sums) (cap : ℕ) (best : Option Candidate) → IfSome best (IsBelow root cap) → IsLowerBound root (limit_of cap best) → IsOutcome root cap (outcome_of best)
 found_is_outcome root cap None is bound = bound
 found_is_outcome root cap (Some c) is bound = (record { has = is.0; least = bound }, is.1)
@@ -104,31 +104,31 @@ underway_floor {R} sums root nodes cap floor best is bound low =
     found_is_outcome root cap best is.found (λ map sum has. omega (arith, bound map sum has, low))
 
 -- a bound on one node more
-pub lowest_step : {R : Type 0} (sums : R → Sums) (ns : List R) (n : R) (lower new : ℕ) → IsLowerBound (InSome sums ns) lower → IsLowerBound (sums n) new → new ≤ lower → IsLowerBound (InSome sums (ns ++ n ∷ [])) new
-lowest_step {R} sums ns n lower new there here less map sum has =
+pub lowest_step : {R : Type 0} (sums : R → Sums) (ns : List R) (n : R) (lower_bound new : ℕ) → IsLowerBound (InSome sums ns) lower_bound → IsLowerBound (sums n) new → new ≤ lower_bound → IsLowerBound (InSome sums (ns ++ n ∷ [])) new
+lowest_step {R} sums ns n lower_bound new there here less map sum has =
     elim (in_some_pop sums ns n map sum has) [ inl other ↦ omega (arith, there map sum other, less) | inr one ↦ here map sum one ]
 
 -- ---- the budget
 
--- nothing was visited yet, or a unit was taken
+-- nothing was expanded yet, or a unit was spent
 abbrev pub HasBegun : {R : Type 0} → R → List R → Option Candidate → Option ℕ → Option ℕ → Type 0
-HasBegun {R} root nodes best old new = ((nodes ≡ root ∷ []) × (best ≡ None) × (new ≡ old)) ⊎ TakesUnit old new
+HasBegun {R} root nodes best old new = ((nodes ≡ root ∷ []) × (best ≡ None) × (new ≡ old)) ⊎ SpendsUnit old new
 
 -- either way nothing was put back
 pub begun_spends : {R : Type 0} (root : R) (nodes : List R) (best : Option Candidate) (old new : Option ℕ) → HasBegun root nodes best old new → OnlySpends old new
 begun_spends {R} root nodes best old new (inl first) = rw first.2 (spends_none old)
-begun_spends {R} root nodes best old new (inr takes) = takes_spends old new takes
+begun_spends {R} root nodes best old new (inr spends) = unit_spends old new spends
 
--- a visit takes a unit
-pub begun_visit : {R : Type 0} (root : R) (nodes : List R) (best : Option Candidate) (old mid new : Option ℕ) → HasBegun root nodes best old mid → TakesUnit mid new → TakesUnit old new
-begun_visit {R} root nodes best old mid new is takes = takes_behind old mid new (begun_spends root nodes best old mid is) takes
+-- an expansion spends a unit
+pub begun_expansion : {R : Type 0} (root : R) (nodes : List R) (best : Option Candidate) (old mid new : Option ℕ) → HasBegun root nodes best old mid → SpendsUnit mid new → SpendsUnit old new
+begun_expansion {R} root nodes best old mid new is spends = unit_after old mid new (begun_spends root nodes best old mid is) spends
 
--- where the budget is spent at first, nothing is visited
+-- where the budget is spent at first, nothing is expanded
 pub begun_at_none : {R : Type 0} (root : R) (nodes : List R) (best : Option Candidate) (old new : Option ℕ) → HasBegun root nodes best old new → old ≡ Some 0 → (nodes ≡ root ∷ []) × (best ≡ None)
 begun_at_none {R} root nodes best old new (inl first) spent = (first.0, first.1)
-begun_at_none {R} root nodes best old new (inr takes) spent = absurd (takes_none new (rw spent at takes))
+begun_at_none {R} root nodes best old new (inr spends) spent = absurd (unit_none new (rw spent at spends))
 
--- where it is not spent at first, but then, a unit was taken
-pub begun_at_stop : {R : Type 0} (root : R) (nodes : List R) (best : Option Candidate) (old new : Option ℕ) → HasBegun root nodes best old new → old ≢ Some 0 → new ≡ Some 0 → TakesUnit old new
+-- where it is not spent at first, but then, a unit was spent
+pub begun_at_stop : {R : Type 0} (root : R) (nodes : List R) (best : Option Candidate) (old new : Option ℕ) → HasBegun root nodes best old new → old ≢ Some 0 → new ≡ Some 0 → SpendsUnit old new
 begun_at_stop {R} root nodes best old new (inl first) some spent = absurd (some (sym first.2 ∙ spent))
-begun_at_stop {R} root nodes best old new (inr takes) some spent = takes
+begun_at_stop {R} root nodes best old new (inr spends) some spent = spends

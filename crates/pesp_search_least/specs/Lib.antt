@@ -1,5 +1,5 @@
+pub mod Expansions
 pub mod Lines
 pub mod Order
 pub mod Spending
 pub mod Sums
-pub mod Visits

@@ -32,9 +32,9 @@ pub record IsFirstAt (sums : Sums) (event : ℕ) (candidate : Candidate) : Type 
   pub first : (map : List ℕ) (sum : ℕ) → sums map sum → slice_index map event < slice_index candidate.map.items event → candidate.cost < sum
 
 -- what was wanted of the candidate, at this cost; or a map of least sum
-abbrev pub IsFirstAnswer : (Candidate → Type 0) → Sums → ℕ → First → Type 0
-IsFirstAnswer wanted sums cost (Done candidate) = wanted candidate × (candidate.cost ≡ cost)
-IsFirstAnswer wanted sums cost (Spent candidate) = IsLeast sums candidate × (candidate.cost ≡ cost)
+abbrev pub IsFirstOutcome : (Candidate → Type 0) → Sums → ℕ → First → Type 0
+IsFirstOutcome wanted sums cost (Done candidate) = wanted candidate × (candidate.cost ≡ cost)
+IsFirstOutcome wanted sums cost (Spent candidate) = IsLeast sums candidate × (candidate.cost ≡ cost)
 
 -- it stops only where nothing is left of the budget
 abbrev pub EndsUnlessSpent : Option ℕ → First → Type 0

@@ -11,7 +11,7 @@ abbrev pub OnlySpends : Option ℕ → Option ℕ → Type 0
 OnlySpends None new = new ≡ None
 OnlySpends (Some left) new = IsSomeAnd new (λ n. n ≤ left)
 
--- a unit is taken, where there is a limit, and no limit comes or goes
-abbrev pub TakesUnit : Option ℕ → Option ℕ → Type 0
-TakesUnit None new = new ≡ None
-TakesUnit (Some left) new = IsSomeAnd new (λ n. n < left)
+-- a unit is spent, where there is a limit, and no limit comes or goes
+abbrev pub SpendsUnit : Option ℕ → Option ℕ → Type 0
+SpendsUnit None new = new ≡ None
+SpendsUnit (Some left) new = IsSomeAnd new (λ n. n < left)

@@ -4,7 +4,7 @@ use Rattle.pesp_search_least.specs.declared.outcome.Candidate.{Candidate}
 use Rattle.pesp_search_least.specs.declared.outcome.Outcome.{Outcome}
 use Rattle.pesp_search_least.specs.declared.outcome.Outcome.TheVariants.{Found, NoneBelow, Spent}
 use Rattle.pesp_search_least.specs.declared.relaxation.Split.{Split}
-use Rattle.pesp_search_least.specs.declared.relaxation.Split.TheVariants.{Settled, Empty, Halves}
+use Rattle.pesp_search_least.specs.declared.relaxation.Split.TheVariants.{Solved, Empty, Halves}
 
 -- which sum a map has
 abbrev pub Sums : Type 1
@@ -56,9 +56,9 @@ pub record IsLeast (sums : Sums) (candidate : Candidate) : Type 0 where
   pub has : IsCandidate sums candidate
   pub least : IsLowerBound sums candidate.cost
 
--- what was split is settled by a map of least sum, or has no map, or is in two halves of a lesser size
+-- what was split is solved by a map of least sum, or has no map, or is in two halves of a lesser size
 abbrev pub IsSplit : {R : Type 0} → (R → Sums) → (R → ℕ) → R → R → Split R → Type 0
-IsSplit {R} sums size old new (Settled candidate) = IsLeast (sums old) candidate
+IsSplit {R} sums size old new (Solved candidate) = IsLeast (sums old) candidate
 IsSplit {R} sums size old new Empty = IsEmpty (sums old)
 IsSplit {R} sums size old new (Halves other) = (size new < size old) × (size other < size old) × AreHalves (sums old) (sums new) (sums other)
 
@@ -75,16 +75,16 @@ IsBelow sums cap candidate = IsCandidate sums candidate × (candidate.cost < cap
 abbrev pub IsOutcome : Sums → ℕ → Outcome → Type 0
 IsOutcome sums cap (Found candidate) = IsLeast sums candidate × (candidate.cost < cap)
 IsOutcome sums cap NoneBelow = IsLowerBound sums cap
-IsOutcome sums cap (Spent best lower) = IfSome best (IsBelow sums cap) × IsLowerBoundBelow sums cap lower
+IsOutcome sums cap (Spent best lower_bound) = IfSome best (IsBelow sums cap) × IsLowerBoundBelow sums cap lower_bound
 
 -- it stops only where nothing is left of the budget
 abbrev pub StopsWhereSpent : Option ℕ → Outcome → Type 0
 StopsWhereSpent left (Found candidate) = ⊤
 StopsWhereSpent left NoneBelow = ⊤
-StopsWhereSpent left (Spent best lower) = left ≡ Some 0
+StopsWhereSpent left (Spent best lower_bound) = left ≡ Some 0
 
 -- it stops before the end
 abbrev pub IsStop : Outcome → Type 0
 IsStop (Found candidate) = ⊥
 IsStop NoneBelow = ⊥
-IsStop (Spent best lower) = ⊤
+IsStop (Spent best lower_bound) = ⊤

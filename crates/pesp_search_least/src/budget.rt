@@ -3,7 +3,7 @@
 ghost use Rattle.std.specs.Prelude.{◌≡◌, None, Some, true, ◌↔◌, IsTrue};
 ghost use Rattle.pesp_search_least.specs.Spending.{OnlySpends, after};
 
-/// Units of work that are left, of which every visit takes one and a relaxation takes more as it works.
+/// Units of work that are left. Each expansion of a node spends one, and a relaxation spends more as it works.
 #[derive(Drop)]
 pub struct Budget {
     // None where there is no limit.
@@ -32,7 +32,7 @@ impl Budget {
         self.left == Some(0)
     }
 
-    /// Takes so many units, or all that are left.
+    /// Spends so many units, or all that are left.
     pub fn spend(&mut self, units: u64)
         ensures left { self.new.left ≡ after self.old.left units }
         ensures spends { OnlySpends self.old.left self.new.left }

@@ -1,4 +1,4 @@
-//! What `least` and `first` answer on a line.
+//! What `least` and `first` find on a line.
 
 use crate::line::Line;
 use crate::{Budget, First, Limits, Outcome, first, least};
@@ -28,11 +28,14 @@ fn told(outcome: &Outcome) -> Said {
     match outcome {
         Outcome::Found(found) => Said::Found(found.cost),
         Outcome::NoneBelow => Said::NoneBelow,
-        Outcome::Spent { best: None, lower } => Said::Stopped(None, *lower),
+        Outcome::Spent {
+            best: None,
+            lower_bound,
+        } => Said::Stopped(None, *lower_bound),
         Outcome::Spent {
             best: Some(best),
-            lower,
-        } => Said::Stopped(Some(best.cost), *lower),
+            lower_bound,
+        } => Said::Stopped(Some(best.cost), *lower_bound),
     }
 }
 
@@ -61,7 +64,7 @@ fn least_of_a_line(rt: HostRuntime) {
         100,
         2,
         Said::Stopped(Some(9), 0),
-        "the upper half was visited",
+        "the upper half was expanded",
     );
     assert_said(&rt, 0, 0, Said::NoneBelow, "no sum is below the floor");
 }

@@ -1,7 +1,7 @@
 //! The best that a search has found.
 
 ghost use Rattle.std.specs.Prelude.{◌≡◌, ◌≤◌, ◌<◌, Some, None};
-ghost use Rattle.pesp_search_least.specs.Visits.{IsKept, limit_of, outcome_of};
+ghost use Rattle.pesp_search_least.specs.Expansions.{IsKept, limit_of, outcome_of};
 
 use crate::{Candidate, Outcome};
 
@@ -43,7 +43,7 @@ impl Incumbent {
         }
     }
 
-    /// The answer where every sum below the limit was gone through.
+    /// The outcome where every sum below the limit was gone through.
     pub(crate) fn outcome(self) -> Outcome
         ensures { result ≡ outcome_of self.best }
     {

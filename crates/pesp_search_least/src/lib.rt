@@ -4,6 +4,7 @@
 mod budget;
 #[cfg(test)]
 mod examples;
+mod expand;
 mod incumbent;
 mod limits;
 #[cfg(test)]
@@ -13,7 +14,6 @@ mod outcome;
 mod region;
 mod relaxation;
 mod search;
-mod visit;
 
 pub use budget::Budget;
 pub use limits::Limits;

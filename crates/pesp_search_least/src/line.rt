@@ -86,7 +86,7 @@ impl Relaxation for Line {
             return Ok(Split::Halves(other));
         }
         match self.at(alloc, self.lowest)? {
-            Some(candidate) => Ok(Split::Settled(candidate)),
+            Some(candidate) => Ok(Split::Solved(candidate)),
             None => Ok(Split::Empty),
         }
     }

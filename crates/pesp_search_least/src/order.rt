@@ -1,7 +1,7 @@
 //! The first map of least sum: event by event ascending, the least residue that some map of this sum has there.
 
 ghost use Rattle.std.specs.Prelude.{◌≡◌, ◌+◌, ◌<◌, ◌^◌, ℕ, IfOk};
-ghost use Rattle.pesp_search_least.specs.Order.{EndsUnlessSpent, IsFirst, IsFirstAnswer, IsFirstAt};
+ghost use Rattle.pesp_search_least.specs.Order.{EndsUnlessSpent, IsFirst, IsFirstAt, IsFirstOutcome};
 ghost use Rattle.pesp_search_least.specs.Spending.{OnlySpends};
 ghost use Rattle.pesp_search_least.specs.Sums.{AreLong, IsLeast};
 
@@ -21,8 +21,8 @@ fn first_at<R: Region>(
     requires event { event < R.events rest.now }
     requires long { AreLong (R.sums rest.now) (R.events rest.now) }
     requires room { candidate.cost + 1 < 2 ^ 64 }
-    ensures first { IfOk result (IsFirstAnswer (IsFirstAt (R.sums rest.now) event) (R.sums rest.now)
-        candidate.cost) }
+    ensures first { IfOk result (IsFirstOutcome (IsFirstAt (R.sums rest.now) event)
+        (R.sums rest.now) candidate.cost) }
     ensures spent { IfOk result (EndsUnlessSpent budget.new.left) }
     ensures budget { OnlySpends budget.old.left budget.new.left }
 {
@@ -48,7 +48,7 @@ pub fn first<R: Region>(
 ) -> Result<First, Memory>
     requires least { IsLeast (R.sums region) candidate }
     requires room { candidate.cost + 1 < 2 ^ 64 }
-    ensures first { IfOk result (IsFirstAnswer (IsFirst (R.sums region)) (R.sums region)
+    ensures first { IfOk result (IsFirstOutcome (IsFirst (R.sums region)) (R.sums region)
         candidate.cost) }
     ensures spent { IfOk result (EndsUnlessSpent budget.new.left) }
     ensures budget { OnlySpends budget.old.left budget.new.left }

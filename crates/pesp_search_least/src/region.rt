@@ -39,7 +39,7 @@ pub trait Region: Drop {
         ensures spent { IfOk result (StopsWhereSpent budget.new.left) }
         ensures budget { OnlySpends budget.old.left budget.new.left };
 
-    /// Takes their sums from all maps but those that give the event this residue.
+    /// Leaves only maps that give the event this residue: all others lose their sums.
     fn hold(&mut self, event: usize, residue: u16)
         requires { event < events self.old }
         ensures held { IsHeld event residue (sums self.old) (sums self.new) }

@@ -8,7 +8,7 @@ use std::alloc::Global;
 #[derive(Drop)]
 pub enum Split<R> {
     /// No map has a lesser sum than this one.
-    Settled(Candidate),
+    Solved(Candidate),
     /// No map has a sum.
     Empty,
     /// What was split is now one half, to be gone into first; this is the other.
@@ -34,7 +34,7 @@ pub trait Relaxation: Drop {
     fn bound(&self) -> Option<u64>
         ensures { MatchOption result (IsEmpty (sums self.now)) (IsLowerBound (sums self.now)) };
 
-    /// Works towards a better bound; only maps whose sum is not below the cap may lose it. What it does is taken from
+    /// Works towards a better bound; only maps whose sum is not below the cap may lose it. What it does is spent from
     /// the budget, and it may stop where nothing is left.
     fn tighten(&mut self, cap: u64, budget: &mut Budget)
         ensures cut { IsCut cap (sums self.old) (sums self.new) }

@@ -1,11 +1,11 @@
-//! The search for a least sum: depth first, over a stack of nodes that are yet to be visited.
+//! The search for a least sum: depth first, over a stack of open nodes.
 
 ghost use Rattle.std.specs.Prelude.{◌≡◌, ◌≢◌, ◌≤◌, ◌<◌, ◌++◌, ◌∷◌, [], ℕ, IfOk, OnOk, Some};
-ghost use Rattle.pesp_search_least.specs.Spending.{OnlySpends, TakesUnit};
+ghost use Rattle.pesp_search_least.specs.Spending.{OnlySpends, SpendsUnit};
 ghost use Rattle.pesp_search_least.specs.Sums.{InSome, IsLowerBound, IsOutcome, IsStop, StopsWhereSpent};
 
+use crate::expand::expand;
 use crate::incumbent::Incumbent;
-use crate::visit::visit;
 use crate::{Budget, Limits, Outcome, Relaxation};
 use pesp_base::Memory;
 use std::alloc::Global;
@@ -26,11 +26,11 @@ fn lowest<R: Relaxation>(nodes: &[R], limit: u64) -> u64
     ensures bound { IsLowerBound (InSome R.sums nodes.now) result }
     ensures within { result ≤ limit }
 {
-    let mut lower = limit;
+    let mut lower_bound = limit;
     for node in nodes {
-        lower = bound_of(node, lower);
+        lower_bound = bound_of(node, lower_bound);
     }
-    lower
+    lower_bound
 }
 
 /// Puts both halves on the stack, with the first one on top.
@@ -56,8 +56,8 @@ fn stack_of<R: Drop>(alloc: Global, root: R) -> Result<Vec<R>, Memory>
 
 /// A map of least sum, where some sum is below the cap.
 ///
-/// Without a limit of the budget it ends with that answer. With one it stops where nothing is left, and tells what it
-/// found and a lower bound on every sum below the cap. Every visit takes a unit.
+/// Without a limit of the budget it ends with that outcome. With one it stops where nothing is left, and tells what it
+/// found and a lower bound on every sum below the cap. Every expansion spends a unit.
 pub fn least<R: Relaxation>(
     alloc: Global,
     root: R,
@@ -68,25 +68,25 @@ pub fn least<R: Relaxation>(
     ensures outcome { IfOk result (IsOutcome (R.sums root) limits.cap) }
     ensures spent { IfOk result (StopsWhereSpent budget.new.left) }
     ensures budget { OnlySpends budget.old.left budget.new.left }
-    // Without a unit there is no visit, and without a visit no answer.
+    // Without a unit no node is expanded, and so nothing is known.
     ensures stops { limits.floor < limits.cap → budget.old.left ≡ Some 0 → IfOk result IsStop }
-    ensures takes { limits.floor < limits.cap → budget.old.left ≢ Some 0
-        → OnOk result (TakesUnit budget.old.left budget.new.left) }
+    ensures spends { limits.floor < limits.cap → budget.old.left ≢ Some 0
+        → OnOk result (SpendsUnit budget.old.left budget.new.left) }
 {
     let mut nodes = stack_of(alloc, root)?;
     let mut incumbent = Incumbent::new(limits.cap);
-    'visits: while limits.floor < incumbent.limit() {
+    'expansions: while limits.floor < incumbent.limit() {
         let Some(mut node) = nodes.pop() else {
             break;
         };
         if budget.is_spent() {
-            let lower = lowest(&nodes, bound_of(&node, incumbent.limit()));
+            let lower_bound = lowest(&nodes, bound_of(&node, incumbent.limit()));
             return Ok(Outcome::Spent {
                 best: incumbent.best,
-                lower: lower.max(limits.floor),
+                lower_bound: lower_bound.max(limits.floor),
             });
         }
-        if let Some(other) = visit(alloc, &mut node, &mut incumbent, budget)? {
+        if let Some(other) = expand(alloc, &mut node, &mut incumbent, budget)? {
             push_halves(&mut nodes, node, other)?;
         }
     }

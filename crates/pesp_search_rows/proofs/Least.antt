@@ -2,7 +2,7 @@
 use Rattle.std.proofs.Common.{◌≡◌, ℕ, ◌+◌, ◌<◌, ◌⊎◌, ℤ, ◌≤ℤ◌, List, length, refl, sym, subst, ◌∙◌, inl, inr, arith}
 use Rattle.std.proofs.lemmas.Bool.{cases_eq}
 use Rattle.std.proofs.lemmas.Int.{ints}
-use Rattle.pesp_search_rows.specs.Rows.{ArePlaces, AreEntries, IsLeast, IsLeastSum, IsReached, IsRow, IsSum, greatest_sum, sum_at}
+use Rattle.pesp_search_rows.specs.Rows.{AreIndices, AreEntries, IsLeast, IsLeastSum, IsReached, IsRow, IsSum, greatest_sum, sum_at}
 
 pub least_more : (f : ℕ → ℤ) (n : ℕ) (old new : ℤ) → IsLeast f n old → new ≤ℤ old → new ≤ℤ f n → (new ≡ old) ⊎ (new ≡ f n) → IsLeast f (n + 1) new
 least_more f n old new was less here one = record {
@@ -29,14 +29,14 @@ entries row is k =
       | inr nothing ↦ record { low = omega (arith, ints, nothing); high = omega (arith, ints, nothing) }
     ]
 
-sized : (u w : List ℤ) (d n : ℕ) (place : ℕ → ℕ) (l : ℤ) → IsRow u → IsRow w → IsLeast (λ j. sum_at u w d (place j)) n l → IsSum l
-sized u w d n place l isu isw least = record {
+sized : (u w : List ℤ) (d n : ℕ) (index : ℕ → ℕ) (l : ℤ) → IsRow u → IsRow w → IsLeast (λ j. sum_at u w d (index j)) n l → IsSum l
+sized u w d n index l isu isw least = record {
   high = least.cap;
   low = elim least.reached [
     | inl nothing ↦ omega (arith, ints, nothing)
     | inr t ↦
-        let low = (entries u isu (place t.0)).low in
-        let low2 = (entries w isw (d + place t.0)).low in
+        let low = (entries u isu (index t.0)).low in
+        let low2 = (entries w isw (d + index t.0)).low in
         let sum = t.2 in
         omega (arith, ints, low, low2, sum)
   ];
@@ -55,21 +55,21 @@ reached_by u w d k l isu isw inside sum small =
       | inr nothing ↦ absurd (omega (arith, ints, nothing, small, low2, sum))
     ]
 
--- going over places at which all numbers of the row stand, one finds the least sum
-pub least_sum : (u w : List ℤ) (d n : ℕ) (place : ℕ → ℕ) (l : ℤ) → IsRow u → IsRow w → ArePlaces u n place → IsLeast (λ j. sum_at u w d (place j)) n l → IsLeastSum u w d l
-least_sum u w d n place l isu isw are least = record {
-  size = sized u w d n place l isu isw least;
+-- going over indices at which all numbers of the row stand, one finds the least sum
+pub least_sum : (u w : List ℤ) (d n : ℕ) (index : ℕ → ℕ) (l : ℤ) → IsRow u → IsRow w → AreIndices u n index → IsLeast (λ j. sum_at u w d (index j)) n l → IsLeastSum u w d l
+least_sum u w d n index l isu isw are least = record {
+  size = sized u w d n index l isu isw least;
   bound = λ k inside a b. let t = are.all k inside a in subst (λ m. l ≤ℤ sum_at u w d m) t.2 (least.bound t.0 t.1);
   reached = λ small. elim least.reached [
     | inl nothing ↦ absurd (omega (arith, ints, nothing, small))
-    | inr t ↦ reached_by u w d (place t.0) l isu isw (are.inside t.0 t.1) t.2 small
+    | inr t ↦ reached_by u w d (index t.0) l isu isw (are.inside t.0 t.1) t.2 small
   ];
 }
 
-pub all_places : (u : List ℤ) → ArePlaces u (length u) (λ j. j)
-all_places u = record { inside = λ j h. h; all = λ k h number. (k, h, refl) }
+pub all_indices : (u : List ℤ) → AreIndices u (length u) (λ j. j)
+all_indices u = record { inside = λ j h. h; all = λ k h number. (k, h, refl) }
 
--- what holds at all places before one, where four more are written there
+-- what holds at all indices before one, where four more are written there
 pub next_four : (P : ℕ → ℤ → Type 0) (old new : ℕ → ℤ) (n : ℕ) → ((d : ℕ) → d < n → P d (old d)) → ((d : ℕ) → d < n → new d ≡ old d) → P n (new n) → P (n + 1) (new (n + 1)) → P (n + 2) (new (n + 2)) → P (n + 3) (new (n + 3)) → (d : ℕ) → d < n + 4 → P d (new d)
 next_four P old new n before kept first second third fourth d h =
     elim (cases_eq d (n + 3)) [

@@ -54,14 +54,14 @@ pub record IsLeastSum (u w : List ℤ) (d : ℕ) (l : ℤ) : Type 0 where
   pub bound : (k : ℕ) → k < length u → IsNumber (at u k) → IsNumber (at w (d + k)) → l ≤ℤ sum_at u w d k
   pub reached : l ≤ℤ greatest_sum → IsReached u w d l
 
--- the number in a list of places
-abbrev pub place_at : List ℕ → ℕ → ℕ
-place_at places j = slice_index places j
+-- the index at j in a list of indices
+abbrev pub index_at : List ℕ → ℕ → ℕ
+index_at indices j = slice_index indices j
 
--- the first n places are places of the row, and each of its numbers stands at one of them
-pub record ArePlaces (u : List ℤ) (n : ℕ) (place : ℕ → ℕ) : Type 0 where
-  pub inside : (j : ℕ) → j < n → place j < length u
-  pub all : (k : ℕ) → k < length u → IsNumber (at u k) → (j : ℕ) × (j < n) × (place j ≡ k)
+-- the first n indices are within the row, and each of its numbers stands at one of them
+pub record AreIndices (u : List ℤ) (n : ℕ) (index : ℕ → ℕ) : Type 0 where
+  pub inside : (j : ℕ) → j < n → index j < length u
+  pub all : (k : ℕ) → k < length u → IsNumber (at u k) → (j : ℕ) × (j < n) × (index j ≡ k)
 
 -- a number or none, by its size alone: the sum of two fits 32 bits
 pub record IsEntry (z : ℤ) : Type 0 where
@@ -79,6 +79,6 @@ laid numbers tests k = if slice_index_or tests k false then at numbers k else no
 abbrev pub AreNumbers : List ℤ → Type 0
 AreNumbers numbers = (k : ℕ) → IsNumber (at numbers k)
 
--- from a place on a row has the entries of a table
+-- from an index on a row has the entries of a table
 abbrev pub IsLaid : List ℤ → List Bool → ℕ → List ℤ → Type 0
 IsLaid numbers tests from row = (k : ℕ) → k < length numbers → at row (from + k) ≡ laid numbers tests k

@@ -1,7 +1,7 @@
 //! Least sums at four neighbouring distances at once.
 
 ghost use Rattle.std.specs.Prelude.{◌≡◌, ℕ, ℤ, ◌+◌, ◌<◌, ◌≤◌, ◌+ℤ◌, length};
-ghost use Rattle.pesp_search_rows.specs.Rows.{ArePlaces, IsEntry, IsLeast, IsLeastSum, IsRow, place_at, sum_at};
+ghost use Rattle.pesp_search_rows.specs.Rows.{AreIndices, IsEntry, IsLeast, IsLeastSum, IsRow, index_at, sum_at};
 
 /// What stands for an entry that is none.
 pub(crate) const NONE: i32 = 1_073_741_823;
@@ -28,7 +28,7 @@ fn sum(a: i32, b: i32) -> i32
 }
 
 /// The least with one more, the sum of entry `k` and the one at the distance `d` from it.
-fn lower(least: i32, u: &[i32], w: &[i32], d: usize, k: usize) -> i32
+fn least_with(least: i32, u: &[i32], w: &[i32], d: usize, k: usize) -> i32
     requires inside { (k < length u.now) × (d + k < length w.now) }
     requires u { IsRow u.now }
     requires w { IsRow w.now }
@@ -54,10 +54,10 @@ pub(crate) fn least_four(u: &[i32], w: &[i32], from: usize) -> Four
     let mut third = NONE;
     let mut fourth = NONE;
     for k in 0..u.len() {
-        first = lower(first, u, w, from, k);
-        second = lower(second, u, w, from + 1, k);
-        third = lower(third, u, w, from + 2, k);
-        fourth = lower(fourth, u, w, from + 3, k);
+        first = least_with(first, u, w, from, k);
+        second = least_with(second, u, w, from + 1, k);
+        third = least_with(third, u, w, from + 2, k);
+        fourth = least_with(fourth, u, w, from + 3, k);
     }
     Four {
         first,
@@ -67,12 +67,12 @@ pub(crate) fn least_four(u: &[i32], w: &[i32], from: usize) -> Four
     }
 }
 
-/// The same over the first row's numbers alone, which stand at the places.
-pub(crate) fn least_four_at(u: &[i32], w: &[i32], places: &[u16], from: usize) -> Four
+/// The same over the first row's numbers alone, which stand at these indices.
+pub(crate) fn least_four_at(u: &[i32], w: &[i32], indices: &[u16], from: usize) -> Four
     requires long { from + length u.now + 3 ≤ length w.now }
     requires u { IsRow u.now }
     requires w { IsRow w.now }
-    requires places { ArePlaces u.now (length places.now) (place_at places.now) }
+    requires indices { AreIndices u.now (length indices.now) (index_at indices.now) }
     ensures first { IsLeastSum u.now w.now from result.first }
     ensures second { IsLeastSum u.now w.now (from + 1) result.second }
     ensures third { IsLeastSum u.now w.now (from + 2) result.third }
@@ -82,12 +82,12 @@ pub(crate) fn least_four_at(u: &[i32], w: &[i32], places: &[u16], from: usize) -
     let mut second = NONE;
     let mut third = NONE;
     let mut fourth = NONE;
-    for place in places {
-        let k = usize::from(*place);
-        first = lower(first, u, w, from, k);
-        second = lower(second, u, w, from + 1, k);
-        third = lower(third, u, w, from + 2, k);
-        fourth = lower(fourth, u, w, from + 3, k);
+    for index in indices {
+        let k = usize::from(*index);
+        first = least_with(first, u, w, from, k);
+        second = least_with(second, u, w, from + 1, k);
+        third = least_with(third, u, w, from + 2, k);
+        fourth = least_with(fourth, u, w, from + 3, k);
     }
     Four {
         first,

@@ -29,7 +29,7 @@ fn pick(numbers: &[i32], tests: &[bool], k: usize) -> i32
     numbers[k].max(floor)
 }
 
-/// Writes the entries of a table into a row from a place on.
+/// Writes the entries of a table into a row from an index on.
 #[inline(never)]
 pub fn lay(numbers: &[i32], tests: &[bool], from: usize, row: &mut [i32])
     requires tests { length tests.now ≡ length numbers.now }

@@ -4,7 +4,7 @@ use Rattle.std.proofs.lemmas.Bool.{false≢true}
 use Rattle.pesp_search_tables.specs.Moves.{AreWithin}
 use Rattle.pesp_search_tables.specs.Sums.{count}
 
--- what holds of all lists holds behind the first test
+-- what holds of all lists holds after the first test
 rest_within : (x y : Bool) (old new : List Bool) → AreWithin (x ∷ old) (y ∷ new) → AreWithin old new
 rest_within x y old new within k h = within (suc k) h
 

@@ -6,9 +6,9 @@ use Rattle.std.proofs.lemmas.Int.{ints}
 use Rattle.std.proofs.lemmas.List.{get_or-drop, get_or_past, get_or-replicate, get_or-take, length-drop, length-replicate, length-take-le}
 use Rattle.pesp_search_rows.specs.Rows.{AreNumbers, IsLeastSum, IsNumber, IsRow, at, laid, none}
 use Rattle.pesp_search_tables.specs.declared.triple.Side.{Side}
-use Rattle.pesp_search_tables.specs.declared.triple.Turn.{Turn}
+use Rattle.pesp_search_tables.specs.declared.triple.Message.{Message}
 use Rattle.pesp_search_tables.specs.declared.triple.Way.{Way}
-use Rattle.pesp_search_tables.specs.declared.triple.Way.TheVariants.{Behind, Between}
+use Rattle.pesp_search_tables.specs.declared.triple.Way.TheVariants.{Between, InLine}
 use Rattle.pesp_search_tables.specs.Differences.{third}
 use Rattle.pesp_search_tables.specs.Moves.{AreLeasts, entry_at, spot}
 use Rattle.pesp_search_tables.specs.Sums.{admits_at, number_at}
@@ -55,11 +55,11 @@ part_laid T own tests s k h = ap₂ (λ b z. cond b z none) (part_at tests (s.pa
 -- ---- spots
 
 pub spot_below : (way : Way) (T k : ℕ) → k < T → spot way T k < T
-spot_below Behind T k h = h
+spot_below InLine T k h = h
 spot_below Between T k h = mod-lt (T - k) (omega (arith, h))
 
 spot_goes : (way : Way) (T e k : ℕ) → k < T → (e + spot way T k) % T ≡ third way T e k
-spot_goes Behind T e k h = refl
+spot_goes InLine T e k h = refl
 spot_goes Between T e k h = spot_back T k e h
 
 -- counted back twice it is the same
@@ -94,7 +94,7 @@ laid_twice T row f first second q h =
 entry_is : (T : ℕ) (own : List ℤ) (tests : List Bool) (s : Side) (k : ℕ) → admits_at T tests s.pair k ≡ true → entry_at T own tests s k ≡ number_at T own s.own k
 entry_is T own tests s k a = ap (λ b. cond b (number_at T own s.own k) none) a
 
-pub leasts_of : (t : Turn) (own : List ℤ) (tests : List Bool) (once part twice row : List ℤ) → AreNumbers own
+pub leasts_of : (t : Message) (own : List ℤ) (tests : List Bool) (once part twice row : List ℤ) → AreNumbers own
     → ((k : ℕ) → k < t.period → at once (spot t.way t.period k) ≡ entry_at t.period own tests t.other k)
     → ((q : ℕ) → q < t.period + t.period → at twice q ≡ entry_at t.period own tests t.third (q % t.period))
     → length part ≡ t.period → ((k : ℕ) → k < t.period → at part k ≡ at once k)

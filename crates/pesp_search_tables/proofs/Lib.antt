@@ -4,12 +4,12 @@ pub mod Differences
 pub mod Fitting
 pub mod FloorLaws
 pub mod Grown
+pub mod Indices
 pub mod Laid
-pub mod Places
+pub mod Messages
 pub mod Results
 pub mod Shared
 pub mod Totals
 pub mod Trims
 pub mod Triples
-pub mod Turns
 pub mod Whole

@@ -27,47 +27,47 @@ all_at R tests x = admits R.period tests (differences R x) (length R.ends)
 module _ (R : Relaxation) (whole : IsWhole R) where
   -- ---- halves
 
-  pub halved : (tests : List Bool) (place : ℕ) (set : List Bool) (inside : Bool) → place < length R.ends → AreTrimmed R.period place (λ e. slice_index_or set e false ≡ inside) R.tests tests
-      → ((e : ℕ) → e < R.period → slice_index_or set e false ≢ inside → admits_at R.period tests place e ≡ false) → IsHalf R (with_lists R R.numbers tests R.own R.floors) place set inside
-  halved tests place set inside there trimmed gone = record {
-    kept = λ x here. same_cost (trim_keeps R.period place (λ e. slice_index_or set e false ≡ inside) R.tests tests trimmed (length R.ends) (differences R x) (differences_below R x whole.some (length R.ends)) here) refl;
-    gone = λ x other. same_cost (admits_false R.period tests (differences R x) place (length R.ends) there (gone (differences R x place) (differences_below R x whole.some (length R.ends) place there) other)) refl;
+  pub halved : (tests : List Bool) (pair : ℕ) (set : List Bool) (inside : Bool) → pair < length R.ends → AreTrimmed R.period pair (λ e. slice_index_or set e false ≡ inside) R.tests tests
+      → ((e : ℕ) → e < R.period → slice_index_or set e false ≢ inside → admits_at R.period tests pair e ≡ false) → IsHalf R (with_lists R R.numbers tests R.own R.floors) pair set inside
+  halved tests pair set inside there trimmed gone = record {
+    kept = λ x here. same_cost (trim_keeps R.period pair (λ e. slice_index_or set e false ≡ inside) R.tests tests trimmed (length R.ends) (differences R x) (differences_below R x whole.some (length R.ends)) here) refl;
+    gone = λ x other. same_cost (admits_false R.period tests (differences R x) pair (length R.ends) there (gone (differences R x pair) (differences_below R x whole.some (length R.ends) pair there) other)) refl;
   }
 
   -- ---- joined tables
 
-  pub joined : (numbers : List ℤ) (tests : List Bool) (place : ℕ) (table : List (Option ℕ)) → place < length R.ends → AreTrimmed R.period place (λ e. entry table e ≢ None) R.tests tests
-      → ((e : ℕ) → e < R.period → entry table e ≡ None → admits_at R.period tests place e ≡ false)
-      → ((e m : ℕ) → e < R.period → entry table e ≡ Some m → number_at R.period numbers place e ≤ℤ (number_at R.period R.numbers place e +ℤ pos m))
-      → ((e m : ℕ) → e < R.period → entry table e ≡ Some m → (number_at R.period R.numbers place e +ℤ pos m) ≤ℤ greatest → number_at R.period numbers place e ≡ number_at R.period R.numbers place e +ℤ pos m)
-      → ((q e : ℕ) → q ≢ place → e < R.period → number_at R.period numbers q e ≡ number_at R.period R.numbers q e)
-      → IsJoined R (with_lists R numbers tests R.own R.floors) place table
-  joined numbers tests place table there trimmed gone below exact others =
+  pub joined : (numbers : List ℤ) (tests : List Bool) (pair : ℕ) (table : List (Option ℕ)) → pair < length R.ends → AreTrimmed R.period pair (λ e. entry table e ≢ None) R.tests tests
+      → ((e : ℕ) → e < R.period → entry table e ≡ None → admits_at R.period tests pair e ≡ false)
+      → ((e m : ℕ) → e < R.period → entry table e ≡ Some m → number_at R.period numbers pair e ≤ℤ (number_at R.period R.numbers pair e +ℤ pos m))
+      → ((e m : ℕ) → e < R.period → entry table e ≡ Some m → (number_at R.period R.numbers pair e +ℤ pos m) ≤ℤ greatest → number_at R.period numbers pair e ≡ number_at R.period R.numbers pair e +ℤ pos m)
+      → ((q e : ℕ) → q ≢ pair → e < R.period → number_at R.period numbers q e ≡ number_at R.period R.numbers q e)
+      → IsJoined R (with_lists R numbers tests R.own R.floors) pair table
+  joined numbers tests pair table there trimmed gone below exact others =
       let T = R.period in
       let n : ℕ = length R.ends in
       let inside : (x : ℕ → ℕ) → AreDifferences T (differences R x) n = λ x. differences_below R x whole.some n in
-      let here : (x : ℕ → ℕ) → differences R x place < T = λ x. inside x place there in
-      let more : (x : ℕ → ℕ) → (total T numbers (differences R x) n +ℤ number_at T R.numbers place (differences R x place)) ≡ (total T R.numbers (differences R x) n +ℤ number_at T numbers place (differences R x place)) =
-      λ x. total_here T place (differences R x) R.numbers numbers others n (inside x) there in
-      let some : (x : ℕ → ℕ) (m : ℕ) → entry table (differences R x place) ≡ Some m → entry table (differences R x place) ≢ None = λ x m is none. absurd (is_none (entry table (differences R x place)) m is none) in
-      let kept : (x : ℕ → ℕ) (m : ℕ) → entry table (differences R x place) ≡ Some m → admits T tests (differences R x) n ≡ admits T R.tests (differences R x) n =
-      λ x m is. trim_keeps T place (λ e. entry table e ≢ None) R.tests tests trimmed n (differences R x) (inside x) (some x m is) in
+      let here : (x : ℕ → ℕ) → differences R x pair < T = λ x. inside x pair there in
+      let more : (x : ℕ → ℕ) → (total T numbers (differences R x) n +ℤ number_at T R.numbers pair (differences R x pair)) ≡ (total T R.numbers (differences R x) n +ℤ number_at T numbers pair (differences R x pair)) =
+      λ x. total_here T pair (differences R x) R.numbers numbers others n (inside x) there in
+      let some : (x : ℕ → ℕ) (m : ℕ) → entry table (differences R x pair) ≡ Some m → entry table (differences R x pair) ≢ None = λ x m is none. absurd (is_none (entry table (differences R x pair)) m is none) in
+      let kept : (x : ℕ → ℕ) (m : ℕ) → entry table (differences R x pair) ≡ Some m → admits T tests (differences R x) n ≡ admits T R.tests (differences R x) n =
+      λ x m is. trim_keeps T pair (λ e. entry table e ≢ None) R.tests tests trimmed n (differences R x) (inside x) (some x m is) in
       record {
         below = λ x z m sum is.
             let both = cond_some (all_at R R.tests x) (pairs_at R R.numbers x +ℤ own_at R x) z sum in
             let value = both.1 in
             let grown = more x in
-            let low = below (differences R x place) m (here x) is in
+            let low = below (differences R x pair) m (here x) is in
             subst (λ (o : Option ℤ). IsSomeAnd o (λ y. y ≤ℤ (z +ℤ pos m))) (sym (ap (λ b. cond b (Some (pairs_at R numbers x +ℤ own_at R x)) None) (kept x m is ∙ both.0)))
             (omega (arith, ints, value, grown, low));
         exact = λ x z m sum is small.
             let both = cond_some (all_at R R.tests x) (pairs_at R R.numbers x +ℤ own_at R x) z sum in
             let value = both.1 in
             let grown = more x in
-            let same = exact (differences R x place) m (here x) is small in
+            let same = exact (differences R x pair) m (here x) is small in
             let equal : (pairs_at R numbers x +ℤ own_at R x) ≡ (z +ℤ pos m) = omega (arith, ints, value, grown, same) in
             ap (λ b. cond b (Some (pairs_at R numbers x +ℤ own_at R x)) None) (kept x m is ∙ both.0) ∙ ap Some equal;
-        gone = λ x is. ap (λ b. cond b (Some (pairs_at R numbers x +ℤ own_at R x)) None) (admits_false T tests (differences R x) place n there (gone (differences R x place) (here x) is));
+        gone = λ x is. ap (λ b. cond b (Some (pairs_at R numbers x +ℤ own_at R x)) None) (admits_false T tests (differences R x) pair n there (gone (differences R x pair) (here x) is));
         within = λ x z sum.
             let both = cond_some (all_at R tests x) (pairs_at R numbers x +ℤ own_at R x) z sum in
             let all = admits_within T R.tests tests (differences R x) n trimmed.within both.0 in

@@ -6,7 +6,7 @@ use Rattle.pesp_search_rows.specs.Rows.{AreNumbers, IsNumber}
 use Rattle.pesp_search_tables.specs.declared.triple.Side.{Side}
 use Rattle.pesp_search_tables.specs.Moves.{AreShared}
 use Rattle.pesp_search_tables.specs.Sums.{number_at}
-use Rattle.pesp_search_tables.proofs.Places.{apart_from, apart_within}
+use Rattle.pesp_search_tables.proofs.Indices.{apart_from, apart_within}
 
 pub shared_none : (T : ℕ) (s : Side) (xs ys : List ℤ) → AreShared T s xs xs ys ys
 shared_none T s xs ys = record { both = λ e h. refl; pairs = λ q e a h. refl; own = λ q e a h. refl }

@@ -6,7 +6,7 @@ use Rattle.pesp_search_tables.specs.Moves.{AreWithin}
 use Rattle.pesp_search_tables.specs.Sums.{AreDifferences, admits, admits_at, number_at, total}
 
 module _ (T p : ℕ) (d : ℕ → ℕ) (xs ys : List ℤ) (others : (q e : ℕ) → q ≢ p → e < T → number_at T ys q e ≡ number_at T xs q e) where
-  -- sums that end before the place that changed are as before
+  -- sums that end before the table that changed are as before
   total_elsewhere : (n : ℕ) → AreDifferences T d n → n ≤ p → total T ys d n ≡ total T xs d n
   total_elsewhere zero inside h = refl
   total_elsewhere (suc n) inside h =
@@ -14,7 +14,7 @@ module _ (T p : ℕ) (d : ℕ → ℕ) (xs ys : List ℤ) (others : (q e : ℕ) 
       let here = others n (d n) (λ same. absurd (omega (arith, same, h))) (inside n (omega arith)) in
       ap₂ (λ a b. a +ℤ b) rest here
 
-  -- those that take it have changed by as much
+  -- those that have it have changed by as much
   pub total_here : (n : ℕ) → AreDifferences T d n → p < n → total T ys d n +ℤ number_at T xs p (d p) ≡ total T xs d n +ℤ number_at T ys p (d p)
   total_here zero inside h = absurd (omega (arith, h))
   total_here (suc n) inside h =

@@ -1,14 +1,14 @@
--- Tests of one place that become false.
+-- Tests of one pair that become false.
 use Rattle.std.proofs.Common.{◌≡◌, ◌≢◌, ℕ, ◌+◌, ◌*◌, ◌<◌, Bool, true, false, ◌&&◌, List, length, set, get_or, refl, sym, subst, ap, ◌∙◌, inl, inr}
 use Rattle.std.proofs.Math.Bool.{and-true}
 use Rattle.std.proofs.lemmas.Bool.{and_parts, cases_eq}
 use Rattle.std.proofs.lemmas.List.{get_or-set_same, get_or-set_other}
 use Rattle.pesp_search_tables.specs.Moves.{AreTrimmed}
 use Rattle.pesp_search_tables.specs.Sums.{AreDifferences, admits, admits_at}
-use Rattle.pesp_search_tables.proofs.Places.{apart_from, apart_within}
+use Rattle.pesp_search_tables.proofs.Indices.{apart_from, apart_within}
 use Rattle.pesp_search_tables.proofs.Totals.{admits_same}
 
--- a map whose difference at the place is kept is admitted as before
+-- a map whose difference at the pair is kept is admitted as before
 pub trim_keeps : (T p : ℕ) (Kept : ℕ → Type 0) (old new : List Bool) → AreTrimmed T p Kept old new → (n : ℕ) (d : ℕ → ℕ) → AreDifferences T d n → Kept (d p) → admits T new d n ≡ admits T old d n
 trim_keeps T p Kept old new t n d inside here =
     admits_same T old new d n (λ q h. elim (cases_eq q p) [
@@ -53,7 +53,7 @@ trim_and T p Kept old xs e b below long stays t =
     let was : Bool = get_or xs (p * T + e) false in
     trim_set T p Kept old xs e (was && b) below long (λ k. ap (λ c. was && c) (stays k) ∙ and-true was) (λ h. (and_parts was b h).0) t
 
--- what is false at a place stays so where another test is written, or this one is made false
+-- what is false stays so where another test is written, or this one is made false
 pub gone_set : (T p : ℕ) (xs : List Bool) (e : ℕ) (b : Bool) → e < T → p * T + e < length xs → (f : ℕ) → f < T → (f ≡ e → b ≡ false) → (f ≢ e → admits_at T xs p f ≡ false) → admits_at T (set xs (p * T + e) b) p f ≡ false
 gone_set T p xs e b below long f h here before =
     elim (cases_eq f e) [

@@ -3,16 +3,16 @@ use Rattle.std.proofs.Common.{◌≡◌, ℕ, zero, suc, ◌+◌, ◌*◌, ◌%�
 use Rattle.std.proofs.Math.Nat.{mod-lt}
 use Rattle.std.proofs.lemmas.Int.{ints}
 use Rattle.pesp_search_tables.specs.declared.triple.Ends.{Ends}
-use Rattle.pesp_search_tables.specs.declared.triple.Seat.{Seat}
+use Rattle.pesp_search_tables.specs.declared.triple.Sides.{Sides}
 use Rattle.pesp_search_tables.specs.declared.triple.Triple.{Triple}
 use Rattle.pesp_search_tables.specs.Differences.{difference}
-use Rattle.pesp_search_tables.specs.Moves.{IsAround, IsFloor, IsPlaced}
-use Rattle.pesp_search_tables.specs.Relaxed.{AreSides, Relaxation, differences, ends_at, seat, side_at, triple_at}
+use Rattle.pesp_search_tables.specs.Moves.{AreAmong, IsAround, IsFloor}
+use Rattle.pesp_search_tables.specs.Relaxed.{AreSides, Relaxation, differences, ends_at, side_at, triple_at, triple_sides}
 use Rattle.pesp_search_tables.specs.Sums.{AreDifferences, admits_at, number_at}
 use Rattle.pesp_search_tables.proofs.Differences.{difference_adds}
-use Rattle.pesp_search_tables.proofs.Places.{difference_below}
+use Rattle.pesp_search_tables.proofs.Indices.{difference_below}
 
--- ---- sides by their places
+-- ---- sides by their indices
 
 three_more : (t : Triple) (ts : List Triple) (k q : ℕ) → q ≡ suc (suc (suc k)) → side_at (t ∷ ts) q ≡ side_at ts k
 three_more t ts k q is = ap (side_at (t ∷ ts)) is
@@ -32,7 +32,7 @@ side_ac [] k h = absurd (omega (arith, h))
 side_ac (t ∷ ts) zero h = refl
 side_ac (t ∷ ts) (suc k) h = three_more t ts (3 * k + 2) (3 * suc k + 2) (omega arith) ∙ side_ac ts k (omega (arith, h))
 
--- what stands behind changes no side
+-- what comes after changes no side
 pub side_before : (ts us : List Triple) (q : ℕ) → q < 3 * length ts → side_at (ts ++ us) q ≡ side_at ts q
 side_before [] us q h = absurd (omega (arith, h))
 side_before (t ∷ ts) us zero h = refl
@@ -48,10 +48,10 @@ side_there n (t ∷ ts) there (suc zero) h = (there 0 (omega arith)).1
 side_there n (t ∷ ts) there (suc (suc zero)) h = (there 0 (omega arith)).2
 side_there n (t ∷ ts) there (suc (suc (suc q))) h = side_there n ts (λ k l. there (suc k) (omega (arith, l))) q (omega (arith, h))
 
--- ---- seats
+-- ---- the three sides
 
-pub seat_placed : (ends : List Ends) (T : ℕ) (t : Triple) (k m : ℕ) → AreSides ends t.ab t.bc t.ac → k < m → IsPlaced (length ends) (3 * m) (seat T t k)
-seat_placed ends T t k m sides h = record {
+pub sides_among : (ends : List Ends) (T : ℕ) (t : Triple) (k m : ℕ) → AreSides ends t.ab t.bc t.ac → k < m → AreAmong (length ends) (3 * m) (triple_sides T t k)
+sides_among ends T t k m sides h = record {
   ab_pair = sides.ab_there;
   bc_pair = sides.bc_there;
   ac_pair = sides.ac_there;
@@ -65,9 +65,9 @@ module _ (R : Relaxation) (x : ℕ → ℕ) (some : 0 < R.period) where
   differences_below n p h = difference_below R.period _ _ some
 
   -- the differences of a map at a triple go round
-  pub seat_around : (k : ℕ) → k < length R.triples → AreSides R.ends (triple_at R.triples k).ab (triple_at R.triples k).bc (triple_at R.triples k).ac
-      → IsAround (seat R.period (triple_at R.triples k) k) (differences R x) (λ q. differences R x (side_at R.triples q))
-  seat_around k h sides =
+  pub sides_around : (k : ℕ) → k < length R.triples → AreSides R.ends (triple_at R.triples k).ab (triple_at R.triples k).bc (triple_at R.triples k).ac
+      → IsAround (triple_sides R.period (triple_at R.triples k) k) (differences R x) (λ q. differences R x (side_at R.triples q))
+  sides_around k h sides =
       let T = R.period in
       let t = triple_at R.triples k in
       let a = (ends_at R.ends t.ab).from in
@@ -85,7 +85,7 @@ module _ (R : Relaxation) (x : ℕ → ℕ) (some : 0 < R.period) where
 -- ---- floors
 
 -- a floor stays one where own numbers do and no more is admitted
-pub floor_stays : (s : Seat) (t0 t1 : List Bool) (o0 o1 : List ℤ) (fl : ℤ)
+pub floor_stays : (s : Sides) (t0 t1 : List Bool) (o0 o1 : List ℤ) (fl : ℤ)
     → ((e : ℕ) → e < s.period → admits_at s.period t1 s.ab.pair e ≡ true → admits_at s.period t0 s.ab.pair e ≡ true)
     → ((e : ℕ) → e < s.period → admits_at s.period t1 s.bc.pair e ≡ true → admits_at s.period t0 s.bc.pair e ≡ true)
     → ((e : ℕ) → e < s.period → admits_at s.period t1 s.ac.pair e ≡ true → admits_at s.period t0 s.ac.pair e ≡ true)

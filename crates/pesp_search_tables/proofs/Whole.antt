@@ -1,22 +1,27 @@
 -- What holds of all tables, once some of their lists have changed.
-use Rattle.std.proofs.Common.{◌≡◌, ℕ, zero, suc, ◌+◌, ◌*◌, ◌<◌, ◌≤◌, Bool, true, ℤ, pos, ◌+ℤ◌, ◌≤ℤ◌, cond, Option, Some, None, List, length, set, get_or, refl, sym, subst, ap, ap₂, ◌∙◌, inl, inr, arith}
+use Rattle.std.proofs.Common.{◌≡◌, ℕ, zero, suc, ◌+◌, ◌*◌, ◌<◌, ◌≤◌, Bool, true, ℤ, pos, ◌+ℤ◌, ◌≤ℤ◌, cond, Option, Some, None, List, Vec, length, set, get_or, refl, sym, subst, ap, ap₂, ◌∙◌, inl, inr, arith}
 use Rattle.std.proofs.lemmas.Bool.{cases_eq}
 use Rattle.std.proofs.lemmas.Int.{ints}
-use Rattle.std.proofs.lemmas.List.{get_or-set_same, get_or-set_other, length-set}
+use Rattle.std.proofs.lemmas.List.{get_or-set_same, get_or-set_other, length-set, with_items_is}
+use Rattle.std.specs.Vec.{with_items}
 use Rattle.pesp_search_rows.specs.Rows.{AreNumbers}
 use Rattle.pesp_search_tables.specs.Floors.{IsShallow, floor_sum}
 use Rattle.pesp_search_tables.specs.Moves.{AreWithin, IsFloor, KeepOthers}
-use Rattle.pesp_search_tables.specs.Relaxed.{AreSides, IsWhole, Relaxation, differences, seat, side_at, triple_at}
+use Rattle.pesp_search_tables.specs.Relaxed.{AreSides, IsWhole, Relaxation, differences, side_at, triple_at, triple_sides}
 use Rattle.pesp_search_tables.specs.Sums.{admits, admits_at, number_at, total}
 use Rattle.pesp_search_tables.proofs.Totals.{admits_each}
-use Rattle.pesp_search_tables.proofs.Triples.{differences_below, floor_stays, seat_around}
+use Rattle.pesp_search_tables.proofs.Triples.{differences_below, floor_stays, sides_around}
 
 -- the same pairs and triples with other lists
 abbrev pub with_lists : Relaxation → List ℤ → List Bool → List ℤ → List ℤ → Relaxation
 with_lists R numbers tests own floors = record { period = R.period; ends = R.ends; triples = R.triples; numbers = numbers; tests = tests; own = own; floors = floors }
 
-pub sides_of : (R : Relaxation) → IsWhole R → (k : ℕ) → k < length R.triples → AreSides R.ends (triple_at R.triples k).ab (triple_at R.triples k).bc (triple_at R.triples k).ac
-sides_of R whole k h = whole.triples k (record { ab = 0; bc = 0; ac = 0 }) h
+pub are_sides : (R : Relaxation) → IsWhole R → (k : ℕ) → k < length R.triples → AreSides R.ends (triple_at R.triples k).ab (triple_at R.triples k).bc (triple_at R.triples k).ac
+are_sides R whole k h = whole.triples k (record { ab = 0; bc = 0; ac = 0 }) h
+
+-- a list that was written through a slice has what was written, and its length
+pub list_changed : {A Z : Type 0} (v : Vec A Z) (new before : List A) → before ≡ v.items → length new ≡ length before → ((with_items v new).items ≡ new) × (length new ≡ length v.items)
+list_changed v new before was same = let long = same ∙ ap length was in (with_items_is v new (long ∙ sym v.ok.0), long)
 
 -- where no more is admitted and triples keep their numbers
 pub whole_within : (R : Relaxation) (numbers : List ℤ) (tests : List Bool) → IsWhole R → length numbers ≡ length R.numbers → length tests ≡ length R.tests → AreNumbers numbers → AreWithin R.tests tests → IsWhole (with_lists R numbers tests R.own R.floors)
@@ -34,7 +39,7 @@ whole_within R numbers tests whole long many small within = record {
   small_own = whole.small_own;
   shallow = whole.shallow;
   low = λ k h.
-      floor_stays (seat R.period (triple_at R.triples k) k) R.tests tests R.own R.own (get_or R.floors k (pos 0))
+      floor_stays (triple_sides R.period (triple_at R.triples k) k) R.tests tests R.own R.own (get_or R.floors k (pos 0))
       (λ e l a. within ((triple_at R.triples k).ab * R.period + e) a) (λ e l a. within ((triple_at R.triples k).bc * R.period + e) a) (λ e l a. within ((triple_at R.triples k).ac * R.period + e) a)
       (λ e l. refl) (λ e l. refl) (λ e l. refl) (whole.low k h);
 }
@@ -42,7 +47,7 @@ whole_within R numbers tests whole long many small within = record {
 -- after a step at a triple
 pub whole_stepped : (R : Relaxation) (numbers : List ℤ) (tests : List Bool) (own : List ℤ) (k : ℕ) (floor : ℤ) → IsWhole R → k < length R.triples
     → length numbers ≡ length R.numbers → length tests ≡ length R.tests → length own ≡ length R.own → AreNumbers numbers → AreNumbers own → AreWithin R.tests tests
-    → KeepOthers (seat R.period (triple_at R.triples k) k) R.own own → IsFloor (seat R.period (triple_at R.triples k) k) tests own floor → IsShallow floor
+    → KeepOthers (triple_sides R.period (triple_at R.triples k) k) R.own own → IsFloor (triple_sides R.period (triple_at R.triples k) k) tests own floor → IsShallow floor
     → IsWhole (with_lists R numbers tests own (set R.floors k floor))
 whole_stepped R numbers tests own k floor whole here long many much small small_own within others low shallow =
     let T = R.period in
@@ -65,17 +70,17 @@ whole_stepped R numbers tests own k floor whole here long many much small small_
       ];
       low = λ j h. elim (cases_eq j k) [
         | inl same ↦
-            subst (λ i. IsFloor (seat T (triple_at R.triples i) i) tests own (get_or (set R.floors k floor) i (pos 0))) (sym same)
-            (subst (IsFloor (seat T (triple_at R.triples k) k) tests own) (sym (get_or-set_same R.floors k floor (pos 0) there)) low)
+            subst (λ i. IsFloor (triple_sides T (triple_at R.triples i) i) tests own (get_or (set R.floors k floor) i (pos 0))) (sym same)
+            (subst (IsFloor (triple_sides T (triple_at R.triples k) k) tests own) (sym (get_or-set_same R.floors k floor (pos 0) there)) low)
         | inr apart ↦
             let t = triple_at R.triples j in
-            let stays = floor_stays (seat T t j) R.tests tests R.own own (get_or R.floors j (pos 0))
+            let stays = floor_stays (triple_sides T t j) R.tests tests R.own own (get_or R.floors j (pos 0))
             (λ e l a. within (t.ab * T + e) a) (λ e l a. within (t.bc * T + e) a) (λ e l a. within (t.ac * T + e) a)
             (λ e l. others (3 * j) e (λ same. absurd (omega (arith, same, apart))) (λ same. absurd (omega (arith, same))) (λ same. absurd (omega (arith, same))) l)
             (λ e l. others (3 * j + 1) e (λ same. absurd (omega (arith, same))) (λ same. absurd (omega (arith, same, apart))) (λ same. absurd (omega (arith, same))) l)
             (λ e l. others (3 * j + 2) e (λ same. absurd (omega (arith, same))) (λ same. absurd (omega (arith, same))) (λ same. absurd (omega (arith, same, apart))) l)
             (whole.low j h) in
-            subst (IsFloor (seat T t j) tests own) (sym (get_or-set_other R.floors k j floor (pos 0) apart)) stays
+            subst (IsFloor (triple_sides T t j) tests own) (sym (get_or-set_other R.floors k j floor (pos 0) apart)) stays
       ];
     }
 
@@ -101,8 +106,8 @@ floors_below R whole x all (suc m) h =
     let own : ℕ → ℤ = λ q. number_at T R.own q (f q) in
     let t = triple_at R.triples m in
     let rest = floors_below R whole x all m (omega (arith, h)) in
-    let sides = sides_of R whole m (omega (arith, h)) in
-    let around = seat_around R x whole.some m (omega (arith, h)) sides in
+    let sides = are_sides R whole m (omega (arith, h)) in
+    let around = sides_around R x whole.some m (omega (arith, h)) sides in
     let inside = differences_below R x whole.some (length R.ends) in
     let last = around.adds_up in
     let low = whole.low m (omega (arith, h)) (d t.ab) (d t.bc) (inside t.ab sides.ab_there) (inside t.bc sides.bc_there)

@@ -15,7 +15,7 @@ abbrev pub floor_sum : List ℤ → ℕ → ℤ
 floor_sum floors zero = pos 0
 floor_sum floors (suc n) = floor_sum floors n +ℤ slice_index_or floors n (pos 0)
 
--- a bound on the sums of the first n tables at admitted differences, also where the number at one place is replaced by another one that is admitted there
+-- a bound on the sums of the first n tables at admitted differences, also where the number of one table is replaced by another one that is admitted there
 pub record IsPairBound (T n : ℕ) (numbers : List ℤ) (tests : List Bool) (bound : ℤ) : Type 0 where
   pub below : (d : ℕ → ℕ) → AreDifferences T d n → admits T tests d n ≡ true → bound ≤ℤ total T numbers d n
   pub but : (d : ℕ → ℕ) (p e : ℕ) → AreDifferences T d n → admits T tests d n ≡ true → p < n → e < T → admits_at T tests p e ≡ true

@@ -19,20 +19,20 @@ fn lesser(least: Option<i32>, test: bool, number: i32) -> Option<i32>
     }
 }
 
-/// The least number of the pair at the place; none where it has no entry.
-pub(crate) fn least_of(numbers: &[i32], tests: &[bool], period: usize, place: usize) -> Option<i32>
-    requires fits { (Fits period place (length numbers.now))
-        × (Fits period place (length tests.now)) }
+/// The least number of the pair; none where it has no entry.
+pub(crate) fn least_of(numbers: &[i32], tests: &[bool], period: usize, pair: usize) -> Option<i32>
+    requires fits { (Fits period pair (length numbers.now))
+        × (Fits period pair (length tests.now)) }
     requires small { AreNumbers numbers.now }
-    ensures least { (e : ℕ) → e < period → admits_at period tests.now place e ≡ true
-        → IsSomeAnd result (λ l. l ≤ℤ number_at period numbers.now place e) }
+    ensures least { (e : ℕ) → e < period → admits_at period tests.now pair e ≡ true
+        → IsSomeAnd result (λ l. l ≤ℤ number_at period numbers.now pair e) }
     ensures reached { IfSome result
-        (λ l. (e : ℕ) × (e < period) × (admits_at period tests.now place e ≡ true)
-        × (number_at period numbers.now place e ≡ l)) }
+        (λ l. (e : ℕ) × (e < period) × (admits_at period tests.now pair e ≡ true)
+        × (number_at period numbers.now pair e ≡ l)) }
 {
     let mut least = None;
     for e in 0..period {
-        let here = place * period + e;
+        let here = pair * period + e;
         least = lesser(least, tests[here], numbers[here]);
     }
     least
@@ -49,8 +49,8 @@ fn least_of_pairs(numbers: &[i32], tests: &[bool], period: usize, pairs: usize) 
         → admits period tests.now d pairs ≡ true → ⊥ }
 {
     let mut sum = 0;
-    for place in 0..pairs {
-        let least = least_of(numbers, tests, period, place)?;
+    for pair in 0..pairs {
+        let least = least_of(numbers, tests, period, pair)?;
         sum += i64::from(least);
     }
     Some(sum)

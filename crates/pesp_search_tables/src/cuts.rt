@@ -12,17 +12,17 @@ use crate::numbers::GREATEST;
 /// Caps beyond this one are as far as any sum.
 const MOST: i64 = 576_460_752_303_423_488;
 
-/// Leaves the pair at the place only the entries for which the set says so.
-pub(crate) fn keep_at(tests: &mut [bool], period: usize, place: usize, set: &[bool], inside: bool)
-    requires fits { Fits period place (length tests.old) }
+/// Leaves the pair only the entries for which the set says so.
+pub(crate) fn keep_at(tests: &mut [bool], period: usize, pair: usize, set: &[bool], inside: bool)
+    requires fits { Fits period pair (length tests.old) }
     requires set { length set.now ≡ period }
-    ensures trimmed { AreTrimmed period place (λ e. slice_index_or set.now e false ≡ inside)
+    ensures trimmed { AreTrimmed period pair (λ e. slice_index_or set.now e false ≡ inside)
         tests.old tests.new }
     ensures gone { (e : ℕ) → e < period → slice_index_or set.now e false ≢ inside
-        → admits_at period tests.new place e ≡ false }
+        → admits_at period tests.new pair e ≡ false }
 {
     for e in 0..period {
-        tests[place * period + e] &= set[e] == inside;
+        tests[pair * period + e] &= set[e] == inside;
     }
 }
 
@@ -34,18 +34,18 @@ fn stays(test: bool, number: i32, limit: i64) -> bool
     test & (i64::from(number) < limit)
 }
 
-/// Leaves the pair at the place only numbers below the limit.
-fn cut_from(numbers: &[i32], tests: &mut [bool], period: usize, place: usize, limit: i64)
-    requires fits { (Fits period place (length numbers.now))
-        × (Fits period place (length tests.old)) }
+/// Leaves the pair only numbers below the limit.
+fn cut_from(numbers: &[i32], tests: &mut [bool], period: usize, pair: usize, limit: i64)
+    requires fits { (Fits period pair (length numbers.now))
+        × (Fits period pair (length tests.old)) }
     requires small { AreNumbers numbers.now }
     requires low { neg_ℤ (pos (2 ^ 61)) ≤ℤ limit }
     requires high { limit ≤ℤ pos (2 ^ 61) }
-    ensures trimmed { AreTrimmed period place (λ e. number_at period numbers.now place e <ℤ limit)
+    ensures trimmed { AreTrimmed period pair (λ e. number_at period numbers.now pair e <ℤ limit)
         tests.old tests.new }
 {
     for e in 0..period {
-        let here = place * period + e;
+        let here = pair * period + e;
         tests[here] = stays(tests[here], numbers[here], limit);
     }
 }
@@ -66,18 +66,18 @@ fn limit_of(least: Option<i32>, room: i64) -> i64
     }
 }
 
-/// Leaves the pair at the place only numbers that are less than so far above the least one.
-fn cut_place(numbers: &[i32], tests: &mut [bool], period: usize, place: usize, room: i64)
-    requires fits { (Fits period place (length numbers.now))
-        × (Fits period place (length tests.old)) }
+/// Leaves the pair only numbers that are less than so far above the least one.
+fn cut_pair(numbers: &[i32], tests: &mut [bool], period: usize, pair: usize, room: i64)
+    requires fits { (Fits period pair (length numbers.now))
+        × (Fits period pair (length tests.old)) }
     requires small { AreNumbers numbers.now }
     requires low { neg_ℤ (pos (2 ^ 60)) ≤ℤ room }
     requires high { room ≤ℤ pos (2 ^ 60) }
-    ensures trimmed { AreTrimmed period place (IsNear period numbers.now tests.old place room)
+    ensures trimmed { AreTrimmed period pair (IsNear period numbers.now tests.old pair room)
         tests.old tests.new }
 {
-    let limit = limit_of(least_of(numbers, tests, period, place), room);
-    cut_from(numbers, tests, period, place, limit);
+    let limit = limit_of(least_of(numbers, tests, period, pair), room);
+    cut_from(numbers, tests, period, pair, limit);
 }
 
 /// The cap, or the nearest beyond which no sum is.
@@ -125,8 +125,8 @@ pub(crate) fn cut_at(numbers: &[i32], tests: &mut [bool], period: usize, pairs: 
         → admits period tests.new d pairs ≡ true }
     ensures within { AreWithin tests.old tests.new }
 {
-    for place in 0..pairs {
-        cut_place(numbers, tests, period, place, room);
+    for pair in 0..pairs {
+        cut_pair(numbers, tests, period, pair, room);
     }
 }
 
@@ -155,32 +155,32 @@ fn joins(test: bool, entry: Option<u32>) -> bool
     test & entry.is_some()
 }
 
-/// Adds the entries of a table to those of the pair at the place.
+/// Adds the entries of a table to those of the pair.
 pub(crate) fn join_at(
     numbers: &mut [i32],
     tests: &mut [bool],
     period: usize,
-    place: usize,
+    pair: usize,
     table: &[Option<u32>],
 )
-    requires fits { (Fits period place (length numbers.old))
-        × (Fits period place (length tests.old)) }
+    requires fits { (Fits period pair (length numbers.old))
+        × (Fits period pair (length tests.old)) }
     requires table { length table.now ≡ period }
     requires small { AreNumbers numbers.old }
-    ensures trimmed { AreTrimmed period place (λ e. entry table.now e ≢ None) tests.old tests.new }
+    ensures trimmed { AreTrimmed period pair (λ e. entry table.now e ≢ None) tests.old tests.new }
     ensures gone { (e : ℕ) → e < period → entry table.now e ≡ None
-        → admits_at period tests.new place e ≡ false }
+        → admits_at period tests.new pair e ≡ false }
     ensures below { (e m : ℕ) → e < period → entry table.now e ≡ Some m
-        → number_at period numbers.new place e ≤ℤ (number_at period numbers.old place e +ℤ pos m) }
+        → number_at period numbers.new pair e ≤ℤ (number_at period numbers.old pair e +ℤ pos m) }
     ensures exact { (e m : ℕ) → e < period → entry table.now e ≡ Some m
-        → (number_at period numbers.old place e +ℤ pos m) ≤ℤ greatest
-        → number_at period numbers.new place e ≡ number_at period numbers.old place e +ℤ pos m }
-    ensures others { (q e : ℕ) → q ≢ place → e < period
+        → (number_at period numbers.old pair e +ℤ pos m) ≤ℤ greatest
+        → number_at period numbers.new pair e ≡ number_at period numbers.old pair e +ℤ pos m }
+    ensures others { (q e : ℕ) → q ≢ pair → e < period
         → number_at period numbers.new q e ≡ number_at period numbers.old q e }
     ensures small { AreNumbers numbers.new }
 {
     for e in 0..period {
-        let here = place * period + e;
+        let here = pair * period + e;
         let number = joined(numbers[here], table[e]);
         numbers[here] = number;
         tests[here] = joins(tests[here], table[e]);

@@ -5,84 +5,85 @@ ghost use Rattle.pesp_search_rows.specs.Rows.{AreNumbers, IsRow, IsSum, at};
 ghost use Rattle.pesp_search_tables.specs.Moves.{AreLeasts, Fits, entry_at, spot};
 
 use crate::scratch::Scratch;
-use crate::triple::{Turn, Way};
+use crate::triple::{Message, Way};
 use pesp_search_rows::{lay, lay_back, lay_twice, least_sums};
 
-/// The numbers at a place.
-fn numbers_of(numbers: &[i32], period: usize, place: usize) -> &[i32]
-    requires { Fits period place (length numbers.now) }
-    ensures { result.now ≡ slice_range numbers.now (place * period) (place * period + period) }
+/// The numbers of a table.
+fn numbers_of(numbers: &[i32], period: usize, table: usize) -> &[i32]
+    requires { Fits period table (length numbers.now) }
+    ensures { result.now ≡ slice_range numbers.now (table * period) (table * period + period) }
 {
-    let from = place * period;
+    let from = table * period;
     &numbers[from..from + period]
 }
 
-/// The tests at a place.
-fn tests_of(tests: &[bool], period: usize, place: usize) -> &[bool]
-    requires { Fits period place (length tests.now) }
-    ensures { result.now ≡ slice_range tests.now (place * period) (place * period + period) }
+/// The tests of a table.
+fn tests_of(tests: &[bool], period: usize, table: usize) -> &[bool]
+    requires { Fits period table (length tests.now) }
+    ensures { result.now ≡ slice_range tests.now (table * period) (table * period + period) }
 {
-    let from = place * period;
+    let from = table * period;
     &tests[from..from + period]
 }
 
 /// Lays the other side out, so that what goes with an entry of the third side stands as far from it as this
 /// side's difference is.
-fn lay_other(own: &[i32], tests: &[bool], turn: Turn, row: &mut [i32])
-    requires pair { Fits turn.period turn.other.pair (length tests.now) }
-    requires own { Fits turn.period turn.other.own (length own.now) }
+fn lay_other(own: &[i32], tests: &[bool], message: Message, row: &mut [i32])
+    requires pair { Fits message.period message.other.pair (length tests.now) }
+    requires own { Fits message.period message.other.own (length own.now) }
     requires small { AreNumbers own.now }
-    requires long { turn.period ≤ length row.old }
+    requires long { message.period ≤ length row.old }
     requires row { IsRow row.old }
-    ensures laid { (k : ℕ) → k < turn.period
-        → at row.new (spot turn.way turn.period k)
-        ≡ entry_at turn.period own.now tests.now turn.other k }
+    ensures laid { (k : ℕ) → k < message.period
+        → at row.new (spot message.way message.period k)
+        ≡ entry_at message.period own.now tests.now message.other k }
     ensures row { IsRow row.new }
 {
-    let numbers = numbers_of(own, turn.period, turn.other.own);
-    let tests = tests_of(tests, turn.period, turn.other.pair);
-    match turn.way {
-        Way::Behind => lay(numbers, tests, 0, row),
+    let numbers = numbers_of(own, message.period, message.other.own);
+    let tests = tests_of(tests, message.period, message.other.pair);
+    match message.way {
+        Way::InLine => lay(numbers, tests, 0, row),
         Way::Between => lay_back(numbers, tests, row),
     }
 }
 
 /// Lays the third side out twice.
-fn lay_third(own: &[i32], tests: &[bool], turn: Turn, row: &mut [i32])
-    requires pair { Fits turn.period turn.third.pair (length tests.now) }
-    requires own { Fits turn.period turn.third.own (length own.now) }
+fn lay_third(own: &[i32], tests: &[bool], message: Message, row: &mut [i32])
+    requires pair { Fits message.period message.third.pair (length tests.now) }
+    requires own { Fits message.period message.third.own (length own.now) }
     requires small { AreNumbers own.now }
-    requires long { turn.period + turn.period ≤ length row.old }
+    requires long { message.period + message.period ≤ length row.old }
     requires row { IsRow row.old }
-    ensures laid { (q : ℕ) → q < turn.period + turn.period
-        → at row.new q ≡ entry_at turn.period own.now tests.now turn.third (q % turn.period) }
+    ensures laid { (q : ℕ) → q < message.period + message.period
+        → at row.new q
+        ≡ entry_at message.period own.now tests.now message.third (q % message.period) }
     ensures row { IsRow row.new }
 {
-    let numbers = numbers_of(own, turn.period, turn.third.own);
-    let tests = tests_of(tests, turn.period, turn.third.pair);
+    let numbers = numbers_of(own, message.period, message.third.own);
+    let tests = tests_of(tests, message.period, message.third.pair);
     lay_twice(numbers, tests, row);
 }
 
 /// For each difference at this side the least sum of the triple's own numbers at the two other sides, of those
 /// that their pairs admit; more than any sum of two numbers where they admit none.
-pub(crate) fn least_of_others(own: &[i32], tests: &[bool], turn: Turn, scratch: &mut Scratch)
-    requires period { turn.period ≤ 1440 }
-    requires pairs { (Fits turn.period turn.other.pair (length tests.now))
-        × (Fits turn.period turn.third.pair (length tests.now)) }
-    requires own { (Fits turn.period turn.other.own (length own.now))
-        × (Fits turn.period turn.third.own (length own.now)) }
+pub(crate) fn least_of_others(own: &[i32], tests: &[bool], message: Message, scratch: &mut Scratch)
+    requires period { message.period ≤ 1440 }
+    requires pairs { (Fits message.period message.other.pair (length tests.now))
+        × (Fits message.period message.third.pair (length tests.now)) }
+    requires own { (Fits message.period message.other.own (length own.now))
+        × (Fits message.period message.third.own (length own.now)) }
     requires small { AreNumbers own.now }
     requires rows { IsRow scratch.old.once × IsRow scratch.old.twice }
-    ensures least { AreLeasts turn tests.now own.now scratch.new.sums }
+    ensures least { AreLeasts message tests.now own.now scratch.new.sums }
     ensures rows { IsRow scratch.new.once × IsRow scratch.new.twice }
-    ensures sums { (e : ℕ) → e < turn.period → IsSum (at scratch.new.sums e) }
+    ensures sums { (e : ℕ) → e < message.period → IsSum (at scratch.new.sums e) }
 {
-    lay_other(own, tests, turn, &mut scratch.once);
-    lay_third(own, tests, turn, &mut scratch.twice);
+    lay_other(own, tests, message, &mut scratch.once);
+    lay_third(own, tests, message, &mut scratch.twice);
     least_sums(
-        numbers_of(&scratch.once, turn.period, 0),
+        numbers_of(&scratch.once, message.period, 0),
         &scratch.twice,
-        &mut scratch.places,
+        &mut scratch.indices,
         &mut scratch.sums,
     );
 }

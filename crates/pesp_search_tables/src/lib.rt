@@ -7,7 +7,7 @@ mod growth;
 mod least;
 mod numbers;
 mod scratch;
-mod seats;
+mod sides;
 mod step;
 mod tables;
 mod triple;

@@ -28,7 +28,7 @@ fn are_both_numbers(a: i32, b: i32) -> bool
     (-GREATEST <= a) & (a <= GREATEST) & (-GREATEST <= b) & (b <= GREATEST)
 }
 
-/// The share, or the nearest that two numbers could take.
+/// The share, or the nearest that could move between two numbers.
 fn limited(share: i32) -> i32
     ensures { (neg_ℤ greatest_sum ≤ℤ result) × (result ≤ℤ greatest_sum) }
 {
@@ -36,7 +36,7 @@ fn limited(share: i32) -> i32
 }
 
 /// The share, or nothing where it would make one of the numbers too great.
-fn given(own: i32, pair: i32, share: i32) -> i32
+fn fitting_share(own: i32, pair: i32, share: i32) -> i32
     requires own { IsNumber own }
     requires pair { IsNumber pair }
     requires low { neg_ℤ greatest_sum ≤ℤ share }
@@ -60,15 +60,15 @@ pub(crate) fn moved(own: i32, pair: i32, share: i32) -> Two
     ensures own { IsNumber result.own }
     ensures pair { IsNumber result.pair }
 {
-    let given = given(own, pair, limited(share));
+    let fitting_share = fitting_share(own, pair, limited(share));
     Two {
-        own: own - given,
-        pair: pair + given,
+        own: own - fitting_share,
+        pair: pair + fitting_share,
     }
 }
 
 /// Moves all of the pair's number to the own one.
-fn taken(own: i32, pair: i32) -> Two
+fn received(own: i32, pair: i32) -> Two
     requires own { IsNumber own }
     requires pair { IsNumber pair }
     ensures both { (result.own +ℤ result.pair) ≡ (own +ℤ pair) }
@@ -79,7 +79,7 @@ fn taken(own: i32, pair: i32) -> Two
 }
 
 /// Moves all numbers of a pair to the triple's own.
-pub(crate) fn take(numbers: &mut [i32], own: &mut [i32], period: usize, side: Side)
+pub(crate) fn receive(numbers: &mut [i32], own: &mut [i32], period: usize, side: Side)
     requires pair { Fits period side.pair (length numbers.old) }
     requires own { Fits period side.own (length own.old) }
     requires small { AreNumbers numbers.old × AreNumbers own.old }
@@ -89,7 +89,7 @@ pub(crate) fn take(numbers: &mut [i32], own: &mut [i32], period: usize, side: Si
     for e in 0..period {
         let from = side.pair * period + e;
         let to = side.own * period + e;
-        let two = taken(own[to], numbers[from]);
+        let two = received(own[to], numbers[from]);
         own[to] = two.own;
         numbers[from] = two.pair;
     }

@@ -1,13 +1,13 @@
 //! Tables between nodes, whose sum at a map of nodes to residues steps do not change.
 
-ghost use Rattle.std.specs.Prelude.{◌≡◌, ◌≢◌, ℕ, ◌+◌, ◌<◌, ◌≤◌, [], ◌∷◌, ◌++◌, ℤ, pos, ◌<ℤ◌, ◌≤ℤ◌, true, false, Some, IfOk, IsSomeAnd, length, slice_index_or};
-ghost use Rattle.pesp_search_tables.specs.Relaxed.{AreSides, IsHalf, IsJoined, SameShape, differences, ends_at, size, sum_at};
+ghost use Rattle.std.specs.Prelude.{◌≡◌, ◌≢◌, ℕ, ◌+◌, ◌*◌, ◌<◌, ◌≤◌, [], ◌∷◌, ◌++◌, ℤ, pos, neg_ℤ, ◌<ℤ◌, ◌≤ℤ◌, true, false, Some, IfOk, IsSomeAnd, length, slice_index_or};
+ghost use Rattle.pesp_search_tables.specs.Relaxed.{AreSides, IsHalf, IsJoined, SameShape, differences, ends_at, size, sum_at, triple_at};
 ghost use Rattle.pesp_search_tables.specs.Sums.{admits_at, number_at};
 
 use crate::bounds::bound_of;
 use crate::cuts::{cut_at, join_at, keep_at, room_of};
 use crate::growth::{add, add_tests, add_zeros};
-use crate::seats::{put, seat_of};
+use crate::sides::{put, sides_of};
 use crate::step::step_at;
 use crate::triple::{Ends, Triple};
 use pesp_base::Memory;
@@ -123,7 +123,7 @@ impl Tables {
         })
     }
 
-    /// These tables and one more triple, with the pairs at these places as its sides.
+    /// These tables and one more triple, with these pairs as its sides.
     pub fn with_triple(self, ab: usize, bc: usize, ac: usize) -> Result<Tables, Memory>
         requires few { length self.triples < 1048576 }
         requires sides { AreSides self.ends ab bc ac }
@@ -190,8 +190,8 @@ impl Tables {
         ensures shape { SameShape self.old self.new }
         ensures size { size self.new ≤ size self.old }
     {
-        let seat = seat_of(self.period, self.triples[triple], triple);
-        let floor = step_at(&mut self.numbers, &mut self.tests, &mut self.own, seat);
+        let sides = sides_of(self.period, self.triples[triple], triple);
+        let floor = step_at(&mut self.numbers, &mut self.tests, &mut self.own, sides);
         put(&mut self.floors, triple, floor);
     }
 
@@ -270,6 +270,31 @@ impl Tables {
         ensures { result ≡ ends_at self.now.ends pair }
     {
         self.ends[pair]
+    }
+
+    /// The pairs of a triple.
+    pub fn triple(&self, triple: usize) -> Triple
+        requires { triple < length self.now.triples }
+        ensures triple { result ≡ triple_at self.now.triples triple }
+        ensures sides { AreSides self.now.ends result.ab result.bc result.ac }
+        ensures few { triple < 1048576 }
+    {
+        self.triples[triple]
+    }
+
+    /// The own number of a side, where triple k has the sides 3 k, 3 k + 1 and 3 k + 2, at the difference, also where its pair has
+    /// no entry there.
+    pub fn own(&self, side: usize, difference: usize) -> i32
+        requires side { side < 3 * length self.now.triples }
+        requires difference { difference < self.now.period }
+        ensures number { result ≡ number_at self.now.period self.now.own side difference }
+        ensures low { neg_ℤ (pos 268435456) ≤ℤ result }
+        ensures high { result ≤ℤ pos 268435456 }
+    {
+        match self.own.get(side * self.period + difference) {
+            Some(number) => *number,
+            None => 0,
+        }
     }
 
     /// The same tables once more.

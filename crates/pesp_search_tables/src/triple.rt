@@ -7,7 +7,7 @@ pub struct Ends {
     pub to: usize,
 }
 
-/// A triple of nodes a, b and c, by the places of its pairs: from a to b, from b to c, and from a to c.
+/// A triple of nodes a, b and c, by the indices of its pairs: from a to b, from b to c, and from a to c.
 #[derive(Clone, Copy)]
 pub struct Triple {
     pub ab: usize,
@@ -15,7 +15,7 @@ pub struct Triple {
     pub ac: usize,
 }
 
-/// A side of a triple: the place of its pair, and that of the triple's own numbers for it.
+/// A side of a triple: the index of its pair, and that of the triple's own table for it.
 #[derive(Clone, Copy)]
 pub(crate) struct Side {
     // Its numbers stand from here times the period on.
@@ -26,7 +26,7 @@ pub(crate) struct Side {
 
 /// The three sides of a triple.
 #[derive(Clone, Copy)]
-pub(crate) struct Seat {
+pub(crate) struct Sides {
     // How many numbers each side has.
     pub(crate) period: usize,
     // From a to b,
@@ -41,12 +41,12 @@ pub(crate) struct Seat {
 #[derive(Clone, Copy)]
 pub(crate) enum Way {
     /// The other side lies after this one or before it: the third difference is the sum.
-    Behind,
+    InLine,
     /// The other side begins where this one begins: the third difference is what is left of this one.
     Between,
 }
 
-/// How much of the least sums a side is given.
+/// How much of the least sums is sent to a side.
 #[derive(Clone, Copy)]
 pub(crate) enum Part {
     All,
@@ -54,12 +54,12 @@ pub(crate) enum Part {
     Third,
 }
 
-/// A triple seen from one of its sides, and the part of the least sums that this side is given.
+/// To which side of a triple a message goes, from which others, and the part of their least sums that it has.
 #[derive(Clone, Copy)]
-pub(crate) struct Turn {
+pub(crate) struct Message {
     // How many numbers each side has.
     pub(crate) period: usize,
-    // The side that is given its part.
+    // The side that the message goes to.
     pub(crate) this: Side,
     // The one that is laid out once.
     pub(crate) other: Side,

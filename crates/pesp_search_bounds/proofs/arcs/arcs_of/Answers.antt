@@ -7,7 +7,7 @@ use Rattle.std.proofs.lemmas.List.Elements.{All-head, All-tail, All-push, All-co
 use Rattle.pesp_base.specs.Tensions.{slack_of}
 use Rattle.pesp_instance.specs.Network.{HasEnds, event_ids}
 use Rattle.pesp_search_bounds.specs.Arcs.{IsArcOf}
-use Rattle.pesp_search_bounds.specs.Sights.{IsBetween}
+use Rattle.pesp_search_bounds.specs.DualBounds.{IsBetween}
 use Rattle.pesp_search_bounds.proofs.Costs.{arc_more, loop_more, met_more}
 use Rattle.pesp_search_bounds.proofs.Events.{among_ids}
 use Rattle.pesp_search_bounds.proofs.arcs.arcs_of.Goals as goal

@@ -5,6 +5,6 @@ use Rattle.pesp_search_bounds.proofs.bounds.least_of_others.Given as goal
 
 abbrev pub invariant-loop-other : goal.invariant-loop-other
 invariant-loop-other l = record {
-  before : (x : ℕ → ℕ) → AreWithin l.fn.period l.tests l.places x → l.other ≤ l.place → l.rest ≤ total_of l.fn.period l.sums x l.other;
-  behind : (x : ℕ → ℕ) → AreWithin l.fn.period l.tests l.places x → l.place < l.other → l.rest + slice_index l.sums (l.place * l.fn.period + x l.place) ≤ total_of l.fn.period l.sums x l.other;
+  before : (x : ℕ → ℕ) → AreWithin l.fn.period l.tests l.event_count x → l.other ≤ l.index → l.rest ≤ total_of l.fn.period l.sums x l.other;
+  after : (x : ℕ → ℕ) → AreWithin l.fn.period l.tests l.event_count x → l.index < l.other → l.rest + slice_index l.sums (l.index * l.fn.period + x l.index) ≤ total_of l.fn.period l.sums x l.other;
 }

@@ -3,9 +3,9 @@ use Rattle.std.proofs.Common.{◌≡◌, ◌≤◌, All, length}
 use Rattle.pesp_search_bounds.specs.Ends.{IsPartOf}
 use Rattle.pesp_search_bounds.proofs.ends.parts_of.Given as goal
 
-abbrev pub invariant-loop-place : goal.invariant-loop-place
-invariant-loop-place l = record {
+abbrev pub invariant-loop-event : goal.invariant-loop-event
+invariant-loop-event l = record {
   begins : l.from ≤ length l.ends;
-  long : length l.parts.items ≡ l.place;
+  long : length l.parts.items ≡ l.event;
   within : All (IsPartOf (length l.ends)) l.parts.items;
 }

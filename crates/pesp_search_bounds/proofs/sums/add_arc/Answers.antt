@@ -18,13 +18,13 @@ second_at : (T n k : ℕ) (xs : List ℕ) → length xs ≡ 2 * T → n ≡ T �
 second_at T n k xs h e l = get_or-take (length xs - n) (drop n xs) k 0 (omega arith) ∙ get_or-drop n xs k 0 ∙ ap (λ m. slice_index xs (m + k)) e
 
 pub returns : goal.returns
-returns c places x below tail head =
+returns c event_count x below tail head =
     let T = c.args.period in
     let n = c.from-period.result in
     let a = c.args.arc.now in
     let same : n ≡ T = omega arith in
-    let one = total_added T a.tail _ _ _ _ x (ap (λ t. a.tail * t) same) (first_long T n c.args.entries.now c.requires.long same) c.add_entries.ensures.others c.add_entries.ensures.added places tail below in
-    let two = total_added T a.head _ _ _ _ x (ap (λ t. a.head * t) same) (second_long T n c.args.entries.now c.requires.long same) c.add_entries-2.ensures.others c.add_entries-2.ensures.added places head below in
+    let one = total_added T a.tail _ _ _ _ x (ap (λ t. a.tail * t) same) (first_long T n c.args.entries.now c.requires.long same) c.add_entries.ensures.others c.add_entries.ensures.added event_count tail below in
+    let two = total_added T a.head _ _ _ _ x (ap (λ t. a.head * t) same) (second_long T n c.args.entries.now c.requires.long same) c.add_entries-2.ensures.others c.add_entries-2.ensures.added event_count head below in
     let first = first_at n (x a.tail) c.args.entries.now (omega (arith, below a.tail tail)) in
     let second = second_at T n (x a.head) c.args.entries.now c.requires.long same (below a.head head) in
     omega (arith, one, two, first, second)

@@ -3,8 +3,8 @@ use Rattle.std.proofs.Common.{arith, rules}
 use Rattle.std.proofs.lemmas.Grind.{common_steps}
 use Rattle.pesp_search_dive.proofs.levels.make_rows.Goals as goal
 
-pub loop-place-init : goal.loop-place-init
-loop-place-init c = search rules
+pub loop-depth-init : goal.loop-depth-init
+loop-depth-init c = search rules
 
-pub loop-place-preserved : goal.loop-place-preserved
-loop-place-preserved c = grind (arith, common_steps)
+pub loop-depth-preserved : goal.loop-depth-preserved
+loop-depth-preserved c = grind (arith, common_steps)

@@ -8,7 +8,7 @@ use Rattle.pesp_search_tables.proofs.bounds.least_of.Goals as goal
 pub loop-e-preserved : goal.loop-e-preserved
 loop-e-preserved c =
     let T = c.args.period in
-    let p = c.args.place in
+    let p = c.args.pair in
     let numbers = c.args.numbers.now in
     let tests = c.args.tests.now in
     let e = c.loop-e.e in

@@ -5,6 +5,6 @@ use Rattle.pesp_search_tables.proofs.bounds.least_of.Given as goal
 
 abbrev pub invariant-loop-e : goal.invariant-loop-e
 invariant-loop-e l = record {
-  least : (f : ℕ) → f < l.e → admits_at l.period l.tests l.place f ≡ true → IsSomeAnd l.least (λ n. n ≤ℤ number_at l.period l.numbers l.place f);
-  reached : IfSome l.least (λ n. (f : ℕ) × (f < l.period) × (admits_at l.period l.tests l.place f ≡ true) × (number_at l.period l.numbers l.place f ≡ n));
+  least : (f : ℕ) → f < l.e → admits_at l.period l.tests l.pair f ≡ true → IsSomeAnd l.least (λ n. n ≤ℤ number_at l.period l.numbers l.pair f);
+  reached : IfSome l.least (λ n. (f : ℕ) × (f < l.period) × (admits_at l.period l.tests l.pair f ≡ true) × (number_at l.period l.numbers l.pair f ≡ n));
 }

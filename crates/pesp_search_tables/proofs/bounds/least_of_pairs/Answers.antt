@@ -3,19 +3,19 @@ use Rattle.std.proofs.Common.{◌+◌, ◌*◌, subst, arith}
 use Rattle.std.proofs.lemmas.Int.{ints}
 use Rattle.pesp_search_rows.specs.Rows.{IsNumber}
 use Rattle.pesp_search_tables.proofs.FloorLaws.{bound_more}
-use Rattle.pesp_search_tables.proofs.Places.{place_fits}
+use Rattle.pesp_search_tables.proofs.Indices.{table_fits}
 use Rattle.pesp_search_tables.proofs.Totals.{admits_each}
 use Rattle.pesp_search_tables.proofs.bounds.least_of_pairs.Goals as goal
 
 pub least_of-requires-clause-fits : goal.least_of-requires-clause-fits
 least_of-requires-clause-fits c =
-    let here = c.loop-place-test.true in
-    (place_fits c.loop-place.place c.args.pairs c.args.period _ here c.requires.numbers, place_fits c.loop-place.place c.args.pairs c.args.period _ here c.requires.tests)
+    let here = c.loop-pair-test.true in
+    (table_fits c.loop-pair.pair c.args.pairs c.args.period _ here c.requires.numbers, table_fits c.loop-pair.pair c.args.pairs c.args.period _ here c.requires.tests)
 
-pub loop-place-preserved : goal.loop-place-preserved
-loop-place-preserved c =
-    let v = c.loop-place.invariant in
-    let n = c.loop-place.place in
+pub loop-pair-preserved : goal.loop-pair-preserved
+loop-pair-preserved c =
+    let v = c.loop-pair.invariant in
+    let n = c.loop-pair.pair in
     let least = c.in_ok-least.least in
     let way = c.in_ok-least.ensures.reached in
     let size : IsNumber least = subst IsNumber way.3 (c.requires.small (n * c.args.period + way.0)) in
@@ -23,6 +23,6 @@ loop-place-preserved c =
 
 pub returns-in_err-least-clause-none : goal.returns-in_err-least-clause-none
 returns-in_err-least-clause-none c _ d inside all =
-    let n = c.loop-place.place in
-    let here = c.loop-place-test.true in
+    let n = c.loop-pair.pair in
+    let here = c.loop-pair-test.true in
     absurd (c.in_err-least.ensures.least (d n) (inside n here) (admits_each c.args.period c.args.tests.now d n c.args.pairs here all))

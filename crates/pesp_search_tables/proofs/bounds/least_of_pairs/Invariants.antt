@@ -2,5 +2,5 @@
 use Rattle.pesp_search_tables.specs.Floors.{IsPairBound}
 use Rattle.pesp_search_tables.proofs.bounds.least_of_pairs.Given as goal
 
-abbrev pub invariant-loop-place : goal.invariant-loop-place
-invariant-loop-place l = IsPairBound l.period l.place l.numbers l.tests l.sum
+abbrev pub invariant-loop-pair : goal.invariant-loop-pair
+invariant-loop-pair l = IsPairBound l.period l.pair l.numbers l.tests l.sum

@@ -5,4 +5,4 @@ use Rattle.pesp_search_tables.specs.Sums.{number_at}
 use Rattle.pesp_search_tables.proofs.cuts.cut_from.Given as goal
 
 abbrev pub invariant-loop-e : goal.invariant-loop-e
-invariant-loop-e l = AreTrimmed l.period l.place (λ e. number_at l.period l.numbers l.place e <ℤ l.limit) l.initial.tests l.tests
+invariant-loop-e l = AreTrimmed l.period l.pair (λ e. number_at l.period l.numbers l.pair e <ℤ l.limit) l.initial.tests l.tests

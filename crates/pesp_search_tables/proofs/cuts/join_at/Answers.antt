@@ -6,7 +6,7 @@ use Rattle.std.proofs.lemmas.List.{get_or-set_same, get_or-set_other}
 use Rattle.pesp_search_rows.specs.Rows.{IsNumber}
 use Rattle.pesp_search_tables.specs.Relaxed.{entry}
 use Rattle.pesp_search_tables.specs.Sums.{number_at}
-use Rattle.pesp_search_tables.proofs.Places.{apart_from, apart_within}
+use Rattle.pesp_search_tables.proofs.Indices.{apart_from, apart_within}
 use Rattle.pesp_search_tables.proofs.Shared.{numbers_set}
 use Rattle.pesp_search_tables.proofs.Trims.{gone_set, trim_set}
 use Rattle.pesp_search_tables.proofs.cuts.join_at.Goals as goal
@@ -14,7 +14,7 @@ use Rattle.pesp_search_tables.proofs.cuts.join_at.Goals as goal
 pub loop-e-preserved : goal.loop-e-preserved
 loop-e-preserved c =
     let T = c.args.period in
-    let p = c.args.place in
+    let p = c.args.pair in
     let e = c.loop-e.e in
     let table = c.args.table.now in
     let old = c.args.numbers.now in

@@ -8,11 +8,11 @@ use Rattle.pesp_search_tables.proofs.cuts.join_at.Given as goal
 
 abbrev pub invariant-loop-e : goal.invariant-loop-e
 invariant-loop-e l = record {
-  trimmed : AreTrimmed l.period l.place (λ e. entry l.table e ≢ None) l.initial.tests l.tests;
-  gone : (e : ℕ) → e < l.e → entry l.table e ≡ None → admits_at l.period l.tests l.place e ≡ false;
-  below : (e m : ℕ) → e < l.e → entry l.table e ≡ Some m → number_at l.period l.numbers l.place e ≤ℤ (number_at l.period l.initial.numbers l.place e +ℤ pos m);
-  exact : (e m : ℕ) → e < l.e → entry l.table e ≡ Some m → (number_at l.period l.initial.numbers l.place e +ℤ pos m) ≤ℤ greatest → number_at l.period l.numbers l.place e ≡ number_at l.period l.initial.numbers l.place e +ℤ pos m;
-  rest : (e : ℕ) → e < l.period → l.e ≤ e → number_at l.period l.numbers l.place e ≡ number_at l.period l.initial.numbers l.place e;
-  others : (q e : ℕ) → q ≢ l.place → e < l.period → number_at l.period l.numbers q e ≡ number_at l.period l.initial.numbers q e;
+  trimmed : AreTrimmed l.period l.pair (λ e. entry l.table e ≢ None) l.initial.tests l.tests;
+  gone : (e : ℕ) → e < l.e → entry l.table e ≡ None → admits_at l.period l.tests l.pair e ≡ false;
+  below : (e m : ℕ) → e < l.e → entry l.table e ≡ Some m → number_at l.period l.numbers l.pair e ≤ℤ (number_at l.period l.initial.numbers l.pair e +ℤ pos m);
+  exact : (e m : ℕ) → e < l.e → entry l.table e ≡ Some m → (number_at l.period l.initial.numbers l.pair e +ℤ pos m) ≤ℤ greatest → number_at l.period l.numbers l.pair e ≡ number_at l.period l.initial.numbers l.pair e +ℤ pos m;
+  rest : (e : ℕ) → e < l.period → l.e ≤ e → number_at l.period l.numbers l.pair e ≡ number_at l.period l.initial.numbers l.pair e;
+  others : (q e : ℕ) → q ≢ l.pair → e < l.period → number_at l.period l.numbers q e ≡ number_at l.period l.initial.numbers q e;
   small : AreNumbers l.numbers;
 }

@@ -9,7 +9,7 @@ use Rattle.pesp_search_tables.proofs.cuts.keep_at.Goals as goal
 pub loop-e-preserved : goal.loop-e-preserved
 loop-e-preserved c =
     let T = c.args.period in
-    let p = c.args.place in
+    let p = c.args.pair in
     let e = c.loop-e.e in
     let v = c.loop-e.invariant in
     let set = c.args.set.now in

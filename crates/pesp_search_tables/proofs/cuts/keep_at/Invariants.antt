@@ -6,6 +6,6 @@ use Rattle.pesp_search_tables.proofs.cuts.keep_at.Given as goal
 
 abbrev pub invariant-loop-e : goal.invariant-loop-e
 invariant-loop-e l = record {
-  trimmed : AreTrimmed l.period l.place (λ e. slice_index_or l.set e false ≡ l.inside) l.initial.tests l.tests;
-  gone : (e : ℕ) → e < l.e → slice_index_or l.set e false ≢ l.inside → admits_at l.period l.tests l.place e ≡ false;
+  trimmed : AreTrimmed l.period l.pair (λ e. slice_index_or l.set e false ≡ l.inside) l.initial.tests l.tests;
+  gone : (e : ℕ) → e < l.e → slice_index_or l.set e false ≢ l.inside → admits_at l.period l.tests l.pair e ≡ false;
 }

@@ -1,4 +1,4 @@
--- So many tests that hold stand behind the others.
+-- So many tests that hold stand after the others.
 use Rattle.std.proofs.Common.{◌≡◌, ◌++◌, true, replicate}
 use Rattle.pesp_search_tables.proofs.growth.add_tests.Given as goal
 

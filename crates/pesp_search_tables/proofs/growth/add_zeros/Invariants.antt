@@ -1,4 +1,4 @@
--- So many zeros stand behind the numbers.
+-- So many zeros stand after the numbers.
 use Rattle.std.proofs.Common.{◌≡◌, ◌++◌, pos, replicate}
 use Rattle.pesp_search_tables.proofs.growth.add_zeros.Given as goal
 

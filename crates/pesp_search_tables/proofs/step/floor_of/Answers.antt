@@ -8,10 +8,10 @@ use Rattle.pesp_search_tables.proofs.step.floor_of.Goals as goal
 
 pub loop-e-preserved : goal.loop-e-preserved
 loop-e-preserved c =
-    let T = c.args.turn.period in
-    let s = c.args.turn.this in
+    let T = c.args.message.period in
+    let s = c.args.message.this in
     let v = c.loop-e.invariant in
-    let g = c.lower-floor.ensures in
+    let g = c.floor_with-floor.ensures in
     let own = c.args.own.now in
     let row = c.args.row.now in
     let e = c.loop-e.e in

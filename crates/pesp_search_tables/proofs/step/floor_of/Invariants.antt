@@ -7,6 +7,6 @@ use Rattle.pesp_search_tables.proofs.step.floor_of.Given as goal
 
 abbrev pub invariant-loop-e : goal.invariant-loop-e
 invariant-loop-e l = record {
-  low : (e : ℕ) → e < l.e → admits_at l.turn.period l.tests l.turn.this.pair e ≡ true → l.floor ≤ℤ (number_at l.turn.period l.own l.turn.this.own e +ℤ at l.row e);
+  low : (e : ℕ) → e < l.e → admits_at l.message.period l.tests l.message.this.pair e ≡ true → l.floor ≤ℤ (number_at l.message.period l.own l.message.this.own e +ℤ at l.row e);
   shallow : IsShallow l.floor;
 }

@@ -2,5 +2,5 @@
 use Rattle.std.proofs.Common.{rules}
 use Rattle.pesp_search_dive.proofs.neighbour.Neighbour.of.Goals as goal
 
-pub returns-then-arc-place : goal.returns-then-arc-place
-returns-then-arc-place c = search rules
+pub returns-then-arc-event : goal.returns-then-arc-event
+returns-then-arc-event c = search rules

@@ -2,8 +2,8 @@
 use Rattle.std.proofs.Common.{rules}
 use Rattle.pesp_search_dive.proofs.path.Path.keep.Goals as goal
 
-pub bounds-times-place : goal.bounds-times-place
-bounds-times-place c = search rules
+pub bounds-times-depth : goal.bounds-times-depth
+bounds-times-depth c = search rules
 
-pub loop-place-preserved : goal.loop-place-preserved
-loop-place-preserved c = search rules
+pub loop-depth-preserved : goal.loop-depth-preserved
+loop-depth-preserved c = search rules
