@@ -4,7 +4,7 @@ use Rattle.std.proofs.lemmas.List.Elements.{All-from_get_or, All-get_or, All-mor
 use Rattle.std.proofs.lemmas.List.{take_all}
 use Rattle.std.proofs.lemmas.List.Sums.{sum_by_more}
 use Rattle.pesp_base.specs.Tensions.{is_met, slack_of}
-use Rattle.pesp_search_network.specs.Arcs.{Arcs, IsCosted, IsMet, IsPlaced, cost_in, cost_met, meets}
+use Rattle.pesp_search_network.specs.Arcs.{Arcs, IsCosted, IsMet, KeepsRows, cost_in, cost_met, meets}
 use Rattle.pesp_search_network.specs.declared.arc.Arc.{Arc}
 
 chosen : (b : Bool) (n m : ℕ) → cond b (Some n) None ≡ Some m → IsTrue b × (n ≡ m)
@@ -37,9 +37,9 @@ pub cost_more : (T : ℕ) (map : List ℕ) (arcs : List Arc) (k : ℕ) (a : Arc)
 cost_more T map arcs k a h e = sum_by_more (cost_in T map) arcs k a h ∙ ap (λ c. sum_by (cost_in T map) (take k arcs) + c) (ap (cost_in T map) (sym e))
 
 -- a map that gives each event a residue of its row, and meets all arcs
-pub placed-met : (N : Arcs) (map : List ℕ) (k cost : ℕ) → IsPlaced N map → length N.arcs ≤ k → All (λ a. IsTrue (meets N.period map a)) (take k N.arcs)
+pub keeps_rows-met : (N : Arcs) (map : List ℕ) (k cost : ℕ) → KeepsRows N map → length N.arcs ≤ k → All (λ a. IsTrue (meets N.period map a)) (take k N.arcs)
     → cost ≡ sum_by (cost_in N.period map) (take k N.arcs) → IsCosted N map cost
-placed-met N map k cost is all met costs =
+keeps_rows-met N map k cost is all met costs =
     let whole : take k N.arcs ≡ N.arcs = take_all k N.arcs all in
     record {
       met = record {

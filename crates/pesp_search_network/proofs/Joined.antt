@@ -5,7 +5,7 @@ use Rattle.std.proofs.lemmas.Bool.{false≢true, cases_lt}
 use Rattle.std.proofs.lemmas.List.{get_or_append_left, get_or_push, length_push}
 use Rattle.std.proofs.lemmas.List.Elements.{All-cons, All-filter, All-head, All-nil, All-tail, filter_passes}
 use Rattle.pesp_search_tables.specs.Differences.{difference}
-use Rattle.pesp_search_network.specs.Arcs.{Arcs, IsPlaced, has}
+use Rattle.pesp_search_network.specs.Arcs.{Arcs, KeepsRows, has}
 use Rattle.pesp_search_network.specs.Pieces.{IsEnd, IsJoined, IsPiece, MayTurn, is_inner, is_of, touches, turn_of}
 use Rattle.pesp_search_network.specs.declared.arc.Arc.{Arc}
 use Rattle.pesp_base.proofs.WindowLaws.{after_no_step}
@@ -36,21 +36,21 @@ all_both {X} p Q (x ∷ xs) pass fail =
       | false ↦ λ rest here. All-cons Q x xs (All-head Q x (filter q xs) here) (all_both p Q xs rest (All-tail Q x (filter q xs) here))
     ] pass fail
 
--- a list that has at each place a number that can be had there
+-- a list that has at each index a number that can be had there
 pub record IsBuilt (A : ℕ → ℕ → Type 0) (n : ℕ) : Type 0 where
   pub map : List ℕ
   pub long : length map ≡ n
   pub each : (v : ℕ) → v < n → A v (slice_index map v)
 
 pub build : (A : ℕ → ℕ → Type 0) (n : ℕ) → ((v : ℕ) → v < n → (q : ℕ) × A v q) → IsBuilt A n
-build A zero choice = record {
+build A zero pick = record {
   map = [];
   long = refl;
   each = λ v h. absurd (omega (arith, h));
 }
-build A (suc n) choice =
-    let before : IsBuilt A n = build A n (λ v h. choice v (omega (arith, h))) in
-    let last : (q : ℕ) × A n q = choice n (omega arith) in
+build A (suc n) pick =
+    let before : IsBuilt A n = build A n (λ v h. pick v (omega (arith, h))) in
+    let last : (q : ℕ) × A n q = pick n (omega arith) in
     record {
       map = before.map ++ last.0 ∷ [];
       long = length_push before.map last.0 ∙ (let more : length before.map + 1 ≡ suc n = omega (arith, before.long) in more);
@@ -68,14 +68,14 @@ build A (suc n) choice =
 -- there is a map that is joined
 pub joined_list : (T : ℕ) (inner : List Bool) (turn : ℕ) (inside outside : List ℕ) → (map : List ℕ) × IsJoined T inner turn inside outside map
 joined_list T inner turn inside outside =
-    let made = build A (length outside) choice in
+    let made = build A (length outside) pick in
     (made.map, record { long = made.long; turned = λ v h. (made.each v h).0; stays = λ v h. (made.each v h).1 })
   where
     A : ℕ → ℕ → Type 0
     A v q = (IsTrue (is_inner inner v) → q ≡ (slice_index inside v + turn) % T) × (is_inner inner v ≡ false → q ≡ slice_index outside v)
 
-    choice : (v : ℕ) → v < length outside → (q : ℕ) × A v q
-    choice v h = chosen (is_inner inner v) ((slice_index inside v + turn) % T) (slice_index outside v)
+    pick : (v : ℕ) → v < length outside → (q : ℕ) × A v q
+    pick v h = chosen (is_inner inner v) ((slice_index inside v + turn) % T) (slice_index outside v)
       where
         chosen : (b : Bool) (m n : ℕ) → (q : ℕ) × ((IsTrue b → q ≡ m) × (b ≡ false → q ≡ n))
         chosen true m n = (m, (λ e. refl, λ e. absurd (false≢true (sym e))))
@@ -93,16 +93,16 @@ outer_ends inner a none = neither (is_inner inner a.from) (is_inner inner a.to) 
     neither false false e = (refl, refl)
 
 -- the residue of an event of the piece, turned, is in its row
-row_turned : (N : Arcs) (inner : List Bool) (joint : Option ℕ) (inside outside : List ℕ) → MayTurn N inner joint → IsPlaced N inside → (v : ℕ) → v < N.events → IsTrue (is_inner inner v)
+row_turned : (N : Arcs) (inner : List Bool) (joint : Option ℕ) (inside outside : List ℕ) → MayTurn N inner joint → KeepsRows N inside → (v : ℕ) → v < N.events → IsTrue (is_inner inner v)
     → IsTrue (has N v ((slice_index inside v + turn_of N.period joint inside outside) % N.period))
-row_turned N inner None inside outside turns placed v h is =
-    subst (λ r. IsTrue (has N v r)) (sym (after_no_step N.period (slice_index inside v) (placed.below v h))) (placed.rows v h)
-row_turned N inner (Some c) inside outside turns placed v h is =
-    let some : 0 < N.period = omega (arith, placed.below v h) in
+row_turned N inner None inside outside turns keeps_rows v h is =
+    subst (λ r. IsTrue (has N v r)) (sym (after_no_step N.period (slice_index inside v) (keeps_rows.below v h))) (keeps_rows.rows v h)
+row_turned N inner (Some c) inside outside turns keeps_rows v h is =
+    let some : 0 < N.period = omega (arith, keeps_rows.below v h) in
     turns.free v h is ((slice_index inside v + difference N.period (slice_index inside c) (slice_index outside c)) % N.period) (mod-lt (slice_index inside v + difference N.period (slice_index inside c) (slice_index outside c)) some)
 
 -- an end of an arc of the piece is turned, also one outside
-end_turned : (N : Arcs) (inner : List Bool) (joint : Option ℕ) (inside outside map : List ℕ) → MayTurn N inner joint → IsPlaced N inside → IsPlaced N outside → IsPlaced N map
+end_turned : (N : Arcs) (inner : List Bool) (joint : Option ℕ) (inside outside map : List ℕ) → MayTurn N inner joint → KeepsRows N inside → KeepsRows N outside → KeepsRows N map
     → IsJoined N.period inner (turn_of N.period joint inside outside) inside outside map → (v : ℕ) → v < N.events → IsEnd N inner joint v
     → slice_index map v ≡ (slice_index inside v + turn_of N.period joint inside outside) % N.period
 end_turned N inner None inside outside map turns pi po pm joined v h (inl is) = joined.turned v (omega (arith, h, po.long)) is
@@ -117,23 +117,23 @@ end_turned N inner (Some c) inside outside map turns pi po pm joined v h (inr sa
     ∙ sym (turned_there N.period (slice_index inside c) (slice_index outside c) (pi.below c turns.there) (po.below c turns.there)))
 
 -- arcs of the rest have their ends outside, which stay
-pub outside_same : (N : Arcs) (inner : List Bool) (joint : Option ℕ) (old new : List ℕ) → IsPiece N inner joint → IsPlaced N old
+pub outside_same : (N : Arcs) (inner : List Bool) (joint : Option ℕ) (old new : List ℕ) → IsPiece N inner joint → KeepsRows N old
     → ((v : ℕ) → v < N.events → is_inner inner v ≡ false → slice_index new v ≡ slice_index old v) → All (IsTurned N.period 0 old new) (filter (is_of inner false) N.arcs)
-outside_same N inner joint old new piece placed stay =
+outside_same N inner joint old new piece keeps_rows stay =
     passing (is_of inner false) (IsTurned N.period 0 old new) N.arcs
     (λ k d h none.
     (let a : Arc = get_or N.arcs k d in
     let ends = piece.ends k d h in
     let out = outer_ends inner a none in
-    let from = placed.below a.from ends.between.from in
-    let to = placed.below a.to ends.between.to in
+    let from = keeps_rows.below a.from ends.between.from in
+    let to = keeps_rows.below a.to ends.between.to in
     record {
       some = omega (arith, from);
       from = stay a.from ends.between.from out.0 ∙ sym (after_no_step N.period (slice_index old a.from) from);
       to = stay a.to ends.between.to out.1 ∙ sym (after_no_step N.period (slice_index old a.to) to);
     }))
 
-module _ (N : Arcs) (inner : List Bool) (joint : Option ℕ) (inside outside map : List ℕ) (piece : IsPiece N inner joint) (pi : IsPlaced N inside) (po : IsPlaced N outside)
+module _ (N : Arcs) (inner : List Bool) (joint : Option ℕ) (inside outside map : List ℕ) (piece : IsPiece N inner joint) (pi : KeepsRows N inside) (po : KeepsRows N outside)
     (joined : IsJoined N.period inner (turn_of N.period joint inside outside) inside outside map) where
   residue_there : (v : ℕ) → v < N.events → (b : Bool) → is_inner inner v ≡ b → (slice_index map v < N.period) × IsTrue (has N v (slice_index map v))
   residue_there v h true is =
@@ -147,8 +147,8 @@ module _ (N : Arcs) (inner : List Bool) (joint : Option ℕ) (inside outside map
       (subst (λ r. r < N.period) (sym same) (po.below v h), subst (λ r. IsTrue (has N v r)) (sym same) (po.rows v h))
 
   -- each event has a residue of its row
-  pub joined_placed : IsPlaced N map
-  joined_placed = record {
+  pub joined_keeps_rows : KeepsRows N map
+  joined_keeps_rows = record {
     long = joined.long ∙ po.long;
     below = λ v h. (residue_there v h (is_inner inner v) refl).0;
     rows = λ v h. (residue_there v h (is_inner inner v) refl).1;
@@ -161,7 +161,7 @@ module _ (N : Arcs) (inner : List Bool) (joint : Option ℕ) (inside outside map
       (λ k d h is.
       (let a : Arc = get_or N.arcs k d in
       let ends = piece.ends k d h in
-      let turned = end_turned N inner joint inside outside map piece.turns pi po joined_placed joined in
+      let turned = end_turned N inner joint inside outside map piece.turns pi po joined_keeps_rows joined in
       record {
         some = omega (arith, pi.below a.from ends.between.from);
         from = turned a.from ends.between.from (ends.from is);

@@ -13,10 +13,10 @@ use Rattle.pesp_search_network.specs.declared.arc.Arc.{Arc}
 use Rattle.pesp_search_network.specs.declared.scale.Scale.{Scale}
 use Rattle.pesp_search_network.specs.declared.way.Way.{Way}
 use Rattle.pesp_base.proofs.Tests.{same_value}
-use Rattle.pesp_search_tables.proofs.Places.{difference_below}
+use Rattle.pesp_search_tables.proofs.Indices.{difference_below}
 use Rattle.pesp_search_network.proofs.ArcCosts.{cost_met-met, cost_more}
 use Rattle.pesp_search_network.proofs.Scaled.{scaled-add, scaled-more, scaled-zero}
-use Rattle.pesp_search_network.proofs.Ways.{difference_from_zero, origin_zero, placed}
+use Rattle.pesp_search_network.proofs.Ways.{difference_from_zero, keeps_rows, origin_zero}
 
 -- the value that there is
 pub some_value : {A : Type 0} (o : Option A) (P : A → Type 0) → IsSomeAnd o P → (v : A) × (o ≡ Some v) × P v
@@ -65,17 +65,17 @@ module _ (N : Arcs) (scale : Scale) (a : Arc) (R S : Relaxation) (period : R.per
   }
 
   -- the arc's table is joined to its pair
-  pub adds-table : (place : ℕ) (way : Way) (table : List (Option ℕ)) → IsArc N a → IsWay N a (ends_at R.ends place) way
-      → IsTable N.period a way scale table → IsJoined R S place table → SameShape R S → AddsArc N scale a R S
-  adds-table place way table there ways costs joined shape = record {
+  pub adds-table : (pair : ℕ) (way : Way) (table : List (Option ℕ)) → IsArc N a → IsWay N a (ends_at R.ends pair) way
+      → IsTable N.period a way scale table → IsJoined R S pair table → SameShape R S → AddsArc N scale a R S
+  adds-table pair way table there ways costs joined shape = record {
     period = shape.period;
     more = (let long = ap length shape.ends in omega (arith, long));
     ends = λ p l. ap (λ es. ends_at es p) shape.ends;
     sums = λ map z cost is sum scaled.
-        (let low = (placed N map is).below a.from there.between.from in
+        (let low = (keeps_rows N map is).below a.from there.between.from in
         let some : 0 < N.period = omega (arith, low) in
-        let d : ℕ = differences R (slice_index map) place in
-        let ends : Ends = ends_at R.ends place in
+        let d : ℕ = differences R (slice_index map) pair in
+        let ends : Ends = ends_at R.ends pair in
         let here : ahead N.period map ends ≡ d = ap (λ (t : ℕ). difference t (slice_index map ends.from) (slice_index map ends.to)) (sym period) in
         let within : d < N.period = subst (λ n. n < N.period) here (difference_below N.period (slice_index map ends.from) (slice_index map ends.to) some) in
         let known : cost_at N.period a way d ≡ Some (cost_in N.period map a) =
@@ -143,7 +143,7 @@ relaxed_sum N scale k R before map is = ((before map is).0, (before map is).1)
 pub row_kept : (N : Arcs) (R S : Relaxation) (v : ℕ) (set : List Bool) → 0 < N.period → R.period ≡ N.period → v < N.events → ends_at R.ends v ≡ record { from = N.events; to = v }
     → ((r : ℕ) → r < N.period → slice_index_or set r false ≡ has N v r) → IsHalf R S v set true → (map : List ℕ) → IsMet N map → sum_at S (slice_index map) ≡ sum_at R (slice_index map)
 row_kept N R S v set some period h ends held half map is =
-    let p = placed N map is in
+    let p = keeps_rows N map is in
     let T : ℕ = N.period in
     let residue_below : slice_index map v < T = p.below v h in
     let there : differences R (slice_index map) v ≡ slice_index map v =
@@ -157,7 +157,7 @@ row_kept N R S v set some period h ends held half map is =
 pub relaxed_none : (N : Arcs) (scale : Scale) (R : Relaxation) → HasNothing N R → IsRelaxed N scale 0 R
 relaxed_none N scale R nothing map is = (pos 0, nothing map is, scaled-zero scale)
 
-is_last : (w v : ℕ) → w < v + 1 → (w < v) ⊎ (w ≡ v)
+pub is_last : (w v : ℕ) → w < v + 1 → (w < v) ⊎ (w ≡ v)
 is_last w v h = grind arith
 
 -- one pair more from the origin

@@ -9,7 +9,7 @@ use Rattle.pesp_search_least.specs.Sums.{IsLowerBound, IsWithin}
 use Rattle.pesp_search_network.specs.Arcs.{Arcs, IsCosted, IsMet, cost_in, has, meets}
 use Rattle.pesp_search_network.specs.Narrow.{IsNarrowed}
 use Rattle.pesp_search_network.specs.declared.arc.Arc.{Arc}
-use Rattle.pesp_search_network.proofs.Ways.{placed}
+use Rattle.pesp_search_network.proofs.Ways.{keeps_rows}
 
 -- ---- one residue
 
@@ -26,12 +26,12 @@ unset rows k j e = elim (cases_eq j k) [
   | inr other ↦ get_or-set_other rows k j false false other ∙ e
 ]
 
--- two places of one row
-one_place : (T v w q r : ℕ) → q < T → r < T → v * T + q ≡ w * T + r → (v ≡ w) × (q ≡ r)
-one_place T v w q r h below e =
+-- two indices of one row
+one_index : (T v w q r : ℕ) → q < T → r < T → v * T + q ≡ w * T + r → (v ≡ w) × (q ≡ r)
+one_index T v w q r h below e =
     let row : v ≡ w = sym (div-mul-add v T q h) ∙ ap (λ n. n / T) e ∙ div-mul-add w T r below in
-    let places = ap (λ n. n * T) row in
-    (row, omega (arith, e, places))
+    let starts = ap (λ n. n * T) row in
+    (row, omega (arith, e, starts))
 
 -- nothing is forbidden yet
 pub narrowed_none : (event low : ℕ) (N : Arcs) → IsNarrowed event low low N N
@@ -47,23 +47,23 @@ narrowed_none event low N = record {
 pub narrowed_more : (event low r : ℕ) (N M : Arcs) → low ≤ r → r < N.period → IsNarrowed event low r N M
     → IsNarrowed event low (r + 1) N (record M { rows = slice_set M.rows (event * M.period + r) false })
 narrowed_more event low r N M from below before =
-    let place : ℕ = event * M.period + r in
+    let index : ℕ = event * M.period + r in
     let within : r < M.period = omega (arith, below, before.period) in
     record {
       period = before.period;
       events = before.events;
       arcs = before.arcs;
       gone = λ q h less. elim (cases_lt q r) [
-        | inl lesser ↦ unset M.rows place (event * M.period + q) (before.gone q h lesser)
+        | inl lesser ↦ unset M.rows index (event * M.period + q) (before.gone q h lesser)
         | inr most ↦
             (let same : q ≡ r = omega (arith, most, less) in
-            subst (λ p. get_or (set M.rows place false) (event * M.period + p) false ≡ false) (sym same) (unset_there M.rows place))
+            subst (λ p. get_or (set M.rows index false) (event * M.period + p) false ≡ false) (sym same) (unset_there M.rows index))
       ];
       stay = λ v q h out.
-          (let other : v * M.period + q ≢ place = λ e.
-          (let one = one_place M.period v event q r (omega (arith, h, before.period)) within e in
+          (let other : v * M.period + q ≢ index = λ e.
+          (let one = one_index M.period v event q r (omega (arith, h, before.period)) within e in
           out one.0 (omega (arith, one.1, from)) (omega (arith, one.1))) in
-          get_or-set_other M.rows place (v * M.period + q) false false other ∙ before.stay v q h (λ e l less. out e l (omega (arith, less))));
+          get_or-set_other M.rows index (v * M.period + q) false false other ∙ before.stay v q h (λ e l less. out e l (omega (arith, less))));
     }
 
 -- ---- maps
@@ -83,7 +83,7 @@ in_range v e l r h = elim (cases_eq v e) [
 module _ (event low high : ℕ) (N M : Arcs) (narrowed : IsNarrowed event low high N M) where
   row_there : (map : List ℕ) (v : ℕ) → IsMet M map → v < N.events → IsTrue (has N v (slice_index map v))
   row_there map v is h =
-      let p = placed M map is in
+      let p = keeps_rows M map is in
       let below : slice_index map v < N.period = omega (arith, p.below v (omega (arith, h, narrowed.events)), narrowed.period) in
       let held = p.rows v (omega (arith, h, narrowed.events)) in
       elim (in_range v event low (slice_index map v) high) [
@@ -120,7 +120,7 @@ module _ (event low high : ℕ) (N M : Arcs) (narrowed : IsNarrowed event low hi
       long = is.met.long ∙ sym narrowed.events;
       below = subst (λ T. All (λ r. r < T) map) (sym narrowed.period) is.met.below;
       rows = λ v h.
-          (let p = placed N map is.met in
+          (let p = keeps_rows N map is.met in
           let inside : v < N.events = omega (arith, h, narrowed.events) in
           narrowed.stay v (slice_index map v) (p.below v inside) (λ e. subst (λ w. low ≤ slice_index map w → slice_index map w < high → ⊥) (sym e) out) ∙ p.rows v inside);
       met = subst (λ T. All (λ a. IsTrue (meets T map a)) M.arcs) (sym narrowed.period) (subst (λ (list : List Arc). All (λ a. IsTrue (meets N.period map a)) list) (sym narrowed.arcs) is.met.met);
@@ -128,26 +128,26 @@ module _ (event low high : ℕ) (N M : Arcs) (narrowed : IsNarrowed event low hi
     costs = ap (λ T. sum_by (cost_in T map) M.arcs) narrowed.period ∙ ap (sum_by (cost_in N.period map)) narrowed.arcs ∙ is.costs;
   }
 
--- ---- what a region answers
+-- ---- what a region finds
 
--- residues below one, and behind it, are forbidden
+-- residues below one, and after it, are forbidden
 pub held : (event residue first next : ℕ) (N M U : Arcs) → event < N.events → first ≡ min residue N.period → next ≡ min (residue + 1) N.period
     → IsNarrowed event 0 first N M → IsNarrowed event next N.period M U → IsHeld event residue (IsCosted N) (IsCosted U)
-held event residue first next N M U h low high before behind = record {
+held event residue first next N M U h low high before after = record {
   keeps = λ map cost is same.
-      (let below = (placed N map is.met).below event h in
-      narrowed-keeps event next N.period M U behind map cost
+      (let below = (keeps_rows N map is.met).below event h in
+      narrowed-keeps event next N.period M U after map cost
       (narrowed-keeps event 0 first N M before map cost is (λ _ less. omega (arith, low, same, below, less)))
       (λ most less. omega (arith, high, same, below, most, less)));
-  within = λ map cost is. narrowed-within event 0 first N M before map cost (narrowed-within event next N.period M U behind map cost is);
+  within = λ map cost is. narrowed-within event 0 first N M before map cost (narrowed-within event next N.period M U after map cost is);
   held = λ map cost is.
-      (let mid = narrowed-within event next N.period M U behind map cost is in
+      (let mid = narrowed-within event next N.period M U after map cost is in
       let old = narrowed-within event 0 first N M before map cost mid in
-      let below = (placed N map old.met).below event h in
+      let below = (keeps_rows N map old.met).below event h in
       let inside : event < M.events = omega (arith, h, before.events) in
       least_and_most (slice_index map event) residue first next N.period low high below
       (narrowed-out event 0 first N M before map cost h mid (omega arith))
-      (narrowed-out event next N.period M U behind map cost inside is));
+      (narrowed-out event next N.period M U after map cost inside is));
 }
   where
     least_and_most : (r residue first next T : ℕ) → first ≡ min residue T → next ≡ min (residue + 1) T → r < T → (r < first → ⊥) → (next ≤ r → r < T → ⊥) → r ≡ residue
@@ -166,17 +166,17 @@ no_residue r residue end T e below less most = omega (arith, e, below, less, mos
 pub below_there : (event residue end : ℕ) (N U : Arcs) → event < N.events → end ≡ min residue N.period → IsNarrowed event end N.period N U → IsWithin (IsCosted U) (BelowResidue (IsCosted N) event residue)
 below_there event residue end N U h e narrowed map cost is =
     let old = narrowed-within event end N.period N U narrowed map cost is in
-    let below = (placed N map old.met).below event h in
+    let below = (keeps_rows N map old.met).below event h in
     (old, least_residue (slice_index map event) residue end N.period e below (narrowed-out event end N.period N U narrowed map cost h is))
 
 pub below_back : (event residue end : ℕ) (N U : Arcs) → event < N.events → end ≡ min residue N.period → IsNarrowed event end N.period N U → IsWithin (BelowResidue (IsCosted N) event residue) (IsCosted U)
 below_back event residue end N U h e narrowed map cost is =
-    let below = (placed N map is.0.met).below event h in
+    let below = (keeps_rows N map is.0.met).below event h in
     narrowed-keeps event end N.period N U narrowed map cost is.0 (λ most _. no_residue (slice_index map event) residue end N.period e below is.1 most)
 
 -- where none is possible there is none
 pub none_below : (event residue end cap : ℕ) (N : Arcs) → event < N.events → end ≡ min residue N.period → ((map : List ℕ) (cost : ℕ) → IsCosted N map cost → slice_index map event < end → ⊥)
     → IsLowerBound (BelowResidue (IsCosted N) event residue) cap
 none_below event residue end cap N h e none map cost is =
-    let below = (placed N map is.0.met).below event h in
+    let below = (keeps_rows N map is.0.met).below event h in
     absurd (none map cost is.0 (omega (arith, e, below, is.1)))

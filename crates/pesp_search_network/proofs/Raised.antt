@@ -27,8 +27,8 @@ module _ (N : Arcs) (constant cap : ℕ) where
   pub raised_none : IsLowerBound (IsCosted N) (cap - constant) → IsLowerBound (IsCostedAbove N constant) cap
   raised_none bound map cost is = omega (arith, bound map is.rest is.costed, is.whole)
 
-  pub raised_lower : (lower raised : ℕ) → raised ≤ lower + constant → IsLowerBoundBelow (IsCosted N) (cap - constant) lower → IsLowerBoundBelow (IsCostedAbove N constant) cap raised
-  raised_lower lower raised less bound map cost is below = omega (arith, less, bound map is.rest is.costed (omega (arith, is.whole, below)), is.whole)
+  pub raised_lower_bound : (lower_bound raised : ℕ) → raised ≤ lower_bound + constant → IsLowerBoundBelow (IsCosted N) (cap - constant) lower_bound → IsLowerBoundBelow (IsCostedAbove N constant) cap raised
+  raised_lower_bound lower_bound raised less bound map cost is below = omega (arith, less, bound map is.rest is.costed (omega (arith, is.whole, below)), is.whole)
 
   -- no cost is below the constant
   pub none_below_constant : cap ≤ constant → IsLowerBound (IsCostedAbove N constant) cap

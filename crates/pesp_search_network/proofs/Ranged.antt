@@ -82,9 +82,9 @@ module _ (T values r s : ℕ) (span : Bounds) (top : ℤ) (some : 0 < T) where
       let e : whole ≡ rest + values = slack_up (within_period is met) in
       is_met-from span.lower span.upper whole (omega (arith, ints, is.within, e, met_is (border span values) top rest met))
 
--- ---- another arc in the place of one
+-- ---- another arc in place of one
 
--- the network with another arc at a place
+-- the network with another arc at an index
 abbrev pub put : Arcs → ℕ → Arc → Arcs
 put N k b = record { period = N.period; events = N.events; arcs = set N.arcs k b; rows = N.rows }
 

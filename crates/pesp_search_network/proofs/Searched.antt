@@ -10,15 +10,15 @@ use Rattle.pesp_search_tables.specs.declared.triple.Ends.{Ends}
 use Rattle.pesp_search_network.specs.Arcs.{Arcs, IsArc, IsMet, cost_in}
 use Rattle.pesp_search_network.specs.Relaxed.{AreUnder, IsAnchored, IsArcFloor, IsCutTo, IsSummed, IsUnderCap}
 use Rattle.pesp_search_network.specs.Scales.{IsScaled}
-use Rattle.pesp_search_network.specs.Splits.{AreOnes, AreSettled, IsOne, IsStuck}
+use Rattle.pesp_search_network.specs.Splits.{AdmitsOne, AreOnes, IsOne, IsStuck}
 use Rattle.pesp_search_network.specs.Ways.{IsWay, ahead, cost_at}
 use Rattle.pesp_search_network.specs.declared.arc.Arc.{Arc}
 use Rattle.pesp_search_network.specs.declared.scale.Scale.{Scale}
 use Rattle.pesp_search_network.specs.declared.way.Way.{Way}
 use Rattle.pesp_base.proofs.Tests.{value_of}
-use Rattle.pesp_search_tables.proofs.Places.{difference_below}
+use Rattle.pesp_search_tables.proofs.Indices.{difference_below}
 use Rattle.pesp_search_network.proofs.ArcCosts.{cost_met-met}
-use Rattle.pesp_search_network.proofs.Ways.{difference_from_zero, origin_zero, placed}
+use Rattle.pesp_search_network.proofs.Ways.{difference_from_zero, keeps_rows, origin_zero}
 
 -- ---- values
 
@@ -155,7 +155,7 @@ admits-sum R x e = if_true (admits R.period R.tests (differences R x) (length R.
 -- at an event's pair the difference of a map is its residue
 pub residue_there : (N : Arcs) (R : Relaxation) (map : List ℕ) (v : ℕ) → IsAnchored N R → IsMet N map → v < N.events → differences R (slice_index map) v ≡ slice_index map v
 residue_there N R map v anchored is h =
-    let p = placed N map is in
+    let p = keeps_rows N map is in
     let T : ℕ = N.period in
     ap (λ (t : ℕ). difference t (slice_index map (ends_at R.ends v).from) (slice_index map (ends_at R.ends v).to)) anchored.period
     ∙ ap (λ (e : Ends). difference T (slice_index map e.from) (slice_index map e.to)) (anchored.ends v h)
@@ -170,7 +170,7 @@ one_there N R map cost v anchored is h =
     let here = admits-each R.period R.tests (differences R (slice_index map)) (length R.ends) v all (omega (arith, h, anchored.more)) in
     let same = residue_there N R map v anchored met h in
     record {
-      below = subst (λ n. slice_index map v < n) (sym anchored.period) ((placed N map met).below v h);
+      below = subst (λ n. slice_index map v < n) (sym anchored.period) ((keeps_rows N map met).below v h);
       admitted = subst (λ r. admits_at R.period R.tests v r ≡ true) same here;
     }
 
@@ -179,27 +179,27 @@ pub stuck : (N : Arcs) (R : Relaxation) → IsAnchored N R → IsStuck R N.event
 stuck N R anchored h map cost is = h.2 (slice_index map h.0) (one_there N R map cost h.0 anchored is h.1)
 
 -- where each admits one residue there is one map alone
-pub only_one : (N : Arcs) (R : Relaxation) (m map : List ℕ) (cost : ℕ) → IsAnchored N R → ((p : ℕ) → p < length R.ends → AreSettled R p) → AreOnes R N.events m → IsSummed N R map cost → map ≡ m
-only_one N R m map cost anchored settled ones is =
+pub only_one : (N : Arcs) (R : Relaxation) (m map : List ℕ) (cost : ℕ) → IsAnchored N R → ((p : ℕ) → p < length R.ends → AdmitsOne R p) → AreOnes R N.events m → IsSummed N R map cost → map ≡ m
+only_one N R m map cost anchored single ones is =
     let long : length map ≡ N.events = is.costed.met.long in
     ext_get_or 0 map m (long ∙ sym ones.long) (λ k h.
     (let inside : k < N.events = omega (arith, h, long) in
-    settled k (omega (arith, inside, anchored.more)) (slice_index map k) (slice_index m k) (one_there N R map cost k anchored is inside) (ones.ones k inside)))
+    single k (omega (arith, inside, anchored.more)) (slice_index map k) (slice_index m k) (one_there N R map cost k anchored is inside) (ones.ones k inside)))
 
 -- ---- what arcs cost at least
 
 -- an arc at its pair costs what it costs at a difference that the pair admits
-pub arc_floor : (N : Arcs) (R : Relaxation) (k place floor : ℕ) (a : Arc) (way : Way) → IsAnchored N R → place < length R.ends → IsArc N a → a ≡ get_or N.arcs k a → k < length N.arcs
-    → IsWay N a (ends_at R.ends place) way → ((d cost : ℕ) → IsOne R place d → cost_at N.period a way d ≡ Some cost → floor ≤ cost) → IsArcFloor N R k floor
-arc_floor N R k place floor a way anchored h there at within ways least map cost b is =
+pub arc_floor : (N : Arcs) (R : Relaxation) (k pair floor : ℕ) (a : Arc) (way : Way) → IsAnchored N R → pair < length R.ends → IsArc N a → a ≡ get_or N.arcs k a → k < length N.arcs
+    → IsWay N a (ends_at R.ends pair) way → ((d cost : ℕ) → IsOne R pair d → cost_at N.period a way d ≡ Some cost → floor ≤ cost) → IsArcFloor N R k floor
+arc_floor N R k pair floor a way anchored h there at within ways least map cost b is =
     let met = is.costed.met in
-    let d : ℕ = differences R (slice_index map) place in
-    let ends : Ends = ends_at R.ends place in
+    let d : ℕ = differences R (slice_index map) pair in
+    let ends : Ends = ends_at R.ends pair in
     let here : ahead N.period map ends ≡ d = ap (λ (t : ℕ). difference t (slice_index map ends.from) (slice_index map ends.to)) (sym anchored.period) in
     let known : cost_at N.period a way d ≡ Some (cost_in N.period map a) = ap (cost_at N.period a way) (sym here) ∙ ways map met ∙ cost_met-met N.period map a (there.met map met) in
-    let one : IsOne R place d = record {
+    let one : IsOne R pair d = record {
       below = difference_below R.period (slice_index map ends.from) (slice_index map ends.to) anchored.some;
-      admitted = admits-each R.period R.tests (differences R (slice_index map)) (length R.ends) place (sum-admits R (slice_index map) is.admitted) h;
+      admitted = admits-each R.period R.tests (differences R (slice_index map)) (length R.ends) pair (sum-admits R (slice_index map) is.admitted) h;
     } in
     let same : a ≡ get_or N.arcs k b = at ∙ get_or_default N.arcs k a b within in
     subst (λ (c : Arc). floor ≤ cost_in N.period map c) same (least d (cost_in N.period map a) one known)

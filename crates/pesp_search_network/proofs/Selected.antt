@@ -1,4 +1,4 @@
--- Selections together: one that is cut in two, and one that is taken out.
+-- Selections together: one that is cut in two, and one that is removed.
 use Rattle.std.proofs.Common.{◌≡◌, ℕ, zero, suc, ◌<◌, ◌⊎◌, inl, inr, List, [], ◌∷◌, ◌++◌, length, get_or, Option, sym, subst, arith}
 use Rattle.std.proofs.Math.ListN.{set}
 use Rattle.std.specs.List.{remove}
@@ -62,7 +62,7 @@ module _ {R : Type 0} (sums : R → Sums) where
       within = λ map sum is. within_at rs k h e map sum (in_some_pop sums (set rs k low) high map sum is);
     }
 
-  -- ---- one that is taken out
+  -- ---- one that is removed
 
   keeps_out : (rs : List R) (k : ℕ) (r : R) → k < length rs → r ≡ get_or rs k r → (map : List ℕ) (sum : ℕ) → InSome sums rs map sum → sums r map sum ⊎ InSome sums (remove rs k) map sum
   keeps_out [] k r h e map sum is = absurd (omega (arith, h))
@@ -91,9 +91,9 @@ module _ {R : Type 0} (sums : R → Sums) where
     second_within = λ map sum is. out_within rs k r h e map sum (inr is);
   }
 
-  -- what is taken out may as well be on top
-  pub underway_taken : (root : Sums) (old new : List R) (r : R) (cap : ℕ) (best : Option Candidate) → AreHalves (InSome sums old) (sums r) (InSome sums new) → IsUnderway sums root old cap best → IsUnderway sums root (new ++ r ∷ []) cap best
-  underway_taken root old new r cap best halves is = record {
+  -- what is removed may as well be on top
+  pub underway_popped : (root : Sums) (old new : List R) (r : R) (cap : ℕ) (best : Option Candidate) → AreHalves (InSome sums old) (sums r) (InSome sums new) → IsUnderway sums root old cap best → IsUnderway sums root (new ++ r ∷ []) cap best
+  underway_popped root old new r cap best halves is = record {
     within = λ map sum has.
         elim (in_some_pop sums new r map sum has) [
           | inl others ↦ is.within map sum (halves.second_within map sum others)

@@ -2,14 +2,14 @@
 use Rattle.std.proofs.Common.{◌≡◌, ℕ, ◌+◌, ◌<◌, Bool, true, false, IsTrue, All, Option, List, filter, length, slice_index, sum_by, refl, sym, subst, ap, ap₂, ◌∙◌, arith}
 use Rattle.std.proofs.lemmas.List.Elements.{All-filter, All-from_get_or}
 use Rattle.std.proofs.lemmas.List.Filters.{sum_by-filter_both}
-use Rattle.pesp_search_network.specs.Arcs.{Arcs, IsCosted, IsPlaced, cost_in, has, meets}
+use Rattle.pesp_search_network.specs.Arcs.{Arcs, IsCosted, KeepsRows, cost_in, has, meets}
 use Rattle.pesp_search_network.specs.Pieces.{IsJoined, IsPeeled, IsShare, is_inner, is_of, turn_of}
 use Rattle.pesp_search_network.specs.SumsApart.{AreTogether, IsSumOf}
 use Rattle.pesp_search_network.specs.declared.arc.Arc.{Arc}
 use Rattle.pesp_base.proofs.WindowLaws.{after_no_step}
-use Rattle.pesp_search_network.proofs.Joined.{IsBuilt, all_both, build, joined_inside, joined_list, joined_outside, joined_placed, outside_same}
+use Rattle.pesp_search_network.proofs.Joined.{IsBuilt, all_both, build, joined_inside, joined_keeps_rows, joined_list, joined_outside, outside_same}
 use Rattle.pesp_search_network.proofs.Turned.{costs-turned, met-turned}
-use Rattle.pesp_search_network.proofs.Ways.{placed}
+use Rattle.pesp_search_network.proofs.Ways.{keeps_rows}
 
 -- ---- one share
 
@@ -20,9 +20,9 @@ pub record IsPriced (N : Arcs) (arcs : List Arc) (map : List ℕ) (cost : ℕ) :
 
 module _ (inner : List Bool) (side : Bool) (N M : Arcs) (share : IsShare inner side N M) where
   -- a map of the share gives each event a residue of its row
-  share_placed : (map : List ℕ) (cost : ℕ) → IsCosted M map cost → IsPlaced N map
-  share_placed map cost is =
-      let p = placed M map is.met in
+  share_keeps_rows : (map : List ℕ) (cost : ℕ) → IsCosted M map cost → KeepsRows N map
+  share_keeps_rows map cost is =
+      let p = keeps_rows M map is.met in
       let below : (v : ℕ) → v < N.events → slice_index map v < N.period = λ v h. subst (λ T. slice_index map v < T) share.period (p.below v (omega (arith, h, share.events))) in
       record {
         long = p.long ∙ share.events;
@@ -55,12 +55,12 @@ module _ (inner : List Bool) (side : Bool) (N M : Arcs) (share : IsShare inner s
   }
 
   -- where the whole has a map, each row of the share has a residue
-  share_some : (map : List ℕ) → IsPlaced N map → IsBuilt (λ v q. (q < N.period) × IsTrue (has M v q)) N.events
+  share_some : (map : List ℕ) → KeepsRows N map → IsBuilt (λ v q. (q < N.period) × IsTrue (has M v q)) N.events
   share_some map is =
       build (λ v q. (q < N.period) × IsTrue (has M v q)) N.events
       (λ v h. (let one = share.some v (slice_index map v) (is.below v h) (is.rows v h) in (one.0, (one.1, one.2))))
 
-  share_fits : (map : List ℕ) → length map ≡ N.events → ((v : ℕ) → v < N.events → (slice_index map v < N.period) × IsTrue (has M v (slice_index map v))) → IsPlaced N map
+  share_fits : (map : List ℕ) → length map ≡ N.events → ((v : ℕ) → v < N.events → (slice_index map v < N.period) × IsTrue (has M v (slice_index map v))) → KeepsRows N map
   share_fits map long each = record {
     long = long;
     below = λ v h. (each v h).0;
@@ -75,9 +75,9 @@ module _ (N P R : Arcs) (inner : List Bool) (joint : Option ℕ) (peeled : IsPee
   costed-joined p r map a b has_p has_r joined =
       let T = N.period in
       let t = turn_of T joint p r in
-      let pp = share_placed inner true N P peeled.inside p a has_p in
-      let rp = share_placed inner false N R peeled.outside r b has_r in
-      let pm = joined_placed N inner joint p r map peeled.piece pp rp joined in
+      let pp = share_keeps_rows inner true N P peeled.inside p a has_p in
+      let rp = share_keeps_rows inner false N R peeled.outside r b has_r in
+      let pm = joined_keeps_rows N inner joint p r map peeled.piece pp rp joined in
       let in_turn = joined_inside N inner joint p r map peeled.piece pp rp joined in
       let as_was = joined_outside N inner joint p r map peeled.piece pp rp joined in
       let of_p = share_priced inner true N P peeled.inside p a has_p in
@@ -102,7 +102,7 @@ module _ (N P R : Arcs) (inner : List Bool) (joint : Option ℕ) (peeled : IsPee
   pub costed-apart : (map : List ℕ) (cost : ℕ) → IsCosted N map cost → AreTogether (IsCosted P) (IsCosted R) cost
   costed-apart map cost is =
       let T = N.period in
-      let pm = placed N map is.met in
+      let pm = keeps_rows N map is.met in
       let inside = filter (is_of inner true) N.arcs in
       let outside = filter (is_of inner false) N.arcs in
       let met : (side : Bool) → All (λ a. IsTrue (meets T map a)) (filter (is_of inner side) N.arcs) = λ side. All-filter (is_of inner side) (λ a. IsTrue (meets T map a)) N.arcs is.met.met in
@@ -110,7 +110,7 @@ module _ (N P R : Arcs) (inner : List Bool) (joint : Option ℕ) (peeled : IsPee
       let fits = share_fits inner true N P peeled.inside ground_in.map ground_in.long ground_in.each in
       let t = turn_of T joint map ground_in.map in
       let in_piece = joined_list T inner t map ground_in.map in
-      let placed_in = joined_placed N inner joint map ground_in.map in_piece.0 peeled.piece pm fits in_piece.1 in
+      let in_rows = joined_keeps_rows N inner joint map ground_in.map in_piece.0 peeled.piece pm fits in_piece.1 in
       let in_turn = joined_inside N inner joint map ground_in.map in_piece.0 peeled.piece pm fits in_piece.1 in
       let ground_out = share_some inner false N R peeled.outside map pm in
       let in_rest = joined_list T inner 0 ground_out.map map in
@@ -123,8 +123,8 @@ module _ (N P R : Arcs) (inner : List Bool) (joint : Option ℕ) (peeled : IsPee
         part = sum_by (cost_in T map) inside;
         rest = sum_by (cost_in T map) outside;
         has_first =
-            share_costed inner true N P peeled.inside in_piece.0 (sum_by (cost_in T map) inside) placed_in.long placed_in.below
-            (λ v h. of_piece P ground_in.map map in_piece.0 t placed_in ground_in.long ground_in.each peeled.inside.kept in_piece.1 v h (is_inner inner v) refl)
+            share_costed inner true N P peeled.inside in_piece.0 (sum_by (cost_in T map) inside) in_rows.long in_rows.below
+            (λ v h. of_piece P ground_in.map map in_piece.0 t in_rows ground_in.long ground_in.each peeled.inside.kept in_piece.1 v h (is_inner inner v) refl)
             (record { met = met-turned T t map in_piece.0 inside in_turn (met true); costs = costs-turned T t map in_piece.0 inside in_turn });
         has_second =
             share_costed inner false N R peeled.outside in_rest.0 (sum_by (cost_in T map) outside) long_out (λ v h. (there v h).0) (λ v h. (there v h).1)
@@ -138,13 +138,13 @@ module _ (N P R : Arcs) (inner : List Bool) (joint : Option ℕ) (peeled : IsPee
       Each : Arcs → List ℕ → Type 0
       Each M ground = (v : ℕ) → v < N.events → (slice_index ground v < N.period) × IsTrue (has M v (slice_index ground v))
 
-      of_piece : (M : Arcs) (ground old new : List ℕ) (t : ℕ) → IsPlaced N new → length ground ≡ N.events → Each M ground → Kept true M → IsJoined N.period inner t old ground new
+      of_piece : (M : Arcs) (ground old new : List ℕ) (t : ℕ) → KeepsRows N new → length ground ≡ N.events → Each M ground → Kept true M → IsJoined N.period inner t old ground new
           → (v : ℕ) → v < N.events → (b : Bool) → is_inner inner v ≡ b → IsTrue (has M v (slice_index new v))
       of_piece M ground old new t pn long each kept joined v h true is = kept v (slice_index new v) (pn.below v h) is ∙ pn.rows v h
       of_piece M ground old new t pn long each kept joined v h false is =
           subst (λ r. IsTrue (has M v r)) (sym (joined.stays v (omega (arith, h, long)) is)) (each v h).1
 
-      out_of_piece : (M : Arcs) (ground old new : List ℕ) → IsPlaced N old → length ground ≡ N.events → Each M ground → Kept false M → IsJoined N.period inner 0 ground old new
+      out_of_piece : (M : Arcs) (ground old new : List ℕ) → KeepsRows N old → length ground ≡ N.events → Each M ground → Kept false M → IsJoined N.period inner 0 ground old new
           → (v : ℕ) → v < N.events → (b : Bool) → is_inner inner v ≡ b → (slice_index new v < N.period) × IsTrue (has M v (slice_index new v))
       out_of_piece M ground old new po long each kept joined v h true is =
           let same : slice_index new v ≡ slice_index ground v = joined.turned v (omega (arith, h, po.long)) is ∙ after_no_step N.period (slice_index ground v) (each v h).0 in

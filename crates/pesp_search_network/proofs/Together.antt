@@ -33,15 +33,15 @@ module _ (whole one other : Sums) (sums : IsSumOf whole one other) where
       omega (arith, two.adds, within, least.least two.first two.part two.has_first, none two.second two.rest two.has_second)
 
   -- what bounds the one where it stops bounds the whole, and so does its floor
-  pub stop_of_one : (cap floor lower bound : ℕ) → IsLowerBound whole floor → IsLowerBoundBelow one cap lower → bound ≡ max lower floor → IsLowerBoundBelow whole cap bound
-  stop_of_one cap floor lower bound least low greatest map sum is below =
+  pub stop_of_one : (cap floor lower_bound bound : ℕ) → IsLowerBound whole floor → IsLowerBoundBelow one cap lower_bound → bound ≡ max lower_bound floor → IsLowerBoundBelow whole cap bound
+  stop_of_one cap floor lower_bound bound least low greatest map sum is below =
       let two = sums.apart map sum is in
       let room : two.part < cap = omega (arith, two.adds, below) in
       omega (arith, two.adds, greatest, least map sum is, low two.first two.part two.has_first room)
 
   -- what bounds the other where it stops bounds the whole, with the least sum of the one
-  pub stop_of_other : (cap lower bound : ℕ) (part : Candidate) → IsLeast one part → IsLowerBoundBelow other (cap - part.cost) lower → bound ≤ part.cost + lower → IsLowerBoundBelow whole cap bound
-  stop_of_other cap lower bound part least low within map sum is below =
+  pub stop_of_other : (cap lower_bound bound : ℕ) (part : Candidate) → IsLeast one part → IsLowerBoundBelow other (cap - part.cost) lower_bound → bound ≤ part.cost + lower_bound → IsLowerBoundBelow whole cap bound
+  stop_of_other cap lower_bound bound part least low within map sum is below =
       let two = sums.apart map sum is in
       let first : part.cost ≤ two.part = least.least two.first two.part two.has_first in
       let room : two.rest < cap - part.cost = omega (arith, two.adds, first, below) in

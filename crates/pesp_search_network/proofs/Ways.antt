@@ -10,13 +10,13 @@ use Rattle.pesp_base.specs.Tensions.{residue, slack_of}
 use Rattle.pesp_base.proofs.ResidueLaws.{residue-below_first, residue-residue_sub}
 use Rattle.pesp_search_tables.specs.Differences.{difference}
 use Rattle.pesp_search_tables.specs.declared.triple.Ends.{Ends}
-use Rattle.pesp_search_network.specs.Arcs.{Arcs, IsMet, IsPlaced, cost_met}
+use Rattle.pesp_search_network.specs.Arcs.{Arcs, IsMet, KeepsRows, cost_met}
 use Rattle.pesp_search_network.specs.Ways.{IsOnly, IsSeat, IsWay, ahead, seat_at}
 use Rattle.pesp_search_network.specs.declared.arc.Arc.{Arc}
 use Rattle.pesp_search_network.specs.declared.way.Seat.{Seat}
 use Rattle.pesp_search_network.specs.declared.way.Seat.TheVariants.{At, Ahead}
 use Rattle.pesp_search_tables.proofs.Differences.{difference_is}
-use Rattle.pesp_search_tables.proofs.Places.{difference_below}
+use Rattle.pesp_search_tables.proofs.Indices.{difference_below}
 
 -- ---- differences
 
@@ -102,21 +102,21 @@ cost-backward T a r s h below =
 -- ---- residues of a map
 
 -- the residues of a map that meets everything are in rows
-pub placed : (N : Arcs) (map : List ℕ) → IsMet N map → IsPlaced N map
-placed N map is = record {
+pub keeps_rows : (N : Arcs) (map : List ℕ) → IsMet N map → KeepsRows N map
+keeps_rows N map is = record {
   long = is.long;
   below = λ v h. All-get_or (λ r. r < N.period) map v 0 (omega (arith, h, is.long)) is.below;
   rows = is.rows;
 }
 
--- the origin, behind the events, stands at 0
+-- the origin, after the events, stands at 0
 pub origin_zero : (N : Arcs) (map : List ℕ) → IsMet N map → slice_index map N.events ≡ 0
 origin_zero N map is = get_or_past map N.events 0 (omega (arith, is.long))
 
 -- the one residue of an event
 pub only_is : (N : Arcs) (event r : ℕ) → event < N.events → IsOnly N event r → (map : List ℕ) → IsMet N map → r ≡ slice_index map event
 only_is N event r h only map is =
-    let p = placed N map is in
+    let p = keeps_rows N map is in
     sym (only.only (slice_index map event) (p.below event h) (p.rows event h))
 
 -- every node's residue is below the period

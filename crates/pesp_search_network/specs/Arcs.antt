@@ -35,7 +35,7 @@ pub record IsCosted (N : Arcs) (map : List ℕ) (cost : ℕ) : Type 0 where
   pub costs : sum_by (cost_in N.period map) N.arcs ≡ cost
 
 -- the map gives each event a residue of its row
-pub record IsPlaced (N : Arcs) (map : List ℕ) : Type 0 where
+pub record KeepsRows (N : Arcs) (map : List ℕ) : Type 0 where
   pub long : length map ≡ N.events
   pub below : (v : ℕ) → v < N.events → slice_index map v < N.period
   pub rows : (v : ℕ) → v < N.events → IsTrue (has N v (slice_index map v))

@@ -1,7 +1,9 @@
 pub mod Arcs
+pub mod Assigned
+pub mod Begun
 pub mod Narrow
-pub mod Ranges
 pub mod Pieces
+pub mod Ranges
 pub mod Relaxed
 pub mod Scales
 pub mod Splits

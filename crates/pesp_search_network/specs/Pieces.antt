@@ -21,8 +21,8 @@ is_of inner false a = not (touches inner a)
 -- ---- where a network may be cut
 
 -- the event has one residue alone
-abbrev pub IsSettled : Arcs → ℕ → Type 0
-IsSettled N v = (r : ℕ) × IsOnly N v r
+abbrev pub IsFixed : Arcs → ℕ → Type 0
+IsFixed N v = (r : ℕ) × IsOnly N v r
 
 -- the event may stand at every residue
 abbrev pub IsFree : Arcs → ℕ → Type 0
@@ -30,7 +30,7 @@ IsFree N v = (r : ℕ) → r < N.period → IsTrue (has N v r)
 
 -- where an arc of the piece may end: in the piece, or at its joint, or, where it has no joint, at an event that has one residue alone
 abbrev pub IsEnd : Arcs → List Bool → Option ℕ → ℕ → Type 0
-IsEnd N inner None v = IsTrue (is_inner inner v) ⊎ IsSettled N v
+IsEnd N inner None v = IsTrue (is_inner inner v) ⊎ IsFixed N v
 IsEnd N inner (Some c) v = IsTrue (is_inner inner v) ⊎ (v ≡ c)
 
 -- both ends of the arc are such ends, if it is one of the piece
@@ -69,7 +69,7 @@ pub record IsThinned (inner : List Bool) (side : Bool) (N M : Arcs) : Type 0 whe
 abbrev pub IsShare : List Bool → Bool → Arcs → Arcs → Type 0
 IsShare inner side N M = IsThinned inner side (record N { arcs = filter (is_of inner side) N.arcs }) M
 
--- a piece is taken off a network, and the rest is left
+-- a piece is peeled off a network, and the rest is left
 pub record IsPeeled (N P R : Arcs) (inner : List Bool) (joint : Option ℕ) : Type 0 where
   pub piece : IsPiece N inner joint
   pub inside : IsShare inner true N P

@@ -15,7 +15,7 @@ pub record IsGrown (R S : Relaxation) : Type 0 where
   pub ends : (p : ℕ) → p < length R.ends → ends_at S.ends p ≡ ends_at R.ends p
   pub sums : (x : ℕ → ℕ) → sum_at S x ≡ sum_at R x
 
--- for each event there is a pair at its place, from the origin, which stands after the events
+-- for each event there is a pair of its index, from the origin, which stands after the events
 pub record IsAnchored (N : Arcs) (R : Relaxation) : Type 0 where
   pub period : R.period ≡ N.period
   pub some : 0 < R.period

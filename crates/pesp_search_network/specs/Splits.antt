@@ -2,7 +2,7 @@
 use Rattle.std.specs.Prelude.{◌≡◌, ◌≢◌, ℕ, ◌<◌, true, List, length, slice_index}
 use Rattle.pesp_search_tables.specs.Relaxed.{Relaxation}
 use Rattle.pesp_search_tables.specs.Sums.{admits_at}
-use Rattle.pesp_search_network.specs.declared.halves.Choice.{Choice}
+use Rattle.pesp_search_network.specs.declared.halves.Branching.{Branching}
 
 -- the pair admits the difference
 pub record IsOne (R : Relaxation) (pair d : ℕ) : Type 0 where
@@ -19,11 +19,11 @@ pub record IsOther (R : Relaxation) (pair least d : ℕ) : Type 0 where
   pub apart : d ≢ least
 
 -- the pair admits one difference at most
-abbrev pub AreSettled : Relaxation → ℕ → Type 0
-AreSettled R pair = (d e : ℕ) → IsOne R pair d → IsOne R pair e → d ≡ e
+abbrev pub AdmitsOne : Relaxation → ℕ → Type 0
+AdmitsOne R pair = (d e : ℕ) → IsOne R pair d → IsOne R pair e → d ≡ e
 
 -- a pair and two differences that it admits
-pub record IsChoice (R : Relaxation) (pair : ℕ) (c : Choice) : Type 0 where
+pub record IsBranching (R : Relaxation) (pair : ℕ) (c : Branching) : Type 0 where
   pub there : pair < length R.ends
   pub same : c.pair ≡ pair
   pub least : IsOne R pair c.least

@@ -7,7 +7,7 @@ ghost use Rattle.pesp_search_tables.specs.Sums.{admits};
 use pesp_search_tables::Tables;
 
 /// The residue of a node: the origin, which is after the events, stands at 0.
-fn residue(map: &[u16], node: usize) -> usize
+pub(crate) fn residue(map: &[u16], node: usize) -> usize
     ensures value { result ≡ slice_index map.now node }
     ensures small { result < 65536 }
 {

@@ -1,7 +1,7 @@
 //! Least maps of a network, by pieces that are solved apart.
 
 ghost use Rattle.std.specs.Prelude.{◌≡◌, ◌≢◌, ◌+◌, ◌-◌, ◌<◌, ◌≤◌, ◌^◌, ℕ, Option, Some, IfOk, OnOk};
-ghost use Rattle.pesp_search_least.specs.Spending.{OnlySpends, TakesUnit};
+ghost use Rattle.pesp_search_least.specs.Spending.{OnlySpends, SpendsUnit};
 ghost use Rattle.pesp_search_least.specs.Sums.{IsCandidate, IsLeast, IsLowerBound, IsOutcome, IsStop, StopsWhereSpent};
 ghost use Rattle.pesp_search_network.specs.Arcs.{IsCosted};
 ghost use Rattle.pesp_search_network.specs.Pieces.{IsPeeled};
@@ -12,7 +12,7 @@ use pesp_base::Memory;
 use pesp_search_least::{Budget, Candidate, Limits, Outcome};
 use std::alloc::Global;
 
-/// How many pieces may be taken off, one within the other; small networks have fewer.
+/// How many pieces may be peeled off, one within the other; small networks have fewer.
 const MOST_PIECES: usize = 100;
 
 impl Network {
@@ -34,7 +34,7 @@ impl Network {
         }
     }
 
-    /// The answer where the piece has a least map, and the rest has been searched below what is left of the cap.
+    /// The outcome where the piece has a least map, and the rest has been searched below what is left of the cap.
     fn joined_outcome(&self, peeled: &Peeled, piece: &Candidate, cap: u64, rest: Outcome) -> Outcome
         requires peeled { IsPeeled self.now peeled.now.piece peeled.now.rest
             peeled.now.cut.inner.items peeled.now.cut.joint }
@@ -48,14 +48,14 @@ impl Network {
         match rest {
             Outcome::Found(rest) => Outcome::Found(self.joined(peeled, piece, rest)),
             Outcome::NoneBelow => Outcome::NoneBelow,
-            Outcome::Spent { best, lower } => {
+            Outcome::Spent { best, lower_bound } => {
                 let best = match best {
                     Some(rest) => Some(self.joined(peeled, piece, rest)),
                     None => None,
                 };
                 Outcome::Spent {
                     best,
-                    lower: piece.cost.saturating_add(lower),
+                    lower_bound: piece.cost.saturating_add(lower_bound),
                 }
             }
         }
@@ -74,8 +74,8 @@ impl Network {
         ensures spent { IfOk result (StopsWhereSpent budget.new.left) }
         ensures budget { OnlySpends budget.old.left budget.new.left }
         ensures stops { limits.floor < limits.cap → budget.old.left ≡ Some 0 → IfOk result IsStop }
-        ensures takes { limits.floor < limits.cap → budget.old.left ≢ Some 0
-            → OnOk result (TakesUnit budget.old.left budget.new.left) }
+        ensures spends { limits.floor < limits.cap → budget.old.left ≢ Some 0
+            → OnOk result (SpendsUnit budget.old.left budget.new.left) }
     {
         if pieces == 0 {
             return self.least_in_one(alloc, limits, budget);
@@ -97,9 +97,9 @@ impl Network {
                 Ok(self.joined_outcome(&peeled, &piece, limits.cap, rest))
             }
             Outcome::NoneBelow => Ok(Outcome::NoneBelow),
-            Outcome::Spent { lower, .. } => Ok(Outcome::Spent {
+            Outcome::Spent { lower_bound, .. } => Ok(Outcome::Spent {
                 best: None,
-                lower: lower.max(limits.floor),
+                lower_bound: lower_bound.max(limits.floor),
             }),
         }
     }
@@ -118,10 +118,10 @@ impl Network {
         ensures outcome { IfOk result (IsOutcome (IsCosted self.now) limits.cap) }
         ensures spent { IfOk result (StopsWhereSpent budget.new.left) }
         ensures budget { OnlySpends budget.old.left budget.new.left }
-        // Without a unit there is no visit, and without a visit no answer.
+        // Without a unit no node is expanded, and so nothing is known.
         ensures stops { limits.floor < limits.cap → budget.old.left ≡ Some 0 → IfOk result IsStop }
-        ensures takes { limits.floor < limits.cap → budget.old.left ≢ Some 0
-            → OnOk result (TakesUnit budget.old.left budget.new.left) }
+        ensures spends { limits.floor < limits.cap → budget.old.left ≢ Some 0
+            → OnOk result (SpendsUnit budget.old.left budget.new.left) }
     {
         self.least_apart(alloc, limits, budget, MOST_PIECES)
     }

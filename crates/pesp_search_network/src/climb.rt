@@ -6,7 +6,7 @@ ghost use Rattle.pesp_search_network.specs.Relaxed.{IsCutTo, IsSwept};
 use pesp_search_least::Budget;
 use pesp_search_tables::Tables;
 
-/// What a step at a triple takes of the budget.
+/// What a step at a triple spends of the budget.
 const UNITS: u64 = 4;
 
 /// How far a search has come where it sweeps.
@@ -75,7 +75,12 @@ fn cut_to(tables: &mut Tables, cap: Option<i64>)
 }
 
 /// A sweep, and a cut: the bound after it, where there is more to do.
-fn turn(tables: &mut Tables, cap: Option<i64>, backwards: bool, budget: &mut Budget) -> Option<i64>
+fn sweep_and_cut(
+    tables: &mut Tables,
+    cap: Option<i64>,
+    backwards: bool,
+    budget: &mut Budget,
+) -> Option<i64>
     ensures cut { IsCutTo cap tables.old tables.new }
     ensures budget { OnlySpends budget.old.left budget.new.left }
 {
@@ -103,7 +108,7 @@ pub(crate) fn climb(tables: &mut Tables, cap: Option<i64>, stage: Stage, budget:
         if budget.is_spent() {
             break;
         }
-        let Some(bound) = turn(tables, cap, round % 2 == 1, budget) else {
+        let Some(bound) = sweep_and_cut(tables, cap, round % 2 == 1, budget) else {
             break;
         };
         if !stage.goes_on(last, bound, cap) {

@@ -1,7 +1,7 @@
 //! What maps cost.
 
 ghost use Rattle.std.specs.Prelude.{◌≡◌, ℕ, ◌<◌, ◌≤◌, IfSome, IsTrue, MatchBool, MatchOption, slice_index};
-ghost use Rattle.pesp_search_network.specs.Arcs.{IsBetween, IsCosted, IsPlaced, cost_met, has};
+ghost use Rattle.pesp_search_network.specs.Arcs.{IsBetween, IsCosted, KeepsRows, cost_met, has};
 
 use crate::{Arc, Network};
 use pesp_base::{Period, allows, slack};
@@ -45,8 +45,8 @@ impl Network {
     }
 
     /// Whether the map gives each event a residue at which it may stand.
-    fn places(&self, map: &[u16]) -> bool
-        ensures { MatchBool result (IsPlaced self.now map.now) (IsPlaced self.now map.now → ⊥) }
+    fn keeps_rows(&self, map: &[u16]) -> bool
+        ensures { MatchBool result (KeepsRows self.now map.now) (KeepsRows self.now map.now → ⊥) }
     {
         if map.len() != self.events() {
             return false;
@@ -62,7 +62,7 @@ impl Network {
     /// Weight times slack of an arc at a map, where the map meets it.
     fn arc_cost(&self, arc: Arc, map: &[u16]) -> Option<u64>
         requires between { IsBetween self.now.events arc }
-        requires placed { IsPlaced self.now map.now }
+        requires keeps_rows { KeepsRows self.now map.now }
         ensures value { result ≡ cost_met self.now.period arc (slice_index map.now arc.from)
             (slice_index map.now arc.to) }
         ensures small { IfSome result (λ cost. cost ≤ 1439000000000) }
@@ -71,8 +71,8 @@ impl Network {
     }
 
     /// The cost of a map that gives each event a residue at which it may stand, where each arc is met.
-    fn cost_placed(&self, map: &[u16]) -> Option<u64>
-        requires { IsPlaced self.now map.now }
+    fn cost_in_rows(&self, map: &[u16]) -> Option<u64>
+        requires { KeepsRows self.now map.now }
         ensures { MatchOption result ((cost : ℕ) → IsCosted self.now map.now cost → ⊥)
             (IsCosted self.now map.now) }
     {
@@ -88,9 +88,9 @@ impl Network {
         ensures { MatchOption result ((cost : ℕ) → IsCosted self.now map.now cost → ⊥)
             (IsCosted self.now map.now) }
     {
-        if !self.places(map) {
+        if !self.keeps_rows(map) {
             return None;
         }
-        self.cost_placed(map)
+        self.cost_in_rows(map)
     }
 }

@@ -1,4 +1,4 @@
-//! The order in which nodes are taken out, and the triples that it makes.
+//! The order in which nodes are eliminated, and the triples that it makes.
 //!
 //! The node goes first whose neighbours have the fewest pairs that are not joined yet; these are then joined.
 
@@ -11,12 +11,12 @@ use pesp_base::Memory;
 use pesp_search_tables::Tables;
 use std::alloc::Global;
 
-/// Tables with triples, and the order in which nodes were taken out.
+/// Tables with triples, and the order in which nodes were eliminated.
 #[derive(Drop)]
 pub(crate) struct Eliminated {
     // Every map has the sum that it had.
     pub(crate) tables: Tables,
-    // The first to be taken out stands first.
+    // The first to be eliminated stands first.
     pub(crate) order: Vec<usize>,
 }
 
@@ -47,12 +47,12 @@ fn least(fills: &[Option<usize>]) -> Option<usize> {
 }
 
 fn set_fill(fills: &mut [Option<usize>], node: usize, fill: Option<usize>) {
-    if let Some(place) = fills.get_mut(node) {
-        *place = fill;
+    if let Some(old) = fills.get_mut(node) {
+        *old = fill;
     }
 }
 
-/// Counts anew at the neighbours of a node that was taken out.
+/// Counts anew at the neighbours of a node that was eliminated.
 fn renew(fills: &mut [Option<usize>], graph: &Graph, node: usize, around: &[Neighbour]) {
     set_fill(fills, node, None);
     for neighbour in around {
@@ -60,7 +60,7 @@ fn renew(fills: &mut [Option<usize>], graph: &Graph, node: usize, around: &[Neig
     }
 }
 
-/// Takes all nodes out, and adds the triples of each with those that it is joined with then.
+/// Eliminates all nodes, and adds the triples of each with those that it is joined with then.
 pub(crate) fn eliminate(
     alloc: Global,
     tables: Tables,
@@ -79,7 +79,7 @@ pub(crate) fn eliminate(
         if order.push(node).is_err() {
             return Err(Memory);
         }
-        let around = graph.take_out(node);
+        let around = graph.remove(node);
         grown = with_all(grown, graph, origin, &around)?;
         renew(&mut fills, graph, node, &around);
     }

@@ -16,19 +16,19 @@ use pesp_search_tables::Tables;
 /// No arc costs more.
 const MOST_COST: u64 = 1_439_000_000_000;
 
-/// What an arc costs at least, whose pair is at the place.
-pub(crate) fn least_cost(tables: &Tables, period: Period, arc: &Arc, place: usize, way: Way) -> u64
-    requires place { place < length tables.now.ends }
+/// What an arc costs at least, which has its table at this pair.
+pub(crate) fn least_cost(tables: &Tables, period: Period, arc: &Arc, pair: usize, way: Way) -> u64
+    requires pair { pair < length tables.now.ends }
     requires period { tables.now.period ≡ period }
     requires from { IsSeatBelow period way.from }
     requires to { IsSeatBelow period way.to }
     ensures small { result ≤ 1439000000000 }
-    ensures least { (d cost : ℕ) → IsOne tables.now place d
+    ensures least { (d cost : ℕ) → IsOne tables.now pair d
         → cost_at period arc.now way d ≡ Some cost → result ≤ cost }
 {
     let mut least = MOST_COST;
     for difference in 0..period.get() {
-        if tables.admits(place, usize::from(difference)) {
+        if tables.admits(pair, usize::from(difference)) {
             let from = way.from.residue(difference);
             let to = way.to.residue(difference);
             if let Some(cost) = cost_between(period, arc, from, to) {

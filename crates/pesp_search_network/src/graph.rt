@@ -7,13 +7,13 @@ ghost use Rattle.std.specs.Prelude.{◌<◌, IfSome, length};
 use pesp_base::Memory;
 use std::alloc::Global;
 
-/// A node that another is joined with, and the place of their pair.
+/// A node that another is joined with, and their pair.
 #[derive(Clone, Copy)]
 pub(crate) struct Neighbour {
     // The other one.
     pub(crate) node: usize,
     // The same at both nodes.
-    pub(crate) place: usize,
+    pub(crate) pair: usize,
 }
 
 /// For each node its neighbours.
@@ -21,11 +21,11 @@ pub(crate) struct Neighbour {
 pub(crate) struct Graph {
     // Where a longer list takes its memory from.
     alloc: Global,
-    // By node; of two that are joined each is in the list of the other, until one is taken out.
+    // By node; of two that are joined each is in the list of the other, until one is removed.
     lists: Vec<Vec<Neighbour>>,
 }
 
-/// The place at which a node stands in a list.
+/// The index at which a node stands in a list.
 fn position(list: &[Neighbour], node: usize) -> Option<usize>
     ensures { IfSome result (λ k. k < length list.now) }
 {
@@ -55,11 +55,11 @@ impl Graph {
         }
     }
 
-    /// The place of the pair of two nodes.
-    pub(crate) fn place(&self, one: usize, other: usize) -> Option<usize> {
+    /// The index of the pair of two nodes.
+    pub(crate) fn pair(&self, one: usize, other: usize) -> Option<usize> {
         let list = self.neighbours(one);
         let at = position(list, other)?;
-        Some(list[at].place)
+        Some(list[at].pair)
     }
 
     fn put(&mut self, node: usize, neighbour: Neighbour) -> Result<(), Memory> {
@@ -71,10 +71,10 @@ impl Graph {
         Ok(())
     }
 
-    /// Joins two nodes by the pair at a place.
-    pub(crate) fn join(&mut self, one: usize, other: usize, place: usize) -> Result<(), Memory> {
-        self.put(one, Neighbour { node: other, place })?;
-        self.put(other, Neighbour { node: one, place })
+    /// Joins two nodes by a pair.
+    pub(crate) fn join(&mut self, one: usize, other: usize, pair: usize) -> Result<(), Memory> {
+        self.put(one, Neighbour { node: other, pair })?;
+        self.put(other, Neighbour { node: one, pair })
     }
 
     /// How many pairs of the node's neighbours are not joined.
@@ -83,7 +83,7 @@ impl Graph {
         let mut fill: usize = 0;
         for (index, one) in around.iter().enumerate() {
             for other in &around[..index] {
-                if self.place(one.node, other.node).is_none() {
+                if self.pair(one.node, other.node).is_none() {
                     fill = fill.saturating_add(1);
                 }
             }
@@ -99,8 +99,8 @@ impl Graph {
         }
     }
 
-    /// Takes a node out, and tells its neighbours.
-    pub(crate) fn take_out(&mut self, node: usize) -> Vec<Neighbour> {
+    /// Removes a node, and tells its neighbours.
+    pub(crate) fn remove(&mut self, node: usize) -> Vec<Neighbour> {
         let Some(list) = self.lists.get_mut(node) else {
             return Vec::new(self.alloc);
         };

@@ -58,16 +58,16 @@ fn add(tables: &Tables, pair: usize, facing: Facing, sums: &mut [Option<i64>])
     }
 }
 
-/// The place of the least sum.
+/// The residue of the least sum.
 fn least(sums: &[Option<i64>]) -> Option<usize>
     ensures { IfSome result (λ k. k < length sums.now) }
 {
     let mut best = None;
     let mut lowest = i64::MAX;
-    for (place, sum) in sums.iter().enumerate() {
+    for (residue, sum) in sums.iter().enumerate() {
         if let Some(sum) = sum {
             if best.is_none() || *sum < lowest {
-                best = Some(place);
+                best = Some(residue);
                 lowest = *sum;
             }
         }
@@ -118,7 +118,7 @@ fn map_of(alloc: Global, chosen: &[Option<u16>], period: usize) -> Result<Vec<u1
 
 /// A map in the reverse of an order, each node at the residue of least sum to those that have theirs.
 ///
-/// The origin takes its turn like any event, and all are turned at the end so that it stands at 0: with a residue
+/// The origin comes in its order like any event, and all are turned at the end so that it stands at 0: with a residue
 /// from the start it would come before the nodes that close its circles.
 pub(crate) fn guess(
     alloc: Global,

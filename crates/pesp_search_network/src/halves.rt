@@ -1,7 +1,7 @@
 //! Which pair is split, and how its differences are parted.
 
 ghost use Rattle.std.specs.Prelude.{◌≡◌, ◌≢◌, ℕ, ◌<◌, ◌≤◌, true, false, IfOk, MatchOption, length, slice_index_or};
-ghost use Rattle.pesp_search_network.specs.Splits.{AreOnes, AreSettled, IsChoice, IsFree, IsOne, IsOther, IsStuck};
+ghost use Rattle.pesp_search_network.specs.Splits.{AdmitsOne, AreOnes, IsBranching, IsFree, IsOne, IsOther, IsStuck};
 
 use pesp_base::Memory;
 use pesp_search_tables::Tables;
@@ -9,8 +9,8 @@ use std::alloc::Global;
 
 /// A pair, the difference of least number that it admits, and another one that it admits.
 #[derive(Clone, Copy)]
-pub(crate) struct Choice {
-    // Its place.
+pub(crate) struct Branching {
+    // Its index.
     pub(crate) pair: usize,
     // The difference of least number.
     pub(crate) least: usize,
@@ -92,28 +92,28 @@ fn contrast(tables: &Tables, pair: usize, least: usize, room: i64) -> u64
     sum.saturating_mul(bits) / count.max(1)
 }
 
-/// The choice at a pair that admits two differences.
-fn choice_at(tables: &Tables, pair: usize) -> Option<Choice>
+/// The branching at a pair that admits two differences.
+fn branching_at(tables: &Tables, pair: usize) -> Option<Branching>
     requires { pair < length tables.now.ends }
-    ensures { MatchOption result (AreSettled tables.now pair) (IsChoice tables.now pair) }
+    ensures { MatchOption result (AdmitsOne tables.now pair) (IsBranching tables.now pair) }
 {
     let least = least_of(tables, pair)?;
     let other = other_of(tables, pair, least)?;
-    Some(Choice { pair, least, other })
+    Some(Branching { pair, least, other })
 }
 
 /// The pair of the greatest contrast, of those that admit two differences.
-pub(crate) fn best_choice(tables: &Tables, room: i64) -> Option<Choice>
-    ensures { MatchOption result ((p : ℕ) → p < length tables.now.ends → AreSettled tables.now p)
-        (λ c. IsChoice tables.now c.pair c) }
+pub(crate) fn best_branching(tables: &Tables, room: i64) -> Option<Branching>
+    ensures { MatchOption result ((p : ℕ) → p < length tables.now.ends → AdmitsOne tables.now p)
+        (λ c. IsBranching tables.now c.pair c) }
 {
     let mut best = None;
     let mut greatest = 0;
     for pair in 0..tables.pairs() {
-        if let Some(choice) = choice_at(tables, pair) {
-            let here = contrast(tables, pair, choice.least, room);
+        if let Some(branching) = branching_at(tables, pair) {
+            let here = contrast(tables, pair, branching.least, room);
             if best.is_none() || here > greatest {
-                best = Some(choice);
+                best = Some(branching);
                 greatest = here;
             }
         }
@@ -121,36 +121,40 @@ pub(crate) fn best_choice(tables: &Tables, room: i64) -> Option<Choice>
     best
 }
 
-/// Whether of so many places one is among the half about another.
-fn is_near(place: usize, middle: usize, count: usize) -> bool
-    requires place { place ≤ 1440 }
+/// Whether of so many ranks one is among the half about another.
+fn is_near(rank: usize, middle: usize, count: usize) -> bool
+    requires rank { rank ≤ 1440 }
     requires middle { middle ≤ count }
     requires count { count ≤ 1440 }
 {
     let wanted = (count / 2).max(1);
-    (place + count - middle + wanted / 2) % count.max(1) < wanted
+    (rank + count - middle + wanted / 2) % count.max(1) < wanted
 }
 
 /// The half of a pair's differences about the one of least number.
-pub(crate) fn half(alloc: Global, tables: &Tables, choice: Choice) -> Result<Vec<bool>, Memory>
+pub(crate) fn half(
+    alloc: Global,
+    tables: &Tables,
+    branching: Branching,
+) -> Result<Vec<bool>, Memory>
     requires short { tables.now.period ≤ 1440 }
-    requires choice { IsChoice tables.now choice.pair choice }
+    requires branching { IsBranching tables.now branching.pair branching }
     ensures long { IfOk result (λ set. length set.items ≡ tables.now.period) }
-    ensures least { IfOk result (λ set. slice_index_or set.items choice.least false ≡ true) }
-    ensures other { IfOk result (λ set. slice_index_or set.items choice.other false ≡ false) }
+    ensures least { IfOk result (λ set. slice_index_or set.items branching.least false ≡ true) }
+    ensures other { IfOk result (λ set. slice_index_or set.items branching.other false ≡ false) }
 {
     let period = tables.period();
-    let middle = count_before(tables, choice.pair, choice.least);
-    let count = count_before(tables, choice.pair, period).max(middle);
+    let middle = count_before(tables, branching.pair, branching.least);
+    let count = count_before(tables, branching.pair, period).max(middle);
     let mut set = Vec::new(alloc);
     for difference in 0..period {
-        let place = count_before(tables, choice.pair, difference);
-        if set.push(is_near(place, middle, count)).is_err() {
+        let rank = count_before(tables, branching.pair, difference);
+        if set.push(is_near(rank, middle, count)).is_err() {
             return Err(Memory);
         }
     }
-    set[choice.least] = true;
-    set[choice.other] = false;
+    set[branching.least] = true;
+    set[branching.other] = false;
     Ok(set)
 }
 

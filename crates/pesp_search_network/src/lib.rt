@@ -4,6 +4,7 @@
 mod admitted;
 mod apart;
 mod arc;
+mod assigned;
 #[cfg(test)]
 mod by_ranges;
 mod climb;
@@ -33,8 +34,8 @@ mod share;
 mod tests;
 #[cfg(test)]
 mod tests_apart;
+mod traversal;
 mod turning;
-mod walk;
 mod way;
 mod widest;
 

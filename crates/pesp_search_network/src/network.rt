@@ -78,11 +78,11 @@ impl Network {
           rows = slice_set self.old.rows (event * self.old.period + residue) false;
         } }
     {
-        let place = event * usize::from(self.period.get()) + usize::from(residue);
-        self.rows[place] = false;
+        let index = event * usize::from(self.period.get()) + usize::from(residue);
+        self.rows[index] = false;
     }
 
-    /// Puts an arc in the place of another.
+    /// Puts an arc in place of another.
     pub(crate) fn set_arc(&mut self, index: usize, arc: Arc)
         requires index { index < length self.old.arcs }
         requires between { IsBetween self.old.events arc }

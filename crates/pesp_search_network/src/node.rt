@@ -4,14 +4,14 @@ ghost use Rattle.std.specs.Prelude.{◌≡◌, ℕ, ◌<◌, ◌≤◌, IfNone, 
 ghost use Rattle.pesp_search_tables.specs.Relaxed.{size};
 ghost use Rattle.pesp_search_least.specs.Sums.{AreHalves, IsCandidate, IsEmpty, IsLeast, IsLowerBound};
 ghost use Rattle.pesp_search_network.specs.Relaxed.{AreUnder, IsAnchored, IsArcFloor, IsSummed};
-ghost use Rattle.pesp_search_network.specs.Splits.{AreSettled, IsChoice};
+ghost use Rattle.pesp_search_network.specs.Splits.{AdmitsOne, IsBranching};
 
 use crate::Network;
 use crate::admitted::admits_map;
 use crate::climb::{Stage, climb};
 use crate::floor::least_cost;
 use crate::guess::guess;
-use crate::halves::{Choice, best_choice, half, only_map};
+use crate::halves::{Branching, best_branching, half, only_map};
 use crate::scale::Scale;
 use pesp_base::Memory;
 use pesp_search_least::{Budget, Candidate, Relaxation, Split};
@@ -23,10 +23,10 @@ use std::alloc::Global;
 pub(crate) struct Node<'a> {
     // The whole one: a node admits some of its maps.
     pub(crate) network: &'a Network,
-    // The order in which nodes were taken out; a map is made in the reverse one.
+    // The order in which nodes were eliminated; a map is made in the reverse one.
     pub(crate) order: &'a [usize],
-    // Of each arc the place of the pair that has its table.
-    pub(crate) places: &'a [usize],
+    // Of each arc the pair that has its table.
+    pub(crate) arc_pairs: &'a [usize],
     // That of the tables' entries.
     pub(crate) scale: Scale,
     // At a map that they admit, their sum is at most its cost in the scale.
@@ -46,15 +46,15 @@ impl<'a> Node<'a> {
         ensures small { result ≤ 1439000000000 }
         ensures floor { IsArcFloor self.now.network.now self.now.tables index result }
     {
-        let Some(place) = self.places.get(index) else {
+        let Some(pair) = self.arc_pairs.get(index) else {
             return 0;
         };
-        if *place >= self.tables.pairs() {
+        if *pair >= self.tables.pairs() {
             return 0;
         }
         let arc = self.network.arc(index);
-        match self.network.way(&arc, self.tables.ends(*place)) {
-            Some(way) => least_cost(&self.tables, self.network.period(), &arc, *place, way),
+        match self.network.way(&arc, self.tables.ends(*pair)) {
+            Some(way) => least_cost(&self.tables, self.network.period(), &arc, *pair, way),
             None => 0,
         }
     }
@@ -99,7 +99,7 @@ impl<'a> Node<'a> {
 
     /// The map that is left where each pair admits one difference at most, if the tables admit it.
     fn last(&self, alloc: Global) -> Result<Option<Candidate>, Memory>
-        requires { (p : ℕ) → p < length self.now.tables.ends → AreSettled self.now.tables p }
+        requires { (p : ℕ) → p < length self.now.tables.ends → AdmitsOne self.now.tables p }
         ensures { IfOk result (λ last. MatchOption last
             (IsEmpty (IsSummed self.now.network.now self.now.tables))
             (IsLeast (IsSummed self.now.network.now self.now.tables))) }
@@ -111,8 +111,8 @@ impl<'a> Node<'a> {
     }
 
     /// Keeps the half about the difference of least number, and hands out the other.
-    fn halve(&mut self, alloc: Global, choice: Choice) -> Result<Node<'a>, Memory>
-        requires { IsChoice self.old.tables choice.pair choice }
+    fn halve(&mut self, alloc: Global, branching: Branching) -> Result<Node<'a>, Memory>
+        requires { IsBranching self.old.tables branching.pair branching }
         ensures halves { IfOk result (λ other. AreHalves
             (IsSummed self.old.network.now self.old.tables)
             (IsSummed self.new.network.now self.new.tables)
@@ -120,15 +120,15 @@ impl<'a> Node<'a> {
         ensures first { IfOk result (λ _. size self.new.tables < size self.old.tables) }
         ensures second { IfOk result (λ other. size other.tables < size self.old.tables) }
     {
-        let set = half(alloc, &self.tables, choice)?;
+        let set = half(alloc, &self.tables, branching)?;
         let mut other = self.tables.try_clone()?;
-        other.keep(choice.pair, &set, false);
-        self.tables.keep(choice.pair, &set, true);
+        other.keep(branching.pair, &set, false);
+        self.tables.keep(branching.pair, &set, true);
         self.stage = Stage::Split;
         Ok(Node {
             network: self.network,
             order: self.order,
-            places: self.places,
+            arc_pairs: self.arc_pairs,
             scale: self.scale,
             tables: other,
             stage: Stage::Split,
@@ -168,10 +168,10 @@ impl<'a> Relaxation for Node<'a> {
     }
 
     fn split(&mut self, alloc: Global) -> Result<Split<Self>, Memory> {
-        match best_choice(&self.tables, self.room) {
-            Some(choice) => Ok(Split::Halves(self.halve(alloc, choice)?)),
+        match best_branching(&self.tables, self.room) {
+            Some(branching) => Ok(Split::Halves(self.halve(alloc, branching)?)),
             None => match self.last(alloc)? {
-                Some(candidate) => Ok(Split::Settled(candidate)),
+                Some(candidate) => Ok(Split::Solved(candidate)),
                 None => Ok(Split::Empty),
             },
         }

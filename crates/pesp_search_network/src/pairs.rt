@@ -11,16 +11,16 @@ use pesp_search_tables::{Ends, MOST_PAIRS, MOST_TRIPLES, Tables};
 /// No triples are added where tables have more numbers than this, which is half a megabyte for each node of the search that waits.
 const MOST_NUMBERS: usize = 131_072;
 
-/// Tables, and the place of a pair among them.
+/// Tables, and one of their pairs.
 #[derive(Drop)]
-pub(crate) struct Placed {
+pub(crate) struct Paired {
     // They have the pair.
     pub(crate) tables: Tables,
-    // That of the pair.
-    pub(crate) place: usize,
+    // Its index.
+    pub(crate) pair: usize,
 }
 
-/// The places of the sides of a triple.
+/// The pairs that are the sides of a triple.
 #[derive(Clone, Copy)]
 struct Sides {
     // Of the pair from a to b,
@@ -46,23 +46,23 @@ fn ends_of(origin: usize, one: usize, other: usize) -> Ends {
     }
 }
 
-/// The place of the pair of two nodes, which is added where there is none.
-pub(crate) fn place_of(tables: Tables, graph: &mut Graph, ends: Ends) -> Result<Placed, Memory>
-    ensures grown { IfOk result (λ placed. IsGrown tables placed.tables) }
-    ensures place { IfOk result (λ placed. placed.place < length placed.tables.ends) }
+/// The pair of two nodes, which is added where there is none.
+pub(crate) fn pair_of(tables: Tables, graph: &mut Graph, ends: Ends) -> Result<Paired, Memory>
+    ensures grown { IfOk result (λ paired. IsGrown tables paired.tables) }
+    ensures pair { IfOk result (λ paired. paired.pair < length paired.tables.ends) }
 {
-    if let Some(place) = graph.place(ends.from, ends.to) {
-        if place < tables.pairs() {
-            return Ok(Placed { tables, place });
+    if let Some(pair) = graph.pair(ends.from, ends.to) {
+        if pair < tables.pairs() {
+            return Ok(Paired { tables, pair });
         }
     }
-    let place = tables.pairs();
-    if place >= MOST_PAIRS {
+    let pair = tables.pairs();
+    if pair >= MOST_PAIRS {
         return Err(Memory);
     }
-    graph.join(ends.from, ends.to, place)?;
+    graph.join(ends.from, ends.to, pair)?;
     let tables = tables.with_pair(ends.from, ends.to)?;
-    Ok(Placed { tables, place })
+    Ok(Paired { tables, pair })
 }
 
 /// Whether these are the sides of a triple, in this order.
@@ -122,8 +122,8 @@ fn with_neighbours(
     if !has_room(&tables) {
         return Ok(tables);
     }
-    let Placed { tables, place } = place_of(tables, graph, ends_of(origin, one.node, other.node))?;
-    let Some(sides) = sides_of(&tables, one.place, other.place, place) else {
+    let Paired { tables, pair } = pair_of(tables, graph, ends_of(origin, one.node, other.node))?;
+    let Some(sides) = sides_of(&tables, one.pair, other.pair, pair) else {
         return Ok(tables);
     };
     if tables.triples() >= MOST_TRIPLES {

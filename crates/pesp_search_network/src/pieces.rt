@@ -5,7 +5,7 @@ ghost use Rattle.pesp_search_network.specs.Arcs.{IsBetween};
 ghost use Rattle.pesp_search_network.specs.Pieces.{IsEnd, IsFree, IsPeeled, IsPiece, MayTurn, StaysIn, is_inner};
 
 use crate::separation::Separation;
-use crate::walk::{circles_of, cut_at, walk};
+use crate::traversal::{circles_of, cut_at, traverse};
 use crate::{Arc, Network};
 use pesp_base::Memory;
 use std::alloc::Global;
@@ -101,10 +101,10 @@ impl Network {
             IfSome found (λ cut. IsPiece self.now cut.inner.items cut.joint)) }
     {
         let graph = self.links(alloc)?;
-        let stops = walk(alloc, &graph, self.events())?;
-        let circles = circles_of(&stops);
-        for place in (0..stops.len()).rev() {
-            if let Some(cut) = cut_at(alloc, self.events(), &stops, place, circles)? {
+        let discoveries = traverse(alloc, &graph, self.events())?;
+        let circles = circles_of(&discoveries);
+        for index in (0..discoveries.len()).rev() {
+            if let Some(cut) = cut_at(alloc, self.events(), &discoveries, index, circles)? {
                 if self.is_piece(&cut) {
                     return Ok(Some(cut));
                 }
@@ -113,7 +113,7 @@ impl Network {
         Ok(None)
     }
 
-    /// Takes a piece off, if one is found.
+    /// Peels a piece off, if one is found.
     pub(crate) fn peel(&self, alloc: Global) -> Result<Option<Peeled>, Memory>
         ensures { IfOk result (λ found. IfSome found (λ peeled.
             IsPeeled self.now peeled.piece peeled.rest peeled.cut.inner.items peeled.cut.joint)) }

@@ -1,19 +1,20 @@
 //! Least maps of a network, by ranges of its widest spans where one search for all maps does not end soon.
 
 ghost use Rattle.std.specs.Prelude.{◌≡◌, ◌≢◌, ◌<◌, Some, IfOk, IfSome, OnOk};
-ghost use Rattle.pesp_search_least.specs.Spending.{OnlySpends, TakesUnit};
+ghost use Rattle.pesp_search_least.specs.Spending.{OnlySpends, SpendsUnit};
 ghost use Rattle.pesp_search_least.specs.Sums.{IsBelow, IsLowerBound, IsOutcome, IsStop, StopsWhereSpent};
 ghost use Rattle.pesp_search_network.specs.Arcs.{IsCosted};
 
 use crate::Network;
-use crate::selections::{in_ranges, least_of};
+use crate::search::stopped;
+use crate::selections::{in_ranges, least_of, limit};
 use crate::widest::{has_wide_span, widest};
 use pesp_base::Memory;
 use pesp_search_least::{Budget, Candidate, Limits, Outcome};
 use std::alloc::Global;
 
-/// How many units a search for all maps takes before spans are cut.
-const FIRST_UNITS: u64 = 1_000_000;
+/// How many units a search for all maps spends before spans are cut.
+const FIRST_UNITS: u64 = 60_000;
 
 /// How many spans are cut.
 const CUT_SPANS: usize = 2;
@@ -21,14 +22,29 @@ const CUT_SPANS: usize = 2;
 /// Into how many ranges each of them is cut.
 const RANGES: u16 = 4;
 
-/// The first units of a budget, or all that are left.
-fn first_units(budget: &Budget) -> u64
+/// Buckets are tried where more units are left than these,
+const MANY_UNITS: u64 = 2_000_000;
+
+/// and with so many units.
+const BUCKET_UNITS: u64 = 8_000_000;
+
+/// So many units of a budget, or all that are left.
+fn units_of(budget: &Budget, most: u64) -> u64
+    requires { 0 < most }
     ensures some { budget.now.left ≢ Some 0 → 0 < result }
     ensures none { budget.now.left ≡ Some 0 → result ≡ 0 }
 {
     match budget.left {
-        Some(left) => left.min(FIRST_UNITS),
-        None => FIRST_UNITS,
+        Some(left) => left.min(most),
+        None => most,
+    }
+}
+
+/// Whether a budget is great enough for buckets.
+fn has_many(budget: &Budget) -> bool {
+    match budget.left {
+        Some(left) => left > MANY_UNITS,
+        None => true,
     }
 }
 
@@ -44,10 +60,10 @@ impl Network {
         ensures outcome { IfOk result (IsOutcome (IsCosted self.now) limits.cap) }
         ensures budget { OnlySpends budget.old.left budget.new.left }
         ensures stops { limits.floor < limits.cap → budget.old.left ≡ Some 0 → IfOk result IsStop }
-        ensures takes { limits.floor < limits.cap → budget.old.left ≢ Some 0
-            → OnOk result (TakesUnit budget.old.left budget.new.left) }
+        ensures spends { limits.floor < limits.cap → budget.old.left ≢ Some 0
+            → OnOk result (SpendsUnit budget.old.left budget.new.left) }
     {
-        let units = first_units(budget);
+        let units = units_of(budget, FIRST_UNITS);
         let mut part = Budget::of(units);
         let outcome = self.least_whole(alloc, limits, &mut part)?;
         budget.spend(units - part.left.unwrap_or(0));
@@ -73,6 +89,78 @@ impl Network {
         least_of(alloc, selections, limits, best, budget)
     }
 
+    /// What a search by buckets comes to with a part of the budget, from the best that is known.
+    fn least_by_buckets(
+        &self,
+        alloc: Global,
+        limits: Limits,
+        best: Option<Candidate>,
+        budget: &mut Budget,
+    ) -> Result<Outcome, Memory>
+        requires floor { IsLowerBound (IsCosted self.now) limits.floor }
+        requires best { IfSome best (IsBelow (IsCosted self.now) limits.cap) }
+        ensures outcome { IfOk result (IsOutcome (IsCosted self.now) limits.cap) }
+        ensures budget { OnlySpends budget.old.left budget.new.left }
+    {
+        if !has_many(budget) {
+            return Ok(stopped(best, limits.floor));
+        }
+        let units = units_of(budget, BUCKET_UNITS);
+        let mut part = Budget::of(units);
+        let outcome = self.least_in_buckets(alloc, limits, best, &mut part)?;
+        budget.spend(units - part.left.unwrap_or(0));
+        Ok(outcome)
+    }
+
+    /// A map of least cost without buckets, from the best that is known.
+    fn least_without(
+        &self,
+        alloc: Global,
+        limits: Limits,
+        best: Option<Candidate>,
+        budget: &mut Budget,
+    ) -> Result<Outcome, Memory>
+        requires floor { IsLowerBound (IsCosted self.now) limits.floor }
+        requires best { IfSome best (IsBelow (IsCosted self.now) limits.cap) }
+        ensures outcome { IfOk result (IsOutcome (IsCosted self.now) limits.cap) }
+        ensures spent { IfOk result (StopsWhereSpent budget.new.left) }
+        ensures budget { OnlySpends budget.old.left budget.new.left }
+    {
+        if has_wide_span(self) {
+            return self.least_in_ranges(alloc, limits, best, budget);
+        }
+        let within = Limits {
+            floor: limits.floor,
+            cap: limit(limits.cap, &best),
+        };
+        let outcome = self.least_whole(alloc, within, budget)?;
+        Ok(self.from_best(outcome, best, limits.cap))
+    }
+
+    /// A map of least cost from the best that is known: by buckets first.
+    fn least_from(
+        &self,
+        alloc: Global,
+        limits: Limits,
+        best: Option<Candidate>,
+        budget: &mut Budget,
+    ) -> Result<Outcome, Memory>
+        requires floor { IsLowerBound (IsCosted self.now) limits.floor }
+        requires best { IfSome best (IsBelow (IsCosted self.now) limits.cap) }
+        ensures outcome { IfOk result (IsOutcome (IsCosted self.now) limits.cap) }
+        ensures spent { IfOk result (StopsWhereSpent budget.new.left) }
+        ensures budget { OnlySpends budget.old.left budget.new.left }
+    {
+        let outcome = self.least_by_buckets(alloc, limits, best, budget)?;
+        if budget.is_spent() {
+            return Ok(outcome);
+        }
+        match outcome {
+            Outcome::Spent { best, .. } => self.least_without(alloc, limits, best, budget),
+            ended => Ok(ended),
+        }
+    }
+
     /// The same as [`Network::least`], all pieces together.
     pub(crate) fn least_in_one(
         &self,
@@ -84,12 +172,12 @@ impl Network {
         ensures outcome { IfOk result (IsOutcome (IsCosted self.now) limits.cap) }
         ensures spent { IfOk result (StopsWhereSpent budget.new.left) }
         ensures budget { OnlySpends budget.old.left budget.new.left }
-        // Without a unit there is no visit, and without a visit no answer.
+        // Without a unit no node is expanded, and so nothing is known.
         ensures stops { limits.floor < limits.cap → budget.old.left ≡ Some 0 → IfOk result IsStop }
-        ensures takes { limits.floor < limits.cap → budget.old.left ≢ Some 0
-            → OnOk result (TakesUnit budget.old.left budget.new.left) }
+        ensures spends { limits.floor < limits.cap → budget.old.left ≢ Some 0
+            → OnOk result (SpendsUnit budget.old.left budget.new.left) }
     {
-        if !self.is_small() || !has_wide_span(self) {
+        if !self.is_small() {
             return self.least_whole(alloc, limits, budget);
         }
         let outcome = self.least_at_first(alloc, limits, budget)?;
@@ -97,7 +185,7 @@ impl Network {
             return Ok(outcome);
         }
         match outcome {
-            Outcome::Spent { best, .. } => self.least_in_ranges(alloc, limits, best, budget),
+            Outcome::Spent { best, .. } => self.least_from(alloc, limits, best, budget),
             ended => Ok(ended),
         }
     }

@@ -56,7 +56,8 @@ impl Network {
         requires room { cost + 1 < 2 ^ 64 }
         ensures found { (residue : ℕ) → 0 < residue
             → IfOk result (λ found. IfSome found (λ candidate.
-            IsOutcome (BelowResidue (IsCosted self.now) event residue) (cost + 1) (Found candidate))) }
+            IsOutcome (BelowResidue (IsCosted self.now) event residue) (cost + 1)
+            (Found candidate))) }
         ensures budget { OnlySpends budget.old.left budget.new.left }
     {
         match self.least_before(alloc, event, 1, cost, budget)? {

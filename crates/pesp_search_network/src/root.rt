@@ -6,7 +6,7 @@ ghost use Rattle.pesp_search_network.specs.Relaxed.{AddsArc, HasNothing, IsAncho
 
 use crate::entries::arc_table;
 use crate::graph::Graph;
-use crate::pairs::{Placed, place_of};
+use crate::pairs::{Paired, pair_of};
 use crate::scale::Scale;
 use crate::{Arc, Network};
 use pesp_base::Memory;
@@ -24,13 +24,13 @@ pub(crate) struct Plan<'a> {
     pub(crate) scale: Scale,
 }
 
-/// Tables with those of all arcs, and for each arc the place of its pair.
+/// Tables with those of all arcs, and for each arc its pair.
 #[derive(Drop)]
 pub(crate) struct Joined {
     // With those of all arcs.
     pub(crate) tables: Tables,
     // By arc; of a pair whose difference tells what the arc costs.
-    pub(crate) places: Vec<usize>,
+    pub(crate) arc_pairs: Vec<usize>,
 }
 
 /// Whether the event may stand at every residue.
@@ -92,57 +92,57 @@ impl Network {
 }
 
 impl<'a> Plan<'a> {
-    /// The place of the pair that has the arc's table.
-    fn place(&self, tables: Tables, graph: &mut Graph, arc: &Arc) -> Result<Placed, Memory>
+    /// The pair that has the arc's table, which is added where there is none.
+    fn pair(&self, tables: Tables, graph: &mut Graph, arc: &Arc) -> Result<Paired, Memory>
         requires between { IsBetween self.now.network.now.events arc.now }
         requires more { self.now.network.now.events ≤ length tables.ends }
-        ensures grown { IfOk result (λ placed. IsGrown tables placed.tables) }
-        ensures place { IfOk result (λ placed. placed.place < length placed.tables.ends) }
+        ensures grown { IfOk result (λ paired. IsGrown tables paired.tables) }
+        ensures pair { IfOk result (λ paired. paired.pair < length paired.tables.ends) }
     {
         let ends = self.network.nodes_of(arc);
         if ends.from != self.network.events() {
-            return place_of(tables, graph, ends);
+            return pair_of(tables, graph, ends);
         }
         // A loop costs the same at each residue.
-        if arc.from != arc.to && graph.place(ends.from, ends.to).is_none() {
+        if arc.from != arc.to && graph.pair(ends.from, ends.to).is_none() {
             graph.join(ends.from, ends.to, ends.to)?;
         }
-        Ok(Placed {
+        Ok(Paired {
             tables,
-            place: ends.to,
+            pair: ends.to,
         })
     }
 
     /// Joins the table of an arc to a pair.
-    fn join(&self, tables: Tables, place: usize, arc: &Arc) -> Result<Tables, Memory>
-        requires place { place < length tables.ends }
+    fn join(&self, tables: Tables, pair: usize, arc: &Arc) -> Result<Tables, Memory>
+        requires pair { pair < length tables.ends }
         requires period { tables.period ≡ self.now.network.now.period }
         requires there { IsArc self.now.network.now arc.now }
         ensures { IfOk result (AddsArc self.now.network.now self.now.scale arc.now tables) }
     {
-        let ends = tables.ends(place);
+        let ends = tables.ends(pair);
         let Some(way) = self.network.way(arc, ends) else {
             return Ok(tables);
         };
         let table = arc_table(self.alloc, self.network.period(), arc, way, self.scale)?;
         let mut joined = tables;
-        joined.join(place, &table);
+        joined.join(pair, &table);
         Ok(joined)
     }
 
-    /// Adds the table of an arc to those of its pair, and tells the place of that.
-    fn with_arc(&self, tables: Tables, graph: &mut Graph, arc: &Arc) -> Result<Placed, Memory>
+    /// Adds the table of an arc to those of its pair, and tells which that is.
+    fn with_arc(&self, tables: Tables, graph: &mut Graph, arc: &Arc) -> Result<Paired, Memory>
         requires more { self.now.network.now.events ≤ length tables.ends }
         requires period { tables.period ≡ self.now.network.now.period }
         requires there { IsArc self.now.network.now arc.now }
-        ensures { IfOk result (λ placed.
-            AddsArc self.now.network.now self.now.scale arc.now tables placed.tables) }
+        ensures { IfOk result (λ paired.
+            AddsArc self.now.network.now self.now.scale arc.now tables paired.tables) }
     {
-        let Placed { tables, place } = self.place(tables, graph, arc)?;
-        let joined = self.join(tables, place, arc)?;
-        Ok(Placed {
+        let Paired { tables, pair } = self.pair(tables, graph, arc)?;
+        let joined = self.join(tables, pair, arc)?;
+        Ok(Paired {
             tables: joined,
-            place,
+            pair,
         })
     }
 
@@ -156,18 +156,18 @@ impl<'a> Plan<'a> {
             joined.tables) }
     {
         let mut joined = tables;
-        let mut places = Vec::new(self.alloc);
+        let mut arc_pairs = Vec::new(self.alloc);
         for index in 0..self.network.arc_count() {
             let arc = self.network.arc(index);
-            let placed = self.with_arc(joined, graph, &arc)?;
-            if places.push(placed.place).is_err() {
+            let paired = self.with_arc(joined, graph, &arc)?;
+            if arc_pairs.push(paired.pair).is_err() {
                 return Err(Memory);
             }
-            joined = placed.tables;
+            joined = paired.tables;
         }
         Ok(Joined {
             tables: joined,
-            places,
+            arc_pairs,
         })
     }
 }

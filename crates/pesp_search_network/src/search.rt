@@ -1,21 +1,26 @@
 //! Least maps of a network.
 
-ghost use Rattle.std.specs.Prelude.{◌≡◌, ◌≢◌, ◌<◌, ◌≤◌, Some, IfOk, OnOk, length};
-ghost use Rattle.pesp_search_least.specs.Spending.{OnlySpends, TakesUnit};
-ghost use Rattle.pesp_search_least.specs.Sums.{IsLowerBound, IsOutcome, IsStop, StopsWhereSpent};
+ghost use Rattle.std.specs.Prelude.{◌≡◌, ◌≢◌, ℕ, ◌<◌, ◌≤◌, Option, Some, IfOk, IfSome, OnOk, length};
+ghost use Rattle.pesp_search_least.specs.Spending.{OnlySpends, SpendsUnit};
+ghost use Rattle.pesp_search_least.specs.Sums.{IsBelow, IsLowerBound, IsOutcome, IsStop, StopsWhereSpent};
+ghost use Rattle.pesp_search_least.specs.Expansions.{limit_of};
+ghost use Rattle.pesp_search_least.specs.declared.outcome.Outcome.TheVariants.{Spent};
 ghost use Rattle.pesp_search_network.specs.Arcs.{IsCosted};
 ghost use Rattle.pesp_search_network.specs.Relaxed.{IsAnchored, IsRelaxed};
 
 use crate::Network;
-use crate::climb::Stage;
+use crate::assigned::Assigned;
+use crate::climb::{Stage, climb};
 use crate::costs::most_between;
 use crate::eliminate::{Eliminated, eliminate};
 use crate::node::Node;
 use crate::pairs::has_room;
 use crate::root::{Joined, Plan};
 use crate::scale::Scale;
+use crate::selections::limit;
 use pesp_base::Memory;
-use pesp_search_least::{Budget, Limits, Outcome, least};
+use pesp_search_buckets::Buckets;
+use pesp_search_least::{Budget, Candidate, Limits, Outcome, least};
 use pesp_search_tables::Tables;
 use std::alloc::Global;
 
@@ -25,15 +30,25 @@ const MOST_PAIRS: usize = 400;
 /// How many sums of two entries a pass over all pairs may take, which goes by the square of the period.
 const MOST_SUMS: usize = 4_194_304;
 
-/// The tables of a network, the order in which nodes were taken out, and for each arc the place of its pair.
+/// What making buckets takes of the budget.
+const MAKING_UNITS: u64 = 1_000_000;
+
+/// The tables of a network, the order in which nodes were eliminated, and for each arc its pair.
 #[derive(Drop)]
 struct Made {
     // Before anything is split: they admit every map with a cost.
     tables: Tables,
-    // The first to be taken out stands first.
+    // The first to be eliminated stands first.
     order: Vec<usize>,
     // By arc, of the pair that has its table.
-    places: Vec<usize>,
+    arc_pairs: Vec<usize>,
+}
+
+/// A search that stops with the best that is known.
+pub(crate) fn stopped(best: Option<Candidate>, lower_bound: u64) -> Outcome
+    ensures { result ≡ Spent best lower_bound }
+{
+    Outcome::Spent { best, lower_bound }
 }
 
 impl Network {
@@ -46,7 +61,7 @@ impl Network {
         pairs <= MOST_PAIRS && sums <= MOST_SUMS && Scale::of(self.most()).is_exact()
     }
 
-    /// Whether there is room for each triple that a node makes with two neighbours when it is taken out. Where there is not, bounds
+    /// Whether there is room for each triple that a node makes with two neighbours when it is eliminated. Where there is not, bounds
     /// are poor.
     pub fn is_thin(&self, alloc: Global) -> Result<bool, Memory> {
         let made = self.relaxed(alloc, Scale::of(self.most()))?;
@@ -64,7 +79,7 @@ impl Network {
         most
     }
 
-    /// The tables of the network before anything is split, the order in which nodes were taken out, and the places
+    /// The tables of the network before anything is split, the order in which nodes were eliminated, and the pairs
     /// of arcs.
     fn relaxed(&self, alloc: Global, scale: Scale) -> Result<Made, Memory>
         ensures anchored { IfOk result (λ made. IsAnchored self.now made.tables) }
@@ -77,12 +92,12 @@ impl Network {
             scale,
         };
         let mut graph = self.graph(alloc)?;
-        let Joined { tables, places } = plan.with_arcs(self.anchored(alloc)?, &mut graph)?;
+        let Joined { tables, arc_pairs } = plan.with_arcs(self.anchored(alloc)?, &mut graph)?;
         let Eliminated { tables, order } = eliminate(alloc, tables, &mut graph, self.events())?;
         Ok(Made {
             tables,
             order,
-            places,
+            arc_pairs,
         })
     }
 
@@ -97,26 +112,101 @@ impl Network {
         ensures outcome { IfOk result (IsOutcome (IsCosted self.now) limits.cap) }
         ensures spent { IfOk result (StopsWhereSpent budget.new.left) }
         ensures budget { OnlySpends budget.old.left budget.new.left }
-        // Without a unit there is no visit, and without a visit no answer.
+        // Without a unit no node is expanded, and so nothing is known.
         ensures stops { limits.floor < limits.cap → budget.old.left ≡ Some 0 → IfOk result IsStop }
-        ensures takes { limits.floor < limits.cap → budget.old.left ≢ Some 0
-            → OnOk result (TakesUnit budget.old.left budget.new.left) }
+        ensures spends { limits.floor < limits.cap → budget.old.left ≢ Some 0
+            → OnOk result (SpendsUnit budget.old.left budget.new.left) }
     {
         let scale = Scale::of(self.most());
         let Made {
             tables,
             order,
-            places,
+            arc_pairs,
         } = self.relaxed(alloc, scale)?;
         let root = Node {
             network: self,
             order: &order,
-            places: &places,
+            arc_pairs: &arc_pairs,
             scale,
             tables,
             stage: Stage::Root,
             room: i64::MAX,
         };
         least(alloc, root, limits, budget)
+    }
+
+    /// A map of least cost by buckets, where some cost is below the cap. Stops at once where buckets would be too large.
+    fn least_assigned(
+        &self,
+        alloc: Global,
+        limits: Limits,
+        budget: &mut Budget,
+    ) -> Result<Outcome, Memory>
+        requires floor { IsLowerBound (IsCosted self.now) limits.floor }
+        ensures outcome { IfOk result (IsOutcome (IsCosted self.now) limits.cap) }
+        ensures budget { OnlySpends budget.old.left budget.new.left }
+    {
+        let scale = Scale::of(self.most());
+        let Made {
+            mut tables,
+            order,
+            ..
+        } = self.relaxed(alloc, scale)?;
+        climb(&mut tables, scale.sum_of(limits.cap), Stage::Root, budget);
+        budget.spend(MAKING_UNITS);
+        let Some(buckets) = Buckets::of(alloc, &tables, &order)? else {
+            return Ok(stopped(None, limits.floor));
+        };
+        let Some(root) = Assigned::all(alloc, self, scale, &tables, &buckets)? else {
+            return Ok(stopped(None, limits.floor));
+        };
+        least(alloc, root, limits, budget)
+    }
+
+    /// What an outcome below the cost of the best that is known comes to.
+    pub(crate) fn from_best(&self, outcome: Outcome, best: Option<Candidate>, cap: u64) -> Outcome
+        requires best { IfSome best (IsBelow (IsCosted self.now) cap) }
+        requires outcome { IsOutcome (IsCosted self.now) (limit_of cap best) outcome }
+        ensures outcome { IsOutcome (IsCosted self.now) cap result }
+        ensures spent { (left : Option ℕ) → StopsWhereSpent left outcome → StopsWhereSpent left result }
+    {
+        match outcome {
+            Outcome::Found(found) => Outcome::Found(found),
+            Outcome::NoneBelow => match best {
+                Some(best) => Outcome::Found(best),
+                None => Outcome::NoneBelow,
+            },
+            Outcome::Spent {
+                best: found,
+                lower_bound,
+            } => {
+                let lower_bound = lower_bound.min(limit(cap, &best));
+                match found {
+                    Some(found) => stopped(Some(found), lower_bound),
+                    None => stopped(best, lower_bound),
+                }
+            }
+        }
+    }
+
+    /// A map of least cost by buckets, from the best that is known. Stops at once where buckets would be too large.
+    pub(crate) fn least_in_buckets(
+        &self,
+        alloc: Global,
+        limits: Limits,
+        best: Option<Candidate>,
+        budget: &mut Budget,
+    ) -> Result<Outcome, Memory>
+        requires floor { IsLowerBound (IsCosted self.now) limits.floor }
+        requires best { IfSome best (IsBelow (IsCosted self.now) limits.cap) }
+        ensures outcome { IfOk result (IsOutcome (IsCosted self.now) limits.cap) }
+        ensures budget { OnlySpends budget.old.left budget.new.left }
+    {
+        let within = Limits {
+            floor: limits.floor,
+            cap: limit(limits.cap, &best),
+        };
+        let outcome = self.least_assigned(alloc, within, budget)?;
+        Ok(self.from_best(outcome, best, limits.cap))
     }
 }

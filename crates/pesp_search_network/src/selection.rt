@@ -102,9 +102,9 @@ impl Selection {
         match outcome {
             Outcome::Found(found) => Outcome::Found(self.raised(cap, found)),
             Outcome::NoneBelow => Outcome::NoneBelow,
-            Outcome::Spent { best, lower } => Outcome::Spent {
+            Outcome::Spent { best, lower_bound } => Outcome::Spent {
                 best: self.raised_best(cap, best),
-                lower: lower.saturating_add(self.constant),
+                lower_bound: lower_bound.saturating_add(self.constant),
             },
         }
     }

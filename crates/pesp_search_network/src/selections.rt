@@ -3,7 +3,7 @@
 ghost use Rattle.std.specs.Prelude.{◌≡◌, ◌<◌, ◌≤◌, [], ◌∷◌, IfNone, IfOk, IfSome, OnOk, OnSome, length};
 ghost use Rattle.pesp_search_least.specs.Spending.{OnlySpends};
 ghost use Rattle.pesp_search_least.specs.Sums.{AreHalves, InSome, IsBelow, IsLowerBound, IsOutcome, StopsWhereSpent};
-ghost use Rattle.pesp_search_least.specs.Visits.{limit_of};
+ghost use Rattle.pesp_search_least.specs.Expansions.{limit_of};
 ghost use Rattle.pesp_search_network.specs.Arcs.{IsCosted};
 ghost use Rattle.pesp_search_network.specs.Ranges.{AreSame, selected};
 
@@ -16,17 +16,17 @@ use std::alloc::Global;
 /// Cuts one range off the span of an arc in a selection: the last one of so many that are left.
 fn cut_range(
     selections: &mut Vec<Selection>,
-    place: usize,
     index: usize,
+    arc: usize,
     ranges: u16,
 ) -> Result<(), Memory>
-    requires { place < length selections.old.items }
+    requires { index < length selections.old.items }
     ensures same { OnOk result (AreSame (InSome selected selections.old.items)
         (InSome selected selections.new.items)) }
     ensures more { OnOk result (length selections.old.items ≤ length selections.new.items) }
 {
-    let values = selections[place].values_below(index, ranges);
-    let Some(above) = selections[place].cut(index, values)? else {
+    let values = selections[index].values_below(arc, ranges);
+    let Some(above) = selections[index].cut(arc, values)? else {
         return Ok(());
     };
     if selections.push(above).is_err() {
@@ -38,28 +38,28 @@ fn cut_range(
 /// Cuts the span of an arc in a selection into so many ranges.
 fn cut_ranges(
     selections: &mut Vec<Selection>,
-    place: usize,
     index: usize,
+    arc: usize,
     ranges: u16,
 ) -> Result<(), Memory>
-    requires { place < length selections.old.items }
+    requires { index < length selections.old.items }
     ensures same { OnOk result (AreSame (InSome selected selections.old.items)
         (InSome selected selections.new.items)) }
     ensures more { OnOk result (length selections.old.items ≤ length selections.new.items) }
 {
     for cut in 1..ranges {
-        cut_range(selections, place, index, ranges - cut + 1)?;
+        cut_range(selections, index, arc, ranges - cut + 1)?;
     }
     Ok(())
 }
 
 /// Cuts the span of an arc in each selection into so many ranges.
-fn cut_all(selections: &mut Vec<Selection>, index: usize, ranges: u16) -> Result<(), Memory>
+fn cut_all(selections: &mut Vec<Selection>, arc: usize, ranges: u16) -> Result<(), Memory>
     ensures { OnOk result (AreSame (InSome selected selections.old.items)
         (InSome selected selections.new.items)) }
 {
-    for place in 0..selections.len() {
-        cut_ranges(selections, place, index, ranges)?;
+    for index in 0..selections.len() {
+        cut_ranges(selections, index, arc, ranges)?;
     }
     Ok(())
 }
@@ -91,42 +91,43 @@ pub(crate) fn in_ranges(
         AreSame (IsCosted network.now) (InSome selected selections.items)) }
 {
     let mut selections = whole(alloc, network)?;
-    for index in arcs {
-        cut_all(&mut selections, *index, ranges)?;
+    for arc in arcs {
+        cut_all(&mut selections, *arc, ranges)?;
     }
     Ok(selections)
 }
 
-/// The place of the selection of least constant.
-fn least_place(selections: &[Selection]) -> Option<usize>
-    ensures some { IfSome result (λ place. place < length selections.now) }
+/// The index of the selection of least constant.
+fn least_index(selections: &[Selection]) -> Option<usize>
+    ensures some { IfSome result (λ index. index < length selections.now) }
     ensures none { IfNone result (selections.now ≡ []) }
 {
     if selections.is_empty() {
         return None;
     }
     let mut least = 0;
-    for place in 1..selections.len() {
-        if selections[place].constant < selections[least].constant {
-            least = place;
+    for index in 1..selections.len() {
+        if selections[index].constant < selections[least].constant {
+            least = index;
         }
     }
     Some(least)
 }
 
-/// Takes the selection of least constant out.
-fn take_least(selections: &mut Vec<Selection>) -> Option<Selection>
+/// Removes the selection of least constant.
+fn pop_least(selections: &mut Vec<Selection>) -> Option<Selection>
     ensures halves { IfSome result (λ least. AreHalves
-        (InSome selected selections.old.items) (selected least) (InSome selected selections.new.items)) }
+        (InSome selected selections.old.items) (selected least)
+        (InSome selected selections.new.items)) }
     ensures fewer { OnSome result (length selections.new.items < length selections.old.items) }
     ensures none { IfNone result (selections.old.items ≡ []) }
 {
-    let place = least_place(selections)?;
-    Some(selections.remove(place))
+    let index = least_index(selections)?;
+    Some(selections.remove(index))
 }
 
 /// Only costs below this are of use: that of the best, or the cap where there is none.
-fn limit(cap: u64, best: &Option<Candidate>) -> u64
+pub(crate) fn limit(cap: u64, best: &Option<Candidate>) -> u64
     ensures { result ≡ limit_of cap best.now }
 {
     match best {
@@ -152,7 +153,7 @@ pub(crate) fn least_of(
     ensures budget { OnlySpends budget.old.left budget.new.left }
 {
     'left: while limits.floor < limit(limits.cap, &best) {
-        let Some(selection) = take_least(&mut selections) else {
+        let Some(selection) = pop_least(&mut selections) else {
             break;
         };
         let within = Limits {
@@ -165,7 +166,7 @@ pub(crate) fn least_of(
             Outcome::Spent { best: found, .. } => {
                 return Ok(Outcome::Spent {
                     best: found.or(best),
-                    lower: limits.floor,
+                    lower_bound: limits.floor,
                 });
             }
         }

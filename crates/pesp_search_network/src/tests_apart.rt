@@ -51,7 +51,7 @@ const BRIDGE: &[Line] = &[
     (5, 3, 2, 9, 2),
 ];
 
-/// The events of the piece that is taken off first, and its joint.
+/// The events of the piece that is peeled off first, and its joint.
 fn try_peel(
     rt: &impl Abort,
     alloc: Global,

@@ -20,12 +20,12 @@ impl Network {
 }
 
 /// The arc of the greatest stake that is none of these.
-fn next_widest(network: &Network, taken: &[usize]) -> Option<usize> {
+fn next_widest(network: &Network, chosen: &[usize]) -> Option<usize> {
     let mut greatest = 0;
     let mut widest = None;
     for index in 0..network.arc_count() {
         let stake = network.stake(&network.arc(index));
-        if greatest < stake && !taken.contains(&index) {
+        if greatest < stake && !chosen.contains(&index) {
             greatest = stake;
             widest = Some(index);
         }
@@ -41,7 +41,7 @@ pub(crate) fn has_wide_span(network: &Network) -> bool {
 /// So many arcs of wide spans whose slack may cost most.
 pub(crate) fn widest(alloc: Global, network: &Network, count: usize) -> Result<Vec<usize>, Memory> {
     let mut arcs = Vec::new(alloc);
-    for _place in 0..count {
+    for _arc in 0..count {
         let Some(index) = next_widest(network, &arcs) else {
             break;
         };

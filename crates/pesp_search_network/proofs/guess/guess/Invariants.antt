@@ -1,4 +1,4 @@
--- A place for each event and for the origin.
+-- A residue, or none yet, for each event and for the origin.
 use Rattle.std.proofs.Common.{◌≡◌, ◌+◌, length}
 use Rattle.pesp_search_network.proofs.guess.guess.Given as goal
 

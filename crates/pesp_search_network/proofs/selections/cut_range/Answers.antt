@@ -12,7 +12,7 @@ returns-clause-same c =
     let all = c.args.selections.now.items in
     let low = c.cut.new.self in
     let high = c.in-Some.above in
-    let pushed : c.push.new.self.items ≡ set all c.args.place low ++ high ∷ [] = search rules in
+    let pushed : c.push.new.self.items ≡ set all c.args.index low ++ high ∷ [] = search rules in
     let halves = rw c.in-Some.is at c.in_ok-above.ensures in
     subst (λ (rest : List Selection). AreSame (InSome selected all) (InSome selected rest)) (sym pushed)
-    (same_cut selected c.index_mut.result.now low high halves all c.args.place c.requires c.index_mut.ensures.value)
+    (same_cut selected c.index_mut.result.now low high halves all c.args.index c.requires c.index_mut.ensures.value)

@@ -6,4 +6,4 @@ use Rattle.pesp_search_network.proofs.selections.least_of.Goals as goal
 
 pub least-requires : goal.least-requires
 least-requires c =
-    record { floor = floor_of (InSome selected c.args.selections.items) (InSome selected c.left.selections.items) (selected c.in-Some.selection) (InSome selected c.take_least.new.selections.items) c.args.limits.floor c.left.invariant.underway.within c.in-Some.ensures.halves c.requires.floor }
+    record { floor = floor_of (InSome selected c.args.selections.items) (InSome selected c.left.selections.items) (selected c.in-Some.selection) (InSome selected c.pop_least.new.selections.items) c.args.limits.floor c.left.invariant.underway.within c.in-Some.ensures.halves c.requires.floor }

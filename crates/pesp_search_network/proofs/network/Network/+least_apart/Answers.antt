@@ -31,5 +31,5 @@ returns-clause-outcome t c =
     let sums = costed_sums N peeled.piece peeled.rest peeled.cut.inner.items peeled.cut.joint (rw c.in-Some.is at c.in_ok-peeled.ensures) in
     let told = rw c.in-Spent.is at c.in_ok-piece.ensures.outcome in (
       tt,
-      stop_of_one (IsCosted N) (IsCosted peeled.piece) (IsCosted peeled.rest) sums c.args.limits.cap c.args.limits.floor c.in-Spent.lower c.max.result c.requires.floor told.1 c.max.ensures,
+      stop_of_one (IsCosted N) (IsCosted peeled.piece) (IsCosted peeled.rest) sums c.args.limits.cap c.args.limits.floor c.in-Spent.lower_bound c.max.result c.requires.floor told.1 c.max.ensures,
     )

@@ -39,6 +39,6 @@ returns-after-best-clause-outcome c =
             subst IsBest (sym w.best-is) (w.joined-in-Some.ensures.costed, omega (arith, below.1, w.joined-in-Some.ensures.cost, c.requires.below)))
         | in-None w ↦ subst IsBest (sym w.best-is) tt
       ],
-      stop_of_other (IsCosted N) (IsCosted peeled.piece) (IsCosted peeled.rest) sums c.args.cap c.in-Spent.lower c.saturating_add.result c.args.piece.now c.requires.least told.1
+      stop_of_other (IsCosted N) (IsCosted peeled.piece) (IsCosted peeled.rest) sums c.args.cap c.in-Spent.lower_bound c.saturating_add.result c.args.piece.now c.requires.least told.1
           (omega (arith, c.saturating_add.ensures)),
     )

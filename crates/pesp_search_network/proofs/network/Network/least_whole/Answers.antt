@@ -2,7 +2,7 @@
 use Rattle.pesp_search_network.specs.Arcs.{IsCosted}
 use Rattle.pesp_search_network.specs.Relaxed.{IsSummed}
 use Rattle.pesp_search_network.proofs.Outcomes.{ok_along}
-use Rattle.pesp_search_network.proofs.Settled.{costed_within, summed_within}
+use Rattle.pesp_search_network.proofs.Solved.{costed_within, summed_within}
 use Rattle.pesp_search_network.proofs.network.Network.least_whole.Goals as goal
 
 pub returns-clause-outcome : goal.returns-clause-outcome

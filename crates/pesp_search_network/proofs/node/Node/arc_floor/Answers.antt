@@ -13,10 +13,10 @@ returns-in-Some-way-clause-floor c =
     let N = node.network.now in
     let R = node.tables in
     let a = c.arc-arc.result in
-    let place = c.in-Some.place.now in
+    let pair = c.in-Some.pair.now in
     let way = c.in-Some-way.way in
-    let there : place < length R.ends = omega (arith, c.pairs.ensures) in
+    let there : pair < length R.ends = omega (arith, c.pairs.ensures) in
     let known : IsArc N a = record { between = c.arc-arc.ensures.between; met = λ map is. arc-met N map c.args.index a is c.requires c.arc-arc.ensures.value } in
     let ways = subst (λ (e : Ends). IsWay N a e way) c.ends.ensures c.in-Some-way.ensures.way in
-    arc_floor N R c.args.index place c.least_cost.result a way node.anchored there known c.arc-arc.ensures.value c.requires ways
+    arc_floor N R c.args.index pair c.least_cost.result a way node.anchored there known c.arc-arc.ensures.value c.requires ways
     (λ d cost one e. c.least_cost.ensures.least d cost one (ap (λ T. cost_at T a way d) c.period.ensures ∙ e))

@@ -1,6 +1,6 @@
 -- One arc more, and all of them.
 use Rattle.std.proofs.Common.{◌<◌, ◌≤◌, length, arith}
-use Rattle.pesp_search_network.proofs.Settled.{floor_all, floor_more}
+use Rattle.pesp_search_network.proofs.Solved.{floor_all, floor_more}
 use Rattle.pesp_search_network.proofs.node.Node.floor.Goals as goal
 
 pub loop-index-preserved : goal.loop-index-preserved

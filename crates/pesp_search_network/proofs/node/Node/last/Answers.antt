@@ -2,7 +2,7 @@
 use Rattle.std.proofs.Common.{ℕ, subst}
 use Rattle.pesp_search_network.specs.Splits.{AreOnes, IsStuck}
 use Rattle.pesp_search_network.proofs.Searched.{stuck}
-use Rattle.pesp_search_network.proofs.Settled.{match_last}
+use Rattle.pesp_search_network.proofs.Solved.{match_last}
 use Rattle.pesp_search_network.proofs.node.Node.last.Goals as goal
 
 pub returns-in-Some : goal.returns-in-Some

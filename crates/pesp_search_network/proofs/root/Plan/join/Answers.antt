@@ -17,5 +17,5 @@ returns c =
     let table = c.in_ok-table.table.items in
     let ways = subst (λ (e : Ends). IsWay N a e way) c.ends-ends.ensures c.in-Some.ensures.way in
     let costs = subst (λ (T : ℕ). IsTable T a way scale table) c.period.ensures c.in_ok-table.ensures.entries in
-    let joined = subst (IsJoined R S c.args.place) c.deref.ensures.value c.join.ensures.joined in
-    adds-table N scale a R S c.requires.period c.args.place way table c.requires.there ways costs joined c.join.ensures.shape
+    let joined = subst (IsJoined R S c.args.pair) c.deref.ensures.value c.join.ensures.joined in
+    adds-table N scale a R S c.requires.period c.args.pair way table c.requires.there ways costs joined c.join.ensures.shape

@@ -10,9 +10,9 @@ loop-index-preserved c =
     let a = c.arc-arc.result in
     let k = c.loop-index.index in
     let R = c.loop-index.joined in
-    let S = c.in_ok-placed.placed.tables in
+    let S = c.in_ok-paired.paired.tables in
     let within : k < length N.arcs = omega (arith, c.arc_count-index-end.ensures.value) in
     record {
-      anchored = anchored_adds N scale a R S c.loop-index.invariant.anchored c.in_ok-placed.ensures;
-      relaxed = relaxed_more N scale k a R S within c.arc-arc.ensures.value c.loop-index.invariant.relaxed c.in_ok-placed.ensures;
+      anchored = anchored_adds N scale a R S c.loop-index.invariant.anchored c.in_ok-paired.ensures;
+      relaxed = relaxed_more N scale k a R S within c.arc-arc.ensures.value c.loop-index.invariant.relaxed c.in_ok-paired.ensures;
     }

@@ -1,0 +1,15 @@
+pub mod Appended
+pub mod Axes
+pub mod Contexts
+pub mod Entries
+pub mod Filled
+pub mod Levels
+pub mod Pairs
+pub mod Parted
+pub mod Ranked
+pub mod Rows
+pub mod Sides
+pub mod Steps
+pub mod Totals
+pub mod Turned
+pub mod Weights
