@@ -7,7 +7,7 @@ use Rattle.pesp_instance.specs.Network.{Network, new_event}
 use Rattle.pesp_search.specs.declared.answer.Answer.TheVariants.{Infeasible}
 use Rattle.pesp_search.specs.Optima.{IsAnswer, IsOptimum}
 use Rattle.pesp_search.specs.Parts.{turned_in}
-use Rattle.pesp_search.specs.Places.{timetable_of}
+use Rattle.pesp_search.specs.Paths.{timetable_of}
 use Rattle.pesp_search.specs.Tree.{IsPlaceOf, IsTreeSize}
 use Rattle.pesp_search.proofs.Counted.{place_of_is, tree_size_is}
 use Rattle.pesp_search.proofs.Enumerated.{infeasible_is, optimum_is}
@@ -27,11 +27,11 @@ each_way = arc 1 1 2 3 5 2 ∷ arc 2 2 1 4 6 1 ∷ []
 abbrev two : Network
 two = record { period = 10; events = free 1 ∷ free 2 ∷ []; activities = each_way }
 
--- ten residues of the first event, and two of the second behind each
+-- ten residues of the first event, and two of the second after each
 two_size : IsTreeSize two 30
 two_size = tree_size_is two 2 30 refl
 
--- 4 and 5 are left behind 0, and 0 has two nodes below it
+-- 4 and 5 are left after 0, and 0 has two nodes below it
 two_places : IsPlaceOf two (0 ∷ 4 ∷ []) 2 × IsPlaceOf two (0 ∷ 5 ∷ []) 3 × IsPlaceOf two (1 ∷ 5 ∷ []) 5
 two_places = (place_of_is two 2 (0 ∷ 4 ∷ []) 2 refl, place_of_is two 2 (0 ∷ 5 ∷ []) 3 refl, place_of_is two 2 (1 ∷ 5 ∷ []) 5 refl)
 

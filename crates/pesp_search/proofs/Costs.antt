@@ -1,4 +1,4 @@
--- Costs: what is known of a path is no more than what times that extend it cost, all of it where the path has all events, and each further time adds what lies behind it.
+-- Costs: what is known of a path is no more than what times that extend it cost, all of it where the path has all events, and each further time adds what it completes.
 use Rattle.std.proofs.Common.{◌≡◌, ℕ, zero, suc, ◌+◌, ◌-◌, ◌*◌, ◌<◌, ◌≤◌, ◌==◌, nat_lt, nat_le, Bool, true, false, cond, ◌&&◌, IsTrue, List, [], ◌∷◌, ◌++◌, length, map, filter, get_or, Option, Some, None, is_some, refl, sym, ◌∙◌, ap, inl, inr, arith, All, sum_by, zero-add}
 use Rattle.std.specs.BTreeMap.{is_at}
 use Rattle.std.specs.List.{Contains, zip}
@@ -18,10 +18,10 @@ use Rattle.pesp_instance.specs.Network.{HasEnds, IsActivity, IsNetwork, Network,
 use Rattle.pesp_instance.proofs.Rising.{IsAbove, Rises, Rises-from_increasing, length-filter_le}
 use Rattle.pesp_tension.specs.Timetables.{Times, time_of}
 use Rattle.pesp_tension.specs.Answers.{cost_in, cost_of, time_at}
-use Rattle.pesp_search.specs.Places.{timetable_of}
-use Rattle.pesp_search.specs.Walk.{Extends, full_cost, known_cost, known_share}
+use Rattle.pesp_search.specs.Paths.{timetable_of}
+use Rattle.pesp_search.specs.Nodes.{Extends, full_cost, known_cost, known_share}
 use Rattle.pesp_instance.proofs.Tables.{same_test}
-use Rattle.pesp_search.specs.Branch.{is_behind}
+use Rattle.pesp_search.specs.Branch.{is_complete_at}
 
 -- the time of an event, where events and times stand side by side
 abbrev time_in : List ℕ → List ℕ → ℕ → Option ℕ
@@ -93,7 +93,7 @@ all_timed (x ∷ es) (t ∷ path) f full has =
       | false ↦ λ later. all_timed es path f (omega (arith, full)) later
     ] has)
 
--- events that are all above a number: those that are found, and those at a place
+-- events that are all above a number: those that are found, and those at an index
 found_above : (n f : ℕ) (es : List Event) → IsAbove (λ x. x.id) n es → IsTrue (is_some (with_number (λ x. x.id) f es)) → n < f
 found_above n f [] above has = absurd (false≢true has)
 found_above n f (x ∷ es) above has =
@@ -191,7 +191,7 @@ full_is_cost I times = refl
 
 -- one time more adds the cost of an activity where its event is an end, and the other end is not above it
 share_step : (I : Network) (path : List ℕ) (t : ℕ) → IsNetwork I → length path < length (event_ids I) → (a : Activity) → HasEnds I.events a
-    → known_share I (path ++ t ∷ []) a ≡ known_share I path a + cond (is_end_of (get_or (event_ids I) (length path) 0) a && is_behind (get_or (event_ids I) (length path) 0) a) (cost_in (timetable_of I (path ++ t ∷ [])) a) 0
+    → known_share I (path ++ t ∷ []) a ≡ known_share I path a + cond (is_end_of (get_or (event_ids I) (length path) 0) a && is_complete_at (get_or (event_ids I) (length path) 0) a) (cost_in (timetable_of I (path ++ t ∷ [])) a) 0
 share_step I path t network room a ends =
     rw (from_new, to_new, from_old, to_old)
     (elim (cases_order a.from e) [
@@ -240,10 +240,10 @@ share_step I path t network room a ends =
 
 -- one time more adds the costs of the activities around its event that lead to no later one
 pub known_step : (I : Network) (path : List ℕ) (t : ℕ) → IsNetwork I → length path < length (event_ids I)
-    → known_cost I (path ++ t ∷ []) ≡ known_cost I path + sum_by (cost_in (timetable_of I (path ++ t ∷ []))) (filter (is_behind (get_or (event_ids I) (length path) 0)) (around I (get_or (event_ids I) (length path) 0)))
+    → known_cost I (path ++ t ∷ []) ≡ known_cost I path + sum_by (cost_in (timetable_of I (path ++ t ∷ []))) (filter (is_complete_at (get_or (event_ids I) (length path) 0)) (around I (get_or (event_ids I) (length path) 0)))
 known_step I path t network room =
     let e = get_or (event_ids I) (length path) 0 in
-    sum_grows (known_share I path) (known_share I (path ++ t ∷ [])) (cost_in (timetable_of I (path ++ t ∷ []))) (is_behind e) (is_end_of e) I.activities
+    sum_grows (known_share I path) (known_share I (path ++ t ∷ [])) (cost_in (timetable_of I (path ++ t ∷ []))) (is_complete_at e) (is_end_of e) I.activities
     (λ k d l. share_step I path t network room _ (network.ends k d l))
 
 -- ---- how much it may be
@@ -276,11 +276,11 @@ known_small I path network =
     (λ k d l. share_small I path _ network (network.activities_within k d l)) network.few_activities
 
 -- and so is what one time more adds
-pub behind_small : (I : Network) (m : Times) (e : ℕ) → IsNetwork I → m.period ≡ I.period
-    → sum_by (cost_in m) (filter (is_behind e) (around I e)) ≤ greatest_weight * (greatest_period - 1) * max_activities I.period
-behind_small I m e network same =
+pub completed_small : (I : Network) (m : Times) (e : ℕ) → IsNetwork I → m.period ≡ I.period
+    → sum_by (cost_in m) (filter (is_complete_at e) (around I e)) ≤ greatest_weight * (greatest_period - 1) * max_activities I.period
+completed_small I m e network same =
     let P : Activity → Type 0 = λ a. cost_in m a ≤ greatest_weight * (greatest_period - 1) in
     let all : All P I.activities = λ k d l. cost_small I m _ network same (network.activities_within k d l) in
-    sum_small (cost_in m) (filter (is_behind e) (around I e)) (greatest_weight * (greatest_period - 1)) (max_activities I.period)
-    (All-filter (is_behind e) P (around I e) (All-filter (is_end_of e) P I.activities all))
-    (omega (arith, length-filter_le (is_behind e) (around I e), length-filter_le (is_end_of e) I.activities, network.few_activities))
+    sum_small (cost_in m) (filter (is_complete_at e) (around I e)) (greatest_weight * (greatest_period - 1)) (max_activities I.period)
+    (All-filter (is_complete_at e) P (around I e) (All-filter (is_end_of e) P I.activities all))
+    (omega (arith, length-filter_le (is_complete_at e) (around I e), length-filter_le (is_end_of e) I.activities, network.few_activities))

@@ -9,10 +9,10 @@ use Rattle.pesp_domains.specs.Domains.{InDomains}
 use Rattle.pesp_domains.proofs.Families.{here_or_there, in_range, not_in_none}
 use Rattle.pesp_domains.proofs.Laws.{InDomains-admitted}
 use Rattle.pesp_domains.proofs.Sweeps.{is_in, is_supported, left, swept}
-use Rattle.pesp_search.specs.Places.{IsDead, pairs_of}
+use Rattle.pesp_search.specs.Paths.{IsDeadEnd, pairs_of}
 use Rattle.pesp_search.specs.Tree.{IsPlaceFrom, IsPlaceOf, IsSize, IsSumFrom, IsTreeSize}
-use Rattle.pesp_search.proofs.Events.{place_of}
-use Rattle.pesp_search.proofs.Timed.{place_has_event}
+use Rattle.pesp_search.proofs.Events.{index_of}
+use Rattle.pesp_search.proofs.Timed.{index_has_event}
 
 -- ---- tests of lists
 
@@ -113,21 +113,21 @@ module _ (I : Network) (sweeps : ℕ) where
   left_is : (path : List ℕ) → is_settled path (pairs_at path) ≡ true → (e r : ℕ) → (is_in (pairs_at path) e r ≡ true) ↔ InDomains I (pairs_of (event_ids I) path) e r
   left_is path settled e r = swept I (pairs_of (event_ids I) path) sweeps settled e r
 
-  alive : (path : List ℕ) → is_settled path (pairs_at path) ≡ true → each_left (pairs_at path) ≡ true → IsDead I path → ⊥
+  alive : (path : List ℕ) → is_settled path (pairs_at path) ≡ true → each_left (pairs_at path) ≡ true → IsDeadEnd I path → ⊥
   alive path settled each (e, event, none) =
-      let w = place_of I e event in
+      let w = index_of I e event in
       let some : some_left (pairs_at path) e ≡ true =
       subst (λ f. some_left (pairs_at path) f ≡ true) w.2 (AllPass-from_list_all (some_left (pairs_at path)) (event_ids I) each w.0 0 w.1)
       in
       let found = any_found (is_in (pairs_at path) e) (range_with_len 0 I.period) some in
       none found.0 ((left_is path settled e found.0).0 found.1)
 
-  dead : (path : List ℕ) → is_settled path (pairs_at path) ≡ true → each_left (pairs_at path) ≡ false → IsDead I path
+  dead : (path : List ℕ) → is_settled path (pairs_at path) ≡ true → each_left (pairs_at path) ≡ false → IsDeadEnd I path
   dead path settled fails =
       let w = one_fails (some_left (pairs_at path)) (event_ids I) fails in
       let e = get_or (event_ids I) w.0 0 in (
         e,
-        place_has_event I w.0 w.1,
+        index_has_event I w.0 w.1,
         λ r h.
             let below = (InDomains-admitted I (pairs_of (event_ids I) path) e r h).below in
             none_found (is_in (pairs_at path) e) (range_with_len 0 I.period) w.2 r (in_range 0 I.period r (omega arith) (omega (arith, below))) ((left_is path settled e r).1 h),

@@ -1,15 +1,13 @@
 -- Residues that are left out before they are pushed: what is told of them, or what is known with them, has come to the limit.
-use Rattle.std.proofs.Common.{◌≡◌, ℕ, ◌+◌, ◌<◌, ◌≤◌, ◌↔◌, Bool, IsTrue, List, [], ◌∷◌, ◌++◌, length, get_or, slice_index, Option, Some, None, IsSomeAnd, IfNone, IfSome, MatchOption, vec_capacity, refl, sym, ◌∙◌, subst, inl, inr, arith}
+use Rattle.std.proofs.Common.{◌≡◌, ℕ, ◌+◌, ◌<◌, ◌≤◌, ◌↔◌, Bool, IsTrue, List, [], ◌∷◌, ◌++◌, length, get_or, slice_index, Option, Some, None, IsSomeAnd, IfSome, refl, sym, subst, inl, inr, arith}
 use Rattle.std.proofs.lemmas.Bool.{cases_eq, cases_lt}
 use Rattle.pesp_instance.specs.Network.{IsNetwork, Network, event_ids}
 use Rattle.pesp_domains.specs.declared.pair.Pair.{Pair}
 use Rattle.pesp_domains.specs.Domains.{InDomains, IsDomain, holds}
-use Rattle.pesp_search.specs.declared.branch.Branch.{Branch}
-use Rattle.pesp_search.specs.Branch.{IsBranch, IsFront}
-use Rattle.pesp_search.specs.Found.{AreCut, AtLeast, IsCut, IsFirstOfUse, IsNextOfUse, IsOfNoUse, IsOver}
-use Rattle.pesp_search.specs.Places.{InNext, pairs_of}
+use Rattle.pesp_search.specs.Found.{AreCut, AtLeast, IsCut, IsFirstOfUse, IsOfNoUse}
+use Rattle.pesp_search.specs.Paths.{InNext, pairs_of}
 use Rattle.pesp_search.specs.Seen.{IsSeen}
-use Rattle.pesp_search.specs.Walk.{Extends, IsFull, IsNext, IsSpent, IsStep, Nothing, known_cost}
+use Rattle.pesp_search.specs.Nodes.{Extends, IsFull, IsNext, IsSpent, Nothing, known_cost}
 use Rattle.pesp_search.proofs.BestSoFar.{spent_cut}
 use Rattle.pesp_search.proofs.Costs.{known_le_cost}
 use Rattle.pesp_search.proofs.Members.{next_in_domains}
@@ -42,7 +40,7 @@ module _ (I : Network) (limit : Option ℕ) (bound : ℕ → ℕ) (path : List �
   next_of_cut r is =
       record { room = next.room; above = omega (arith, next.above, is.above); below = is.below; inside = is.inside; alive = next.alive; skips = passed r is.before }
 
-  -- where none is of use the place is spent
+  -- where none is of use the node is spent
   pub spent_of_cut : AreCut I limit bound path first I.period → IsSpent (AtLeast I limit) I path from
   spent_of_cut cut =
       record {
@@ -63,11 +61,6 @@ over_of_cut I (Some l) bound path from first ok seen next cut = spent_of_cut I (
 pub row_of_next : (I : Network) (pushes : List Pair) (path : List ℕ) (e : ℕ) (row : List Bool) → pushes ≡ pairs_of (event_ids I) path → e ≡ slice_index (event_ids I) (length path) → IsDomain I pushes e row → (r : ℕ) → IsTrue (holds row r) ↔ InNext I path r
 row_of_next I pushes path e row is next domain r = subst (λ f. IsTrue (holds row r) ↔ InDomains I (pairs_of (event_ids I) path) f r) next (subst (λ ps. IsTrue (holds row r) ↔ InDomains I ps e r) is (domain.exact r))
 
--- what a limit cuts
-cut_is : (limit : Option ℕ) (cost : ℕ) → MatchOption limit ⊥ (λ l. l ≤ cost) → IsCut limit cost
-cut_is None cost h = h
-cut_is (Some l) cost h = h
-
 -- none is before the first
 pub no_cut : (I : Network) (limit : Option ℕ) (bound : ℕ → ℕ) (path : List ℕ) (from : ℕ) → AreCut I limit bound path from from
 no_cut I limit bound path from s low high inside = absurd (omega (arith, low, high))
@@ -82,12 +75,12 @@ module _ (I : Network) (limit : Option ℕ) (bound : ℕ → ℕ) (path : List �
       ]
 
   -- by what is told of it
-  pub cut_told : (told : ℕ) → told ≡ bound r → MatchOption limit ⊥ (λ l. l ≤ told) → AreCut I limit bound path from (r + 1)
-  cut_told told is cut = one_more (λ _. inl (subst (IsCut limit) is (cut_is limit told cut)))
+  pub cut_told : (told : ℕ) → told ≡ bound r → IsCut limit told → AreCut I limit bound path from (r + 1)
+  cut_told told is cut = one_more (λ _. inl (subst (IsCut limit) is cut))
 
   -- by what is known with it
-  pub cut_more : (cost : ℕ) → cost ≡ known_cost I (path ++ r ∷ []) → MatchOption limit ⊥ (λ l. l ≤ cost) → AreCut I limit bound path from (r + 1)
-  cut_more cost is cut = one_more (λ _. inr (subst (IsCut limit) is (cut_is limit cost cut)))
+  pub cut_more : (cost : ℕ) → cost ≡ known_cost I (path ++ r ∷ []) → IsCut limit cost → AreCut I limit bound path from (r + 1)
+  cut_more cost is cut = one_more (λ _. inr (subst (IsCut limit) is cut))
 
   -- or as it is not in the domain
   pub cut_over : (InNext I path r → ⊥) → AreCut I limit bound path from (r + 1)
@@ -98,25 +91,7 @@ pub of_use_is : (limit : Option ℕ) (told cost bound known : ℕ) → told ≡ 
 of_use_is None told cost bound known is same low less = tt
 of_use_is (Some l) told cost bound known is same low less = (omega (arith, is, low), omega (arith, same, less))
 
--- another time behind the path leaves the branch one
-pub branch_again : (I : Network) (old new : Branch) → new.times ≡ old.times → new.cost ≡ old.cost → IsFront I old.times.items new.timetable → IsBranch I old.times.items old.cost old.timetable (vec_capacity old.times) → IsBranch I new.times.items new.cost new.timetable (vec_capacity new.times)
-branch_again I old new times cost front branch =
-    subst (λ v. IsBranch I v.items new.cost new.timetable (vec_capacity v)) (sym times)
-    (record { front = front; costs = cost ∙ branch.costs; room = branch.room })
-
 -- what is known has come to the limit
-pub over_of_known : (I : Network) (limit : Option ℕ) (known : ℕ) (path : List ℕ) (from : ℕ) → MatchOption limit ⊥ (λ l. l ≤ known) → known ≡ known_cost I path → IsSomeAnd limit (λ l. IsSpent (AtLeast I (Some l)) I path from)
+pub over_of_known : (I : Network) (limit : Option ℕ) (known : ℕ) (path : List ℕ) (from : ℕ) → IsCut limit known → known ≡ known_cost I path → IsSomeAnd limit (λ l. IsSpent (AtLeast I (Some l)) I path from)
 over_of_known I None known path from h is = h
 over_of_known I (Some l) known path from h is = spent_cut I l path from (omega (arith, h, is))
-
--- what a visit says of the residues that are left
-pub next_told : (I : Network) (limit : Option ℕ) (bound : ℕ → ℕ) (path : List ℕ) (from first : ℕ) (found : Option ℕ) → IsNetwork I → IsSeen I path bound → IsNext Nothing I path from first
-    → IsNextOfUse I limit bound path first found → IsStep (AtLeast I limit) I path from found
-next_told I limit bound path from first None ok seen next cut = spent_of_cut I limit bound path from first ok seen next cut
-next_told I limit bound path from first (Some r) ok seen next is = next_of_cut I limit bound path from first ok seen next r is
-
--- and why the place is left where none is
-pub over_told : (I : Network) (limit : Option ℕ) (bound : ℕ → ℕ) (path : List ℕ) (from first : ℕ) (found : Option ℕ) → IsNetwork I → IsSeen I path bound → IsNext Nothing I path from first
-    → IsNextOfUse I limit bound path first found → IfNone found (IsOver I limit path from)
-over_told I limit bound path from first None ok seen next cut = inl (over_of_cut I limit bound path from first ok seen next cut)
-over_told I limit bound path from first (Some r) ok seen next is = tt

@@ -9,8 +9,8 @@ use Rattle.pesp_domains.specs.Domains.{InDomains}
 use Rattle.pesp_domains.proofs.Families.{here, here_or_there, in_range, not_in_none, there}
 use Rattle.pesp_domains.proofs.Laws.{InDomains-admitted}
 use Rattle.pesp_domains.proofs.Sweeps.{is_in, left, swept, swept_at_last}
-use Rattle.pesp_search.specs.Places.{IsDead, pairs_of}
-use Rattle.pesp_search.proofs.Events.{place_of}
+use Rattle.pesp_search.specs.Paths.{IsDeadEnd, pairs_of}
+use Rattle.pesp_search.proofs.Events.{index_of}
 use Rattle.pesp_search.specs.Tree.{IsSize, IsSumFrom}
 
 -- whether a residue is in the domain of an event is decided
@@ -54,7 +54,7 @@ bare_decided I pushes e =
     ] refl
 
 -- whether a path is dead is decided
-pub dead_decided : (I : Network) (path : List ℕ) → IsDead I path ⊎ (IsDead I path → ⊥)
+pub dead_decided : (I : Network) (path : List ℕ) → IsDeadEnd I path ⊎ (IsDeadEnd I path → ⊥)
 dead_decided I path =
     let pushes : List Pair = pairs_of (event_ids I) path in
     elim (any_decided (IsBare I pushes) (bare_decided I pushes) (event_ids I)) [
@@ -63,7 +63,7 @@ dead_decided I path =
     ]
   where
     of_event : (e : ℕ) → IsTrue (has_event I e) → Contains (event_ids I) e
-    of_event e is = let w = place_of I e is in subst (Contains (event_ids I)) w.2 (All-contains_itself (event_ids I) w.0 0 w.1)
+    of_event e is = let w = index_of I e is in subst (Contains (event_ids I)) w.2 (All-contains_itself (event_ids I) w.0 0 w.1)
 
 -- where there is a size below each residue, there is a sum
 sum_exists : (I : Network) (free : ℕ) (path : List ℕ) → ((r : ℕ) → (n : ℕ) × IsSize I free (path ++ r ∷ []) n) → (residues from : ℕ) → (n : ℕ) × IsSumFrom (IsSize I free) I path residues from n

@@ -1,195 +1,189 @@
 -- How a search ends: at a stop, or when nothing is left.
-use Rattle.std.proofs.Common.{◌≡◌, ◌≢◌, ℕ, zero, suc, ◌+◌, ◌-◌, ◌^◌, ◌<◌, ◌≤◌, Bool, true, false, List, [], length, get_or, Option, Some, None, IfSome, IsSomeAnd, refl, sym, ap, subst, ◌∙◌, inl, inr, arith}
+use Rattle.std.proofs.Common.{◌≡◌, ℕ, zero, suc, ◌<◌, ◌≤◌, Bool, true, false, List, [], length, get_or, Option, Some, None, IfSome, IsSomeAnd, refl, sym, ap, subst, ◌∙◌, inl, inr, ◌⊎◌, arith}
 use Rattle.std.specs.Map.{values_of}
-use Rattle.std.proofs.lemmas.Bool.{cases_lt, false≢true, lt-ltb, le-ltb}
+use Rattle.std.proofs.lemmas.Bool.{cases_eq}
+use Rattle.std.proofs.lemmas.Option.{none-some}
 use Rattle.pesp_instance.specs.Network.{IsNetwork, Network, event_ids}
 use Rattle.pesp_domains.specs.declared.pair.Pair.{Pair}
 use Rattle.pesp_tension.specs.Answers.{cost_of}
 use Rattle.pesp_tension.specs.Timetables.{Times}
 use Rattle.pesp_search.specs.declared.answer.Best.{Best}
-use Rattle.pesp_search.specs.Found.{AtLeast, IsAbove, IsBest, IsOver, IsTold, under_bound}
 use Rattle.pesp_search.specs.declared.answer.Answer.{Answer}
 use Rattle.pesp_search.specs.declared.answer.Answer.TheVariants.{Infeasible, Optimal}
 use Rattle.pesp_search.specs.declared.answer.Tried.{Tried}
 use Rattle.pesp_search.specs.declared.answer.Tried.TheVariants.{Done, Stopped}
-use Rattle.pesp_search.specs.Optima.{IsAnswer, IsBound, IsMember}
-use Rattle.pesp_search.specs.Places.{IsDead}
-use Rattle.pesp_search.specs.Walk.{IsAt, IsFull, IsNext, IsSpent, IsStuck, full_cost}
+use Rattle.pesp_search.specs.declared.incumbent.Incumbent.{Incumbent}
+use Rattle.pesp_search.specs.declared.tree_search.TreeSearch.{TreeSearch}
+use Rattle.pesp_search.specs.Found.{AtLeast, IsBest, IsIncumbent, IsTold, limit_by, limit_of}
+use Rattle.pesp_search.specs.Nodes.{IsAt, IsCounted, IsFull, IsSpent, IsStuck, full_cost}
+use Rattle.pesp_search.specs.Optima.{IsAnswer, IsBound, IsMember, IsOptimum, Precedes}
+use Rattle.pesp_search.specs.Paths.{IsDeadEnd, timetable_of}
+use Rattle.pesp_search.specs.Searching.{IsSearching, MayEnd}
 use Rattle.pesp_search.specs.Tree.{AreNodes, IsPlaceOf, IsTreeSize}
 use Rattle.pesp_search.specs.Tried.{IsBestSoFar, IsEnd, IsFound, IsOutcome, IsWithin, MayTry}
-use Rattle.pesp_search.proofs.BestSoFar.{above_of_bound, best_none, best_optimum}
-use Rattle.pesp_search.proofs.Costs.{known_is_cost, known_small}
 use Rattle.pesp_search.proofs.Members.{before_of_precedes, full_of_member, member_in_domains, member_of_full}
 use Rattle.pesp_search.proofs.Placed.{before_decided, place_after}
-use Rattle.pesp_search.proofs.Sizes.{IsCounted, counted_below, size_unique}
-use Rattle.pesp_search.proofs.Stations.{at_end}
-use Rattle.pesp_search.proofs.Timed.{place_has_event, values_of-zip}
+use Rattle.pesp_search.proofs.Sizes.{counted_below, size_unique}
+use Rattle.pesp_search.proofs.Timed.{index_has_event, values_of-zip}
 
--- ---- limits
-
--- a cost that is below the limit of a bound is within the bound
-within_bound : (bound : Option ℕ) (cost : ℕ) → cost < 2 ^ 64 → IfSome (under_bound bound) (λ u. cost < u) → IsWithin bound cost
-within_bound None cost small below = tt
-within_bound (Some bound) cost small below =
-    elim (cases_lt bound (2 ^ 64 - 1)) [
-      | inl less ↦ let l = rw (lt-ltb bound (2 ^ 64 - 1) less) at below in omega (arith, l)
-      | inr most ↦ omega (arith, small, most)
-    ]
+-- ---- bounds
 
 -- times within the bound are below its limit
-not_above : (I : Network) (bound : Option ℕ) (times : List ℕ) → IsWithin bound (full_cost I times) → AtLeast I (under_bound bound) times → ⊥
+not_above : (I : Network) (bound : Option ℕ) (times : List ℕ) → IsWithin bound (full_cost I times) → AtLeast I (limit_by None bound) times → ⊥
 not_above I None times within above = above
-not_above I (Some bound) times within above =
-    elim (cases_lt bound (2 ^ 64 - 1)) [
-      | inl less ↦ let l = rw (lt-ltb bound (2 ^ 64 - 1) less) at above in omega (arith, l, within)
-      | inr most ↦ rw (le-ltb bound (2 ^ 64 - 1) most) at above
-    ]
+not_above I (Some bound) times within above = omega (arith, above, within)
 
-above_under : (I : Network) (bound : Option ℕ) → IsNetwork I → IsBound I bound → IsAbove I (under_bound bound)
-above_under I None network is = tt
-above_under I (Some bound) network is =
-    elim (cases_lt bound (2 ^ 64 - 1)) [
-      | inl less ↦ rw (lt-ltb bound (2 ^ 64 - 1) less) (above_of_bound I bound network full_of_member is)
-      | inr most ↦ rw (le-ltb bound (2 ^ 64 - 1) most) tt
-    ]
+-- so where there is a bound, some full times are
+bound_reached : (I : Network) (bound : Option ℕ) → IsNetwork I → IsBound I bound → ((times : List ℕ) → IsFull I times → AtLeast I (limit_by None bound) times) → (others : List ℕ) → IsFull I others → ⊥
+bound_reached I None network is all others full = all others full
+bound_reached I (Some bound) network (m, member, low) all others full =
+    let w = full_of_member I m network member in
+    not_above I (Some bound) w.0 (subst (λ n. cost_of I n ≤ bound) w.2 low) (all w.0 w.1)
 
-small_cost : (I : Network) (times : List ℕ) → IsNetwork I → IsFull I times → full_cost I times < 2 ^ 64
-small_cost I times network full =
-    let small = known_small I times network in
-    let same = known_is_cost I times network full.events in
-    omega (arith, small, same)
+-- what holds of the timetable of all full times holds of each member
+of_members : (I : Network) → IsNetwork I → (P : Times → Type 0) → ((times : List ℕ) → IsFull I times → P (timetable_of I times)) → (m : Times) → IsMember I m → P m
+of_members I network P each m member =
+    let w = full_of_member I m network member in
+    subst P (sym w.2) (each w.0 w.1)
 
 -- ---- a stop
 
-stop_found : (I : Network) (bound limit : Option ℕ) (found : Bool) (times : List ℕ) (best : Option Best) → IsNetwork I
-    → IsBest I (under_bound bound) limit found times → IsTold I limit found times best → IfSome best (IsFound I bound)
-stop_found I bound limit found times None network so_far told = tt
-stop_found I bound limit found times (Some best) network so_far told =
-    let full = so_far.full told.0 in
-    let costs : full_cost I times ≡ best.cost = ap (λ (o : Option ℕ). get o) (sym (so_far.limited told.0) ∙ told.1) in
+stop_found : (I : Network) (incumbent : Incumbent) (told : Option Best) → IsNetwork I → IsIncumbent I incumbent → IsTold I incumbent told → IfSome told (IsFound I incumbent.bound)
+stop_found I incumbent None network so_far is = tt
+stop_found I incumbent (Some found) network so_far is =
+    let best : IsBest I incumbent.bound incumbent.times.items found.cost = subst (λ o. IfSome o (IsBest I incumbent.bound incumbent.times.items)) is.0 so_far.best in
     record {
-      member = rw told.2 (member_of_full I times network full);
-      costs = rw told.2 costs;
-      within = subst (IsWithin bound) costs (within_bound bound (full_cost I times) (small_cost I times network full) (so_far.below told.0));
+      member = rw is.1 (member_of_full I incumbent.times.items network best.full);
+      costs = rw is.1 best.costs;
+      within = best.within;
     }
-  where
-    get : Option ℕ → ℕ
-    get None = 0
-    get (Some n) = n
 
-stop_best : (I : Network) (bound limit : Option ℕ) (found : Bool) (times : List ℕ) (best : Option Best) (pushes : List Pair) (path : List ℕ) (from nodes : ℕ) → IsNetwork I
-    → length path < length (event_ids I) → IsAt (AtLeast I limit) I pushes path from → IsBest I (under_bound bound) limit found times → IsTold I limit found times best → IsCounted I path from nodes → IsBestSoFar I bound nodes best
-stop_best I bound limit found times best pushes path from nodes network room at so_far told counted m place member is reached within =
+stop_best : (I : Network) (incumbent : Incumbent) (told : Option Best) (pushes : List Pair) (path : List ℕ) (from nodes : ℕ) → IsNetwork I
+    → length path < length (event_ids I) → IsAt (AtLeast I (limit_of incumbent)) I pushes path from → IsTold I incumbent told → IsCounted I path from nodes → IsBestSoFar I incumbent.bound nodes told
+stop_best I incumbent told pushes path from nodes network room at is counted m place member met reached within =
     let w = full_of_member I m network member in
     let all : List ℕ = w.0 in
     let costs : cost_of I m ≡ full_cost I all = ap (cost_of I) w.2 in
     let values : values_of m.entries ≡ all = ap (λ (n : Times). values_of n.entries) w.2 ∙ values_of-zip (event_ids I) all w.1.events in
-    let here : IsPlaceOf I all place = rw (← values) is in
+    let here : IsPlaceOf I all place = rw (← values) met in
     elim (before_decided all path from) [
-      | inl before ↦ rw costs (passed best told all w.1 (at.passed all w.1 before) (rw costs at within))
-      | inr behind ↦
-          absurd (omega (arith, place_after I path all from counted.size counted.left place network w.1 room behind counted.tree counted.rest here, counted.within, reached))
+      | inl before ↦ rw costs (passed told is all (at.passed all w.1 before) (rw costs at within))
+      | inr later ↦
+          absurd (omega (arith, place_after I path all from counted.size counted.left place network w.1 room later counted.tree counted.rest here, counted.within, reached))
     ]
   where
-    passed : (best : Option Best) → IsTold I limit found times best → (all : List ℕ) → IsFull I all → AtLeast I limit all → IsWithin bound (full_cost I all) → IsSomeAnd best (λ b. b.cost ≤ full_cost I all)
-    passed None told all full above within = absurd (not_above I bound all within (rw (← so_far.none told) above))
-    passed (Some b) told all full above within = rw told.1 at above
-
--- a search that stops has the limit as its nodes
-pub stop_outcome : (I : Network) (bound limit cost_limit : Option ℕ) (found : Bool) (times : List ℕ) (best : Option Best) (pushes : List Pair) (path : List ℕ) (from r nodes : ℕ) → IsNetwork I → limit ≡ Some nodes
-    → IsAt (AtLeast I cost_limit) I pushes path from → IsNext (AtLeast I cost_limit) I path from r → IsBest I (under_bound bound) cost_limit found times → IsCounted I path from nodes
-    → (nodes ≡ 0 → found ≡ false) → IsTold I cost_limit found times best → IsOutcome I bound limit true best nodes
-stop_outcome I bound limit cost_limit found times best pushes path from r nodes network is at next so_far counted none told =
-    rw is (
-      record {
-        below = counted_below (AtLeast I cost_limit) I path from r nodes next counted;
-        member = stop_found I bound cost_limit found times best network so_far told;
-        best = stop_best I bound cost_limit found times best pushes path from nodes network next.room at so_far told counted;
-      },
-      refl,
-      λ zero. nothing best told (none zero),
-    )
-  where
-    nothing : (best : Option Best) → IsTold I cost_limit found times best → found ≡ false → best ≡ None
-    nothing None told missing = refl
-    nothing (Some b) told missing = absurd (false≢true (sym missing ∙ told.0))
+    passed : (told : Option Best) → IsTold I incumbent told → (all : List ℕ) → AtLeast I (limit_of incumbent) all → IsWithin incumbent.bound (full_cost I all) → IsSomeAnd told (λ b. b.cost ≤ full_cost I all)
+    passed None is all above within = absurd (not_above I incumbent.bound all within (subst (λ o. AtLeast I (limit_by o incumbent.bound) all) is above))
+    passed (Some b) is all above within = subst (λ o. AtLeast I (limit_by o incumbent.bound) all) is.0 above
 
 -- ---- the end
 
--- where a search is over at its first place the tree has no node
-over_first : (I : Network) (bound : Option ℕ) → IsNetwork I → IsBound I bound → IsOver I (under_bound bound) [] 0 → IsTreeSize I 0
-over_first I bound network is_bound (inl cut) = absurd (not_spent (under_bound bound) cut (above_under I bound network is_bound))
+-- where all full times cost at least as much, the best is the optimum
+best_optimum : (I : Network) (bound : Option ℕ) (times : List ℕ) (cost : ℕ) → IsNetwork I → IsBest I bound times cost → ((others : List ℕ) → IsFull I others → AtLeast I (Some cost) others) → IsOptimum I (timetable_of I times) cost
+best_optimum I bound times cost network best all =
+    record {
+      member = member_of_full I times network best.full;
+      costs = best.costs;
+      least = of_members I network (λ n. cost ≤ cost_of I n) all;
+      first =
+          of_members I network (λ n. Precedes n.entries (timetable_of I times).entries → cost < cost_of I n)
+          (λ others other precedes. best.first others other (before_of_precedes I others times other.events best.full.events precedes));
+    }
+
+-- where all full times cost at least the limit, what is told is the end
+end_told : (I : Network) (incumbent : Incumbent) (told : Option Best) → IsNetwork I → IsBound I incumbent.bound → IsIncumbent I incumbent → ((times : List ℕ) → IsFull I times → AtLeast I (limit_of incumbent) times) → IsTold I incumbent told → IsEnd I told
+end_told I incumbent None network is_bound so_far all is =
+    of_members I network (λ m. ⊥) (bound_reached I incumbent.bound network is_bound (λ times full. subst (λ o. AtLeast I (limit_by o incumbent.bound) times) is (all times full)))
+end_told I incumbent (Some found) network is_bound so_far all is =
+    let best : IsBest I incumbent.bound incumbent.times.items found.cost = subst (λ o. IfSome o (IsBest I incumbent.bound incumbent.times.items)) is.0 so_far.best in
+    rw is.1 (best_optimum I incumbent.bound incumbent.times.items found.cost network best (λ times full. subst (λ o. AtLeast I (limit_by o incumbent.bound) times) is.0 (all times full)))
+
+-- ---- what a search tells
+
+nothing_told : (I : Network) (incumbent : Incumbent) (told : Option Best) → IsTold I incumbent told → incumbent.cost ≡ None → told ≡ None
+nothing_told I incumbent None is missing = refl
+nothing_told I incumbent (Some b) is missing = absurd (none-some _ (sym missing ∙ is.0))
+
+-- one that may end tells the outcome
+pub outcome_of : (I : Network) (pushes : List Pair) (state : TreeSearch) (stopped : Bool) (told : Option Best) → IsSearching I pushes state → MayEnd I state stopped → IsTold I state.incumbent told → IsBound I state.incumbent.bound
+    → IsOutcome I state.incumbent.bound state.limit stopped told state.nodes
+outcome_of I pushes state true told s (reached, (r, next)) is is_bound =
+    rw reached (
+      record {
+        below = counted_below (AtLeast I (limit_of state.incumbent)) I state.branch.times.items state.from r state.nodes next s.counted;
+        member = stop_found I state.incumbent told s.network s.incumbent is;
+        best = stop_best I state.incumbent told pushes state.branch.times.items state.from state.nodes s.network next.room s.at is s.counted;
+      },
+      refl,
+      λ zero. nothing_told I state.incumbent told is ((s.root zero).2 (let room = next.room in omega (arith, room))),
+    )
+outcome_of I pushes state false told s (all, size) is is_bound = (end_told I state.incumbent told s.network is_bound s.incumbent all is, by state.limit s.within)
   where
-    not_spent : (limit : Option ℕ) → IsSomeAnd limit (λ l. IsSpent (AtLeast I (Some l)) I [] 0) → IsAbove I limit → ⊥
-    not_spent None cut above = cut
-    not_spent (Some limit) spent (times, full, less) = let high = spent.passes times full tt (λ _. omega arith) in omega (arith, high, less)
-over_first I bound network is_bound (inr (inl full)) = rw (← full) refl
-over_first I bound network is_bound (inr (inr (inr later))) = absurd (omega (arith, later))
-over_first I bound network is_bound (inr (inr (inl stuck))) = by (length (event_ids I)) refl stuck
+    by : (limit : Option ℕ) → IfSome limit (λ l. state.nodes ≤ l) → IfSome limit (λ l. (state.nodes ≤ l) × (l ≡ 0 → IsTreeSize I 0))
+    by None within = tt
+    by (Some l) within = (within, λ zero. size is_bound (omega (arith, within, zero)))
+
+-- ---- before the first node
+
+-- why a node of the tree is left: what is left there costs at least the limit, nothing is left to try, or residues were tried before
+abbrev pub Why : Network → Option ℕ → List ℕ → ℕ → Type 0
+Why I limit path from = IsSomeAnd limit (λ l. IsSpent (AtLeast I (Some l)) I path from) ⊎ (IsStuck I path from ⊎ (0 < from))
+
+-- the root is not left for what is of no use while nothing is found
+root_uncut : (I : Network) (bound : Option ℕ) → IsNetwork I → IsBound I bound → IsSomeAnd (limit_by None bound) (λ l. IsSpent (AtLeast I (Some l)) I [] 0) → ⊥
+root_uncut I None network is_bound cut = cut
+root_uncut I (Some bound) network (m, member, low) spent =
+    let w = full_of_member I m network member in
+    not_above I (Some bound) w.0 (subst (λ n. cost_of I n ≤ bound) w.2 low) (spent.passes w.0 w.1 tt (λ _. omega arith))
+
+-- where it is left while nothing is found, the tree has no node
+root_left : (I : Network) (bound : Option ℕ) → IsNetwork I → IsBound I bound → Why I (limit_by None bound) [] 0 → IsTreeSize I 0
+root_left I bound network is_bound (inl cut) = absurd (root_uncut I bound network is_bound cut)
+root_left I bound network is_bound (inr (inr later)) = absurd (omega (arith, later))
+root_left I bound network is_bound (inr (inl stuck)) = by (length (event_ids I)) refl stuck
   where
     by : (n : ℕ) → length (event_ids I) ≡ n → IsStuck I [] 0 → IsTreeSize I 0
     by zero none stuck = rw none refl
     by (suc n) some (inl dead) = rw some (inl (dead, refl))
-    by (suc n) some (inr none) = rw some (inl ((get_or (event_ids I) 0 0, place_has_event I 0 (omega (arith, some)), λ r. none r (omega arith)), refl))
+    by (suc n) some (inr none) = rw some (inl ((get_or (event_ids I) 0 0, index_has_event I 0 (omega (arith, some)), λ r. none r (omega arith)), refl))
 
--- a search that comes to its end has the optimum, or there is none
-pub end_outcome : (I : Network) (bound limit old_limit cost_limit : Option ℕ) (found : Bool) (times : List ℕ) (best : Option Best) (pushes : List Pair) (path : List ℕ) (from nodes : ℕ) → IsNetwork I → IsBound I bound → path ≡ []
-    → IsAt (AtLeast I cost_limit) I pushes path from → IsSpent (AtLeast I cost_limit) I path from → IsBest I (under_bound bound) cost_limit found times → IsOver I old_limit path from
-    → (nodes ≡ 0 → (from ≡ 0) × (old_limit ≡ under_bound bound)) → IfSome limit (λ l. nodes ≤ l) → IsTold I cost_limit found times best → IsOutcome I bound limit false best nodes
-end_outcome I bound limit old_limit cost_limit found times best pushes path from nodes network is_bound none at spent so_far over start within told =
-    (end best told, by limit within)
-  where
-    passed : (all : List ℕ) → IsFull I all → AtLeast I cost_limit all
-    passed = at_end (AtLeast I cost_limit) I pushes from (rw none at at) (rw none at spent)
-
-    end : (best : Option Best) → IsTold I cost_limit found times best → IsEnd I best
-    end None told = best_none full_of_member I (under_bound bound) cost_limit times network (above_under I bound network is_bound) (rw told at so_far) passed
-    end (Some b) told = rw told.2 (best_optimum full_of_member member_of_full before_of_precedes I (under_bound bound) cost_limit times b.cost network (rw told.0 at so_far) told.1 passed)
-
-    by : (limit : Option ℕ) → IfSome limit (λ l. nodes ≤ l) → IfSome limit (λ l. (nodes ≤ l) × (l ≡ 0 → IsTreeSize I 0))
-    by None within = tt
-    by (Some l) within = (
-      within,
-      λ zero.
-          let nodes_zero : nodes ≡ 0 = omega (arith, within, zero) in
-          let first = start nodes_zero in
-          over_first I bound network is_bound (rw (none, first.0, first.1) at over),
-    )
-
--- ---- nodes within a limit
-
-pub none_within : (limit : Option ℕ) → IfSome limit (λ l. 0 ≤ l)
-none_within None = tt
-none_within (Some l) = omega arith
-
-pub more_within : (limit : Option ℕ) (nodes more : ℕ) → IfSome limit (λ l. nodes ≤ l) → IfSome limit (λ l. l ≢ nodes) → more ≤ nodes + 1 → IfSome limit (λ l. more ≤ l)
-more_within None nodes more within apart le = tt
-more_within (Some l) nodes more within apart le = omega (arith, within, apart, le)
+-- where a search leaves a node before it has counted one, the tree has none
+pub left_first : (I : Network) (pushes : List Pair) (state : TreeSearch) → IsSearching I pushes state → Why I (limit_of state.incumbent) state.branch.times.items state.from → IsBound I state.incumbent.bound → state.nodes ≡ 0 → IsTreeSize I 0
+left_first I pushes state s why is_bound uncounted =
+    let root = s.root uncounted in
+    let here : Why I (limit_of state.incumbent) [] 0 =
+    subst (λ f. Why I (limit_of state.incumbent) [] f) root.1 (subst (λ p. Why I (limit_of state.incumbent) p state.from) root.0 why)
+    in
+    elim (cases_eq (length (event_ids I)) 0) [
+      | inl none ↦ rw none refl
+      | inr some ↦
+          root_left I state.incumbent.bound s.network is_bound (subst (λ o. Why I (limit_by o state.incumbent.bound) [] 0) (root.2 (omega (arith, some))) here)
+    ]
 
 -- ---- an event without a residue
 
 -- the tree of an instance with an empty domain has no node
-pub dead_size : (I : Network) → IsDead I [] → IsTreeSize I 0
+pub dead_size : (I : Network) → IsDeadEnd I [] → IsTreeSize I 0
 dead_size I dead = by (length (event_ids I)) refl
   where
     by : (n : ℕ) → length (event_ids I) ≡ n → IsTreeSize I 0
     by zero none = rw none refl
     by (suc n) some = rw some (inl (dead, refl))
 
-pub no_member : (I : Network) (m : Times) → IsNetwork I → IsDead I [] → IsMember I m → ⊥
+pub no_member : (I : Network) (m : Times) → IsNetwork I → IsDeadEnd I [] → IsMember I m → ⊥
 no_member I m network dead member =
     let w = full_of_member I m network member in
     dead.2 _ (member_in_domains I [] w.0 network w.1 tt dead.0 dead.1)
 
 -- it is infeasible, without a node
-pub dead_answer : (I : Network) (answer : Answer) (nodes : ℕ) → IsNetwork I → IsDead I [] → IsAnswer I answer → AreNodes I nodes → (answer ≡ Infeasible) × (nodes ≡ 0)
+pub dead_answer : (I : Network) (answer : Answer) (nodes : ℕ) → IsNetwork I → IsDeadEnd I [] → IsAnswer I answer → AreNodes I nodes → (answer ≡ Infeasible) × (nodes ≡ 0)
 dead_answer I Infeasible nodes network dead is few =
     let none = size_unique I (length (event_ids I)) [] few.0 0 few.1 (dead_size I dead) in
     (refl, (let le = few.2 in omega (arith, none, le)))
 dead_answer I (Optimal cost times) nodes network dead is few = absurd (no_member I times network dead is.member)
 
 -- and no search stops in it
-pub dead_tried : (I : Network) (bound : Option ℕ) (limit : ℕ) (tried : Tried) (nodes : ℕ) → IsNetwork I → IsDead I [] → MayTry I bound limit tried nodes → AreNodes I nodes → (tried ≡ Done Infeasible) × (nodes ≡ 0)
+pub dead_tried : (I : Network) (bound : Option ℕ) (limit : ℕ) (tried : Tried) (nodes : ℕ) → IsNetwork I → IsDeadEnd I [] → MayTry I bound limit tried nodes → AreNodes I nodes → (tried ≡ Done Infeasible) × (nodes ≡ 0)
 dead_tried I bound limit (Done answer) nodes network dead is few = let w = dead_answer I answer nodes network dead is.0 few in (ap Done w.0, w.1)
 dead_tried I bound limit (Stopped best) nodes network dead is few =
     let below = is.0.below in

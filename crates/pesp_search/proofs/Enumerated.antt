@@ -11,7 +11,7 @@ use Rattle.pesp_tension.specs.Answers.{agrees, cost_of, meets}
 use Rattle.pesp_tension.specs.Timetables.{Times}
 use Rattle.pesp_search.specs.declared.answer.Answer.TheVariants.{Infeasible}
 use Rattle.pesp_search.specs.Optima.{IsAnswer, IsMember, IsOptimum, Precedes}
-use Rattle.pesp_search.specs.Places.{timetable_of}
+use Rattle.pesp_search.specs.Paths.{timetable_of}
 use Rattle.pesp_search.proofs.Members.{member_timed}
 use Rattle.pesp_search.proofs.Timed.{keys_of-zip}
 use Rattle.pesp_instance.proofs.Tables.{length-values-keys as length-values_of}

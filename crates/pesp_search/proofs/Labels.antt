@@ -8,11 +8,11 @@ use Rattle.std.proofs.lemmas.List.Elements.{All-contains}
 use Rattle.pesp_base.specs.Windows.{Interval}
 use Rattle.pesp_instance.specs.Network.{IsNetwork, Network, event_ids, window_of}
 use Rattle.pesp_search.specs.Parts.{AreAgreed, AreLeast, IsFirst, IsLeast}
-use Rattle.pesp_search.specs.Places.{at}
-use Rattle.pesp_search.proofs.Events.{place_of}
-use Rattle.pesp_search.proofs.Timed.{at_place}
+use Rattle.pesp_search.specs.Paths.{at}
+use Rattle.pesp_search.proofs.Events.{index_of}
+use Rattle.pesp_search.proofs.Timed.{at_index}
 
--- the event at the place is the least of its label, and no event of that label has a window
+-- the event at the index is the least of its label, and no event of that label has a window
 pub least_of_labels : (I : Network) (labels : List ℕ) (k : ℕ) → IsNetwork I → length labels ≡ length (event_ids I) → k < length (event_ids I)
     → All (λ a. at I labels a.from ≡ at I labels a.to) I.activities
     → ((j : ℕ) → j < length (event_ids I) → get_or labels j 0 ≡ get_or labels k 0 → window_of I (get_or (event_ids I) j 0) ≡ None)
@@ -25,15 +25,15 @@ least_of_labels I labels k ok long room agree free first =
           record {
             closed = λ a is. ap (λ l. l == own) (All-contains (λ b. at I labels b.from ≡ at I labels b.to) I.activities a agree is);
             free = λ e event inside.
-                let w = place_of I e event in
+                let w = index_of I e event in
                 let here : w.0 < length labels = omega (arith, w.1, long) in
-                let same : get_or labels w.0 0 ≡ own = sym (at_place I labels w.0 ok w.1 here) ∙ ap (at I labels) w.2 ∙ eqb-true (at I labels e) own inside in
+                let same : get_or labels w.0 0 ≡ own = sym (at_index I labels w.0 ok w.1 here) ∙ ap (at I labels) w.2 ∙ eqb-true (at I labels e) own inside in
                 subst (λ f. window_of I f ≡ None) w.2 (free w.0 w.1 same);
           };
-      inside = eq-eqb _ _ (at_place I labels k ok room (omega (arith, room, long)));
+      inside = eq-eqb _ _ (at_index I labels k ok room (omega (arith, room, long)));
       none_before = λ j before. ne_eqb _ _ (λ same.
           let within : j < length (event_ids I) = omega (arith, before, room) in
-          first j before (sym (at_place I labels j ok within (omega (arith, within, long))) ∙ same));
+          first j before (sym (at_index I labels j ok within (omega (arith, within, long))) ∙ same));
     }
   where
     own : ℕ
@@ -42,11 +42,11 @@ least_of_labels I labels k ok long room agree free first =
     part : ℕ → Bool
     part e = at I labels e == own
 
--- the label of an event is the one at its place
+-- the label of an event is the one at its index
 pub label_at : (I : Network) (labels events : List ℕ) (k e : ℕ) → IsNetwork I → events ≡ event_ids I → length labels ≡ length events → k < length events → get_or events k 0 ≡ e → at I labels e ≡ get_or labels k 0
 label_at I labels events k e ok is long room here =
     let same : length events ≡ length (event_ids I) = ap length is in
-    subst (λ f. at I labels f ≡ get_or labels k 0) (ap (λ ids. get_or ids k 0) (sym is) ∙ here) (at_place I labels k ok (omega (arith, room, same)) (omega (arith, room, long)))
+    subst (λ f. at I labels f ≡ get_or labels k 0) (ap (λ ids. get_or ids k 0) (sym is) ∙ here) (at_index I labels k ok (omega (arith, room, same)) (omega (arith, room, long)))
 
 -- ---- marks
 
@@ -60,22 +60,22 @@ marked_all b zero k is = absurd (false≢true is)
 marked_all b (suc n) zero is = is
 marked_all b (suc n) (suc k) is = marked_all b n k is
 
--- of no places all is true
+-- of no indices all is true
 pub first_none : (I : Network) (labels : List ℕ) (k : ℕ) → IsFirst I labels 0 k
 first_none I labels k = record { own = λ l. absurd (omega (arith, l)); others = λ i l. absurd (omega (arith, l)) }
 
--- one place more
-pub first_more : (I : Network) (labels : List ℕ) (places k : ℕ) → IsFirst I labels places k → (k ≡ places → get_or labels places 0 ≡ places)
-    → (get_or labels places 0 ≡ k → (k ≤ places) × (window_of I (get_or (event_ids I) places 0) ≡ None)) → IsFirst I labels (places + 1) k
-first_more I labels places k first own label =
+-- one index more
+pub first_more : (I : Network) (labels : List ℕ) (indices k : ℕ) → IsFirst I labels indices k → (k ≡ indices → get_or labels indices 0 ≡ indices)
+    → (get_or labels indices 0 ≡ k → (k ≤ indices) × (window_of I (get_or (event_ids I) indices 0) ≡ None)) → IsFirst I labels (indices + 1) k
+first_more I labels indices k first own label =
     record {
       own = λ l.
-          elim (cases_eq k places) [
+          elim (cases_eq k indices) [
             | inl same ↦ subst (λ j. get_or labels j 0 ≡ j) (sym same) (own same)
             | inr apart ↦ first.own (omega (arith, l, apart))
           ];
       others = λ i l is.
-          elim (cases_eq i places) [
+          elim (cases_eq i indices) [
             | inl same ↦ let w = label (ap (λ j. get_or labels j 0) (sym same) ∙ is) in (
               let low = w.0 in omega (arith, low, same),
               subst (λ j. window_of I (get_or (event_ids I) j 0) ≡ None) (sym same) w.1,

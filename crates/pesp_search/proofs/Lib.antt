@@ -13,14 +13,15 @@ pub mod Fronts
 pub mod Labels
 pub mod Maps
 pub mod Members
+pub mod Moves
 pub mod Networks
 pub mod Order
 pub mod Placed
 pub mod Residues
 pub mod Rest
+pub mod Searching
 pub mod Seen
 pub mod Sizes
 pub mod Sought
-pub mod Stations
 pub mod Timed
 pub mod Turns

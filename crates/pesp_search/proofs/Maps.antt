@@ -17,18 +17,18 @@ use Rattle.pesp_search_network.specs.Arcs as arcs
 use Rattle.pesp_search_network.specs.declared.arc.Arc.{Arc}
 use Rattle.pesp_search.specs.Arcs.{AreArcsOf, IsArcOf, IsNetworkOf}
 use Rattle.pesp_search.specs.Optima.{IsMember}
-use Rattle.pesp_search.specs.Places.{at, timetable_of}
-use Rattle.pesp_search.specs.Walk.{IsFull}
-use Rattle.pesp_search.proofs.Events.{place_of}
+use Rattle.pesp_search.specs.Paths.{at, timetable_of}
+use Rattle.pesp_search.specs.Nodes.{IsFull}
+use Rattle.pesp_search.proofs.Events.{index_of}
 use Rattle.pesp_search.proofs.Members.{full_of_member, member_in_domains, member_of_full}
-use Rattle.pesp_search.proofs.Stations.{no_pairs}
-use Rattle.pesp_search.proofs.Timed.{at_place, place_has_event, values_of-zip}
+use Rattle.pesp_search.proofs.Moves.{no_pairs}
+use Rattle.pesp_search.proofs.Timed.{at_index, index_has_event, values_of-zip}
 
 -- ---- arcs and their activities
 
 -- the time of an end is the residue at its index
 time_at_end : (I : Network) (map : List ℕ) (e k : ℕ) → IsNetwork I → length map ≡ length (event_ids I) → k < length (event_ids I) → get_or (event_ids I) k 0 ≡ e → at I map e ≡ get_or map k 0
-time_at_end I map e k ok long within is = subst (λ f. at I map f ≡ get_or map k 0) is (at_place I map k ok within (omega (arith, within, long)))
+time_at_end I map e k ok long within is = subst (λ f. at I map f ≡ get_or map k 0) is (at_index I map k ok within (omega (arith, within, long)))
 
 -- an arc costs what its activity does, and is met where that is
 cost_same : (I : Network) (map : List ℕ) (a : Activity) (x : Arc) → IsNetwork I → length map ≡ length (event_ids I) → IsArcOf (event_ids I) a x → arcs.cost_in I.period map x ≡ tension.cost_in (timetable_of I map) a
@@ -80,7 +80,7 @@ full_of_met I N map ok of is =
       met = λ a among.
           (met_is I.period a.span (at I map a.from) (at I map a.to) (let low = ok.period_low in omega (arith, low))).0
           (All-contains (λ b. IsTrue (meets (timetable_of I map) b)) I.activities a met among);
-      window = λ e event. window e (place_of I e event);
+      window = λ e event. window e (index_of I e event);
     }
   where
     long : length map ≡ length (event_ids I)
@@ -135,6 +135,6 @@ map_of_member I N map ok of long member =
     inside v within =
         let e : ℕ = get_or (event_ids I) v 0 in
         let low : get_or map v 0 < I.period = All-get_or (λ t. t < I.period) map v 0 (omega (arith, within, long)) full.below in
-        let domain = member_in_domains I [] map ok full tt e (place_has_event I v within) in
+        let domain = member_in_domains I [] map ok full tt e (index_has_event I v within) in
         (of.rows v (get_or map v 0) within low).1
-        (subst (InDomains I [] e) (at_place I map v ok within (omega (arith, within, long))) (subst (λ ps. InDomains I ps e (at I map e)) (no_pairs (event_ids I)) domain))
+        (subst (InDomains I [] e) (at_index I map v ok within (omega (arith, within, long))) (subst (λ ps. InDomains I ps e (at I map e)) (no_pairs (event_ids I)) domain))

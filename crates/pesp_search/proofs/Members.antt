@@ -17,9 +17,9 @@ use Rattle.pesp_domains.proofs.Laws.{InDomains-stands, InDomains-admitted}
 use Rattle.pesp_tension.specs.Timetables.{Times}
 use Rattle.pesp_tension.specs.Answers.{agrees, meets, time_at}
 use Rattle.pesp_search.specs.Optima.{IsMember, Precedes}
-use Rattle.pesp_search.specs.Places.{HasEmpty, at, pairs_of, timetable_of}
-use Rattle.pesp_search.specs.Walk.{Before, Extends, HasEach, IsEmptyFrom, IsFull, IsLeastFrom, IsNext, IsSpent, Nothing}
-use Rattle.pesp_search.proofs.Timed.{at_place, event_of_pair, events_ascend, extends_in, keys_of-zip, pair_of_event, pairs_only, place_has_event, values_of-zip, zip-of_entries}
+use Rattle.pesp_search.specs.Paths.{HasEmpty, at, pairs_of, timetable_of}
+use Rattle.pesp_search.specs.Nodes.{Before, Extends, HasEach, IsEmptyFrom, IsFull, IsLeastFrom, IsNext, IsSpent, Nothing}
+use Rattle.pesp_search.proofs.Timed.{at_index, event_of_pair, events_ascend, extends_in, keys_of-zip, pair_of_event, pairs_only, index_has_event, values_of-zip, zip-of_entries}
 use Rattle.pesp_instance.proofs.Tables.{length-values-keys as length-values_of}
 
 -- both ends of an activity of the instance are events
@@ -155,7 +155,7 @@ before_of_zipped (e ∷ ids) (x ∷ xs) (y ∷ ys) (inr (same, later)) = inr (sa
 pub before_of_precedes : (I : Network) (xs ys : List ℕ) → length xs ≡ length (event_ids I) → length ys ≡ length (event_ids I) → Precedes (timetable_of I xs).entries (timetable_of I ys).entries → Before xs ys 0
 before_of_precedes I xs ys _ _ h = before_of_zipped (event_ids I) xs ys h
 
--- ---- what to do at a place
+-- ---- what to do at a node
 
 -- where some event has no residue left, no full list of times extends the path
 pub spent_dead : (I : Network) (pushes : List Pair) (path : List ℕ) (from : ℕ) → IsNetwork I → pushes ≡ pairs_of (event_ids I) path → HasEmpty I pushes → IsSpent Nothing I path from
@@ -169,8 +169,8 @@ pub next_in_domains : (I : Network) (pushes : List Pair) (path times : List ℕ)
 next_in_domains I pushes path times ok is room full x =
     let next : ℕ = get_or (event_ids I) (length path) 0 in
     let within : length path < length times = omega (arith, room, full.events) in
-    subst (InDomains I pushes next) (at_place I times (length path) ok room within)
-    (subst (λ ps. InDomains I ps next (at I times next)) (sym is) (member_in_domains I path times ok full x next (place_has_event I (length path) room)))
+    subst (InDomains I pushes next) (at_index I times (length path) ok room within)
+    (subst (λ ps. InDomains I ps next (at I times next)) (sym is) (member_in_domains I path times ok full x next (index_has_event I (length path) room)))
 
 -- where the next event has no residue left from here on, no full list of times goes on from here
 pub spent_none : (I : Network) (pushes : List Pair) (path : List ℕ) (from : ℕ) → IsNetwork I → pushes ≡ pairs_of (event_ids I) path → length path < length (event_ids I) → IsEmptyFrom I pushes (get_or (event_ids I) (length path) 0) from → IsSpent Nothing I path from

@@ -14,7 +14,7 @@ use Rattle.pesp_search_bounds.specs.Rows.{AreDomains}
 use Rattle.pesp_search_network.specs.Arcs.{Arcs}
 use Rattle.pesp_search_network.specs.declared.arc.Arc.{Arc}
 use Rattle.pesp_search.specs.Arcs.{AreArcsOf, IsArcOf, IsNetworkOf, tested}
-use Rattle.pesp_search.proofs.Events.{place_of}
+use Rattle.pesp_search.proofs.Events.{index_of}
 
 -- ---- the index of an event
 
@@ -28,17 +28,17 @@ never_fall xs rises i j low within =
 
 -- a number among others does not lie between two neighbours
 pub not_between : (xs : List ℕ) (x i : ℕ) → ((k : ℕ) → k < i → get_or xs k 0 < x) → ((k : ℕ) → i ≤ k → k < length xs → x < get_or xs k 0) → Contains xs x → ⊥
-not_between xs x i before behind is =
+not_between xs x i before after is =
     let same = get_or_default xs is.0 0 x is.1 in
     elim (cases_order is.0 i) [
-      | inl here ↦ omega (arith, behind is.0 (omega (arith, here)) is.1, same, is.2)
+      | inl here ↦ omega (arith, after is.0 (omega (arith, here)) is.1, same, is.2)
       | inr (inl low) ↦ omega (arith, before is.0 low, same, is.2)
-      | inr (inr high) ↦ omega (arith, behind is.0 (omega (arith, high)) is.1, same, is.2)
+      | inr (inr high) ↦ omega (arith, after is.0 (omega (arith, high)) is.1, same, is.2)
     ]
 
 -- an event of an instance is among its events
 pub event_among : (I : Network) (e : ℕ) → IsTrue (has_event I e) → Contains (event_ids I) e
-event_among I e is = let w = place_of I e is in (w.0, w.1, (let same = get_or_default (event_ids I) w.0 e 0 w.1 in same ∙ w.2))
+event_among I e is = let w = index_of I e is in (w.0, w.1, (let same = get_or_default (event_ids I) w.0 e 0 w.1 in same ∙ w.2))
 
 -- ---- arcs of activities
 
@@ -64,57 +64,57 @@ room_for_arc I ids front left a xs ok all are =
 
 -- ---- rows
 
--- the event and the residue of a place are within their limits, and stand there
-pub event_of_place : (place events width : ℕ) → 0 < width → place < events * width → place / width < events
-event_of_place place events width some within = (div-lt_iff_lt-mul some).1 within
+-- the event and the residue of an index are within their limits, and stand there
+pub event_of_index : (index events width : ℕ) → 0 < width → index < events * width → index / width < events
+event_of_index index events width some within = (div-lt_iff_lt-mul some).1 within
 
-pub residue_of_place : (place width : ℕ) → 0 < width → place % width < width
-residue_of_place place width some = mod-lt place some
+pub residue_of_index : (index width : ℕ) → 0 < width → index % width < width
+residue_of_index index width some = mod-lt index some
 
-pub place_again : (place width : ℕ) → (place / width) * width + place % width ≡ place
-place_again place width = omega (arith, mod-add-div place width)
+pub index_again : (index width : ℕ) → (index / width) * width + index % width ≡ index
+index_again index width = omega (arith, mod-add-div index width)
 
--- what is known of the rows while residues are forbidden: those before the place are as the tests, and the others full
-pub record AreCopied (rows tests : List Bool) (place : ℕ) : Type 0 where
+-- what is known of the rows while residues are forbidden: those before the index are as the tests, and the others full
+pub record AreCopied (rows tests : List Bool) (index : ℕ) : Type 0 where
   pub long : length rows ≡ length tests
-  pub before : (k : ℕ) → k < place → get_or rows k false ≡ get_or tests k false
-  pub behind : (k : ℕ) → place ≤ k → k < length tests → get_or rows k false ≡ true
+  pub before : (k : ℕ) → k < index → get_or rows k false ≡ get_or tests k false
+  pub full : (k : ℕ) → index ≤ k → k < length tests → get_or rows k false ≡ true
 
--- full rows before the first place
+-- full rows before the first index
 pub copied_none : (tests : List Bool) (n : ℕ) → length tests ≡ n → AreCopied (replicate n true) tests 0
 copied_none tests n long =
     record {
       long = length-replicate n true ∙ sym long;
       before = λ k less. absurd (omega (arith, less));
-      behind = λ k low less. get_or-replicate n k true false (omega (arith, less, long));
+      full = λ k low less. get_or-replicate n k true false (omega (arith, less, long));
     }
 
 -- one residue more is forbidden, or it has a test
-pub copied_more : (rows tests : List Bool) (place : ℕ) (test : Bool) → place < length tests → AreCopied rows tests place → get_or tests place false ≡ test → AreCopied (tested rows place test) tests (place + 1)
-copied_more rows tests place true within are is =
+pub copied_more : (rows tests : List Bool) (index : ℕ) (test : Bool) → index < length tests → AreCopied rows tests index → get_or tests index false ≡ test → AreCopied (tested rows index test) tests (index + 1)
+copied_more rows tests index true within are is =
     record {
       long = are.long;
       before = λ k less.
-          elim (cases_eq k place) [
-            | inl same ↦ rw same (are.behind place (omega arith) within ∙ sym is)
+          elim (cases_eq k index) [
+            | inl same ↦ rw same (are.full index (omega arith) within ∙ sym is)
             | inr apart ↦ are.before k (omega (arith, less, apart))
           ];
-      behind = λ k low less. are.behind k (omega (arith, low)) less;
+      full = λ k low less. are.full k (omega (arith, low)) less;
     }
-copied_more rows tests place false within are is =
+copied_more rows tests index false within are is =
     record {
-      long = length-set rows place false ∙ are.long;
+      long = length-set rows index false ∙ are.long;
       before = λ k less.
-          elim (cases_eq k place) [
-            | inl same ↦ rw same (get_or-set_same rows place false false (omega (arith, within, are.long)) ∙ sym is)
-            | inr apart ↦ get_or-set_other rows place k false false apart ∙ are.before k (omega (arith, less, apart))
+          elim (cases_eq k index) [
+            | inl same ↦ rw same (get_or-set_same rows index false false (omega (arith, within, are.long)) ∙ sym is)
+            | inr apart ↦ get_or-set_other rows index k false false apart ∙ are.before k (omega (arith, less, apart))
           ];
-      behind = λ k low less. get_or-set_other rows place k false false (λ e. omega (arith, low, e)) ∙ are.behind k (omega (arith, low)) less;
+      full = λ k low less. get_or-set_other rows index k false false (λ e. omega (arith, low, e)) ∙ are.full k (omega (arith, low)) less;
     }
 
--- behind the last place they are the tests
-pub all_copied : (rows tests : List Bool) (place : ℕ) → length tests ≤ place → AreCopied rows tests place → rows ≡ tests
-all_copied rows tests place over are = ext_get_or false rows tests are.long (λ k less. are.before k (omega (arith, less, are.long, over)))
+-- after the last index they are the tests
+pub all_copied : (rows tests : List Bool) (index : ℕ) → length tests ≤ index → AreCopied rows tests index → rows ≡ tests
+all_copied rows tests index over are = ext_get_or false rows tests are.long (λ k less. are.before k (omega (arith, less, are.long, over)))
 
 -- ---- the whole
 
@@ -134,12 +134,12 @@ network_is I N pushes tests none period events arcs rows domains =
       period = period;
       events = events;
       arcs = arcs;
-      rows = λ place r within low.
-          let is = subst (λ ps. AreDomains I ps tests) none domains place r within in
+      rows = λ index r within low.
+          let is = subst (λ ps. AreDomains I ps tests) none domains index r within in
           rw (period, rows) (rw (lt-ltb r I.period low) at is);
     }
 
--- what stands at the place of an event and a residue stands at the place
-pub set_again : (N : Arcs) (place width : ℕ) (test : Bool) → width ≡ N.period → test ≡ false
-    → ◌≡◌ {A = Arcs} (record N { rows = slice_set N.rows ((place / width) * N.period + place % width) false }) (record N { rows = tested N.rows place test })
-set_again N place width test same none = rw (none, same, place_again place N.period) refl
+-- what stands at the index of an event and a residue stands at the index
+pub set_again : (N : Arcs) (index width : ℕ) (test : Bool) → width ≡ N.period → test ≡ false
+    → ◌≡◌ {A = Arcs} (record N { rows = slice_set N.rows ((index / width) * N.period + index % width) false }) (record N { rows = tested N.rows index test })
+set_again N index width test same none = rw (none, same, index_again index N.period) refl

@@ -1,24 +1,13 @@
--- How many nodes of the tree are left at a place, that a search counts no more, and that there is at most one size.
-use Rattle.std.proofs.Common.{◌≡◌, ℕ, ◌+◌, ◌-◌, ◌<◌, ◌≤◌, zero, suc, List, [], ◌∷◌, ◌++◌, length, refl, sym, ◌∙◌, subst, inl, inr, ◌⊎◌, arith, append_assoc}
+-- How many nodes of the tree are left at a node, that a search counts no more, and that there is at most one size.
+use Rattle.std.proofs.Common.{◌≡◌, ℕ, ◌+◌, ◌-◌, ◌<◌, ◌≤◌, zero, suc, List, [], ◌∷◌, ◌++◌, length, refl, sym, ◌∙◌, subst, inl, inr, arith, append_assoc}
 use Rattle.std.proofs.lemmas.List.{append-nil}
 use Rattle.pesp_instance.specs.Network.{Network, event_ids}
-use Rattle.pesp_search.specs.Places.{InNext, IsDead}
+use Rattle.pesp_search.specs.Paths.{InNext, IsDeadEnd}
 use Rattle.pesp_search.specs.Tree.{AreNodes, IsSize, IsSumFrom, IsTreeSize}
-use Rattle.pesp_search.specs.Walk.{IsNext}
+use Rattle.pesp_search.specs.Nodes.{IsCounted, IsNext, Left}
 use Rattle.pesp_search.proofs.Decided.{size_exists}
 
--- n nodes are there from residue r on, at the event next after the path, with so many events without a time behind it
-abbrev pub IsRest : Network → ℕ → List ℕ → ℕ → ℕ → Type 0
-IsRest I free path r n = (residues : ℕ) × (r + residues ≡ I.period) × IsSumFrom (IsSize I free) I path residues r n
-
--- n nodes below the prefix are left at the place that the path leads to from there: those of later residues, at each event of the path and at the next one
-abbrev pub Left : Network → ℕ → List ℕ → List ℕ → ℕ → ℕ → Type 0
-Left I zero prefix [] from n = n ≡ 0
-Left I (suc free) prefix [] from n = (IsDead I prefix × (n ≡ 0)) ⊎ IsRest I free prefix from n
-Left I zero prefix (x ∷ path) from n = ⊥
-Left I (suc free) prefix (x ∷ path) from n = (a : ℕ) × Left I free (prefix ++ x ∷ []) path from a × ((b : ℕ) × IsRest I free prefix (x + 1) b × (n ≡ a + b))
-
--- at the first place all nodes below the prefix are left
+-- at the root all nodes below the prefix are left
 pub left_start : (I : Network) (free : ℕ) (prefix : List ℕ) (n : ℕ) → IsSize I free prefix n → Left I free prefix [] 0 n
 left_start I zero prefix n size = size
 left_start I (suc free) prefix n (inl dead) = inl dead
@@ -45,12 +34,12 @@ sum_skip I free path residues from (suc more) n sum =
     split later (inr (_, (m, size, (k, sum, total)))) = up k (later k sum) (omega (arith, total))
 
 -- a step down takes one node
-pub left_take : (I : Network) (free : ℕ) (prefix path all : List ℕ) (from r n : ℕ) → prefix ++ path ≡ all → length path < free → (IsDead I all → ⊥) → from ≤ r → r < I.period → InNext I all r → Left I free prefix path from n → (m : ℕ) × Left I free prefix (path ++ r ∷ []) 0 m × (m + 1 ≤ n)
-left_take I zero prefix path all from r n is room live above below inside left = absurd (omega (arith, room))
-left_take I (suc free) prefix [] all from r n is room live above below inside left =
+pub left_descend : (I : Network) (free : ℕ) (prefix path all : List ℕ) (from r n : ℕ) → prefix ++ path ≡ all → length path < free → (IsDeadEnd I all → ⊥) → from ≤ r → r < I.period → InNext I all r → Left I free prefix path from n → (m : ℕ) × Left I free prefix (path ++ r ∷ []) 0 m × (m + 1 ≤ n)
+left_descend I zero prefix path all from r n is room live above below inside left = absurd (omega (arith, room))
+left_descend I (suc free) prefix [] all from r n is room live above below inside left =
     let same : prefix ≡ all = sym (append-nil prefix) ∙ is in
     elim left [
-      | inl dead ↦ absurd (live (subst (IsDead I) same dead.0))
+      | inl dead ↦ absurd (live (subst (IsDeadEnd I) same dead.0))
       | inr rest ↦
           let at : InNext I prefix r = subst (λ q. InNext I q r) (sym same) inside in
           let more : ℕ = r - from in
@@ -71,9 +60,9 @@ left_take I (suc free) prefix [] all from r n is room live above below inside le
         let fits : r + 1 + (I.period - suc r) ≡ I.period = omega (arith, below) in
         let next : suc r ≡ r + 1 = omega arith in
         (m + k, (m, left_start I free (prefix ++ r ∷ []) m size, (k, (I.period - suc r, fits, subst (λ f. IsSumFrom (IsSize I free) I prefix (I.period - suc r) f k) next sum), refl)), omega (arith, total))
-left_take I (suc free) prefix (x ∷ path) all from r n is room live above below inside (a, left, (b, rest, total)) =
+left_descend I (suc free) prefix (x ∷ path) all from r n is room live above below inside (a, left, (b, rest, total)) =
     let same : (prefix ++ x ∷ []) ++ path ≡ all = append_assoc prefix (x ∷ []) path ∙ is in
-    let deeper = left_take I free (prefix ++ x ∷ []) path all from r a same (omega (arith, room)) live above below inside left in
+    let deeper = left_descend I free (prefix ++ x ∷ []) path all from r a same (omega (arith, room)) live above below inside left in
     let fewer = deeper.2 in
     (deeper.0 + b, (deeper.0, deeper.1, (b, rest, refl)), omega (arith, fewer, total))
 
@@ -89,14 +78,6 @@ left_back I (suc free) prefix (y ∷ path) x from n (a, left, (b, rest, total)) 
 
 -- ---- the nodes of a search
 
--- the tree has a size, and the nodes so far, with those that are left at the place, are no more
-pub record IsCounted (I : Network) (path : List ℕ) (from nodes : ℕ) : Type 0 where
-  pub size : ℕ
-  pub tree : IsTreeSize I size
-  pub left : ℕ
-  pub rest : Left I (length (event_ids I)) [] path from left
-  pub within : nodes + left ≤ size
-
 -- before the first node all are left
 pub counted_start : (I : Network) → IsCounted I [] 0 0
 counted_start I =
@@ -104,9 +85,9 @@ counted_start I =
     record { size = size.0; tree = size.1; left = size.0; rest = left_start I (length (event_ids I)) [] size.0 size.1; within = omega arith }
 
 -- a step down counts one
-pub counted_take : (P : List ℕ → Type 0) (I : Network) (path : List ℕ) (from r nodes more : ℕ) → IsNext P I path from r → more ≤ nodes + 1 → IsCounted I path from nodes → IsCounted I (path ++ r ∷ []) 0 more
-counted_take P I path from r nodes more next one counted =
-    let taken = left_take I (length (event_ids I)) [] path path from r counted.left refl next.room next.alive next.above next.below next.inside counted.rest in
+pub counted_descend : (P : List ℕ → Type 0) (I : Network) (path : List ℕ) (from r nodes more : ℕ) → IsNext P I path from r → more ≤ nodes + 1 → IsCounted I path from nodes → IsCounted I (path ++ r ∷ []) 0 more
+counted_descend P I path from r nodes more next one counted =
+    let taken = left_descend I (length (event_ids I)) [] path path from r counted.left refl next.room next.alive next.above next.below next.inside counted.rest in
     record { size = counted.size; tree = counted.tree; left = taken.0; rest = taken.1; within = omega (arith, counted.within, taken.2, one) }
 
 -- a step back counts none
@@ -122,7 +103,7 @@ counted_nodes I path from nodes counted = (counted.size, counted.tree, omega (ar
 -- and fewer where a residue is yet to be tried
 pub counted_below : (P : List ℕ → Type 0) (I : Network) (path : List ℕ) (from r nodes : ℕ) → IsNext P I path from r → IsCounted I path from nodes → (size : ℕ) × IsTreeSize I size × (nodes < size)
 counted_below P I path from r nodes next counted =
-    let taken = counted_take P I path from r nodes (nodes + 1) next (omega arith) counted in
+    let taken = counted_descend P I path from r nodes (nodes + 1) next (omega arith) counted in
     (taken.size, taken.tree, omega (arith, taken.within))
 
 -- no node at all is never more than the tree has

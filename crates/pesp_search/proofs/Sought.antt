@@ -17,15 +17,15 @@ use Rattle.pesp_base.specs.declared.memory.Memory.{Memory}
 use Rattle.pesp_search.specs.declared.answer.Best.{Best}
 use Rattle.pesp_search.specs.declared.differences.Sought.{Sought}
 use Rattle.pesp_search.specs.Optima.{IsBound, IsMember, IsOptimum, Precedes}
-use Rattle.pesp_search.specs.Places.{HasEmpty, IsDead, timetable_of}
+use Rattle.pesp_search.specs.Paths.{HasEmpty, IsDeadEnd, timetable_of}
 use Rattle.pesp_search.specs.Sought.{IsCap, IsMapOf, IsSought, IsSoughtMap, best_of_map}
 use Rattle.pesp_search.specs.Tried.{IsEnd, IsFound, IsOutcome}
-use Rattle.pesp_search.specs.Walk.{Before}
+use Rattle.pesp_search.specs.Nodes.{Before}
 use Rattle.pesp_search.proofs.Ends.{dead_size, no_member}
 use Rattle.pesp_search.proofs.Maps.{full_of_met, map_of_member, member_of_map}
 use Rattle.pesp_search.proofs.Costs.{full_is_cost, known_is_cost, known_small}
 use Rattle.pesp_search.proofs.Members.{before_of_precedes, member_timed}
-use Rattle.pesp_search.proofs.Stations.{no_pairs}
+use Rattle.pesp_search.proofs.Moves.{no_pairs}
 
 -- ---- the order of maps and of timetables
 
@@ -121,10 +121,10 @@ ended_outcome I bound None best is some = (is, tt)
 ended_outcome I bound (Some l) best is some = (is, (omega arith, λ zero. absurd (some (ap Some zero))))
 
 -- and where a domain is empty within 0 too
-pub dead_outcome : (I : Network) (bound limit : Option ℕ) → IsNetwork I → IsDead I [] → IsOutcome I bound limit false None 0
+pub dead_outcome : (I : Network) (bound limit : Option ℕ) → IsNetwork I → IsDeadEnd I [] → IsOutcome I bound limit false None 0
 dead_outcome I bound None ok dead = (λ m. no_member I m ok dead, tt)
 dead_outcome I bound (Some l) ok dead = (λ m. no_member I m ok dead, (omega arith, λ _. dead_size I dead))
 
 -- with nothing pushed a domain that is empty is so in the whole tree
-pub dead_of_empty : (I : Network) (pushes : List Pair) → pushes ≡ [] → HasEmpty I pushes → IsDead I []
+pub dead_of_empty : (I : Network) (pushes : List Pair) → pushes ≡ [] → HasEmpty I pushes → IsDeadEnd I []
 dead_of_empty I pushes none is = subst (HasEmpty I) (none ∙ sym (no_pairs (event_ids I))) is

@@ -23,8 +23,8 @@ use Rattle.pesp_search.specs.Found.{AtLeast}
 use Rattle.pesp_search.proofs.Costs.{all_timed, sum_same}
 use Rattle.pesp_search.proofs.Members.{ends_of}
 use Rattle.pesp_search.specs.Parts.{IsFreePart, IsLeast, turned, turned_in}
-use Rattle.pesp_search.specs.Places.{at, timetable_of}
-use Rattle.pesp_search.specs.Walk.{Before, Extends, IsAt, IsFull, IsSpent, full_cost}
+use Rattle.pesp_search.specs.Paths.{at, timetable_of}
+use Rattle.pesp_search.specs.Nodes.{Before, Extends, IsAt, IsFull, IsSpent, full_cost}
 
 -- ---- one activity
 
@@ -165,9 +165,9 @@ module _ (I : Network) (part : ℕ → Bool) (k : ℕ) (times : List ℕ) (ok : 
       let w = ends_turned a is (ends_of I ok a is) in
       ap₂ (λ r s. a.weight * slack_of I.period a.span r s) w.1 w.2 ∙ ap (λ x. a.weight * x) (slack_both a.span w.0 (at I times a.from) (at I times a.to)))
 
--- ---- at a place
+-- ---- at a node
 
--- times that begin with the path and take an earlier time at the next event come before the place
+-- times that begin with the path and take an earlier time at the next event come before the node
 before_of_extends : (times path : List ℕ) (from : ℕ) → Extends times path → length path < length times → get_or times (length path) 0 < from → Before times path from
 before_of_extends [] path from x l less = absurd (omega (arith, l))
 before_of_extends (t ∷ times) [] from x l less = less
@@ -178,9 +178,9 @@ at_least_same : (I : Network) (limit : Option ℕ) (times others : List ℕ) →
 at_least_same I None times others same h = h
 at_least_same I (Some limit) times others same h = omega (arith, same, h)
 
--- at the least event of a part without a window nothing is left to try behind residue 0
+-- at the least event of a part without a window nothing is left to try after residue 0
 pub spent_turned : (I : Network) (limit : Option ℕ) (pushes : List Pair) (path : List ℕ) (from : ℕ) → IsNetwork I → length path < length (event_ids I) → IsLeast I (length path) → 0 < from → IsAt (AtLeast I limit) I pushes path from → IsSpent (AtLeast I limit) I path from
-spent_turned I limit pushes path from ok room least later at_place =
+spent_turned I limit pushes path from ok room least later at_node =
     record { passes = λ times full x _. passes times full x }
   where
     passes : (times : List ℕ) → IsFull I times → Extends times path → AtLeast I limit times
@@ -199,4 +199,4 @@ spent_turned I limit pushes path from ok room least later at_place =
         before_of_extends twin path from (extends-turned I.period least.part k (event_ids I) times path full.events x least.none_before)
         (omega (arith, room, long)) (omega (arith, zero_there, later)) in
         at_least_same I limit times twin (cost_turned I least.part k times ok least.is_free full)
-        (at_place.passed twin (full_turned I least.part k times ok least.is_free full) before)
+        (at_node.passed twin (full_turned I least.part k times ok least.is_free full) before)

@@ -6,7 +6,7 @@ use Rattle.pesp_instance.specs.Network.{Network, event_ids}
 use Rattle.pesp_search_network.specs.Arcs.{Arcs, has}
 use Rattle.pesp_search_network.specs.declared.arc.Arc.{Arc}
 
--- the arc leads between the places of the activity's ends, with its span and weight
+-- the arc leads between the indices of the activity's ends, with its span and weight
 pub record IsArcOf (ids : List ℕ) (a : Activity) (arc : Arc) : Type 0 where
   pub from : arc.from < length ids
   pub to : arc.to < length ids
@@ -22,14 +22,14 @@ AreArcsOf ids [] (arc ∷ arcs) = ⊥
 AreArcsOf ids (a ∷ activities) [] = ⊥
 AreArcsOf ids (a ∷ activities) (arc ∷ arcs) = IsArcOf ids a arc × AreArcsOf ids activities arcs
 
--- the rows without what stands at the place, where there is no test for it
+-- the rows without what stands at the index, where there is no test for it
 abbrev pub tested : List Bool → ℕ → Bool → List Bool
-tested rows place true = rows
-tested rows place false = slice_set rows place false
+tested rows index true = rows
+tested rows index false = slice_set rows index false
 
--- the network has the period, the events by their places, an arc for each activity, and for each event its domain
+-- the network has the period, the events by their indices, an arc for each activity, and for each event its domain
 pub record IsNetworkOf (I : Network) (N : Arcs) : Type 0 where
   pub period : N.period ≡ I.period
   pub events : N.events ≡ length (event_ids I)
   pub arcs : AreArcsOf (event_ids I) I.activities N.arcs
-  pub rows : (place r : ℕ) → place < length (event_ids I) → r < I.period → IsTrue (has N place r) ↔ InDomains I [] (slice_index (event_ids I) place) r
+  pub rows : (index r : ℕ) → index < length (event_ids I) → r < I.period → IsTrue (has N index r) ↔ InDomains I [] (slice_index (event_ids I) index) r

@@ -5,7 +5,7 @@ use Rattle.pesp_search_least.specs.declared.outcome.Candidate.{Candidate}
 use Rattle.pesp_search_least.specs.Order.{IsFirst}
 use Rattle.pesp_search_least.specs.Sums.{IsCandidate, IsLowerBound, Sums}
 use Rattle.pesp_search.specs.declared.answer.Best.{Best}
-use Rattle.pesp_search.specs.Places.{timetable_of}
+use Rattle.pesp_search.specs.Paths.{timetable_of}
 use Rattle.pesp_search.specs.Tried.{IsEnd, IsFound, IsWithin}
 
 -- costs below the cap are within the bound, and all costs within it that a timetable can have are below the cap

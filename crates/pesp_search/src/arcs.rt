@@ -58,17 +58,17 @@ fn add_arcs(network: &mut Network, instance: &Instance, events: &[EventId]) -> R
     Ok(())
 }
 
-/// Forbids the residue at a place of the rows, where there is no test for it.
-fn forbid_untested(network: &mut Network, period: Period, place: usize, test: bool)
+/// Forbids the residue at an index of the rows, where there is no test for it.
+fn forbid_untested(network: &mut Network, period: Period, index: usize, test: bool)
     requires period { network.old.period ≡ period }
-    requires place { place < network.old.events * period }
-    ensures { network.new ≡ record network.old { rows = tested network.old.rows place test } }
+    requires index { index < network.old.events * period }
+    ensures { network.new ≡ record network.old { rows = tested network.old.rows index test } }
 {
     if test {
         return;
     }
     let width = usize::from(period.get());
-    network.forbid(place / width, (place % width) as u16);
+    network.forbid(index / width, (index % width) as u16);
 }
 
 /// A network without arcs, whose events may stand at the residues for which there is a test.
@@ -84,8 +84,8 @@ fn without_arcs(
         network ≡ record { period = period; events = events; arcs = []; rows = tests.now }) }
 {
     let mut network = Network::new(alloc, period, events)?;
-    for place in 0..tests.len() {
-        forbid_untested(&mut network, period, place, tests[place]);
+    for index in 0..tests.len() {
+        forbid_untested(&mut network, period, index, tests[index]);
     }
     Ok(network)
 }

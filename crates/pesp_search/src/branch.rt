@@ -1,12 +1,12 @@
-//! Where a search stands.
+//! The path to the node at which a search stands.
 
 ghost use Rattle.std.specs.Prelude.{◌≡◌, ◌≤◌, ◌<◌, ◌*◌, ◌-◌, ◌++◌, ◌∷◌, [], IsSome, IsTrue, IfOk, None, length, filter, sum_by, slice_index, vec_capacity};
 ghost use Rattle.pesp_base.specs.Limits.{greatest_period, greatest_weight, max_activities};
 ghost use Rattle.pesp_instance.specs.Network.{IsNetwork, around, event_ids};
 ghost use Rattle.pesp_tension.specs.Answers.{cost_in, first_missing};
 ghost use Rattle.pesp_tension.specs.Timetables.{time_of, with_time};
-ghost use Rattle.pesp_search.specs.Branch.{IsBranch, IsFront, IsPopped, is_behind};
-ghost use Rattle.pesp_search.specs.Walk.{known_cost};
+ghost use Rattle.pesp_search.specs.Branch.{IsBranch, IsFront, IsPopped, is_complete_at};
+ghost use Rattle.pesp_search.specs.Nodes.{known_cost};
 
 use pesp_base::{Activity, EventId, Memory};
 use pesp_instance::Instance;
@@ -25,23 +25,23 @@ pub(crate) struct Branch {
 }
 
 /// Whether neither end of the activity is an event after this one.
-fn is_behind(activity: &Activity, event: EventId) -> bool
-    ensures { result ≡ is_behind event activity.now }
+fn is_complete_at(activity: &Activity, event: EventId) -> bool
+    ensures { result ≡ is_complete_at event activity.now }
 {
     activity.from <= event && activity.to <= event
 }
 
 /// What the activities cost that have the event as an end and none after it.
-fn cost_behind(instance: &Instance, timetable: &Timetable, event: EventId) -> u64
+fn cost_completed_at(instance: &Instance, timetable: &Timetable, event: EventId) -> u64
     requires { first_missing instance.now timetable.now ≡ None }
     ensures value { result ≡ sum_by (cost_in timetable.now)
-        (filter (is_behind event) (around instance.now event)) }
+        (filter (is_complete_at event) (around instance.now event)) }
     ensures small { result ≤ greatest_weight * (greatest_period - 1)
         * max_activities instance.now.period }
 {
     let mut cost = 0;
     for activity in instance.around(event) {
-        if is_behind(activity, event) {
+        if is_complete_at(activity, event) {
             cost += cost_of_activity(activity, timetable);
         }
     }
@@ -88,7 +88,7 @@ impl Branch {
         })
     }
 
-    /// What would be known with this time of the next event, which the timetable has afterwards after the branch.
+    /// What would be known with this time of the next event, which the timetable then has after the branch.
     pub(crate) fn cost_with(&mut self, instance: &Instance, event: EventId, time: u16) -> u64
         requires network { IsNetwork instance.now }
         requires branch { IsBranch instance.now self.old.times.items self.old.cost
@@ -103,7 +103,7 @@ impl Branch {
         ensures value { result ≡ known_cost instance.now (self.old.times.items ++ time ∷ []) }
     {
         put_time(&mut self.timetable, event, time);
-        self.cost + cost_behind(instance, &self.timetable, event)
+        self.cost + cost_completed_at(instance, &self.timetable, event)
     }
 
     /// Gives the next event its time.
@@ -134,7 +134,7 @@ impl Branch {
     {
         let time = self.times.pop()?;
         let event = events[self.times.len()];
-        self.cost -= cost_behind(instance, &self.timetable, event);
+        self.cost -= cost_completed_at(instance, &self.timetable, event);
         Some(time)
     }
 }

@@ -2,7 +2,7 @@
 
 ghost use Rattle.std.specs.Prelude.{◌≡◌, ◌≤◌, ◌*◌, ◌↔◌, IfOk, IfSome, IfNone, IsTrue, Some, None};
 ghost use Rattle.pesp_instance.specs.Network.{IsNetwork, event_ids};
-ghost use Rattle.pesp_search_bounds.specs.Sights.{IsSightOf};
+ghost use Rattle.pesp_search_bounds.specs.DualBounds.{AreBoundsOf};
 ghost use Rattle.pesp_search.specs.Dived.{dive_limit, first_known, least_bound};
 ghost use Rattle.pesp_search.specs.declared.dived.TheConstants.{DIVE_STEPS};
 ghost use Rattle.pesp_search.specs.Optima.{IsMember};
@@ -105,8 +105,8 @@ pub(crate) fn dived<K: Keeper>(
 ) -> Result<Option<Best>, Memory>
     requires network { IsNetwork (K.network keeper.now) }
     requires events { events.now ≡ event_ids (K.network keeper.now) }
-    requires guide { IfSome guide.old.ahead (IsSightOf (K.network keeper.now)) }
-    ensures guide { IfSome guide.new.ahead (IsSightOf (K.network keeper.now)) }
+    requires guide { IfSome guide.old.ahead (AreBoundsOf (K.network keeper.now)) }
+    ensures guide { IfSome guide.new.ahead (AreBoundsOf (K.network keeper.now)) }
     ensures found { IfOk result (λ before. IfSome before (IsFound (K.network keeper.now) bound)) }
     ensures none { limit ≡ Some 0 → IfOk result (λ before. before ≡ None) }
 {

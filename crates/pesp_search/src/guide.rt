@@ -1,22 +1,22 @@
-//! What is seen ahead on the way through the tree.
+//! What is seen ahead along a path of the tree.
 
 ghost use Rattle.std.specs.Prelude.{◌≡◌, ◌<◌, IfOk, IfSome, length};
 ghost use Rattle.pesp_instance.specs.Network.{IsNetwork, event_ids};
-ghost use Rattle.pesp_search_bounds.specs.Sights.{IsSightOf};
-ghost use Rattle.pesp_search.specs.Places.{pairs_of};
+ghost use Rattle.pesp_search_bounds.specs.DualBounds.{AreBoundsOf};
+ghost use Rattle.pesp_search.specs.Paths.{pairs_of};
 ghost use Rattle.pesp_search.specs.Seen.{IsSeen, SeesAlong, told_at};
 
 use pesp_base::{EventId, Memory};
 use pesp_domains::Keeper;
 use pesp_instance::Instance;
-use pesp_search_bounds::Ahead;
+use pesp_search_bounds::LowerBounds;
 use std::alloc::Global;
 
 /// What tells how much timetables cost at least that take a residue.
 #[derive(Drop)]
 pub(crate) struct Guide {
-    // For each place on the path what was told there; None where the tables would be too large, or no node is allowed.
-    pub(crate) ahead: Option<Ahead>,
+    // For each depth of the path what was told there; None where the tables would be too large, or no node is allowed.
+    pub(crate) ahead: Option<LowerBounds>,
 }
 
 impl Guide {
@@ -28,17 +28,17 @@ impl Guide {
         limit: Option<u64>,
     ) -> Result<Guide, Memory>
         requires events { events.now ≡ event_ids instance.now }
-        ensures of { IfOk result (λ guide. IfSome guide.ahead (IsSightOf instance.now)) }
+        ensures of { IfOk result (λ guide. IfSome guide.ahead (AreBoundsOf instance.now)) }
     {
         if limit == Some(0) {
             return Ok(Guide { ahead: None });
         }
         Ok(Guide {
-            ahead: Ahead::new(alloc, instance, events)?,
+            ahead: LowerBounds::new(alloc, instance, events)?,
         })
     }
 
-    /// Looks ahead from the end of the path, where no residue was tried yet; later the same is told there.
+    /// Finds lower bounds at the end of the path, where no residue was tried yet; later the same are told there.
     pub(crate) fn arrive<K: Keeper>(
         &mut self,
         keeper: &K,
@@ -60,18 +60,18 @@ impl Guide {
     {
         if from == 0 {
             if let Some(ahead) = &mut self.ahead {
-                ahead.arrive(keeper, events, path.len());
+                ahead.update_in_domains(keeper, events, path.len());
             }
         }
     }
 
-    /// What timetables cost at least that extend the path to the place and take the residue there.
-    pub(crate) fn bound(&self, place: usize, residue: u16) -> u64
+    /// What timetables cost at least that extend the path to the depth and take the residue there.
+    pub(crate) fn bound(&self, depth: usize, residue: u16) -> u64
         requires { IfSome self.now.ahead (λ sight. residue < sight.period) }
-        ensures { result ≡ told_at self.now.ahead place residue }
+        ensures { result ≡ told_at self.now.ahead depth residue }
     {
         match &self.ahead {
-            Some(ahead) => ahead.bound(place, residue),
+            Some(ahead) => ahead.bound(depth, residue),
             None => 0,
         }
     }

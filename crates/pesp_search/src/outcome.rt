@@ -1,12 +1,12 @@
 //! What a search ends with.
 
-ghost use Rattle.std.specs.Prelude.{◌≡◌, ◌<◌, true, false, None, IsSome, All, [], length};
+ghost use Rattle.std.specs.Prelude.{◌≡◌, ◌<◌, false, All, [], length};
 ghost use Rattle.pesp_instance.specs.Network.{IsNetwork, Network, event_ids};
 ghost use Rattle.pesp_search.specs.Branch.{IsFront};
 ghost use Rattle.pesp_search.specs.Dived.{told_best};
-ghost use Rattle.pesp_search.specs.Found.{IsTold};
+ghost use Rattle.pesp_search.specs.Found.{IsIncumbent, IsTold};
 ghost use Rattle.pesp_search.specs.Optima.{IsAnswer};
-ghost use Rattle.pesp_search.specs.Places.{timetable_of};
+ghost use Rattle.pesp_search.specs.Paths.{timetable_of};
 ghost use Rattle.pesp_search.specs.Tried.{IsEnd};
 
 use crate::branch::put_time;
@@ -41,8 +41,8 @@ pub(crate) fn put_times(
     requires below { All (λ t. t < instance.now.period) times.now }
     ensures { timetable.new ≡ timetable_of instance.now times.now }
 {
-    for place in 0..events.len() {
-        put_time(timetable, events[place], times[place]);
+    for index in 0..events.len() {
+        put_time(timetable, events[index], times[index]);
     }
 }
 
@@ -56,22 +56,18 @@ pub(crate) fn best_of(
     requires network { IsNetwork instance.now }
     requires events { events.now ≡ event_ids instance.now }
     requires front { IsFront instance.now [] timetable }
-    requires long { length incumbent.now.times.items ≡ length (event_ids instance.now) }
-    requires below { incumbent.now.is_found ≡ true
-        → All (λ t. t < instance.now.period) incumbent.now.times.items }
-    requires costs { incumbent.now.is_found ≡ true → IsSome incumbent.now.limit }
-    ensures { IsTold instance.now incumbent.now.limit incumbent.now.is_found
-        incumbent.now.times.items result }
+    requires incumbent { IsIncumbent instance.now incumbent.now }
+    ensures { IsTold instance.now incumbent.now result }
 {
-    match incumbent.limit {
-        Some(cost) if incumbent.is_found => {
+    match incumbent.cost {
+        Some(cost) => {
             put_times(&mut timetable, instance, events, &incumbent.times);
             Some(Best {
                 cost,
                 times: timetable,
             })
         }
-        _ => None,
+        None => None,
     }
 }
 

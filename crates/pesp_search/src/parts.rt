@@ -6,19 +6,19 @@
 
 ghost use Rattle.std.specs.Prelude.{◌≡◌, ◌<◌, ◌≤◌, ℕ, false, true, IfOk, IfSome, IsTrue, length, slice_index, slice_index_or};
 ghost use Rattle.pesp_instance.specs.Network.{IsNetwork, Network, event_ids};
-ghost use Rattle.pesp_search.specs.Parts.{AreAgreed, AreLeast, IsFirst, IsMarked, IsTakenOff};
-ghost use Rattle.pesp_search.specs.Places.{at};
+ghost use Rattle.pesp_search.specs.Parts.{AreAgreed, AreLeast, IsFirst, IsMarked, IsUnmarked};
+ghost use Rattle.pesp_search.specs.Paths.{at};
 
 use pesp_base::{Activity, EventId, Memory};
 use pesp_instance::Instance;
 use std::alloc::Global;
 
-/// The place of an event among ascending ones.
-fn place_of(events: &[EventId], event: EventId) -> Option<usize>
+/// The index of an event among ascending ones.
+fn index_of(events: &[EventId], event: EventId) -> Option<usize>
     ensures { IfSome result (λ k. (k < length events.now) × (slice_index events.now k ≡ event)) }
 {
     match events.binary_search(&event) {
-        Ok(place) => Some(place),
+        Ok(index) => Some(index),
         Err(_) => None,
     }
 }
@@ -34,9 +34,9 @@ fn label_event(
     requires { length labels.old ≡ length events.now }
     ensures { length labels.new ≡ length labels.old }
 {
-    if let Some(place) = place_of(events, event) {
-        if labels[place] == events.len() {
-            labels[place] = label;
+    if let Some(index) = index_of(events, event) {
+        if labels[index] == events.len() {
+            labels[index] = label;
             if waiting.push(event).is_err() {
                 return Err(Memory);
             }
@@ -88,7 +88,7 @@ fn label_part(
     Ok(())
 }
 
-/// A label for each event: the place of the first event of its part.
+/// A label for each event: the index of the first event of its part.
 fn labels_of(alloc: Global, instance: &Instance, events: &[EventId]) -> Result<Vec<usize>, Memory>
     ensures { IfOk result (λ labels. length labels.items ≡ length events.now) }
 {
@@ -99,13 +99,13 @@ fn labels_of(alloc: Global, instance: &Instance, events: &[EventId]) -> Result<V
     let Ok(mut waiting) = Vec::with_capacity(alloc, events.len()) else {
         return Err(Memory);
     };
-    for place in 0..events.len() {
-        if labels[place] == events.len() {
+    for index in 0..events.len() {
+        if labels[index] == events.len() {
             label_part(
                 instance,
                 events,
-                events[place],
-                place,
+                events[index],
+                index,
                 &mut labels,
                 &mut waiting,
             )?;
@@ -121,8 +121,8 @@ fn has_one_label(activity: &Activity, events: &[EventId], labels: &[usize]) -> b
         → at I labels.now activity.now.from ≡ at I labels.now activity.now.to }
 {
     match (
-        place_of(events, activity.from),
-        place_of(events, activity.to),
+        index_of(events, activity.from),
+        index_of(events, activity.to),
     ) {
         (Some(from), Some(to)) => labels[from] == labels[to],
         _ => false,
@@ -143,30 +143,30 @@ fn are_agreed(instance: &Instance, events: &[EventId], labels: &[usize]) -> bool
     true
 }
 
-/// Takes the mark of a place away, if there is such a place.
-fn take_off(marks: &mut [bool], place: usize)
+/// Takes the mark of an index away, if there is such an index.
+fn unmark(marks: &mut [bool], index: usize)
     ensures long { length marks.new ≡ length marks.old }
-    ensures off { IsTakenOff place marks.old marks.new }
+    ensures off { IsUnmarked index marks.old marks.new }
 {
-    if place < marks.len() {
-        marks[place] = false;
+    if index < marks.len() {
+        marks[index] = false;
     }
 }
 
-/// Takes marks away by the label of the event at a place.
-fn mark(marks: &mut [bool], place: usize, label: usize, has_window: bool)
+/// Takes marks away by the label of the event at an index.
+fn mark(marks: &mut [bool], index: usize, label: usize, has_window: bool)
     ensures long { length marks.new ≡ length marks.old }
-    ensures marked { IsMarked place label has_window marks.old marks.new }
+    ensures marked { IsMarked index label has_window marks.old marks.new }
 {
-    if label != place {
-        take_off(marks, place);
+    if label != index {
+        unmark(marks, index);
     }
-    if has_window || place < label {
-        take_off(marks, label);
+    if has_window || index < label {
+        unmark(marks, label);
     }
 }
 
-/// Marks the places whose event is the first of its label, where no event of that label has a window.
+/// Marks the indices whose event is the first of its label, where no event of that label has a window.
 fn first_of_labels(
     alloc: Global,
     instance: &Instance,
@@ -183,14 +183,14 @@ fn first_of_labels(
     let Ok(mut marks) = vec![in alloc; are_agreed; events.len()] else {
         return Err(Memory);
     };
-    for place in 0..events.len() {
-        let has_window = instance.window(events[place]).is_some();
-        mark(&mut marks, place, labels[place], has_window);
+    for index in 0..events.len() {
+        let has_window = instance.window(events[index]).is_some();
+        mark(&mut marks, index, labels[index], has_window);
     }
     Ok(marks)
 }
 
-/// Marks the places whose event is the first of a connected part without a window.
+/// Marks the indices whose event is the first of a connected part without a window.
 pub(crate) fn least_of_parts(
     alloc: Global,
     instance: &Instance,

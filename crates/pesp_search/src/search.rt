@@ -5,7 +5,7 @@ ghost use Rattle.pesp_instance.specs.Network.{IsNetwork, event_ids};
 ghost use Rattle.pesp_search.specs.declared.answer.Answer.TheVariants as answers;
 ghost use Rattle.pesp_search.specs.declared.answer.Tried.TheVariants as attempts;
 ghost use Rattle.pesp_search.specs.Optima.{IsAnswer, IsBound};
-ghost use Rattle.pesp_search.specs.Places.{IsDead};
+ghost use Rattle.pesp_search.specs.Paths.{IsDeadEnd};
 ghost use Rattle.pesp_search.specs.Tree.{AreNodes};
 ghost use Rattle.pesp_search.specs.Tried.{IsFound, IsOutcome, MayTry};
 
@@ -17,7 +17,7 @@ use crate::incumbent::Incumbent;
 use crate::outcome::{Outcome, answer_of, ended, told};
 use crate::parts::least_of_parts;
 use crate::steps::has_empty_row;
-use crate::walk::walk;
+use crate::tree_search::TreeSearch;
 use crate::{Answer, Best, Tried};
 use pesp_base::{EventId, Memory};
 use pesp_domains::Keeper;
@@ -41,7 +41,7 @@ fn events_of(alloc: Global, instance: &Instance) -> Result<Vec<EventId>, Memory>
 }
 
 /// Goes through the tree for what costs no more than the timetable that was found, or that a dive finds where none was. All memory
-/// is taken before the walk, and so before the first node that it counts.
+/// is taken before the search, and so before the first node that it counts.
 fn search_tree<K: Keeper>(
     alloc: Global,
     keeper: &mut K,
@@ -72,8 +72,17 @@ fn search_tree<K: Keeper>(
     let lowest = lowest(bound, &before);
     let branch = Branch::new(alloc, keeper.instance())?;
     let incumbent = Incumbent::new(alloc, events.len(), lowest)?;
-    let outcome = walk(keeper, events, &least, guide, branch, incumbent, limit);
-    Ok(told(outcome, before))
+    let search = TreeSearch {
+        events,
+        least: &least,
+        guide,
+        branch,
+        incumbent,
+        from: 0,
+        nodes: 0,
+        limit,
+    };
+    Ok(told(search.run(keeper), before))
 }
 
 /// Asks the search over differences, and where that does not come to its end goes through the tree.
@@ -141,7 +150,7 @@ pub fn best<K: Keeper>(
     requires pushes { K.pushes keeper.old ≡ [] }
     requires bound { IsBound (K.network keeper.old) bound }
     ensures answer { IfOk result (λ r. IsAnswer (K.network keeper.old) r.0) }
-    ensures dead { IsDead (K.network keeper.old) []
+    ensures dead { IsDeadEnd (K.network keeper.old) []
         → IfOk result (λ r. (r.0 ≡ answers.Infeasible) × (r.1 ≡ 0)) }
     ensures nodes { IfOk result (λ r. AreNodes (K.network keeper.old) r.1) }
     ensures network { K.network keeper.new ≡ K.network keeper.old }
@@ -164,7 +173,7 @@ pub fn best_within<K: Keeper>(
     requires pushes { K.pushes keeper.old ≡ [] }
     requires bound { IsBound (K.network keeper.old) bound }
     ensures tried { IfOk result (λ r. MayTry (K.network keeper.old) bound limit r.0 r.1) }
-    ensures dead { IsDead (K.network keeper.old) []
+    ensures dead { IsDeadEnd (K.network keeper.old) []
         → IfOk result (λ r. (r.0 ≡ attempts.Done answers.Infeasible) × (r.1 ≡ 0)) }
     ensures nodes { IfOk result (λ r. AreNodes (K.network keeper.old) r.1) }
     ensures network { K.network keeper.new ≡ K.network keeper.old }

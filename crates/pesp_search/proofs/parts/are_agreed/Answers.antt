@@ -1,7 +1,7 @@
 -- Each activity is looked at.
 use Rattle.std.proofs.Common.{◌≡◌, ◌∙◌}
 use Rattle.pesp_tension.proofs.Walks.{walk_begins, walk_goes_on}
-use Rattle.pesp_search.specs.Places.{at}
+use Rattle.pesp_search.specs.Paths.{at}
 use Rattle.pesp_search.proofs.parts.are_agreed.Goals as goal
 
 pub loop-activity-init : goal.loop-activity-init

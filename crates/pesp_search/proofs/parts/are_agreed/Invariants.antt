@@ -1,7 +1,7 @@
 -- Labels are agreed where they are along the activities that are left.
 use Rattle.std.proofs.Common.{◌≡◌, ◌↔◌, All}
 use Rattle.pesp_search.specs.Parts.{AreAgreed}
-use Rattle.pesp_search.specs.Places.{at}
+use Rattle.pesp_search.specs.Paths.{at}
 use Rattle.pesp_search.proofs.parts.are_agreed.Given as goal
 
 abbrev pub invariant-loop-activity : goal.invariant-loop-activity

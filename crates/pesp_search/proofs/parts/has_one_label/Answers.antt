@@ -1,4 +1,4 @@
--- The labels that are compared stand at the places of both ends.
+-- The labels that are compared stand at the indices of both ends.
 use Rattle.std.proofs.Common.{sym, ◌∙◌}
 use Rattle.std.proofs.lemmas.Bool.{eqb-true}
 use Rattle.pesp_search.proofs.Labels.{label_at}

@@ -2,5 +2,5 @@
 use Rattle.std.proofs.Common.{rules}
 use Rattle.pesp_search.proofs.parts.mark.Goals as goal
 
-pub returns-else-place-label-clause-marked : goal.returns-else-place-label-clause-marked
-returns-else-place-label-clause-marked c = search rules
+pub returns-else-index-label-clause-marked : goal.returns-else-index-label-clause-marked
+returns-else-index-label-clause-marked c = search rules

@@ -2,7 +2,7 @@
 use Rattle.std.proofs.Common.{[], refl, ap, ◌∙◌}
 use Rattle.std.proofs.lemmas.Result.{IfOk-from_err}
 use Rattle.pesp_instance.specs.Network.{event_ids}
-use Rattle.pesp_search.specs.Places.{IsDead}
+use Rattle.pesp_search.specs.Paths.{IsDeadEnd}
 use Rattle.pesp_search.proofs.Sizes.{no_nodes}
 use Rattle.pesp_search.proofs.Sought.{dead_of_empty, dead_outcome}
 use Rattle.pesp_search.proofs.search.search.Goals as goal
@@ -27,7 +27,7 @@ search_in_turn-requires-clause-bound g c = c.requires.bound
 pub returns-then-has_empty_row-clause-outcome : goal.returns-then-has_empty_row-clause-outcome
 returns-then-has_empty_row-clause-outcome g c =
     let I = g.K.Keeper.network c.args.keeper.now in
-    let dead : IsDead I [] = dead_of_empty I (g.K.Keeper.pushes c.args.keeper.now) c.requires.pushes (c.has_empty_row.ensures.dead c.if-has_empty_row.true) in
+    let dead : IsDeadEnd I [] = dead_of_empty I (g.K.Keeper.pushes c.args.keeper.now) c.requires.pushes (c.has_empty_row.ensures.dead c.if-has_empty_row.true) in
     rw (c.ended.ensures.best, c.ended.ensures.stopped, c.ended.ensures.nodes) (dead_outcome I c.args.bound c.args.limit (rw c.instance.ensures at c.events_of.ensures.network) dead)
 
 pub returns-then-has_empty_row-clause-nodes : goal.returns-then-has_empty_row-clause-nodes

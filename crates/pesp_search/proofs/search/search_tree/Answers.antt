@@ -1,16 +1,16 @@
 -- What is told under the cost of a timetable from beforehand is told for the given bound.
-use Rattle.std.proofs.Common.{◌≡◌, refl, sym, ap, ◌∙◌, Some, None, IfSome}
+use Rattle.std.proofs.Common.{◌≡◌, refl, sym, ap, ◌∙◌, Some, None, IfSome, length}
 use Rattle.std.proofs.lemmas.Result.{IfOk-from_err}
 use Rattle.pesp_instance.specs.Network.{event_ids}
-use Rattle.pesp_search.specs.Found.{under_bound}
 use Rattle.pesp_search.specs.Tried.{IsFound}
 use Rattle.pesp_search.proofs.Beforehand.{bound_of_before, known_found, known_none, outcome_told}
+use Rattle.pesp_search.proofs.Searching.{searching_start}
 use Rattle.pesp_search.proofs.search.search_tree.Goals as goal
 
 pub returns-clause-outcome : goal.returns-clause-outcome
 returns-clause-outcome g c =
     let I = g.K.Keeper.network c.args.keeper.now in
-    let outcome = c.walk-outcome.result in
+    let outcome = c.run.result in
     let before = c.first_known-before.result in
     let dived = c.in_ok-by_dive.by_dive in
     let found : IfSome before (IsFound I c.args.bound) = rw c.first_known-before.ensures (known_found I c.args.bound c.args.found dived c.requires.found c.in_ok-by_dive.ensures.found) in
@@ -18,9 +18,18 @@ returns-clause-outcome g c =
     λ zero. c.first_known-before.ensures ∙ known_none c.args.limit c.args.found dived c.requires.none (λ least. c.in_ok-by_dive.ensures.none (c.limit_of_dive-steps.ensures ∙ least)) zero
     in
     let least = bound_of_before I c.args.bound before c.requires.bound found in
-    let walked = c.walk-outcome.ensures.outcome _ (c.in_ok-incumbent.ensures.start.1 ∙ ap under_bound c.lowest-lowest.ensures) least in
+    let run = (rw (c.in_ok-incumbent.ensures.bound, c.lowest-lowest.ensures) at c.run.ensures.outcome) least in
     rw (c.told.ensures.best, c.told.ensures.stopped, c.told.ensures.nodes)
-    (outcome_told I c.args.bound c.args.limit before outcome.best outcome.is_stopped outcome.nodes found none walked)
+    (outcome_told I c.args.bound c.args.limit before outcome.best outcome.is_stopped outcome.nodes found none run)
+
+pub run-requires : goal.run-requires
+run-requires g c =
+    record {
+      searching =
+          searching_start (g.K.Keeper.network c.args.keeper.now) (g.K.Keeper.pushes c.args.keeper.now) _ c.requires.network c.requires.events (rw c.deref-2.ensures.value (rw c.instance.ensures at c.in_ok-least.ensures))
+          c.in_ok-by_dive.ensures.guide (rw c.instance-3.ensures at c.in_ok-branch.ensures.branch) c.in_ok-branch.ensures.times c.requires.pushes (c.in_ok-incumbent.ensures.times ∙ ap length c.requires.events)
+          c.in_ok-incumbent.ensures.none refl refl;
+    }
 
 -- ---- found by search, and named so that they are found at once
 
@@ -85,22 +94,13 @@ pub returns-in_err-incumbent-clause-pushes : goal.returns-in_err-incumbent-claus
 returns-in_err-incumbent-clause-pushes g c = c.requires.pushes
 
 pub returns-clause-nodes : goal.returns-clause-nodes
-returns-clause-nodes g c = rw c.told.ensures.nodes c.walk-outcome.ensures.nodes
+returns-clause-nodes g c = rw c.told.ensures.nodes c.run.ensures.nodes
 
 pub returns-clause-network : goal.returns-clause-network
-returns-clause-network g c = c.walk-outcome.ensures.network
+returns-clause-network g c = c.run.ensures.network
 
 pub returns-clause-pushes : goal.returns-clause-pushes
-returns-clause-pushes g c = c.walk-outcome.ensures.pushes
-
-pub walk-outcome-requires-clause-network : goal.walk-outcome-requires-clause-network
-walk-outcome-requires-clause-network g c = c.requires.network
-
-pub walk-outcome-requires-clause-pushes : goal.walk-outcome-requires-clause-pushes
-walk-outcome-requires-clause-pushes g c = c.requires.pushes
-
-pub walk-outcome-requires-clause-guide : goal.walk-outcome-requires-clause-guide
-walk-outcome-requires-clause-guide g c = c.in_ok-by_dive.ensures.guide
+returns-clause-pushes g c = c.run.ensures.pushes
 
 pub dived-requires-clause-network : goal.dived-requires-clause-network
 dived-requires-clause-network g c = c.requires.network
@@ -120,9 +120,3 @@ dived-requires-clause-events g c = c.requires.events
 
 pub dived-requires-clause-guide : goal.dived-requires-clause-guide
 dived-requires-clause-guide g c = rw c.instance-2.ensures at c.in_ok-guide.ensures.of
-
-pub walk-outcome-requires-clause-events : goal.walk-outcome-requires-clause-events
-walk-outcome-requires-clause-events g c = c.requires.events
-
-pub walk-outcome-requires-clause-least : goal.walk-outcome-requires-clause-least
-walk-outcome-requires-clause-least g c = rw c.deref-2.ensures.value (rw c.instance.ensures at c.in_ok-least.ensures)

@@ -1,9 +1,0 @@
--- Found by search, and named so that a wrong body is refused here at once.
-use Rattle.std.proofs.Common.{rules}
-use Rattle.pesp_search.proofs.incumbent.Incumbent.new.Goals as goal
-
-pub returns-clause-start : goal.returns-clause-start
-returns-clause-start c = search rules
-
-pub returns-clause-best : goal.returns-clause-best
-returns-clause-best c = search rules

@@ -1,0 +1,240 @@
+//! The search through the tree: depth first, with backtracking, and pruned where the lower bound reaches the incumbent's cost.
+
+ghost use Rattle.std.specs.Prelude.{◌≡◌, ◌≢◌, ◌+◌, ◌-◌, ◌^◌, ◌<◌, min, [], true, false, Some, IfSome, length, vec_capacity};
+ghost use Rattle.pesp_search.specs.Branch.{IsBranch};
+ghost use Rattle.pesp_search.specs.Found.{IsNextOfUse, limit_of};
+ghost use Rattle.pesp_search.specs.Nodes.{IsNext, Nothing};
+ghost use Rattle.pesp_search.specs.Optima.{IsBound};
+ghost use Rattle.pesp_search.specs.Searching.{GoesOn, IsOver, IsSameNode, IsSearching, IsStepAt, IsStepDown, IsStepUp, MayEnd};
+ghost use Rattle.pesp_search.specs.Seen.{told_at};
+ghost use Rattle.pesp_search.specs.Tree.{AreNodes};
+ghost use Rattle.pesp_search.specs.Tried.{IsOutcome};
+ghost use Rattle.pesp_search.specs.declared.steps.Step.TheVariants as steps;
+
+use crate::branch::Branch;
+use crate::guide::Guide;
+use crate::incumbent::Incumbent;
+use crate::outcome::{Outcome, best_of};
+use crate::steps::{Step, is_zero_enough, left_to_do};
+use pesp_base::EventId;
+use pesp_domains::Keeper;
+
+/// A search through the tree, in the order of events and residues, which leaves out what is of no use.
+///
+/// It takes no memory: branch and incumbent have all the room that there will be need of.
+#[derive(Drop)]
+pub(crate) struct TreeSearch<'a> {
+    // Those of the instance, ascending: the order in which they are given their times.
+    pub(crate) events: &'a [EventId],
+    // Marks the events, by index, at which residue 0 alone is tried.
+    pub(crate) least: &'a [bool],
+    // What it told at each node of the path is a lower bound still.
+    pub(crate) guide: Guide,
+    // The path to the node at which the search stands: its times are pushed, and no others.
+    pub(crate) branch: Branch,
+    // The best of all times before the node.
+    pub(crate) incumbent: Incumbent,
+    // The least residue that is yet to be tried at the event after the branch.
+    pub(crate) from: u16,
+    // One for each push, those that were popped included.
+    pub(crate) nodes: u64,
+    // There are no more nodes; None where there may be any number.
+    pub(crate) limit: Option<u64>,
+}
+
+/// Whether as many nodes were counted as the limit, if there is one.
+fn is_reached(limit: Option<u64>, nodes: u64) -> bool
+    ensures yes { result ≡ true → limit ≡ Some nodes }
+    ensures no { result ≡ false → IfSome limit (λ l. l ≢ nodes) }
+{
+    match limit {
+        Some(limit) => limit == nodes,
+        None => false,
+    }
+}
+
+/// Pops all that is pushed.
+fn unwind<K: Keeper>(keeper: &mut K, depth: usize)
+    requires { length (K.pushes keeper.old) ≡ depth }
+    ensures network { K.network keeper.new ≡ K.network keeper.old }
+    ensures pushes { K.pushes keeper.new ≡ [] }
+{
+    for _pair in 0..depth {
+        keeper.pop_fix();
+    }
+}
+
+impl TreeSearch<'_> {
+    /// The first residue of the next event's domain, from one on, that is of use by what is told of it and by the known
+    /// cost with it.
+    fn next_of_use<K: Keeper>(&mut self, keeper: &K, first: u16) -> Option<u16>
+        requires searching { IsSearching (K.network keeper.now) (K.pushes keeper.now) self.old }
+        requires room { length self.old.branch.times.items < length self.old.events.now }
+        ensures same { IsSameNode self.old self.new }
+        ensures guide { self.new.guide ≡ self.old.guide }
+        ensures branch { IsBranch (K.network keeper.now) self.new.branch.times.items
+            self.new.branch.cost self.new.branch.timetable (vec_capacity self.new.branch.times) }
+        ensures next { IsNextOfUse (K.network keeper.now) (limit_of self.old.incumbent)
+            (told_at self.old.guide.ahead (length self.old.branch.times.items))
+            self.old.branch.times.items first result }
+    {
+        let depth = self.branch.times.len();
+        let event = self.events[depth];
+        let row = keeper.row(event)?;
+        for residue in first..keeper.instance().period().get() {
+            if row.holds(residue) && !self.incumbent.cuts(self.guide.bound(depth, residue)) {
+                let cost = self.branch.cost_with(keeper.instance(), event, residue);
+                if !self.incumbent.cuts(cost) {
+                    return Some(residue);
+                }
+            }
+        }
+        None
+    }
+
+    /// Goes down to a residue of use from the first one on that the domains leave, or back up where there is none.
+    fn step_from<K: Keeper>(&mut self, keeper: &K, first: u16) -> Step
+        requires searching { IsSearching (K.network keeper.now) (K.pushes keeper.now) self.old }
+        requires first { IsNext Nothing (K.network keeper.now) self.old.branch.times.items
+            self.old.from first }
+        ensures searching { GoesOn (K.network keeper.now) (K.pushes keeper.now) self.old self.new }
+        ensures same { IsSameNode self.old self.new }
+        ensures step { IsStepAt (K.network keeper.now) self.new result }
+    {
+        let depth = self.branch.times.len();
+        if is_zero_enough(self.least, depth, self.from) {
+            return Step::Backtrack;
+        }
+        self.guide
+            .arrive(keeper, self.events, &self.branch.times, self.from);
+        match self.next_of_use(keeper, first) {
+            Some(residue) => Step::Descend(residue),
+            None => Step::Backtrack,
+        }
+    }
+
+    /// What to do at the node.
+    fn step<K: Keeper>(&mut self, keeper: &K) -> Step
+        requires searching { IsSearching (K.network keeper.now) (K.pushes keeper.now) self.old }
+        ensures searching { GoesOn (K.network keeper.now) (K.pushes keeper.now) self.old self.new }
+        ensures same { IsSameNode self.old self.new }
+        ensures step { IsStepAt (K.network keeper.now) self.new result }
+    {
+        if self.incumbent.cuts(self.branch.cost) {
+            return Step::Backtrack;
+        }
+        match left_to_do(keeper, self.events, &self.branch.times, self.from) {
+            Step::Leaf => Step::Leaf,
+            Step::Descend(first) => self.step_from(keeper, first),
+            Step::Backtrack => Step::Backtrack,
+        }
+    }
+
+    /// Goes down to the residue: the one push of a search, which counts a node; the count stays at the greatest number.
+    fn descend<K: Keeper>(&mut self, keeper: &mut K, residue: u16)
+        requires searching { IsSearching (K.network keeper.old) (K.pushes keeper.old) self.old }
+        requires step { IsStepAt (K.network keeper.old) self.old (steps.Descend residue) }
+        requires limit { IfSome self.old.limit (λ l. l ≢ self.old.nodes) }
+        ensures network { K.network keeper.new ≡ K.network keeper.old }
+        ensures searching { GoesOn (K.network keeper.old) (K.pushes keeper.new) self.old self.new }
+        ensures counted { self.new.nodes ≡ min (2 ^ 64 - 1) (self.old.nodes + 1) }
+        ensures below { IsStepDown self.old self.new residue }
+    {
+        let event = self.events[self.branch.times.len()];
+        keeper.push_fix(event, residue);
+        self.nodes = self.nodes.saturating_add(1);
+        self.branch.push(keeper.instance(), event, residue);
+        self.from = 0;
+    }
+
+    /// Goes back up to the event before, if there is one: the one pop.
+    fn backtrack<K: Keeper>(&mut self, keeper: &mut K) -> bool
+        requires searching { IsSearching (K.network keeper.old) (K.pushes keeper.old) self.old }
+        requires over { IsOver (K.network keeper.old) self.old }
+        ensures network { K.network keeper.new ≡ K.network keeper.old }
+        ensures searching { GoesOn (K.network keeper.old) (K.pushes keeper.new) self.old self.new }
+        ensures above { result ≡ true → IsStepUp self.old self.new }
+        ensures end { result ≡ false → MayEnd (K.network keeper.old) self.new false }
+    {
+        match self.branch.pop(keeper.instance(), self.events) {
+            Some(residue) => {
+                keeper.pop_fix();
+                self.from = residue + 1;
+                true
+            }
+            None => false,
+        }
+    }
+
+    /// Keeps the times of a leaf, which are better, and goes back up.
+    fn keep_leaf<K: Keeper>(&mut self, keeper: &mut K) -> bool
+        requires searching { IsSearching (K.network keeper.old) (K.pushes keeper.old) self.old }
+        requires leaf { IsStepAt (K.network keeper.old) self.old steps.Leaf }
+        ensures network { K.network keeper.new ≡ K.network keeper.old }
+        ensures searching { GoesOn (K.network keeper.old) (K.pushes keeper.new) self.old self.new }
+        ensures above { result ≡ true → IsStepUp self.old self.new }
+        ensures end { result ≡ false → MayEnd (K.network keeper.old) self.new false }
+    {
+        self.incumbent.keep(&self.branch.times, self.branch.cost);
+        self.backtrack(keeper)
+    }
+
+    /// Pops what is pushed, and tells what was found.
+    fn finish<K: Keeper>(self, keeper: &mut K, is_stopped: bool) -> Outcome
+        requires searching { IsSearching (K.network keeper.old) (K.pushes keeper.old) self }
+        requires end { MayEnd (K.network keeper.old) self is_stopped }
+        ensures outcome { IsBound (K.network keeper.old) self.entry.incumbent.bound
+            → IsOutcome (K.network keeper.old) self.entry.incumbent.bound self.entry.limit
+            result.is_stopped result.best result.nodes }
+        ensures nodes { AreNodes (K.network keeper.old) result.nodes }
+        ensures network { K.network keeper.new ≡ K.network keeper.old }
+        ensures pushes { K.pushes keeper.new ≡ [] }
+    {
+        let TreeSearch {
+            events,
+            branch,
+            incumbent,
+            nodes,
+            ..
+        } = self;
+        unwind(keeper, branch.times.len());
+        let best = best_of(&incumbent, branch.timetable, keeper.instance(), events);
+        Outcome {
+            best,
+            is_stopped,
+            nodes,
+        }
+    }
+
+    /// Goes through the tree from the node on.
+    pub(crate) fn run<K: Keeper>(mut self, keeper: &mut K) -> Outcome
+        requires searching { IsSearching (K.network keeper.old) (K.pushes keeper.old) self }
+        ensures outcome { IsBound (K.network keeper.old) self.entry.incumbent.bound
+            → IsOutcome (K.network keeper.old) self.entry.incumbent.bound self.entry.limit
+            result.is_stopped result.best result.nodes }
+        ensures nodes { AreNodes (K.network keeper.old) result.nodes }
+        ensures network { K.network keeper.new ≡ K.network keeper.old }
+        ensures pushes { K.pushes keeper.new ≡ [] }
+    {
+        'nodes: loop {
+            match self.step(keeper) {
+                Step::Leaf => {
+                    if !self.keep_leaf(keeper) {
+                        return self.finish(keeper, false);
+                    }
+                }
+                Step::Descend(residue) => {
+                    if is_reached(self.limit, self.nodes) {
+                        return self.finish(keeper, true);
+                    }
+                    self.descend(keeper, residue);
+                }
+                Step::Backtrack => {
+                    if !self.backtrack(keeper) {
+                        return self.finish(keeper, false);
+                    }
+                }
+            }
+        }
+    }
+}
