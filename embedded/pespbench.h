@@ -55,7 +55,7 @@ struct pesp_told {
  * period: the time after which all repeats, in the unit of the files, most often minutes: 2 to 1,440.
  * activities, fixed, times: the files, as their bytes (docs/FORMATS.md has their forms). One of no bytes is not there.
  * commands: the lines, with or without a last line feed.
- * out: the room for the replies. As many of their bytes as fit are put in front of it, and what is behind them stays as
+ * out: the room for the replies. As many of their bytes as fit are put in front of it, and what is after them stays as
  *     it was. Where `told->length` is greater than `out_length`, call once more with so much room: a run gives the same
  *     replies each time, but for where memory is wanted.
  * told: is filled in whole, whatever was there.
@@ -64,7 +64,7 @@ struct pesp_told {
  * given back when it returns. It takes it by malloc, realloc and free (heap.c). Calls on several threads do not meet.
  *
  * The caller sees to it that each pointer is one of memory that is its own, and is not null, also where the length is 0;
- * that the bytes behind the first four pairs are set, and stay as they are during the call; that `out` (which need not be
+ * that the bytes after the first four pairs are set, and stay as they are during the call; that `out` (which need not be
  * set) and `told` meet nothing else that the call is given; that each length is below 2^63; and that the stack has room
  * (128 kB). `period` takes the whole numbers of 16 bits. */
 void pesp_answer(uint16_t period, const uint8_t *activities, size_t activities_length, const uint8_t *fixed,

@@ -166,16 +166,16 @@ class Event:
         if self.window is None:
             return
         first = bounded(self.window.first, 0, self.period - 1)
-        behind = first + bounded(self.window.length, 1, self.period)
+        after = first + bounded(self.window.length, 1, self.period)
         if self.window.length == 1:
             page.ring(page.x(first + 0.5))
             return
         if self.window.length == self.period:
             page.band(0, self.period)
             return
-        page.band(first, min(behind, self.period))
-        if behind > self.period:
-            page.band(0, behind - self.period)
+        page.band(first, min(after, self.period))
+        if after > self.period:
+            page.band(0, after - self.period)
 
 
 class Activity:

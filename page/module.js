@@ -9,7 +9,7 @@
 // `program` is what PespModule.compile made, or the bytes of the module. Files and commands are bytes or text, and nothing
 // where they are left out. `output` is the replies, as a Uint8Array. `ending` is how the run ended, as embedded/pespbench.h
 // lists it: { status, place, reason, field }; its status is 0 where all lines are answered. `fault` is then '', and else the
-// program's own text for it, without its name. Behind an instance that was trapped, as by a stack that is too short, `answer`
+// program's own text for it, without its name. After an instance that was trapped, as by a stack that is too short, `answer`
 // throws, and `start` makes a new one.
 const makePespModule = () => {
   const FILES = ['activities', 'fixed', 'times'];
@@ -45,7 +45,7 @@ const makePespModule = () => {
   const TOLD = 32;
   const LEAST_ROOM = 1 << 20;
 
-  // The bytes behind a text in base64, compiled: this can be sent to a Worker, which starts it sooner.
+  // The bytes after a text in base64, compiled: this can be sent to a Worker, which starts it sooner.
   const compile = base64 => WebAssembly.compile(Uint8Array.from(atob(base64), letter => letter.charCodeAt(0)));
 
   // The module asks for nothing from outside.

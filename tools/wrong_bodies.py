@@ -11,7 +11,7 @@ import subprocess
 from typing import Dict, List, Sequence, Tuple
 
 FIRST, SECOND = "must-fail", "wrong-bodies"
-# The toolchain's line on an edit; what is in brackets behind the first words takes from what a refusal shows.
+# The toolchain's line on an edit; what is in brackets after the first words takes from what a refusal shows.
 LINE = re.compile(r"(?:rt: )?must-fail (?P<crate>\w+)/(?P<name>[\w.-]+\.edit): (?P<told>.*)")
 REFUSED = "refused, as it must be"
 

@@ -34,7 +34,7 @@
     if (Page.tab !== 'lines') return;
     const { steps, place } = Page.session;
     const items = steps.map(({ lines }, each) => element('li', { class: each < place ? '' : 'undone' },
-      element('button', { class: 'link', onclick: () => Page.goTo(each + 1), title: 'go to the state behind this step' }, Page.titleOf(lines)),
+      element('button', { class: 'link', onclick: () => Page.goTo(each + 1), title: 'go to the state after this step' }, Page.titleOf(lines)),
       each < place ? '' : ' (undone)'));
     Page.find('steps').replaceChildren(...items);
     Page.find('no-steps').hidden = steps.length > 0;

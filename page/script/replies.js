@@ -21,7 +21,7 @@ Page.share(Page => {
 
   Page.isRefused = reply => /^(refused|fault) /.test(reply[0]);
 
-  // What the lines behind a first line say, read by a function. Lines that are told again in their order are what they were,
+  // What the lines after a first line say, read by a function. Lines that are told again in their order are what they were,
   // the same values, since a step changes few of them.
   Page.remembered = read => {
     let before = [], values = [];

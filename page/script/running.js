@@ -1,11 +1,11 @@
 'use strict';
 
-// Runs of the program over a base, which is files and the lines behind them. Nothing is kept between two runs.
+// Runs of the program over a base, which is files and the lines after them. Nothing is kept between two runs.
 Page.share(Page => {
   // A run that ended by a fault; its message is the program's text.
   Page.RunFault = class extends Error {};
 
-  // The replies to some lines behind those of the base. Raises RunFault.
+  // The replies to some lines after those of the base. Raises RunFault.
   Page.run = (base, lines) => {
     const all = [...base.setup, ...lines];
     const { output, fault } = Page.answer({ ...base, commands: all.length ? all.join('\n') + '\n' : '' });
@@ -42,7 +42,7 @@ Page.share(Page => {
 
   const QUESTIONS = ['dump', 'domains', 'tensions', 'violations', 'cost'];
 
-  // What the program tells of the network behind some lines, and its replies to these lines.
+  // What the program tells of the network after some lines, and its replies to these lines.
   Page.look = (base, lines) => {
     const replies = Page.run(base, [...lines, ...QUESTIONS]);
     const [dump, domains, tensions, violations, cost] = replies.slice(lines.length);

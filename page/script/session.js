@@ -12,7 +12,7 @@
   Page.session = session;
   Page.view = null;
 
-  // The last base at or before the present step, and the lines behind it.
+  // The last base at or before the present step, and the lines after it.
   const present = () => {
     let start = session.place;
     while (start > 0 && !session.steps[start - 1].base) start -= 1;

@@ -49,7 +49,7 @@
     return card;
   };
 
-  // What a track shows: the span and the tension, with some minutes before and behind them.
+  // What a track shows: the span and the tension, with some minutes before and after them.
   const rangeOf = ({ lower, upper }, taken, period) => {
     const least = lower - Math.ceil(period / 12), most = Math.max(upper, taken ? taken.tension : upper);
     return { least, count: most + Math.ceil(period / 4) - least };

@@ -59,7 +59,7 @@ class Side:
 
 
 def compare(before: Side, after: Side) -> str:
-    """What is other behind than before, as lines of text."""
+    """What is other after the change than before, as lines of text."""
     names = Names(merged(before.labels, after.labels), {**before.network.activities, **after.network.activities})
     parts = {
         "Network": [*activity_changes(before.network, after.network, names), *event_changes(before.network, after.network, names)],
@@ -71,7 +71,7 @@ def compare(before: Side, after: Side) -> str:
 
 
 def merged(before: Labels, after: Labels) -> Labels:
-    """All labels, those behind before those that stood before."""
+    """All labels, those after before those that stood before."""
     return Labels({**before.events, **after.events}, {**before.activities, **after.activities})
 
 
@@ -138,7 +138,7 @@ def signed(count: int) -> str:
 
 
 def cost_rows(before: Side, after: Side) -> Iterator[str]:
-    """The cost by kind in columns, dearest behind first, and the cost in all."""
+    """The cost by kind in columns, dearest after the change first, and the cost in all."""
     if before.cost is None or after.cost is None:
         yield "not known, since a time is missing"
         return
@@ -160,7 +160,7 @@ def add_parser(subparsers: argparse._SubParsersAction[argparse.ArgumentParser]) 
     """Adds the subcommand's parser."""
     parser = subparsers.add_parser("compare", help="two networks and timetables: spans, times, cost by kind")
     add_network(parser)
-    parser.add_argument("other", metavar="OTHER", help="the network behind the change, a file or a folder like NETWORK")
+    parser.add_argument("other", metavar="OTHER", help="the network after the change, a file or a folder like NETWORK")
     parser.add_argument("--other-fixed", metavar="FILE", help="its fixed times")
     parser.add_argument("--other-times", metavar="FILE", help="its times")
     parser.set_defaults(run=run)

@@ -71,7 +71,7 @@ def number_in(place: int, text: str, limits: range) -> int:
 
 
 def weight_in(place: int, text: str, limits: range) -> int:
-    """The weight that field `place` has, which may have a point with zeros behind it. Raises ValueError."""
+    """The weight that field `place` has, which may have a point with zeros after it. Raises ValueError."""
     whole, point, decimals = text.partition(".")
     if point and not re.fullmatch("[+-]?[0-9]+", whole) or not re.fullmatch("[0-9]*", decimals):
         raise ValueError(f"field {place} is not a number")

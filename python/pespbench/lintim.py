@@ -1,6 +1,6 @@
 """LinTim's periodic activities and timetable as files of pespbench, and times back.
 
-LinTim writes rows of fields between semicolons, with comments behind `#`:
+LinTim writes rows of fields between semicolons, with comments after `#`:
 
     Activities-periodic.giv   activity; type; from event; to event; lower bound; upper bound; passengers
     Timetable-periodic.tim    event; time

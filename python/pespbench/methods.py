@@ -38,7 +38,7 @@ class Commands:
         self._do(f"fix {event} {time}")
 
     def window(self, event: int, first: int, length: int) -> None:
-        """The event has to be at `first` or one of the `length` - 1 times behind it, modulo the period."""
+        """The event has to be at `first` or one of the `length` - 1 times after it, modulo the period."""
         self._do(f"window {event} {first} {length}")
 
     def unfix(self, event: int) -> None:

@@ -8,7 +8,7 @@ from typing import Dict, List, Mapping, Optional
 
 @dataclass(frozen=True)
 class Window:
-    """When an event has to be: at `first` or one of the times behind it, `length` of them in all, modulo the period.
+    """When an event has to be: at `first` or one of the times after it, `length` of them in all, modulo the period.
 
     A length of 1 is a fixed time.
     """

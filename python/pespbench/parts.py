@@ -40,7 +40,7 @@ def ranges_of(activity: Activity, ranges: int) -> List[Tuple[int, int]]:
     length = activity.upper - activity.lower + 1
     count = min(ranges, length)
     starts = [activity.lower + length * place // count for place in range(count + 1)]
-    return [(first, behind - 1) for first, behind in zip(starts, starts[1:])]
+    return [(first, after - 1) for first, after in zip(starts, starts[1:])]
 
 
 def parts_of(network: Network, spans: int, ranges: int) -> List[Part]:

@@ -171,7 +171,7 @@ class Many(Case):
         self.assertEqual(bench.many([]), [])
 
     def test_no_side_waits_for_the_other(self) -> None:
-        """More replies than pipes hold, behind more lines than pipes hold."""
+        """More replies than pipes hold, after more lines than pipes hold."""
         with drawn_bench(3, 60, 60) as bench:
             blanks = " " * 4_000
             came = bench.many([f"domains{blanks}", f"fix 1 1{blanks}", f"dump{blanks}"] * 40)

@@ -24,7 +24,7 @@ FORMS = {
 }
 # Cases of calls that take no memory.
 QUIET = " without memory"
-# What a search may leave behind where memory is refused after it.
+# What a search may leave after where memory is refused after it.
 SEARCHES = ["Bench::find_optimum", "Bench::optimum", "Bench::try_optimum", "Bench::adopt", "reply to optimum"]
 KNOWN = re.compile(rb"^known .*\n", re.MULTILINE)
 NODES = re.compile(rb"^nodes \d+\n", re.MULTILINE)
@@ -32,7 +32,7 @@ HEADS = re.compile(rb"^(case .*|before|answer|after|again)\n", re.MULTILINE)
 
 
 def calls_of(output):
-    """What was told of each call: the state before, the answer and the state behind it, and the two of the call made again."""
+    """What was told of each call: the state before, the answer and the state after it, and the two of the call made again."""
     parts = HEADS.split(output)
     calls = []
     for head, text in zip(parts[1::2], parts[2::2]):

@@ -112,7 +112,7 @@ dump"""
 
 @dataclasses.dataclass
 class Input:
-    """A run to be disturbed: its name, the words behind the program's name, the folder, and the commands."""
+    """A run to be disturbed: its name, the words after the program's name, the folder, and the commands."""
 
     name: str
     words: list

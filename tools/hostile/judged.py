@@ -15,7 +15,7 @@ REFUSED = {
     "the whole output": (0, OUTPUT, b"", True),
     "before the first line": (1, b"", AT % 0, True),
     "at the first line": (1, b"", AT % 1, True),
-    "behind a reply and a blank line": (1, b"ok\n", AT % 3, True),
+    "after a reply and a blank line": (1, b"ok\n", AT % 3, True),
     "in a file": (1, b"", b"pespbench: times file, record 7: out of memory\n", True),
     "half a reply": (1, b"ok\ndomains 1\n", AT % 3, False),
     "half a line": (1, b"o", AT % 1, False),
@@ -35,7 +35,7 @@ REFUSED = {
 DAMAGED = {
     "the whole output": (0, OUTPUT, b"", True),
     "a fault of a file": (1, b"", b"pespbench: activities file, record 2: wrong number of fields\n", True),
-    "a fault of a file behind a reply": (1, b"ok\n", b"pespbench: times file, record 2: event is repeated\n", False),
+    "a fault of a file after a reply": (1, b"ok\n", b"pespbench: times file, record 2: event is repeated\n", False),
     "a reply too few": (0, b"ok\ndomains 1\n1: 0 1\n", b"", False),
     "half a reply": (0, b"ok\ndomains 2\n1: 0 1\ncost 0\n", b"", False),
     "no line end": (0, OUTPUT[:-1], b"", False),

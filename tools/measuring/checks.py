@@ -64,7 +64,7 @@ def measure(program, folder, rows):
     check, reading, events = check_of(program, folder, rows, UNSORTED)
     wanted = f"pespbench: times file, record {events + 1}: wrong number of fields\n"
     if run(reading, 1).stderr != wanted:
-        sys.exit(f"tools/measure: the run that reads {rows} rows alone did not end behind the last of the times")
+        sys.exit(f"tools/measure: the run that reads {rows} rows alone did not end after the last of the times")
     profile = folder / f"callgrind.{rows}"
     return {
         "rows": rows,

@@ -138,7 +138,7 @@ def spans(suite, page):
 
 
 def undoing(suite, page):
-    """Each step is taken back and done again, and the state is then the same; a step behind an undo ends what could be done again."""
+    """Each step is taken back and done again, and the state is then the same; a step after an undo ends what could be done again."""
     page.show(TWO_TRAINS)
     steps = [
         "fix 1 0",
@@ -167,11 +167,11 @@ def undoing(suite, page):
     page.press("undo")
     page.ask("Page.step(['weight 1 8'])")
     suite.note(
-        "a step behind an undo",
+        "a step after an undo",
         {"lines": [*steps[:-1], "weight 1 8"], "redo": True},
         {"lines": page.lines(), "redo": page.ask("Page.find('redo').disabled")},
     )
-    # A step behind so many lines begins at a base of its own, which has windows, times and lonely events too.
+    # A step after so many lines begins at a base of its own, which has windows, times and lonely events too.
     page.ask("for (const line of ['time 1 0', 'time 9 3', 'window 9 2 3']) Page.step([line])")
     page.ask("for (let count = 0; count < 350; count += 1) Page.step([`fix 2 ${count % 10}`])")
     state = page.state()

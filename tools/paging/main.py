@@ -16,7 +16,7 @@ def sources():
 
 
 def changed_at(paths):
-    """When something there was last changed: by its commit, or now where it is changed behind that; 0 where it is unknown."""
+    """When something there was last changed: by its commit, or now where it is changed after that; 0 where it is unknown."""
     words = ["git", "-C", TOP, "log", "-1", "--format=%ct", "--", *paths]
     told = subprocess.run(words, capture_output=True, text=True, check=False).stdout.strip()
     words = ["git", "-C", TOP, "status", "--porcelain", "--", *paths]
@@ -33,7 +33,7 @@ def which_is_older():
     sources_at = changed_at([*sources(), f":(exclude){page}"])
     if page_at < sources_at:
         return "the page is older than its sources: tools/page makes it anew"
-    return "the page was changed behind its sources, or was made by other tools than those here"
+    return "the page was changed after its sources, or was made by other tools than those here"
 
 
 def difference(anew):

@@ -1,6 +1,6 @@
 """What an accepted edit leaves: whether a known optimum stays known, and which pairs come back into the domains.
 
-Each function is given the models before and behind the edit, the edit's name and its numbers, as tests/parsing.py
+Each function is given the models before and after the edit, the edit's name and its numbers, as tests/parsing.py
 reads them. A pair is an event and a residue of the period.
 """
 
@@ -59,7 +59,7 @@ def restored(before, after, name, numbers):
     """The pairs that an edit puts back before others are taken out again.
 
     They are reached from the starts, over activities other than the edited one, and all are outside the domains before
-    the edit and in their events' windows behind it.
+    the edit and in their events' windows after it.
     """
     rows = before.rows()
     outside = {event: set(after.admitted(event)) - rows.get(event, set()) for event in after.events}

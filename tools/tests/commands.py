@@ -116,7 +116,7 @@ def files_and_commands(suite):
     output = "# period 60 lines 5 / add event 1 / add event 2 / fix 1 12 / " + script_of_two()
     suite.case("all three files", words, given=b"dump\n", output=text_of(output))
     suite.case("no commands", words, given=b"")
-    suite.case("activities from standard input, and no commands behind them", ["/dev/stdin"], given=TWO_FILE)
+    suite.case("activities from standard input, and no commands after them", ["/dev/stdin"], given=TWO_FILE)
 
 
 GROUPS = [command_cases, model_cases, model_restores, refused_lines, faulty_lines, files_and_commands]

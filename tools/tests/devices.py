@@ -69,7 +69,7 @@ def closing_reader(suite):
         came = {"first": first, "status": began.wait(SECONDS), "standard error": began.stderr.read()}
         began.stderr.close()
         wanted = {"first": b"ok\n", "status": 1, "standard error": NOT_WRITTEN}
-        suite.note(f"a reader that goes behind the first reply, number {number}", wanted, came)
+        suite.note(f"a reader that goes after the first reply, number {number}", wanted, came)
 
 
 def failing_input(suite):

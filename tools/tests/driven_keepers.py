@@ -23,7 +23,7 @@ Rows = Dict[int, Set[int]]
 
 
 class Wanted(NamedTuple):
-    """What is to be told behind a line: most of it word for word, and what the last accepted edit took."""
+    """What is to be told after a line: most of it word for word, and what the last accepted edit took."""
 
     lines: List[str]
     restored: Set[Pair]
@@ -135,7 +135,7 @@ def damaged(draw: random.Random, lines: List[str]) -> List[str]:
 
 
 def fault(wanted: Wanted, lines: List[str]) -> Optional[str]:
-    """What is wrong with the lines behind one line of input; None where nothing is."""
+    """What is wrong with the lines after one line of input; None where nothing is."""
     for place, line in enumerate(wanted.lines):
         came = lines[place] if place < len(lines) else "nothing"
         if came != line:

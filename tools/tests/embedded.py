@@ -100,14 +100,14 @@ def drawn_runs(suite, module, call):
 
 
 def into_room(module, call, room, period, commands):
-    """What a room of such bytes holds behind a call, and what is told."""
+    """What a room of such bytes holds after a call, and what is told."""
     out, told = ctypes.create_string_buffer(room, len(room) + 1), module.Told(9, 9, 9, 9, 9)
     call(period, TWO, len(TWO), b"", 0, b"", 0, commands, len(commands), out, len(room), ctypes.byref(told))
     return out.raw[: len(room)], {name: getattr(told, name) for name, _ in module.Told._fields_}
 
 
 def rooms(suite, module, call):
-    """The replies stand in front of the room, and behind them is what was there."""
+    """The replies stand in front of the room, and after them is what was there."""
     replies = b"ok\nok\n"
     told = {"length": len(replies), "place": 0, "status": 0, "reason": 0, "field": 0}
     for length in [0, 1, len(replies) - 1, len(replies), len(replies) + 1, 1000]:

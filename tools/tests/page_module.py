@@ -113,7 +113,7 @@ BITS = 12, 21
 
 
 def same_bytes(suite, node):
-    """Drawn runs have the program's replies, and nothing is left behind a run."""
+    """Drawn runs have the program's replies, and nothing is left after a run."""
     draw, lines = random.Random(4_100), 0
     for number in itertools.count():
         if lines >= LINES:

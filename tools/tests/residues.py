@@ -35,5 +35,5 @@ def spread(bits: int, first: int, width: int, period: int) -> int:
 
 
 def run_of(first: int, length: int, period: int) -> int:
-    """So many residues, one behind the other around the period."""
+    """So many residues, one after the other around the period."""
     return spread(1 << first, 0, length - 1, period) if length else 0

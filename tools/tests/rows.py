@@ -63,7 +63,7 @@ def too_many_activities(suite):
     loops = b"".join(loop(number, number) for number in range(MOST_EVENTS + 1))
     refused("loops at one event too many", loops, MOST_EVENTS + 1, EVENTS)
     without_last = b"".join(loop(number, number) for number in range(MOST_EVENTS - 1))
-    refused("two new events behind all but one", without_last + f"{MOST_EVENTS - 1}; {MOST_EVENTS}; {MOST_EVENTS + 1}; 0; 9; 0".encode(), MOST_EVENTS, EVENTS)
+    refused("two new events after all but one", without_last + f"{MOST_EVENTS - 1}; {MOST_EVENTS}; {MOST_EVENTS + 1}; 0; 9; 0".encode(), MOST_EVENTS, EVENTS)
     between = b"".join(b"%d; 1; 2; 0; 9; 0\n" % number for number in range(MOST_ACTIVITIES + 1))
     refused("one too many of them between two events", between, MOST_ACTIVITIES + 1, ACTIVITIES)
     full = b"".join(loop(number, number % MOST_EVENTS) for number in range(MOST_ACTIVITIES))
@@ -74,7 +74,7 @@ def too_many_activities(suite):
         "crossed bounds and an old number": (f"7; 7; {MOST_EVENTS}; 1; 0; 0".encode(), CROSSED),
     }
     for name, (row, kind) in table.items():
-        refused(f"{name} behind as many as there may be", full + row, MOST_ACTIVITIES + 1, kind)
+        refused(f"{name} after as many as there may be", full + row, MOST_ACTIVITIES + 1, kind)
 
 
 def too_many_times(suite):
@@ -88,7 +88,7 @@ def too_many_times(suite):
     words = ["--fixed", suite.file("many", rows), activities]
     suite.check("fixed: one too many", words, status=1, error=record("fixed", MOST_EVENTS + 1, ABSENT))
     words = ["--fixed", suite.file("many", repeated), activities]
-    suite.check("fixed: a repeat behind as many as there may be", words, status=1, error=record("fixed", MOST_EVENTS + 1, EVENT_TWICE))
+    suite.check("fixed: a repeat after as many as there may be", words, status=1, error=record("fixed", MOST_EVENTS + 1, EVENT_TWICE))
 
 
 def long_periods(suite):

@@ -32,8 +32,8 @@ def records(text):
         fields = []
         while not fields or text[place : place + 1] == separator:
             found = field.match(text, place + (len(fields) > 0))
-            quoted, behind, plain = found.groups()
-            fields.append(plain if quoted is None else quoted.replace(b'""', b'"') + behind)
+            quoted, after, plain = found.groups()
+            fields.append(plain if quoted is None else quoted.replace(b'""', b'"') + after)
             place = found.end()
         yield fields
         place = line_ends.match(text, place).end()

@@ -32,10 +32,10 @@ def drawn_script(draw):
         ends = draw.choices(events, k=2)
         activities.append((number, *ends, *bounds, draw.randrange(1_000_000_001)))
     lines = [f"add event {event}" for event in events]
-    behind = [drawn_window(draw, event, *window) for event, window in windows.items()]
-    behind += ["\t".join(map(str, ["add activity", *row])) for row in activities]
-    draw.shuffle(behind)
-    return period, "\r\n".join([*lines, "", *behind]), script_of(period, events, windows, activities)
+    after = [drawn_window(draw, event, *window) for event, window in windows.items()]
+    after += ["\t".join(map(str, ["add activity", *row])) for row in activities]
+    draw.shuffle(after)
+    return period, "\r\n".join([*lines, "", *after]), script_of(period, events, windows, activities)
 
 
 def dumped(suite, name, period, script, wanted):
@@ -53,7 +53,7 @@ def scripts(suite):
         dumped(suite, f"written script {number}", period, wanted, wanted)
     faults = {
         "a question between edits": (b"add event 1\ncost\n", b"ok\nrefused 11 event 1 has no time\n"),
-        "no number behind a comment": (b"# x\nfix x 1\n", b"fault word 2 is not a number\n"),
+        "no number after a comment": (b"# x\nfix x 1\n", b"fault word 2 is not a number\n"),
         "the same edit twice": (b"add event 1\nadd event 1\n", b"ok\nrefused 1 event 1 exists\n"),
         "a fixed time at the period": (b"add event 1\nfix 1 60", b"ok\nrefused 4 time 60 is out of range\n"),
         "a window past the period": (b"add event 1\nwindow 1 0 61", b"ok\nrefused 13 length 61 is out of range\n"),
@@ -63,7 +63,7 @@ def scripts(suite):
 
 
 def most_at_long_periods(suite):
-    """At 121 and at the greatest period the commands that come behind as many events and activities as there may be."""
+    """At 121 and at the greatest period the commands that come after as many events and activities as there may be."""
     for period in [121, GREATEST_PERIOD]:
         events, activities = most_events(period), most_activities(period)
         rows = [(number, number % events, number * 7 % events, 0, period - 1, 1) for number in range(activities)]

@@ -24,7 +24,7 @@ while [ -e "$FAKE/waits" ]; do sleep 0.01; done
 printf '#!/bin/sh\\necho ran in "$PWD" with "$@"\\n' >out/pespbench && chmod +x out/pespbench
 """
 
-# The stand-in in a folder of its own, with the words behind those of the toolchain, and the toolchain's last line.
+# The stand-in in a folder of its own, with the words after those of the toolchain, and the toolchain's last line.
 FAKE_TRY = """#!/bin/sh
 while [ "$1" != -- ]; do shift; done
 shift

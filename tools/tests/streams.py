@@ -37,8 +37,8 @@ def longest_line(suite):
         "a comment of 4,097 bytes": (b"#" + b"x" * LONGEST_LINE + b"\ncost\n", b"", 1),
         "a command within 4,096 bytes": (b"cost".rjust(LONGEST_LINE) + b"\n", no_time, 0),
         "a command at the end of 4,097 bytes": (b"cost".rjust(LONGEST_LINE + 1) + b"\n", b"", 1),
-        "a long line behind a reply": (b"cost\n" + b"x" * (LONGEST_LINE + 1) + b"\ncost\n", no_time, 2),
-        "a long line behind blank ones": (b"\n#\n\n" + b" " * (LONGEST_LINE + 1), b"", 4),
+        "a long line after a reply": (b"cost\n" + b"x" * (LONGEST_LINE + 1) + b"\ncost\n", no_time, 2),
+        "a long line after blank ones": (b"\n#\n\n" + b" " * (LONGEST_LINE + 1), b"", 4),
         "a line of many megabytes": (b"cost\n" + b"1" * 20_000_000, no_time, 2),
         "long lines in pieces of a buffer": ((b" " * LONGEST_LINE + b"\n") * 200 + b"cost", no_time, 0),
     }
@@ -157,7 +157,7 @@ def compared(bench, lines, output):
 
 
 def knows(before, after, line, reply):
-    """Whether the optimum is known behind a line; `before` is the model before it where it was known there, and else None."""
+    """Whether the optimum is known after a line; `before` is the model before it where it was known there, and else None."""
     try:
         name, numbers = parse(line) or ("", [])
     except Fault:

@@ -61,7 +61,7 @@ PART = re.compile(r"(?<![\w/.~-])((?:src|specs|proofs)/[\w/]+\.(?:rt|antt))")
 STEP = re.compile(r"`(crates/[\w/]+\.rt)`: ((?:`\w+`(?:, | and | with )?)+)")
 
 # The most words of all documents together, HISTORY left out.
-MOST_WORDS = 26000
+MOST_WORDS = 26500
 COUNTED = ["README.md", "docs/*.md", "crates/*/README.md", "page/README.md", "python/README.md"]
 
 

@@ -34,7 +34,7 @@ use Rattle.pesp_bench.proofs.KeptAnswers.{activities_rise, kept_bounds, not_ligh
 refused_so : {X : Type 0} (b : Bool) (refusal : Refusal) (rest : List (Option Refusal)) (x y : X) → b ≡ true → unless_refused (when b refusal ∷ rest) x ≡ Ok y → ⊥
 refused_so b refusal rest x y is ok = false≢true (sym (not_refused b refusal rest x y ok) ∙ is)
 
--- the refusals behind one whose condition does not hold
+-- the refusals after one whose condition does not hold
 rest_of : {X : Type 0} (b : Bool) (refusal : Refusal) (rest : List (Option Refusal)) (x y : X) → unless_refused (when b refusal ∷ rest) x ≡ Ok y → unless_refused rest x ≡ Ok y
 rest_of true refusal rest x y ok = absurd (false≢true (ap is_ok ok))
 rest_of false refusal rest x y ok = ok
@@ -64,15 +64,15 @@ added_tells I a m b told untold K cost ok is none member costs = (
     sum : cost_of (effect I (AddActivity a)) m ≡ cost_of I m + cost_in m a
     sum = sum_by-put_in id_of (cost_in m) a I.activities (activities_rise I ok) absent
 
-    behind_number : unless_refused (when (not (has_event I a.from)) (no.NoEvent a.from) ∷ when (not (has_event I a.to)) (no.NoEvent a.to) ∷ when (nat_le (max_activities I.period) (length I.activities)) no.TooManyActivities ∷ []) (effect I (AddActivity a)) ≡ Ok K
-    behind_number = rest_of (is_some (activity_of I a.id)) _ _ (effect I (AddActivity a)) K is
+    after_number : unless_refused (when (not (has_event I a.from)) (no.NoEvent a.from) ∷ when (not (has_event I a.to)) (no.NoEvent a.to) ∷ when (nat_le (max_activities I.period) (length I.activities)) no.TooManyActivities ∷ []) (effect I (AddActivity a)) ≡ Ok K
+    after_number = rest_of (is_some (activity_of I a.id)) _ _ (effect I (AddActivity a)) K is
 
     timed : IsTimed m a
     timed =
         let missing = none_missing I m member.events in
         record {
-          from = found_timed m I.events a.from missing (there_is (has_event I a.from) (not_refused (not (has_event I a.from)) _ _ (effect I (AddActivity a)) K behind_number));
-          to = found_timed m I.events a.to missing (there_is (has_event I a.to) (not_refused (not (has_event I a.to)) _ _ (effect I (AddActivity a)) K (rest_of (not (has_event I a.from)) _ _ (effect I (AddActivity a)) K behind_number)));
+          from = found_timed m I.events a.from missing (there_is (has_event I a.from) (not_refused (not (has_event I a.from)) _ _ (effect I (AddActivity a)) K after_number));
+          to = found_timed m I.events a.to missing (there_is (has_event I a.to) (not_refused (not (has_event I a.to)) _ _ (effect I (AddActivity a)) K (rest_of (not (has_event I a.from)) _ _ (effect I (AddActivity a)) K after_number)));
         }
 
     stays : meets m a ≡ true → cost_in m a ≡ 0 → IsMember (effect I (AddActivity a)) m × (cost_of (effect I (AddActivity a)) m ≡ cost)

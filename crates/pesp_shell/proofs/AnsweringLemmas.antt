@@ -8,7 +8,7 @@ use Rattle.pesp_shell_replies.specs.Transcripts.{Leads}
 use Rattle.pesp_shell.specs.declared.run_fault.RunFault.{RunFault}
 use Rattle.pesp_shell.specs.declared.run_fault.RunFault.TheVariants as fault
 use Rattle.pesp_shell.specs.Runs.{Marks}
-use Rattle.pesp_shell.specs.Sessions.{MayAnswer, MayEndBehind, MayFinish}
+use Rattle.pesp_shell.specs.Sessions.{MayAnswer, MayEndAfter, MayFinish}
 
 -- one line and its reply
 pub told : (first last : Work) (line reply : List ℕ) → Legal first line reply last → Leads first (line ∷ []) reply last
@@ -44,12 +44,12 @@ passed_on first last lines number written written' written'' before mark passed 
 passed_on first last lines number written written' written'' before mark passed (Err fault.TooManyLines) may keeps none = absurd none
 
 -- nothing is left, and all replies are passed on or not
-pub ended_behind : (rest : List ℕ) (left : Option (List ℕ)) (m : Marks) (ended : Result (Unit {0}) RunFault)
-    → rest ≡ [] → IsTrue m.at_end → IsAtEnd left → m.not_read ≡ false → MayFinish m.not_written m.passed_on ended → MayEndBehind rest left m ended
-ended_behind rest left m (Ok done) none at_end empty off may = ((off, may.0), none, at_end, empty, may.1)
-ended_behind rest left m (Err fault.Write) none at_end empty off failed = (off, none, failed)
-ended_behind rest left m (Err (fault.File source found)) none at_end empty off may = absurd may
-ended_behind rest left m (Err fault.Read) none at_end empty off may = absurd may
-ended_behind rest left m (Err (fault.Memory line)) none at_end empty off may = absurd may
-ended_behind rest left m (Err (fault.LineTooLong line)) none at_end empty off may = absurd may
-ended_behind rest left m (Err fault.TooManyLines) none at_end empty off may = absurd may
+pub ended_after : (rest : List ℕ) (left : Option (List ℕ)) (m : Marks) (ended : Result (Unit {0}) RunFault)
+    → rest ≡ [] → IsTrue m.at_end → IsAtEnd left → m.not_read ≡ false → MayFinish m.not_written m.passed_on ended → MayEndAfter rest left m ended
+ended_after rest left m (Ok done) none at_end empty off may = ((off, may.0), none, at_end, empty, may.1)
+ended_after rest left m (Err fault.Write) none at_end empty off failed = (off, none, failed)
+ended_after rest left m (Err (fault.File source found)) none at_end empty off may = absurd may
+ended_after rest left m (Err fault.Read) none at_end empty off may = absurd may
+ended_after rest left m (Err (fault.Memory line)) none at_end empty off may = absurd may
+ended_after rest left m (Err (fault.LineTooLong line)) none at_end empty off may = absurd may
+ended_after rest left m (Err fault.TooManyLines) none at_end empty off may = absurd may

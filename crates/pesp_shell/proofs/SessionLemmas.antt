@@ -21,12 +21,12 @@ use Rattle.pesp_shell.specs.declared.run_fault.Source.{Source}
 use Rattle.pesplib_reader.specs.declared.fault.ReadFault.{ReadFault}
 use Rattle.pesp_shell.specs.Opening.{Files, IsFirstFault, IsOpening}
 use Rattle.pesp_shell.specs.Runs.{Answers, IsRun, Marks, MayWant, NoneFailed}
-use Rattle.pesp_shell.specs.Sessions.{MayAnswer, MayEndBehind}
+use Rattle.pesp_shell.specs.Sessions.{MayAnswer, MayEndAfter}
 
 abbrev IsShort : List ℕ → Type 0
 IsShort line = length line ≤ longest_line
 
--- so many lines are read and answered, which led the first work to this one, and these bytes are held behind them
+-- so many lines are read and answered, which led the first work to this one, and these bytes are held after them
 pub record Progress (first now : Work) (left left' written written' : Option (List ℕ)) (held : List ℕ) (done : ℕ) : Type 0 where
   pub lines : List (List ℕ)
   pub output : List ℕ
@@ -48,7 +48,7 @@ are_more : (lines : List (List ℕ)) (line : List ℕ) → AreLines lines → Is
 are_more [] line are whole = (whole, tt)
 are_more (l ∷ lines) line are whole = (are.0, are_more lines line are.1 whole)
 
--- lines and what is behind them, where a line more is taken
+-- lines and what is after them, where a line more is taken
 moved : (lines : List (List ℕ)) (line rest held : List ℕ) → held ≡ line ++ 10 ∷ rest → as_lines lines ++ held ≡ as_lines (lines ++ line ∷ []) ++ rest
 moved lines line rest held e =
     ap (λ bytes. as_lines lines ++ bytes) (e ∙ sym (append_assoc line (10 ∷ []) rest))
@@ -68,8 +68,8 @@ leads_on : (first mid last : Work) (lines more : List (List ℕ)) (output rest :
     → Leads first lines output mid → Leads mid more rest last → Leads first (lines ++ more) (output ++ rest) last
 leads_on first mid last [] more output rest (none, same) leads =
     subst (λ w. Leads w more (output ++ rest) last) same (subst (λ o. Leads mid more (o ++ rest) last) (sym none) leads)
-leads_on first mid last (line ∷ lines) more output rest (reply, next, tail, legal, leads, whole) behind =
-    (reply, next, tail ++ rest, legal, leads_on next mid last lines more tail rest leads behind, ap (λ o. o ++ rest) whole ∙ append_assoc reply tail rest)
+leads_on first mid last (line ∷ lines) more output rest (reply, next, tail, legal, leads, whole) later =
+    (reply, next, tail ++ rest, legal, leads_on next mid last lines more tail rest leads later, ap (λ o. o ++ rest) whole ∙ append_assoc reply tail rest)
 
 stands : (f : Files) (first last : Work) (lines : List (List ℕ)) (output : List ℕ)
     → IsOpening f first → length lines ≤ most_lines → All IsShort lines → Leads first lines output last → Answers f lines output
@@ -122,7 +122,7 @@ module _ (first now : Work) (left left' written written' : Option (List ℕ)) (h
   looked left'' bytes held' p taken e = record {
     lines = p.lines;
     output = p.output;
-    consumed = subst (Consumes left left'') (append_assoc (as_lines p.lines) held bytes ∙ ap (λ behind. as_lines p.lines ++ behind) (sym e)) (Consumes-trans left left' left'' (as_lines p.lines ++ held) bytes p.consumed taken);
+    consumed = subst (Consumes left left'') (append_assoc (as_lines p.lines) held bytes ∙ ap (λ later. as_lines p.lines ++ later) (sym e)) (Consumes-trans left left' left'' (as_lines p.lines ++ held) bytes p.consumed taken);
     appended = p.appended;
     whole = p.whole;
     short = p.short;
@@ -156,7 +156,7 @@ module _ (first now : Work) (left left' written written' : Option (List ℕ)) (h
     abbrev read : List ℕ
     read = as_lines p.lines ++ held
 
-    -- every line so far is answered, and what is written behind their replies is nothing
+    -- every line so far is answered, and what is written after their replies is nothing
     kept : (written'' : Option (List ℕ)) → Keeps written' written'' → Appends written written'' p.output
     kept written'' keeps = Appends-kept written written' written'' p.output p.appended keeps
 
@@ -277,9 +277,9 @@ module _ (first now : Work) (left left' written written' : Option (List ℕ)) (h
         let one = one_line held unended in
         faulted next written'' (lines_of held) [] fault few (sym (append-nil (lines_of held))) one.0 one.1 reader may
 
-    -- behind the greatest number of lines
+    -- after the greatest number of lines
     pub ended : (written'' : Option (List ℕ)) (end : Result (Unit {0}) RunFault)
-        → done ≡ most_lines → Keeps written' written'' → MayEndBehind held left' m end → IsRun f left left' written written'' m end
+        → done ≡ most_lines → Keeps written' written'' → MayEndAfter held left' m end → IsRun f left left' written written'' m end
     ended written'' (Ok done_) full keeps (off, none, at_end, empty, passed) = record {
       read = read;
       output = p.output;

@@ -7,12 +7,12 @@ use Rattle.pesplib_reader.specs.Reading.{with_fixed}
 use Rattle.pesp_shell.specs.declared.run_fault.RunFault.{RunFault}
 use Rattle.pesp_shell.specs.declared.run_fault.RunFault.TheVariants as ended
 use Rattle.pesp_shell.specs.Opening.{Files, IsFirstFault, StandFor}
-use Rattle.pesp_shell_replies.specs.Replies.{behind, cost_text, tensions_text, told, violations_text}
+use Rattle.pesp_shell_replies.specs.Replies.{appended, cost_text, tensions_text, told, violations_text}
 
 -- one reply after another, where both are there
 abbrev pub joined : Option (List ℕ) → Option (List ℕ) → Option (List ℕ)
 joined None later = None
-joined (Some text) later = behind text later
+joined (Some text) later = appended text later
 
 -- the replies to `tensions`, `violations` and `cost`
 abbrev pub check_text : Network → Times → Option (List ℕ)

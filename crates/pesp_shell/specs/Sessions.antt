@@ -28,9 +28,9 @@ MayFinish not_written passed_on (Err fault.Write) = IsTrue not_written
 MayFinish not_written passed_on (Err other) = ⊥
 
 -- after the greatest number of lines these bytes are left, and the run may end so
-abbrev pub MayEndBehind : List ℕ → Option (List ℕ) → Marks → Result (Unit {0}) RunFault → Type 0
-MayEndBehind rest left m (Ok done) = NoneFailed m × (rest ≡ []) × IsTrue m.at_end × IsAtEnd left × IsTrue m.passed_on
-MayEndBehind rest left m (Err fault.Read) = (m.not_written ≡ false) × (rest ≡ []) × IsTrue m.not_read
-MayEndBehind rest left m (Err fault.Write) = (m.not_read ≡ false) × (rest ≡ []) × IsTrue m.not_written
-MayEndBehind rest left m (Err fault.TooManyLines) = NoneFailed m × (0 < length rest)
-MayEndBehind rest left m (Err other) = ⊥
+abbrev pub MayEndAfter : List ℕ → Option (List ℕ) → Marks → Result (Unit {0}) RunFault → Type 0
+MayEndAfter rest left m (Ok done) = NoneFailed m × (rest ≡ []) × IsTrue m.at_end × IsAtEnd left × IsTrue m.passed_on
+MayEndAfter rest left m (Err fault.Read) = (m.not_written ≡ false) × (rest ≡ []) × IsTrue m.not_read
+MayEndAfter rest left m (Err fault.Write) = (m.not_read ≡ false) × (rest ≡ []) × IsTrue m.not_written
+MayEndAfter rest left m (Err fault.TooManyLines) = NoneFailed m × (0 < length rest)
+MayEndAfter rest left m (Err other) = ⊥

@@ -5,7 +5,7 @@ ghost use Rattle.std.specs.Io.KnownBytes.{Consumes, Keeps};
 ghost use Rattle.pesp_shell_io.specs.Lines.{IsUncut, is_line_feed, lines_of};
 ghost use Rattle.pesp_shell_replies.specs.Legal.{work_of};
 ghost use Rattle.pesp_shell.specs.Runs.{marks};
-ghost use Rattle.pesp_shell.specs.Sessions.{MayAnswer, MayEndBehind, MayFinish};
+ghost use Rattle.pesp_shell.specs.Sessions.{MayAnswer, MayEndAfter, MayFinish};
 
 use crate::RunFault;
 use pesp_bench::Bench;
@@ -78,7 +78,7 @@ pub(crate) fn end<R: ByteSource, W: ByteSink>(
     ensures taken { (bytes : List ℕ) × Consumes (R.left source.old) (R.left source.new) bytes
         × (lines.new ≡ lines.old ++ bytes) }
     ensures kept { Keeps (W.written sink.old) (W.written sink.new) }
-    ensures ending { MayEndBehind lines.new (R.left source.new)
+    ensures ending { MayEndAfter lines.new (R.left source.new)
         (marks (R.at_end source.new) (R.failed source.new) (W.failed sink.new)
         (W.passed_on sink.new)) result }
 {

@@ -4,7 +4,7 @@ ghost use Rattle.std.specs.Prelude.{◌≡◌, ◌++◌, IfOk, IfErr, OnOk, Some
 ghost use Rattle.std.specs.Option.{option_copied};
 ghost use Rattle.pesp_instance.specs.Network.{Network};
 ghost use Rattle.pesp_tension.specs.Timetables.{Times};
-ghost use Rattle.pesp_shell_replies.specs.Replies.{behind, cost_text, refusal_text, tensions_text, violations_text};
+ghost use Rattle.pesp_shell_replies.specs.Replies.{appended, cost_text, refusal_text, tensions_text, violations_text};
 ghost use Rattle.pesp_shell.specs.Checked.{IsCheck, IsCheckFault, check_text, joined};
 ghost use Rattle.pesp_shell.specs.Opening.{files};
 
@@ -30,7 +30,7 @@ fn put_assessment(text: &mut Vec<u8>, assessment: &Assessment) -> Result<(), All
 
 /// The reply of a refusal of all three.
 fn put_refusals(text: &mut Vec<u8>, refusal: &Refusal) -> Result<(), AllocError>
-    ensures { OnOk result (behind text.old.items
+    ensures { OnOk result (appended text.old.items
         (joined (refusal_text refusal.now)
         (joined (refusal_text refusal.now) (refusal_text refusal.now))) ≡ Some text.new.items) }
 {

@@ -29,14 +29,14 @@ leads_more first last next [] line output reply (none, same) legal =
 leads_more first last next (l ∷ lines) line output reply (r, mid, rest, legal_first, leads, whole) legal =
     (r, mid, rest ++ reply, legal_first, leads_more mid last next lines line rest reply leads legal, ap (λ o. o ++ reply) whole ∙ append_assoc r rest reply)
 
--- the work and the output behind the first n lines
+-- the work and the output after the first n lines
 leads_cut : (first last : Work) (lines : List (List ℕ)) (output : List ℕ) (n : ℕ) → Leads first lines output last
     → (mid : Work) × (told : List ℕ) × (rest : List ℕ) × Leads first (take n lines) told mid × Leads mid (drop n lines) rest last × (output ≡ told ++ rest)
 leads_cut first last lines output zero leads = (first, [], output, (refl, refl), leads, refl)
 leads_cut first last [] output (suc n) leads = (first, [], output, (refl, refl), leads, refl)
 leads_cut first last (line ∷ lines) output (suc n) (r, next, rest, legal, leads, whole) =
-    let (mid, told, more, before, behind, same) = leads_cut next last lines rest n leads in
-    (mid, r ++ told, more, (r, next, told, legal, before, refl), behind, whole ∙ ap (λ o. r ++ o) same ∙ sym (append_assoc r told more))
+    let (mid, told, more, before, later, same) = leads_cut next last lines rest n leads in
+    (mid, r ++ told, more, (r, next, told, legal, before, refl), later, whole ∙ ap (λ o. r ++ o) same ∙ sym (append_assoc r told more))
 
 -- the instance after an edit, if there is one
 abbrev after_edit : Network → Option Edit → Network
@@ -65,7 +65,7 @@ stays w next reply text tells = ap (λ (x : Work). x.instance) tells.stays
 changes : (w next : Work) (outcome : Result Work Refusal) (text : List ℕ) → Changes w outcome text next → next.instance ≡ (result_unwrap_or outcome w).instance
 changes w next outcome text is = ap (λ (x : Work). x.instance) is.leaves
 
--- the instance behind a command
+-- the instance after a command
 command_instance : (w next : Work) (said : Command) (text : List ℕ) → LegalCommand w said text next → next.instance ≡ after_edit w.instance (edit_said (Ok (Some said)))
 command_instance w next (command.Edit edit) text is =
     changes w next (edited_work w edit) text is ∙ edited_instance (refusals w.instance edit) w (record { instance = effect w.instance edit; times = times_after edit w.times })
@@ -91,7 +91,7 @@ command_instance w next (command.TryOptimum limit) text (inl (answer, is_answer,
 command_instance w next (command.TryOptimum limit) text (inr (found, may, tells)) = stays w next _ text tells
 command_instance w next command.Dump text tells = stays w next _ text tells
 
--- the instance behind a line
+-- the instance after a line
 said_instance : (w next : Work) (said : Result (Option Command) ParseFault) (text : List ℕ) → LegalSaid w said text next → next.instance ≡ after_edit w.instance (edit_said said)
 said_instance w next (Ok None) text tells = stays w next _ text tells
 said_instance w next (Ok (Some c)) text is = command_instance w next c text is
@@ -101,7 +101,7 @@ after_more : (I : Network) (edit : Option Edit) (edits : List Edit) → after I 
 after_more I None edits = refl
 after_more I (Some edit) edits = refl
 
--- the instance behind lines is the one that their edits leave
+-- the instance after lines is the one that their edits leave
 pub leads_instance : (first last : Work) (lines : List (List ℕ)) (output : List ℕ) → Leads first lines output last → last.instance ≡ after first.instance (edits_in lines)
 leads_instance first last [] output (none, same) = ap (λ (x : Work). x.instance) same
 leads_instance first last (line ∷ lines) output (reply, next, rest, legal, leads, whole) =
@@ -111,12 +111,12 @@ leads_instance first last (line ∷ lines) output (reply, next, rest, legal, lea
 
 pub are_afresh : AreAfresh
 are_afresh first lines output n small (last, leads) =
-    let (mid, told, rest, before, behind, whole) = leads_cut first last lines output n leads in
+    let (mid, told, rest, before, later, whole) = leads_cut first last lines output n leads in
     record {
       times = mid.times;
       told = told;
       rest = rest;
       whole = whole;
       before = (mid, before);
-      behind = (last, subst (λ I. Leads (record { instance = I; times = mid.times }) (drop n lines) rest last) (leads_instance first mid (take n lines) told before) behind);
+      later = (last, subst (λ I. Leads (record { instance = I; times = mid.times }) (drop n lines) rest last) (leads_instance first mid (take n lines) told before) later);
     }

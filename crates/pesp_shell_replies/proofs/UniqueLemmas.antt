@@ -106,7 +106,7 @@ compared ((e, t) ∷ xs) ((f, u) ∷ ys) keys =
       | inl at ↦ elim (compared xs ys rest) [
         | inl equal ↦ inl (ap (λ k. (k, t) ∷ xs) same ∙ ap (λ v. (f, v) ∷ xs) at ∙ ap (λ zs. (f, u) ∷ zs) equal)
         | inr (inl before) ↦ inr (inl (inr (at, before)))
-        | inr (inr behind) ↦ inr (inr (inr (sym at, behind)))
+        | inr (inr later) ↦ inr (inr (inr (sym at, later)))
       ]
       | inr (inl low) ↦ inr (inl (inl low))
       | inr (inr high) ↦ inr (inr (inl high))
@@ -129,7 +129,7 @@ one_optimum I m n c d is also = (same_times m n (is.member.period ∙ sym also.m
         elim (compared m.entries n.entries (is.member.events ∙ sym also.member.events)) [
           | inl equal ↦ equal
           | inr (inl before) ↦ let l = also.first m is.member before in absurd (omega (arith, l, cost, is.costs))
-          | inr (inr behind) ↦ let l = is.first n also.member behind in absurd (omega (arith, l, cost, also.costs))
+          | inr (inr later) ↦ let l = is.first n also.member later in absurd (omega (arith, l, cost, also.costs))
         ]
 
 one_answer : (I : Network) (answer other : Answer) → IsAnswer I answer → IsAnswer I other → answer ≡ other

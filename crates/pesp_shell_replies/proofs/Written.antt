@@ -19,7 +19,7 @@ one_line_more line xs i x h e =
     ∙ ap as_lines (map-append line (take i xs) (x ∷ [])) ∙ as_lines_append (map line (take i xs)) (line x ∷ [])
     ∙ ap (λ r. as_lines (map line (take i xs)) ++ r) (append-nil (line x ++ 10 ∷ []))
 
--- behind a text and a header, the lines of the first members and the line of one more are those of one more
+-- after a text and a header, the lines of the first members and the line of one more are those of one more
 pub lines_more : {X : Type 0} (text header : List ℕ) (line : X → List ℕ) (xs : List X) (i : ℕ) (x : X) → i < length xs → x ≡ get_or xs i x
     → (text ++ (header ++ as_lines (map line (take i xs)))) ++ (line x ++ 10 ∷ []) ≡ text ++ (header ++ as_lines (map line (take (i + 1) xs)))
 lines_more text header line xs i x h e =

@@ -61,8 +61,8 @@ told text (Ok x) = Some (text x)
 told text (Err refusal) = refusal_text refusal
 
 -- a reply after a text, where there is one
-abbrev pub behind : List ℕ → Option (List ℕ) → Option (List ℕ)
-behind text reply = option_map (λ more. text ++ more) reply
+abbrev pub appended : List ℕ → Option (List ℕ) → Option (List ℕ)
+appended text reply = option_map (λ more. text ++ more) reply
 
 abbrev pub ok_text : List ℕ
 ok_text = codes "ok\n"

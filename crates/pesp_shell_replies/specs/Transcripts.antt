@@ -38,7 +38,7 @@ pub record GoesOnAfresh (first : Work) (lines : List (List ℕ)) (output : List 
   pub rest : List ℕ
   pub whole : output ≡ told ++ rest
   pub before : IsTranscript first (take n lines) told
-  pub behind : IsTranscript (record { instance = after first.instance (edits_in (take n lines)); times = times }) (drop n lines) rest
+  pub later : IsTranscript (record { instance = after first.instance (edits_in (take n lines)); times = times }) (drop n lines) rest
 
 -- each reply of a transcript is one for the instance that the accepted edits before it leave, read afresh
 abbrev pub AreAfresh : Type 0

@@ -3,7 +3,7 @@
 //! Each function puts its text after what is written already.
 
 ghost use Rattle.std.specs.Prelude.{◌≡◌, ◌++◌, [], ◌∷◌, OnOk, Some, decimal};
-ghost use Rattle.pesp_shell_replies.specs.Replies.{behind, cost_text, fault_text, in_use_text, refusal_text, tension_line, tensions_text, violation_line, violations_text};
+ghost use Rattle.pesp_shell_replies.specs.Replies.{appended, cost_text, fault_text, in_use_text, refusal_text, tension_line, tensions_text, violation_line, violations_text};
 
 use pesp_base::{ActivityId, EventId, Refusal};
 use pesp_shell_commands::ParseFault;
@@ -94,7 +94,7 @@ fn put_in_use(text: &mut Vec<u8>, event: EventId, activity: ActivityId) -> Resul
 
 /// The reply of a refusal; out of memory has none and is passed on.
 pub fn put_refusal(text: &mut Vec<u8>, refusal: Refusal) -> Result<(), AllocError>
-    ensures { OnOk result (behind text.old.items (refusal_text refusal) ≡ Some text.new.items) }
+    ensures { OnOk result (appended text.old.items (refusal_text refusal) ≡ Some text.new.items) }
 {
     match refusal {
         Refusal::EventExists(event) => put_event(text, b"refused 1 event ", event, b" exists\n"),

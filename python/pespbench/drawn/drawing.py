@@ -105,7 +105,7 @@ def slack_of(first: RegionEvent, last: RegionEvent, lower: int) -> int:
 
 
 def neighbour(drawing: Drawing, event: RegionEvent, step: int) -> str | None:
-    """The station before (step -1) or behind (step 1) on the way of the event's train, if there is one."""
+    """The station before (step -1) or after (step 1) on the way of the event's train, if there is one."""
     place = event.number - 1 + step
     if not 0 <= place < len(drawing.events):
         return None

@@ -12,7 +12,7 @@ Child = Union[Element, str, None]
 def element(tag: str, *children: Child, **attributes: object) -> Element:
     """An element with its children, of which None is left out.
 
-    Names of attributes are written with `_` for `-` and with `_` behind them where Python has the word; an attribute of
+    Names of attributes are written with `_` for `-` and with `_` after them where Python has the word; an attribute of
     None is left out. Numbers with a point are rounded to a tenth, which is as fine as a page shows.
     """
     made = Element(tag)
@@ -29,7 +29,7 @@ def attribute(value: object) -> str:
 
 
 def append(parent: Element, *children: Child) -> None:
-    """Puts texts and elements behind what the parent has."""
+    """Puts texts and elements after what the parent has."""
     for child in children:
         if child is None:
             continue

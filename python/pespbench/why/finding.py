@@ -14,7 +14,7 @@ from pespbench.why.probe import Probe
 from pespbench.why.shapes import shape_of
 from pespbench.why.shrinking import Test, least, settled
 
-# The nodes of the first search of the whole network, and by how much more each search behind it may have.
+# The nodes of the first search of the whole network, and by how much more each search after it may have.
 FIRST_NODES, MORE = 500, 4
 # The kind by which fixed times and windows are named where kinds are held hard.
 FIXED = "fixed"

@@ -61,7 +61,7 @@ class Held:
         return self.length < period
 
     def widened(self, count: int, is_later: bool) -> Held:
-        """The window with so many minutes more behind it, or before it."""
+        """The window with so many minutes more after it, or before it."""
         first = self.first if is_later else (self.first - count) % self.period
         return Held(first, self.length + count, self.period)
 

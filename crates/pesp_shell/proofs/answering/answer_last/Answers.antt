@@ -1,4 +1,4 @@
--- The bytes are one line, or none; a failure behind its reply is one of writing.
+-- The bytes are one line, or none; a failure after its reply is one of writing.
 use Rattle.std.proofs.Common.{◌≡◌, ◌<◌, [], ◌∷◌, length, Err, sym, subst, rules}
 use Rattle.std.proofs.lemmas.List.{nil_from_length}
 use Rattle.pesp_shell_io.specs.Lines.{lines_of}

@@ -1,4 +1,4 @@
--- The instance and the timetable of files have one period, and behind files that can be read only memory is wanted.
+-- The instance and the timetable of files have one period, and after files that can be read only memory is wanted.
 use Rattle.std.proofs.Common.{refl}
 use Rattle.pesp_shell.proofs.OpeningLemmas.{one_period}
 use Rattle.pesp_shell.proofs.checking.check.Goals as goal

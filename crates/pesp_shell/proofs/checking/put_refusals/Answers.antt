@@ -1,4 +1,4 @@
--- One reply stands behind another, three times.
+-- One reply stands after another, three times.
 use Rattle.pesp_shell.proofs.CheckLemmas.{put_thrice}
 use Rattle.pesp_shell.proofs.checking.put_refusals.Goals as goal
 use Rattle.pesp_shell_replies.specs.Replies.{refusal_text}

@@ -1,4 +1,4 @@
--- The files stand for what was read of them, and the fault of the times comes behind files that can be read.
+-- The files stand for what was read of them, and the fault of the times comes after files that can be read.
 use Rattle.std.proofs.Common.{◌≡◌, ap, refl}
 use Rattle.std.specs.Prelude.{option_copied, is_ok}
 use Rattle.pesp_shell.specs.Opening.{given}

@@ -1,4 +1,4 @@
--- A time of an event is put in behind those before it.
+-- A time of an event is put in after those before it.
 use Rattle.std.proofs.Common.{◌≡◌, true, sym, subst, rules}
 use Rattle.pesp_instance.specs.Network.{has_event}
 use Rattle.pesp_shell.proofs.OpeningLemmas.{IsCopied, ok_of, set_more}

@@ -1,4 +1,4 @@
--- Each look takes bytes behind those that are held; a line more is answered and let go, and each end is one that a run may have.
+-- Each look takes bytes after those that are held; a line more is answered and let go, and each end is one that a run may have.
 use Rattle.std.proofs.Common.{◌≡◌, ◌+◌, ◌≤◌, [], ◌∷◌, length, length-take-le, take, drop, Ok, Err, sym, ap, subst, ◌∙◌, arith, rules}
 use Rattle.std.proofs.lemmas.List.Elements.{All-cons, All-nil}
 use Rattle.pesp_shell_io.specs.Lines.{lines_of, longest_line, most_lines}

@@ -1,4 +1,4 @@
--- The lines stand behind the first one.
+-- The lines stand after the first one.
 use Rattle.std.proofs.Common.{◌≡◌, ◌++◌, ◌∷◌, [], length, map, append_assoc}
 use Rattle.pesp_base.specs.Texts.{as_lines}
 use Rattle.pesp_shell_replies.specs.Replies.{costed, costed_line, time_line}

@@ -1,4 +1,4 @@
--- One residue more stands behind the others.
+-- One residue more stands after the others.
 use Rattle.pesp_shell_replies.proofs.Written.{line_more}
 use Rattle.pesp_shell_replies.proofs.rows.put_domain.Goals as goal
 

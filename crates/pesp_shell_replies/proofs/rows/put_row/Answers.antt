@@ -1,4 +1,4 @@
--- A residue of the row stands behind those before it, and no other does.
+-- A residue of the row stands after those before it, and no other does.
 use Rattle.std.proofs.Common.{◌∙◌, sym, refl}
 use Rattle.pesp_domains.specs.Domains.{holds}
 use Rattle.pesp_shell_replies.proofs.Written.{row_more, row_same}

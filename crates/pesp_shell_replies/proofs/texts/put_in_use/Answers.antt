@@ -1,4 +1,4 @@
--- The two numbers stand one behind the other.
+-- The two numbers stand one after the other.
 use Rattle.std.proofs.Common.{◌≡◌, ◌++◌, codes, decimal, append_assoc}
 use Rattle.pesp_shell_replies.specs.Replies.{in_use_text}
 use Rattle.pesp_shell_replies.proofs.texts.put_in_use.Goals as goal

@@ -1,6 +1,6 @@
 -- Found by search, and named so that a wrong body is refused here at once; the length, by its own line.
 use Rattle.std.proofs.Common.{rules, ◌≡◌, ◌++◌, Ok, Err, OnOk, Some, codes, decimal, sym, ap, ◌∙◌}
-use Rattle.pesp_shell_replies.specs.Replies.{behind, refusal_text}
+use Rattle.pesp_shell_replies.specs.Replies.{appended, refusal_text}
 use Rattle.pesp_shell_replies.proofs.texts.put_refusal.Goals as goal
 
 pub returns-in-Memory : goal.returns-in-Memory
@@ -14,7 +14,7 @@ returns-in-LengthOutOfRange c =
     let line = codes "refused 13 length " ++ decimal n ++ codes " is out of range\n" in
     let told : refusal_text c.args.refusal ≡ Some line = ap refusal_text c.in-LengthOutOfRange.is in
     let written : OnOk c.put_between-in-LengthOutOfRange.result (new ≡ old ++ line) = rw c.from-in-LengthOutOfRange.ensures at c.put_between-in-LengthOutOfRange.ensures.text in
-    elim c.put_between-in-LengthOutOfRange.result as (λ r. OnOk r (new ≡ old ++ line) → OnOk r (behind old (refusal_text c.args.refusal) ≡ Some new)) [
-      | Ok x ↦ λ is. ap (behind old) told ∙ ap Some (sym is)
+    elim c.put_between-in-LengthOutOfRange.result as (λ r. OnOk r (new ≡ old ++ line) → OnOk r (appended old (refusal_text c.args.refusal) ≡ Some new)) [
+      | Ok x ↦ λ is. ap (appended old) told ∙ ap Some (sym is)
       | Err e ↦ λ _. tt
     ] written
