@@ -73,7 +73,7 @@ const COST_OF_A_MEMBER_WITH_A_FIXED_TIME: Costs<'_> = &[
 const COST_OF_A_MEMBER_WITH_A_WINDOW: Costs<'_> = &[
     (&[(1, 9), (2, 3)], Some(4), "the first of its residues"),
     (&[(1, 1), (2, 5)], Some(4), "the last of them"),
-    (&[(1, 2), (2, 6)], None, "behind it"),
+    (&[(1, 2), (2, 6)], None, "after it"),
 ];
 
 const COST_OF_NO_MEMBER: Costs<'_> = &[(&[(1, 0), (2, 4)], None, "infeasible")];

@@ -147,11 +147,11 @@ fn two_activities<R: Abort + AllocGlobal>(rt: &R, input: &[u8], broken: Manner) 
 #[test]
 fn half_a_line(rt: HostRuntime) {
     let refusal = "refused 11 event 1 has no time\n";
-    let behind = "refused 11 event 1 has no time\nfault unknown command\n";
+    let after = "refused 11 event 1 has no time\nfault unknown command\n";
     for (broken, wanted, fault) in [
         (Manner::Fails, refusal, Some(RunFault::Read)),
-        (Manner::Idles, behind, None),
-        (Manner::Works, behind, None),
+        (Manner::Idles, after, None),
+        (Manner::Works, after, None),
     ] {
         let ending = two_activities(&rt, b"cost\nco", broken);
         same_text(&rt, ending.output.as_slice(), wanted, "half a line");

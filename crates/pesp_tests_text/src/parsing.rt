@@ -134,7 +134,7 @@ const FAULTS: &[(&str, ParseFault, &str)] = &[
     (
         "add activity 1 1 2 5 3 x",
         ParseFault::BadNumber(8),
-        "a bad number behind crossed bounds",
+        "a bad number after crossed bounds",
     ),
 ];
 
@@ -149,7 +149,7 @@ const NOTHING_SAID: &[(&str, &str)] = &[
     ("", "an empty line"),
     (" \t \r", "blanks alone"),
     ("# text", "a comment"),
-    ("  #text", "a comment behind spaces"),
+    ("  #text", "a comment after spaces"),
 ];
 
 #[test]
