@@ -28,8 +28,12 @@ def limit_of(group):
 
 
 def alone(group, suite):
-    """Runs a group in a session of its own, so that all that it starts can be ended with it."""
+    """Runs a group in a session of its own, so that all that it starts can be ended with it.
+
+    Who starts the tests in the background of a script has interrupts ignored, and so would all that they start.
+    """
     os.setsid()
+    signal.signal(signal.SIGINT, signal.default_int_handler)
     group(suite)
 
 
