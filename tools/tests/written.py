@@ -38,6 +38,7 @@ TARGETS = {
     "docs/PROOFS.md": 700,
     "crates/pesp_search/README.md": 900,
     "crates/pesp_search_network/README.md": 800,
+    "crates/pesp_search_contexts/README.md": 420,
     "crates/pesp_search_bounds/README.md": 450,
     "crates/pesp_search_tables/README.md": 450,
     "crates/pesp_search_least/README.md": 350,
@@ -61,7 +62,7 @@ PART = re.compile(r"(?<![\w/.~-])((?:src|specs|proofs)/[\w/]+\.(?:rt|antt))")
 STEP = re.compile(r"`(crates/[\w/]+\.rt)`: ((?:`\w+`(?:, | and | with )?)+)")
 
 # The most words of all documents together, HISTORY left out.
-MOST_WORDS = 26500
+MOST_WORDS = 27000
 COUNTED = ["README.md", "docs/*.md", "crates/*/README.md", "page/README.md", "python/README.md"]
 
 

@@ -15,7 +15,7 @@ use crate::outcome::put_times;
 use pesp_base::{EventId, Memory, Period};
 use pesp_domains::Keeper;
 use pesp_instance::Instance;
-use pesp_search_least::{Budget, Candidate, First, Limits, Outcome, first};
+use pesp_search_least::{Budget, Candidate, First, Limits, Outcome};
 use pesp_search_network::Network;
 use std::alloc::Global;
 
@@ -75,7 +75,7 @@ fn first_map(
     ensures { (cap : ℕ) → candidate.cost < cap
         → IfOk result (λ sought. IsSoughtMap (IsCosted network) cap sought.is_end sought.best) }
 {
-    match first(alloc, network, candidate, budget)? {
+    match network.first(alloc, candidate, budget)? {
         First::Done(best) => Ok(SoughtMap {
             best: Some(best),
             is_end: true,

@@ -2,7 +2,7 @@
 use Rattle.std.proofs.Common.{◌≡◌, ℕ, suc, ◌+◌, ◌<◌, Option, ℤ, pos, ◌+ℤ◌, ◌-ℤ◌, List, ◌∷◌, length, drop, take, slice_index_or, sym, subst, ap, ◌∙◌, arith}
 use Rattle.std.proofs.lemmas.Int.{ints}
 use Rattle.std.proofs.lemmas.List.{drop_more, take_more}
-use Rattle.pesp_search_buckets.specs.declared.buckets.Known.TheVariants.{Weights}
+use Rattle.pesp_search_buckets.specs.declared.buckets.Known.TheVariants.{Gains}
 use Rattle.pesp_search_buckets.specs.declared.buckets.Total.TheVariants as sum
 use Rattle.pesp_search_buckets.specs.Factors.{Factor, factor_at, row_of, total}
 use Rattle.pesp_search_buckets.specs.Levels.{Buckets, IsKnown, IsNumberOf, IsTotalOf, gain, gains, level_at, no_level, weight}
@@ -33,18 +33,18 @@ weight_more B k x here =
     let all = ap (λ levels. gains B.period B.factors levels x) first in
     omega (arith, ints, all)
 
--- the sums of a level's bucket, all with what the others weigh more
-pub weights_known : (B : Buckets) (k : ℕ) (before messages more : ℤ) (residues : List (Option ℕ)) (old new : List ℤ) → k < length B.levels → length old ≡ B.period
+-- the sums of a level's bucket, all less what stands for it
+pub gains_known : (B : Buckets) (k : ℕ) (messages more : ℤ) (residues : List (Option ℕ)) (old new : List ℤ) → k < length B.levels → length old ≡ B.period
     → AreSums B.factors (level_at B k).bucket (level_at B k).node residues old
     → IsTotalOf B.period B.factors (level_at B k).messages residues (sum.Sum messages)
-    → more ≡ before -ℤ (level_at B k).constant -ℤ messages
+    → more ≡ pos 0 -ℤ (level_at B k).constant -ℤ messages
     → ((e : ℕ) → e < length old → slice_index_or new e (pos 0) ≡ slice_index_or old e (pos 0) +ℤ more)
-    → IsKnown B k before residues new Weights
-weights_known B k before messages more residues old new here long sums totals is added x agrees below without =
+    → IsKnown B k residues new Gains
+gains_known B k messages more residues old new here long sums totals is added x agrees below =
     let level = level_at B k in
     let inside : x level.node < length old = subst (λ n. x level.node < n) (sym long) below in
     let bucket = sums x agrees inside ∙ ap (λ T. total T B.factors level.bucket x) long in
     let rest = totals x agrees in
     let now = added (x level.node) inside in
     let all = weight_more B k x here in
-    omega (arith, ints, bucket, rest, now, all, is, without)
+    omega (arith, ints, bucket, rest, now, all, is)

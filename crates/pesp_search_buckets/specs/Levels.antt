@@ -4,7 +4,7 @@ use Rattle.pesp_search_tables.specs.Relaxed.{Relaxation, sum_at}
 use Rattle.pesp_search_buckets.specs.declared.buckets.Total.{Total}
 use Rattle.pesp_search_buckets.specs.declared.buckets.Total.TheVariants as sum
 use Rattle.pesp_search_buckets.specs.declared.buckets.Known.{Known}
-use Rattle.pesp_search_buckets.specs.declared.buckets.Known.TheVariants.{Weights, Nowhere, Unknown}
+use Rattle.pesp_search_buckets.specs.declared.buckets.Known.TheVariants.{Gains, Nowhere, Unknown}
 use Rattle.pesp_search_buckets.specs.Assigned.{Agrees}
 use Rattle.pesp_search_buckets.specs.Messages.{IsNowhere}
 use Rattle.pesp_search_buckets.specs.Factors.{Admits, AllHaveRows, AreIds, Factor, row_of, total, value}
@@ -54,12 +54,12 @@ pub record IsFor (R : Relaxation) (B : Buckets) : Type 0 where
   pub low : (x : ℕ → ℕ) (z : ℤ) → sum_at R x ≡ Some z → weight B 0 x ≤ℤ z
   pub falls : (k : ℕ) (x : ℕ → ℕ) → k < length B.levels → Admits R x → weight B (suc k) x ≤ℤ weight B k x
 
--- the weights of maps that agree with the residues and weigh so much without the level's node, by residue of the node; or that the tables admit none
-abbrev pub IsKnown : Buckets → ℕ → ℤ → List (Option ℕ) → List ℤ → Known → Type 0
-IsKnown B k before residues sums Weights =
-    (x : ℕ → ℕ) → Agrees residues x → x (level_at B k).node < B.period → weight B (suc k) x ≡ before → slice_index_or sums (x (level_at B k).node) (pos 0) ≡ weight B k x
-IsKnown B k before residues sums Nowhere = (R : Relaxation) (x : ℕ → ℕ) → IsFor R B → Agrees residues x → Admits R x → ⊥
-IsKnown B k before residues sums Unknown = ⊤
+-- what maps gain at the level that agree with the residues, by residue of its node: how much more they weigh with the node; or that the tables admit none
+abbrev pub IsKnown : Buckets → ℕ → List (Option ℕ) → List ℤ → Known → Type 0
+IsKnown B k residues gains Gains =
+    (x : ℕ → ℕ) → Agrees residues x → x (level_at B k).node < B.period → weight B k x ≡ weight B (suc k) x +ℤ slice_index_or gains (x (level_at B k).node) (pos 0)
+IsKnown B k residues gains Nowhere = (R : Relaxation) (x : ℕ → ℕ) → IsFor R B → Agrees residues x → Admits R x → ⊥
+IsKnown B k residues gains Unknown = ⊤
 
 -- ---- numbers at some residues
 

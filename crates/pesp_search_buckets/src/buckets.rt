@@ -7,6 +7,9 @@ ghost use Rattle.pesp_search_buckets.specs.Summed.{AreSmall, IsSmall};
 use crate::assignment::Residues;
 use crate::factor::{Factor, Lookup, ahead};
 use crate::message::{MOST_FACTORS, Reached, sum_up};
+use crate::plan::{add_node, add_nodes};
+use pesp_base::Memory;
+use std::alloc::Global;
 use std::marker::Model;
 
 /// A node that is left out.
@@ -53,11 +56,11 @@ impl Model for Buckets {
     ghost invariant = { λ a. words.AreBuckets (record { period = a.period; factors = a.factors.items; levels = a.levels.items; constant = a.constant }) };
 }
 
-/// What is known of the weights of maps that agree with some residues.
+/// What is known of the gains of maps that agree with some residues.
 #[derive(Clone, Copy)]
 pub enum Known {
-    /// They are the sums, by residue of the node.
-    Weights,
+    /// They are these, by residue of the node.
+    Gains,
     /// The tables admit no map that agrees.
     Nowhere,
     /// Nothing.
@@ -164,12 +167,12 @@ impl Buckets {
         Total::Sum(sum)
     }
 
-    /// What maps weigh with the node of a level, by its residue, where they weigh so much without it.
-    pub fn weigh(&self, level: usize, before: i64, residues: &Residues, sums: &mut [i64]) -> Known
+    /// What maps gain at a level, by residue of its node, where others stand at theirs.
+    pub fn gain(&self, level: usize, residues: &Residues, gains: &mut [i64]) -> Known
         requires level { level < length (self.now).levels }
-        requires sums { length sums.old ≡ (self.now).period }
-        ensures long { length sums.new ≡ length sums.old }
-        ensures known { IsKnown self.now level before residues.now sums.new result }
+        requires gains { length gains.old ≡ (self.now).period }
+        ensures long { length gains.new ≡ length gains.old }
+        ensures known { IsKnown self.now level residues.now gains.new result }
     {
         let level = &self.levels[level];
         let messages = match self.total(&level.messages, residues) {
@@ -177,15 +180,35 @@ impl Buckets {
             Total::Nowhere => return Known::Nowhere,
             Total::Unknown => return Known::Unknown,
         };
-        if !is_small(before) || !is_small(level.constant) {
+        if !is_small(level.constant) {
             return Known::Unknown;
         }
-        match sum_up(&self.factors, &level.bucket, level.node, residues, sums) {
+        match sum_up(&self.factors, &level.bucket, level.node, residues, gains) {
             Reached::Sums => {}
             Reached::Nowhere => return Known::Nowhere,
             Reached::Unknown => return Known::Unknown,
         }
-        add_to_each(sums, before - level.constant - messages);
-        Known::Weights
+        add_to_each(gains, 0 - level.constant - messages);
+        Known::Gains
+    }
+
+    /// The nodes of the factors in the bucket of a level and in its messages, but for its own.
+    pub fn scope(&self, alloc: Global, level: usize) -> Result<Vec<usize>, Memory> {
+        let mut nodes = Vec::new(alloc);
+        let Some(level) = self.levels.get(level) else {
+            return Ok(nodes);
+        };
+        for id in &level.bucket {
+            if let Some(factor) = self.factors.get(*id) {
+                add_nodes(&mut nodes, factor)?;
+            }
+        }
+        for id in &level.messages {
+            if let Some(factor) = self.factors.get(*id) {
+                add_nodes(&mut nodes, factor)?;
+                add_node(&mut nodes, factor.last)?;
+            }
+        }
+        Ok(nodes)
     }
 }

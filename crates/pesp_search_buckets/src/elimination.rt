@@ -194,13 +194,19 @@ fn level(
 }
 
 impl Buckets {
-    /// Those of tables whose nodes are left out in this order; none where they would be too large.
-    pub fn of(alloc: Global, tables: &Tables, order: &[usize]) -> Result<Option<Buckets>, Memory>
+    /// Those of tables whose nodes are left out in this order, with messages of so many entries at most; none where they would be
+    /// too large.
+    pub fn of(
+        alloc: Global,
+        tables: &Tables,
+        order: &[usize],
+        most_entries: usize,
+    ) -> Result<Option<Buckets>, Memory>
         requires some { 0 < tables.now.period }
         requires short { tables.now.period ≤ 1440 }
         ensures { IfOk result (λ buckets. IfSome buckets (IsFor tables.now)) }
     {
-        let plan = Plan::of(alloc, tables, order)?;
+        let plan = Plan::of(alloc, tables, order, most_entries)?;
         let mut factors = originals(alloc, tables, &plan)?;
         let mut pending = ids_to(alloc, factors.len())?;
         let mut levels = Vec::new(alloc);

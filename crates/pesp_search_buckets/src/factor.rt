@@ -44,7 +44,7 @@ pub(crate) enum Lookup {
 }
 
 /// How far a residue is ahead of another one.
-pub(crate) fn ahead(period: usize, from: usize, to: usize) -> usize
+pub fn ahead(period: usize, from: usize, to: usize) -> usize
     requires some { 0 < period }
     requires short { period ≤ 1440 }
     requires small { to ≤ 65535 }

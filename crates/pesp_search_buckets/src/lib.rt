@@ -14,3 +14,4 @@ mod ranks;
 
 pub use assignment::Residues;
 pub use buckets::{Buckets, Known};
+pub use factor::ahead;

@@ -9,9 +9,6 @@ use pesp_base::Memory;
 use pesp_search_tables::Tables;
 use std::alloc::Global;
 
-/// How many entries a message may have.
-const MOST_ENTRIES: usize = 131_072;
-
 /// How many entries all may have together.
 const MOST_IN_ALL: usize = 8_388_608;
 
@@ -24,6 +21,8 @@ pub(crate) struct Plan {
     counts: Vec<usize>,
     // How many differences there are.
     period: usize,
+    // How many entries a message may have.
+    most_entries: usize,
 }
 
 /// What a message would be told over.
@@ -63,7 +62,12 @@ fn turn_of(order: &[usize], node: usize) -> usize {
 
 impl Plan {
     /// That of tables whose nodes are left out in this order.
-    pub(crate) fn of(alloc: Global, tables: &Tables, order: &[usize]) -> Result<Plan, Memory> {
+    pub(crate) fn of(
+        alloc: Global,
+        tables: &Tables,
+        order: &[usize],
+        most_entries: usize,
+    ) -> Result<Plan, Memory> {
         let mut turns = Vec::new(alloc);
         for node in 0..order.len() {
             add(&mut turns, turn_of(order, node))?;
@@ -78,6 +82,7 @@ impl Plan {
             turns,
             counts,
             period: tables.period(),
+            most_entries,
         })
     }
 
@@ -160,7 +165,7 @@ impl Plan {
 }
 
 /// Adds a node that is not among those.
-fn add_node(nodes: &mut Vec<usize>, node: usize) -> Result<(), Memory> {
+pub(crate) fn add_node(nodes: &mut Vec<usize>, node: usize) -> Result<(), Memory> {
     for other in nodes.iter() {
         if *other == node {
             return Ok(());
@@ -170,7 +175,7 @@ fn add_node(nodes: &mut Vec<usize>, node: usize) -> Result<(), Memory> {
 }
 
 /// Adds the nodes of a factor but one.
-fn add_nodes(nodes: &mut Vec<usize>, factor: &Factor) -> Result<(), Memory> {
+pub(crate) fn add_nodes(nodes: &mut Vec<usize>, factor: &Factor) -> Result<(), Memory> {
     add_node(nodes, factor.reference)?;
     for axis in &factor.axes {
         add_node(nodes, axis.node)?;
@@ -250,7 +255,7 @@ fn next_of(
                     add(&mut more, *node)?;
                 }
                 add_nodes(&mut more, factor)?;
-                if nodes.is_empty() || plan.entries(&more) <= MOST_ENTRIES {
+                if nodes.is_empty() || plan.entries(&more) <= plan.most_entries {
                     best = Some(index);
                     greatest = size;
                 }

@@ -9,14 +9,12 @@ use Rattle.pesp_search_least.specs.declared.outcome.Outcome.{Outcome}
 use Rattle.pesp_search_least.specs.declared.outcome.Outcome.TheVariants.{Found, NoneBelow, Spent}
 use Rattle.pesp_search_least.proofs.Outcomes.{below_same}
 use Rattle.pesp_search_least.proofs.Underway.{limit_under}
-use Rattle.pesp_search_buckets.specs.Levels.{Buckets, IsFor}
 use Rattle.pesp_search_network.specs.Arcs.{Arcs, IsCosted}
-use Rattle.pesp_search_network.specs.Begun.{AreOver}
-use Rattle.pesp_search_network.specs.Relaxed.{IsAnchored, IsCutTo, IsRelaxed, IsSummed}
+use Rattle.pesp_search_network.specs.Relaxed.{IsCutTo, IsRelaxed, IsSummed}
 use Rattle.pesp_search_network.specs.Scales.{IsScaled}
 use Rattle.pesp_search_network.specs.declared.scale.Scale.{Scale}
 use Rattle.pesp_search_network.proofs.Made.{relaxed_under}
-use Rattle.pesp_search_network.proofs.Searched.{anchored_shape, cut_sums, under_cap, under_cut}
+use Rattle.pesp_search_network.proofs.Searched.{cut_sums, under_cap}
 use Rattle.pesp_search_network.proofs.Solved.{costed_within, summed_within}
 
 -- what answers for sums that are cut at the cap answers for all
@@ -40,14 +38,6 @@ outcome_cut old new cap (Spent best lower) cut is = (below_same new old cap best
 pub ok_cut : {E : Type 0} (old new : Sums) (cap : ℕ) (result : Result Outcome E) → IsCut cap old new → IfOk result (IsOutcome new cap) → IfOk result (IsOutcome old cap)
 ok_cut old new cap (Ok outcome) cut is = outcome_cut old new cap outcome cut is
 ok_cut old new cap (Err e) cut is = tt
-
--- tables that are cut bound costs
-pub over_cut : (N : Arcs) (scale : Scale) (cap : Option ℤ) (R S : Relaxation) (B : Buckets) → IsAnchored N R → IsRelaxed N scale (length N.arcs) R → IsCutTo cap R S → IsFor S B → AreOver N scale S B
-over_cut N scale cap R S B anchored relaxed cut stands = record {
-  anchored = anchored_shape N R S anchored cut.shape;
-  under = under_cut N scale cap R S (relaxed_under N scale R relaxed) cut;
-  stands = stands;
-}
 
 -- the costs of a network, where those of the tables are cut at the cap
 pub costed_cut : (N : Arcs) (scale : Scale) (cap : Option ℤ) (limit : ℕ) (R S : Relaxation) → IsRelaxed N scale (length N.arcs) R → IsCutTo cap R S

@@ -1,7 +1,7 @@
 pub mod ArcCosts
-pub mod Begun
 pub mod Bests
 pub mod Climbed
+pub mod Covered
 pub mod Joined
 pub mod Made
 pub mod Narrowed

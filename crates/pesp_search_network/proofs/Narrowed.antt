@@ -130,6 +130,10 @@ module _ (event low high : ℕ) (N M : Arcs) (narrowed : IsNarrowed event low hi
 
 -- ---- what a region finds
 
+-- a copy that is narrowed
+pub narrowed_copy : (event end high : ℕ) (N M U : Arcs) → M ≡ N → high ≡ N.period → IsNarrowed event end high M U → IsNarrowed event end N.period N U
+narrowed_copy event end high N M U copied top is = subst (λ (T : ℕ). IsNarrowed event end T N U) top (subst (λ (Q : Arcs). IsNarrowed event end high Q U) copied is)
+
 -- residues below one, and after it, are forbidden
 pub held : (event residue first next : ℕ) (N M U : Arcs) → event < N.events → first ≡ min residue N.period → next ≡ min (residue + 1) N.period
     → IsNarrowed event 0 first N M → IsNarrowed event next N.period M U → IsHeld event residue (IsCosted N) (IsCosted U)

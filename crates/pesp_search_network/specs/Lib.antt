@@ -1,6 +1,4 @@
 pub mod Arcs
-pub mod Assigned
-pub mod Begun
 pub mod Narrow
 pub mod Pieces
 pub mod Ranges
@@ -8,4 +6,5 @@ pub mod Relaxed
 pub mod Scales
 pub mod Splits
 pub mod SumsApart
+pub mod Told
 pub mod Ways

@@ -4,7 +4,6 @@
 mod admitted;
 mod apart;
 mod arc;
-mod assigned;
 #[cfg(test)]
 mod by_ranges;
 mod climb;
@@ -16,6 +15,7 @@ mod floor;
 mod graph;
 mod guess;
 mod halves;
+mod held;
 mod narrow;
 mod network;
 mod node;
@@ -34,6 +34,7 @@ mod share;
 mod tests;
 #[cfg(test)]
 mod tests_apart;
+mod told;
 mod traversal;
 mod turning;
 mod way;

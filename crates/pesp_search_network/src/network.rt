@@ -147,6 +147,13 @@ impl Network {
         })
     }
 
+    /// For each event, for each residue, whether the event may stand there.
+    pub(crate) fn rows(&self) -> &[bool]
+        ensures { result.now ≡ self.now.rows }
+    {
+        &self.rows
+    }
+
     pub(crate) fn period(&self) -> Period
         ensures { result ≡ self.now.period }
     {

@@ -25,11 +25,29 @@ const RANGES: u16 = 4;
 /// Buckets are tried where more units are left than these,
 const MANY_UNITS: u64 = 2_000_000;
 
-/// and with so many units.
-const BUCKET_UNITS: u64 = 8_000_000;
+/// small ones first,
+const SMALL: Size = Size {
+    entries: 8_192,
+    units: 500_000,
+};
+
+/// and then large ones.
+const LARGE: Size = Size {
+    entries: 131_072,
+    units: 8_000_000,
+};
+
+/// How large buckets are made.
+#[derive(Clone, Copy)]
+pub(crate) struct Size {
+    // How many entries a message may have.
+    pub(crate) entries: usize,
+    // How many units they are made and searched with at most.
+    pub(crate) units: u64,
+}
 
 /// So many units of a budget, or all that are left.
-fn units_of(budget: &Budget, most: u64) -> u64
+pub(crate) fn units_of(budget: &Budget, most: u64) -> u64
     requires { 0 < most }
     ensures some { budget.now.left ≢ Some 0 → 0 < result }
     ensures none { budget.now.left ≡ Some 0 → result ≡ 0 }
@@ -41,7 +59,7 @@ fn units_of(budget: &Budget, most: u64) -> u64
 }
 
 /// Whether a budget is great enough for buckets.
-fn has_many(budget: &Budget) -> bool {
+pub(crate) fn has_many(budget: &Budget) -> bool {
     match budget.left {
         Some(left) => left > MANY_UNITS,
         None => true,
@@ -89,6 +107,28 @@ impl Network {
         least_of(alloc, selections, limits, best, budget)
     }
 
+    /// What a search by buckets of a size comes to with a part of the budget, from the best that is known.
+    fn least_in_size(
+        &self,
+        alloc: Global,
+        limits: Limits,
+        best: Option<Candidate>,
+        size: Size,
+        budget: &mut Budget,
+    ) -> Result<Outcome, Memory>
+        requires floor { IsLowerBound (IsCosted self.now) limits.floor }
+        requires best { IfSome best (IsBelow (IsCosted self.now) limits.cap) }
+        requires some { 0 < size.units }
+        ensures outcome { IfOk result (IsOutcome (IsCosted self.now) limits.cap) }
+        ensures budget { OnlySpends budget.old.left budget.new.left }
+    {
+        let units = units_of(budget, size.units);
+        let mut part = Budget::of(units);
+        let outcome = self.least_in_buckets(alloc, limits, best, size.entries, &mut part)?;
+        budget.spend(units - part.left.unwrap_or(0));
+        Ok(outcome)
+    }
+
     /// What a search by buckets comes to with a part of the budget, from the best that is known.
     fn least_by_buckets(
         &self,
@@ -105,11 +145,10 @@ impl Network {
         if !has_many(budget) {
             return Ok(stopped(best, limits.floor));
         }
-        let units = units_of(budget, BUCKET_UNITS);
-        let mut part = Budget::of(units);
-        let outcome = self.least_in_buckets(alloc, limits, best, &mut part)?;
-        budget.spend(units - part.left.unwrap_or(0));
-        Ok(outcome)
+        match self.least_in_size(alloc, limits, best, SMALL, budget)? {
+            Outcome::Spent { best, .. } => self.least_in_size(alloc, limits, best, LARGE, budget),
+            ended => Ok(ended),
+        }
     }
 
     /// A map of least cost without buckets, from the best that is known.

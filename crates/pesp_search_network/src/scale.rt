@@ -2,6 +2,7 @@
 
 ghost use Rattle.std.specs.Prelude.{◌≡◌, ℕ, ◌*◌, ◌<◌, ◌≤◌, ℤ, pos, ◌<ℤ◌, ◌≤ℤ◌, IfSome};
 
+use pesp_search_contexts::Limits;
 use pesp_search_tables::GREATEST_NUMBER;
 
 /// The most that a unit of cost becomes, so that the shares that steps give lose little.
@@ -77,5 +78,13 @@ impl Scale {
             return None;
         }
         Some((cap * self.times / self.over + 1) as i64)
+    }
+
+    /// How far a search of an elimination goes below the cap, and with so many units.
+    pub(crate) fn limits(self, cap: u64, most: u64) -> Limits {
+        Limits {
+            cap: self.sum_of(cap).unwrap_or(i64::MAX),
+            most,
+        }
     }
 }

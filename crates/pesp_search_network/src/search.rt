@@ -7,9 +7,9 @@ ghost use Rattle.pesp_search_least.specs.Expansions.{limit_of};
 ghost use Rattle.pesp_search_least.specs.declared.outcome.Outcome.TheVariants.{Spent};
 ghost use Rattle.pesp_search_network.specs.Arcs.{IsCosted};
 ghost use Rattle.pesp_search_network.specs.Relaxed.{IsAnchored, IsRelaxed};
+ghost use Rattle.pesp_search_network.specs.Told.{IsCovered};
 
 use crate::Network;
-use crate::assigned::Assigned;
 use crate::climb::{Stage, climb};
 use crate::costs::most_between;
 use crate::eliminate::{Eliminated, eliminate};
@@ -19,7 +19,7 @@ use crate::root::{Joined, Plan};
 use crate::scale::Scale;
 use crate::selections::limit;
 use pesp_base::Memory;
-use pesp_search_buckets::Buckets;
+use pesp_search_contexts::Elimination;
 use pesp_search_least::{Budget, Candidate, Limits, Outcome, least};
 use pesp_search_tables::Tables;
 use std::alloc::Global;
@@ -30,16 +30,21 @@ const MOST_PAIRS: usize = 400;
 /// How many sums of two entries a pass over all pairs may take, which goes by the square of the period.
 const MOST_SUMS: usize = 4_194_304;
 
+/// What making buckets takes of the budget, for each entry that a message may have.
+const MAKING_UNITS: u64 = 8;
+
 /// What making buckets takes of the budget.
-const MAKING_UNITS: u64 = 1_000_000;
+pub(crate) fn making_units(entries: usize) -> u64 {
+    MAKING_UNITS.saturating_mul(entries as u64)
+}
 
 /// The tables of a network, the order in which nodes were eliminated, and for each arc its pair.
 #[derive(Drop)]
-struct Made {
-    // Before anything is split: they admit every map with a cost.
-    tables: Tables,
+pub(crate) struct Made {
+    // Before anything is split: they admit every map with a cost, below the cap where they are cut.
+    pub(crate) tables: Tables,
     // The first to be eliminated stands first.
-    order: Vec<usize>,
+    pub(crate) order: Vec<usize>,
     // By arc, of the pair that has its table.
     arc_pairs: Vec<usize>,
 }
@@ -69,7 +74,7 @@ impl Network {
     }
 
     /// The most that arcs can cost.
-    fn most(&self) -> u64
+    pub(crate) fn most(&self) -> u64
         ensures { result ≤ 144000000000000000 }
     {
         let mut most = 0;
@@ -135,11 +140,28 @@ impl Network {
         least(alloc, root, limits, budget)
     }
 
+    /// The same tables where the bound has climbed, cut at the cap.
+    pub(crate) fn climbed(
+        &self,
+        alloc: Global,
+        scale: Scale,
+        cap: u64,
+        budget: &mut Budget,
+    ) -> Result<Made, Memory>
+        ensures covered { IfOk result (λ made. IsCovered self.now scale cap made.tables) }
+        ensures budget { OnlySpends budget.old.left budget.new.left }
+    {
+        let mut made = self.relaxed(alloc, scale)?;
+        climb(&mut made.tables, scale.sum_of(cap), Stage::Root, budget);
+        Ok(made)
+    }
+
     /// A map of least cost by buckets, where some cost is below the cap. Stops at once where buckets would be too large.
     fn least_assigned(
         &self,
         alloc: Global,
         limits: Limits,
+        entries: usize,
         budget: &mut Budget,
     ) -> Result<Outcome, Memory>
         requires floor { IsLowerBound (IsCosted self.now) limits.floor }
@@ -147,20 +169,22 @@ impl Network {
         ensures budget { OnlySpends budget.old.left budget.new.left }
     {
         let scale = Scale::of(self.most());
-        let Made {
-            mut tables,
-            order,
-            ..
-        } = self.relaxed(alloc, scale)?;
-        climb(&mut tables, scale.sum_of(limits.cap), Stage::Root, budget);
-        budget.spend(MAKING_UNITS);
-        let Some(buckets) = Buckets::of(alloc, &tables, &order)? else {
+        let Made { tables, order, .. } = self.climbed(alloc, scale, limits.cap, budget)?;
+        budget.spend(making_units(entries));
+        let plan = pesp_search_contexts::Plan {
+            tables: &tables,
+            order: &order,
+            origin: self.events(),
+            is_rooted: false,
+            most_entries: entries,
+        };
+        let Some(mut made) = Elimination::of(alloc, plan)? else {
             return Ok(stopped(None, limits.floor));
         };
-        let Some(root) = Assigned::all(alloc, self, scale, &tables, &buckets)? else {
-            return Ok(stopped(None, limits.floor));
-        };
-        least(alloc, root, limits, budget)
+        let most = budget.left.unwrap_or(u64::MAX);
+        let answer = made.least(alloc, scale.limits(limits.cap, most))?;
+        budget.spend(answer.spent);
+        self.outcome_of(alloc, scale, answer.least, limits)
     }
 
     /// What an outcome below the cost of the best that is known comes to.
@@ -195,6 +219,7 @@ impl Network {
         alloc: Global,
         limits: Limits,
         best: Option<Candidate>,
+        entries: usize,
         budget: &mut Budget,
     ) -> Result<Outcome, Memory>
         requires floor { IsLowerBound (IsCosted self.now) limits.floor }
@@ -206,7 +231,7 @@ impl Network {
             floor: limits.floor,
             cap: limit(limits.cap, &best),
         };
-        let outcome = self.least_assigned(alloc, within, budget)?;
+        let outcome = self.least_assigned(alloc, within, entries, budget)?;
         Ok(self.from_best(outcome, best, limits.cap))
     }
 }

@@ -1,21 +1,17 @@
 -- Maps with a lesser residue are those of the network in which the others are forbidden.
-use Rattle.std.proofs.Common.{◌≡◌, ℕ, ◌+◌, min, subst, ap, ◌∙◌}
+use Rattle.std.proofs.Common.{◌≡◌, ◌+◌, min, ap, ◌∙◌}
 use Rattle.pesp_search_least.specs.Order.{BelowResidue}
-use Rattle.pesp_search_network.specs.Arcs.{Arcs, IsCosted}
-use Rattle.pesp_search_network.specs.Narrow.{IsNarrowed}
-use Rattle.pesp_search_network.proofs.Narrowed.{below_back, below_there, narrowed-within}
+use Rattle.pesp_search_network.specs.Arcs.{IsCosted}
+use Rattle.pesp_search_network.proofs.Narrowed.{below_back, below_there, narrowed-within, narrowed_copy}
 use Rattle.pesp_search_network.proofs.Outcomes.{ok_along}
 use Rattle.pesp_search_network.proofs.network.Network.least_before.Goals as goal
-
-narrowed : (event end high : ℕ) (N M U : Arcs) → M ≡ N → high ≡ N.period → IsNarrowed event end high M U → IsNarrowed event end N.period N U
-narrowed event end high N M U copied top is = subst (λ (T : ℕ). IsNarrowed event end T N U) top (subst (λ (Q : Arcs). IsNarrowed event end high Q U) copied is)
 
 pub least_in_one-requires : goal.least_in_one-requires
 least_in_one-requires c = record {
   floor = λ map sum is.
       (let N = c.args.self.now in
       let top = c.get-period.ensures.value ∙ c.period.ensures in
-      let less = narrowed c.args.event c.min-end.result c.get-period.result N c.in_ok-below.below c.forbid_from.new.self c.in_ok-below.ensures top c.forbid_from.ensures in
+      let less = narrowed_copy c.args.event c.min-end.result c.get-period.result N c.in_ok-below.below c.forbid_from.new.self c.in_ok-below.ensures top c.forbid_from.ensures in
       c.requires.floor map sum (narrowed-within c.args.event c.min-end.result N.period N c.forbid_from.new.self less map sum is));
 }
 
@@ -28,6 +24,6 @@ returns-clause-outcome c =
     let end = c.min-end.result in
     let top = c.get-period.ensures.value ∙ c.period.ensures in
     let least : end ≡ min residue N.period = c.min-end.ensures ∙ ap (min residue) top in
-    let less = narrowed event end c.get-period.result N c.in_ok-below.below U c.in_ok-below.ensures top c.forbid_from.ensures in
+    let less = narrowed_copy event end c.get-period.result N c.in_ok-below.below U c.in_ok-below.ensures top c.forbid_from.ensures in
     ok_along (IsCosted U) (BelowResidue (IsCosted N) event residue) (c.args.cost + 1) c.least_in_one.result
     (below_there event residue end N U c.requires.event least less) (below_back event residue end N U c.requires.event least less) c.least_in_one.ensures.outcome

@@ -1,0 +1,5 @@
+pub mod Gains
+pub mod Keys
+pub mod Lowest
+pub mod Seen
+pub mod Tried

@@ -1,0 +1,5 @@
+pub mod Blocks
+pub mod Gained
+pub mod Kept
+pub mod Residues
+pub mod Turns
