@@ -17,6 +17,9 @@ use pesp_search_contexts::{Elimination, Plan};
 use pesp_search_least::{Budget, Candidate, First, Limits, Outcome, Region, first};
 use std::alloc::Global;
 
+/// How few events there may be for an elimination to take less than the questions of the first map that it answers.
+const FEWEST_EVENTS: usize = 24;
+
 /// How many entries a message of its buckets may have.
 const MOST_ENTRIES: usize = 16_384;
 
@@ -162,7 +165,7 @@ impl<'a> Region for Held<'a> {
 
 impl Network {
     /// From a map of least cost to the first one, by an elimination of the tables.
-    fn first_by_buckets(
+    pub(crate) fn first_by_buckets(
         self,
         alloc: Global,
         candidate: Candidate,
@@ -217,7 +220,7 @@ impl Network {
         ensures spent { IfOk result (EndsUnlessSpent budget.new.left) }
         ensures budget { OnlySpends budget.old.left budget.new.left }
     {
-        if self.is_small() && has_many(budget) {
+        if self.events() >= FEWEST_EVENTS && self.is_small() && has_many(budget) {
             self.first_by_buckets(alloc, candidate, budget)
         } else {
             first(alloc, self, candidate, budget)

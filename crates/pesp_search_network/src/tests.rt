@@ -1,11 +1,12 @@
 //! A small network, whose least costs and first maps another program found, which tries all maps.
 
-ghost use Rattle.pesp_search_least.specs.Sums.{IsOutcome};
+ghost use Rattle.std.specs.Prelude.{◌+◌, ◌<◌, ◌^◌};
+ghost use Rattle.pesp_search_least.specs.Sums.{IsLeast, IsOutcome};
 ghost use Rattle.pesp_search_network.specs.Arcs.{IsCosted};
 
 use crate::{Arc, Network};
-use pesp_base::{Period, Span, Weight};
-use pesp_search_least::{Budget, First, Limits, Outcome, first};
+use pesp_base::{Memory, Period, Span, Weight};
+use pesp_search_least::{Budget, Candidate, First, Limits, Outcome, first};
 use std::alloc::Global;
 use std::process::Abort;
 
@@ -79,22 +80,38 @@ fn found(rt: &impl Abort, alloc: Global, network: &Network, cap: u64, units: u64
         .expect(rt, "memory")
 }
 
-/// The first map of least cost, and that cost.
-pub(crate) fn try_first(rt: &impl Abort, alloc: Global, network: Network, cost: u64, map: &[u16]) {
-    let Outcome::Found(candidate) = found(rt, alloc, &network, 1_000, 1_000_000) else {
-        assert!(rt; false, "found");
-        return;
+/// A map of least cost, which is this one.
+fn least_at(rt: &impl Abort, alloc: Global, network: &Network, cost: u64) -> Candidate
+    ensures least { IsLeast (IsCosted network.now) result }
+    ensures room { result.cost + 1 < 2 ^ 64 }
+{
+    let candidate = match found(rt, alloc, network, 1_000, 1_000_000) {
+        Outcome::Found(candidate) => Some(candidate),
+        _ => None,
     };
+    let candidate = candidate.expect(rt, "found");
     assert!(rt; candidate.cost == cost, "the least cost");
     assert!(rt; network.cost(&candidate.map) == Some(cost), "its map");
-    let mut budget = Budget::unlimited();
-    match first(alloc, network, candidate, &mut budget)
-        .ok()
-        .expect(rt, "memory")
-    {
-        First::Done(found) => assert!(rt; found.map.as_slice() == map, "the first map"),
+    candidate
+}
+
+/// What was found without a limit is this map.
+fn assert_first(rt: &impl Abort, first: Result<First, Memory>, map: &[u16], message: &str) {
+    match first.ok().expect(rt, "memory") {
+        First::Done(found) => assert!(rt; found.map.as_slice() == map, "{}", message),
         First::Spent(_) => assert!(rt; false, "no limit"),
     }
+}
+
+/// The first map of least cost, and that cost, by questions to the network and by an elimination.
+pub(crate) fn try_first(rt: &impl Abort, alloc: Global, network: Network, cost: u64, map: &[u16]) {
+    let copy = network.copy().ok().expect(rt, "memory");
+    let candidate = least_at(rt, alloc, &copy, cost);
+    let asked = first(alloc, copy, candidate, &mut Budget::unlimited());
+    assert_first(rt, asked, map, "the first map by questions");
+    let candidate = least_at(rt, alloc, &network, cost);
+    let held = network.first_by_buckets(alloc, candidate, &mut Budget::unlimited());
+    assert_first(rt, held, map, "the first map by buckets");
 }
 
 #[test]
