@@ -8,7 +8,7 @@ use Rattle.pesp_base.specs.Windows.{Interval, IsHeld, is_held, at_time}
 use Rattle.pesp_base.proofs.Laws.{residue_below}
 use Rattle.pesp_base.proofs.ResidueLaws.{residue-residue_sub, residue_after_rise}
 
--- the residue that is k steps from the first one is as many steps up from it as k is behind whole periods
+-- the residue that is k steps from the first one is so many steps up from it as k is past whole periods
 pub steps : (T first k : ℕ) → 0 < T → residue T (pos ((first + k) % T) -ℤ pos first) ≡ k % T
 steps T first k some =
     let rest : pos (first + k) -ℤ pos first ≡ pos k = omega (arith, ints) in

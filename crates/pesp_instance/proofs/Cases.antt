@@ -71,7 +71,7 @@ fixed_elsewhere = refl
 not_fixed_at_all : agrees_with 10 None 5 ≡ true
 not_fixed_at_all = refl
 
--- a window goes on from zero behind the last residue of the period
+-- a window goes on from zero after the last residue of the period
 abbrev wrapped : Network
 wrapped = after two (do_.SetWindow 1 9 3 ∷ [])
 

@@ -9,7 +9,7 @@ use Rattle.pesplib_reader.specs.declared.fault.FaultKind.{FaultKind}
 use Rattle.pesplib_reader.specs.Records.{Row, rows_of}
 use Rattle.pesplib_reader.specs.Rows.{activity_in}
 use Rattle.pesplib_reader.specs.Taking.{at_place, on_ok, row_taken, taken}
-use Rattle.pesplib_reader.specs.Reading.{activities_read, activity_faults_behind, time_faults_behind, times_read, with_activity_row, with_event, with_fixed, with_time_row}
+use Rattle.pesplib_reader.specs.Reading.{activities_read, activity_faults_after, time_faults_after, times_read, with_activity_row, with_event, with_fixed, with_time_row}
 use Rattle.pesplib_reader.proofs.InstanceLemmas.{event_period}
 
 unless_refused_ok : {X : Type 0} (faults : List (Option FaultKind)) (x y : X) → unless_refused faults x ≡ Ok y → x ≡ y
@@ -30,11 +30,11 @@ module _ {X : Type 0} (faults : X → List (List ℕ) → List (Option FaultKind
   taken_period (r ∷ rows) x y e = step r.place rows x r.fields (row_taken faults add x r.fields) refl (taken_period rows) y e
 
 pub times_period : (period : ℕ) (bytes : List ℕ) (m : Times) → times_read period bytes ≡ Ok m → m.period ≡ period
-times_period period bytes m e = taken_period time_faults_behind with_time_row (λ (x : Times). x.period) (λ x fields. refl) (rows_of bytes) (no_times period) m e
+times_period period bytes m e = taken_period time_faults_after with_time_row (λ (x : Times). x.period) (λ x fields. refl) (rows_of bytes) (no_times period) m e
 
 pub activities_period : (period : ℕ) (bytes : List ℕ) (I : Network) → activities_read period bytes ≡ Ok I → I.period ≡ period
 activities_period period bytes I e =
-    taken_period activity_faults_behind with_activity_row (λ (x : Network). x.period)
+    taken_period activity_faults_after with_activity_row (λ (x : Network). x.period)
     (λ x fields. event_period (with_event x (activity_in fields).from) (activity_in fields).to ∙ event_period x (activity_in fields).from)
     (rows_of bytes) (empty_network period) I e
 

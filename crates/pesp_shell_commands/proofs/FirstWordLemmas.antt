@@ -46,9 +46,9 @@ spaceless_before (b ∷ bytes) = go (is_space b) refl (spaceless_before bytes)
         rw more (e, rest)
 
 -- what follows them begins with it
-apart_behind : (bytes : List ℕ) → IsApart (drop (position_or_len is_space bytes) bytes)
-apart_behind [] = tt
-apart_behind (b ∷ bytes) = go (is_space b) refl (apart_behind bytes)
+apart_after : (bytes : List ℕ) → IsApart (drop (position_or_len is_space bytes) bytes)
+apart_after [] = tt
+apart_after (b ∷ bytes) = go (is_space b) refl (apart_after bytes)
   where
     go : (t : Bool) → is_space b ≡ t → IsApart (drop (position_or_len is_space bytes) bytes)
         → IsApart (drop (cond (not t) (1 + position_or_len is_space bytes) 0) (b ∷ bytes))
@@ -57,7 +57,7 @@ apart_behind (b ∷ bytes) = go (is_space b) refl (apart_behind bytes)
         let more : 1 + position_or_len is_space bytes ≡ suc (position_or_len is_space bytes) = omega arith in
         rw more rest
 
--- the first word, up to the first space, and the words behind it
+-- the first word, up to the first space, and the words after it
 pub first_word_of : (bytes : List ℕ) → IsAtWord bytes → (length bytes == 0) ≡ false
     → words_of bytes ≡ take (position_or_len is_space bytes) bytes ∷ words_of (drop (position_or_len is_space bytes) bytes)
 first_word_of [] at some = absurd (cc)
@@ -65,7 +65,7 @@ first_word_of (b ∷ bytes) at some =
     let n = position_or_len is_space bytes in
     let place : position_or_len is_space (b ∷ bytes) ≡ suc n = ap (λ t. cond (not t) (1 + n) 0) at ∙ omega arith in
     let first : IsUncut is_space (b ∷ take n bytes) = (at, spaceless_before bytes) in
-    rw place (ap (λ bs. words_of (b ∷ bs)) (sym (take-append-drop n bytes)) ∙ words_of-apart b (take n bytes) (drop n bytes) first (apart_behind bytes))
+    rw place (ap (λ bs. words_of (b ∷ bs)) (sym (take-append-drop n bytes)) ∙ words_of-apart b (take n bytes) (drop n bytes) first (apart_after bytes))
 
 module _ (p : ℕ → Bool) (bytes : List ℕ) where
   -- a search finds the place

@@ -37,6 +37,6 @@ as_many (one_more is are) = rw (as_many are) refl
 pub form_says : (form : Form) (words : List (List ℕ)) (zs : List ℤ) → AreNumbers form.ranges words zs → form.is_crossed zs ≡ false
     → parsed_by (Some form) (form.name ++ words) ≡ Ok (Some (form.made zs))
 form_says form words zs are apart =
-    let behind : arguments form (form.name ++ words) ≡ words = drop-append_seam form.name words in
+    let after : arguments form (form.name ++ words) ≡ words = drop-append_seam form.name words in
     let many : length (form.name ++ words) ≡ length form.name + length form.ranges = length-append form.name words ∙ ap (λ n. length form.name + n) (as_many are) in
-    rw (behind, eq-eqb _ _ many, no_faults are, numbers_of are, apart) refl
+    rw (after, eq-eqb _ _ many, no_faults are, numbers_of are, apart) refl

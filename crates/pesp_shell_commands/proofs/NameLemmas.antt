@@ -8,7 +8,7 @@ use Rattle.std.specs.List.{starts_with}
 use Rattle.std.specs.Str.{bytes_eq}
 use Rattle.std.proofs.lemmas.List.{length-map, take-map}
 use Rattle.pesp_shell_commands.specs.declared.name.Name.{Name}
-use Rattle.pesp_shell_commands.specs.Forms.{AreBehind, Arguments, IsNamed, begins_with}
+use Rattle.pesp_shell_commands.specs.Forms.{AreAfter, Arguments, IsNamed, begins_with}
 use Rattle.pesp_shell_commands.specs.Parsed.{form_for}
 use Rattle.pesp_shell_commands.specs.Words.{texts}
 
@@ -47,9 +47,9 @@ module _ (words : List (Bor (List ℕ))) (rows : List Row) (i : ℕ) (d : Row) (
       → find (begins_with (texts words)) (map (λ r. form_for r.1) (drop i rows)) ≡ find (begins_with (texts words)) (map (λ r. form_for r.1) (drop (i + 1) rows))
   passed is = looked_at false is
 
-  -- what stands behind it
-  pub behind : (a : Arguments) → length row.0.now ≤ length words → a.words ≡ drop (length row.0.now) (texts words) → a.place ≡ length row.0.now + 1 → AreBehind (texts words) (form_for row.1) a
-  behind a within is place =
+  -- what stands after it
+  pub after : (a : Arguments) → length row.0.now ≤ length words → a.words ≡ drop (length row.0.now) (texts words) → a.place ≡ length row.0.now + 1 → AreAfter (texts words) (form_for row.1) a
+  after a within is place =
       let same : length row.0.now ≡ length (form_for row.1).name = sym (length-map row.0.now (λ w. w.now)) ∙ ap length (named i d below).words in
       record {
         within = omega (arith, within, same, length-map words (λ w. w.now));

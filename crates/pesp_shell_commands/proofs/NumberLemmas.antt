@@ -1,4 +1,4 @@
--- Words behind a name and their first fault, and six of them as the words of an activity.
+-- Words after a name and their first fault, and six of them as the words of an activity.
 use Rattle.std.proofs.Common.{◌≡◌, ℕ, ◌+◌, ◌≤◌, ◌<◌, Bool, false, true, List, [], ◌∷◌, length, get_or, ℤ, ◌≤ℤ◌, int_lt, unsigned_abs, to_z, of_z, SFits, w32, Option, Some, None, Result, Ok, Err, IfOk, IfErr, IsErrAnd, Bor, refl, sym, ap, ◌∙◌, arith, rules}
 use Rattle.std.proofs.lemmas.Int.{to_z-of_z}
 use Rattle.pesp_base.specs.Bounds.{Bounds}
@@ -43,9 +43,9 @@ six_numbers (u ∷ v ∷ w ∷ x ∷ []) place d least below = absurd (omega ari
 six_numbers (u ∷ v ∷ w ∷ x ∷ y ∷ []) place d least below = absurd (omega arith)
 six_numbers (u ∷ v ∷ w ∷ x ∷ y ∷ z ∷ t ∷ ws) place d least below = absurd (omega arith)
 
-behind : (b : Bool) → first_of (when b fault.Crossed ∷ []) ≡ when b fault.Crossed
-behind false = refl
-behind true = refl
+after : (b : Bool) → first_of (when b fault.Crossed ∷ []) ≡ when b fault.Crossed
+after false = refl
+after true = refl
 
 pub first_of_six : (place : ℕ) (words : ActivityWords) {fault : ParseFault} → word_fault place id words.id.now ≡ Some fault
     → first_of (activity_faults place words) ≡ Some fault
@@ -71,11 +71,11 @@ pub sixth_of_six : (place : ℕ) (words : ActivityWords) {fault : ParseFault} �
     → first_of (activity_faults place words) ≡ Some fault
 sixth_of_six place words one two three four five six = rw (one, two, three, four, five, six) refl
 
-pub behind_six : (place : ℕ) (words : ActivityWords) → word_fault place id words.id.now ≡ None → word_fault (place + 1) id words.from.now ≡ None → word_fault (place + 2) id words.to.now ≡ None → word_fault (place + 3) bound words.lower.now ≡ None → word_fault (place + 4) bound words.upper.now ≡ None → word_fault (place + 5) weight words.weight.now ≡ None
+pub after_six : (place : ℕ) (words : ActivityWords) → word_fault place id words.id.now ≡ None → word_fault (place + 1) id words.from.now ≡ None → word_fault (place + 2) id words.to.now ≡ None → word_fault (place + 3) bound words.lower.now ≡ None → word_fault (place + 4) bound words.upper.now ≡ None → word_fault (place + 5) weight words.weight.now ≡ None
     → first_of (activity_faults place words) ≡ when (int_lt (number_of words.upper.now) (number_of words.lower.now)) fault.Crossed
-behind_six place words one two three four five six = rw (one, two, three, four, five, six) (behind (int_lt (number_of words.upper.now) (number_of words.lower.now)))
+after_six place words one two three four five six = rw (one, two, three, four, five, six) (after (int_lt (number_of words.upper.now) (number_of words.lower.now)))
 
--- one word behind a name, two words, and three
+-- one word after a name, two words, and three
 pub record AreOne (a : Arguments) (place : ℕ) (u : List ℕ) : Type 0 where
   pub are : a ≡ record { words = u ∷ []; place = place }
 
@@ -173,11 +173,11 @@ pub third_of_three : (p q r : Range) (crossed : List ℤ → Bool) {a : Argument
     → word_fault place p u ≡ None → word_fault (place + 1) q v ≡ None → word_fault (place + 2) r w ≡ Some fault → first_fault a (p ∷ q ∷ r ∷ []) crossed ≡ Some fault
 third_of_three p q r crossed {place = place} {u = u} {v = v} {w = w} are one two three = rw (are.are, faults_of_three p q r crossed place u v w, one, two, three) refl
 
-pub behind_three : (p q r : Range) (crossed : List ℤ → Bool) {a : Arguments} {place : ℕ} {u v w : List ℕ} → AreThree a place u v w
+pub after_three : (p q r : Range) (crossed : List ℤ → Bool) {a : Arguments} {place : ℕ} {u v w : List ℕ} → AreThree a place u v w
     → word_fault place p u ≡ None → word_fault (place + 1) q v ≡ None → word_fault (place + 2) r w ≡ None
     → first_fault a (p ∷ q ∷ r ∷ []) crossed ≡ when (crossed (number_of u ∷ number_of v ∷ number_of w ∷ [])) fault.Crossed
-behind_three p q r crossed {place = place} {u = u} {v = v} {w = w} are one two three =
-    rw (are.are, faults_of_three p q r crossed place u v w, one, two, three) (behind (crossed (number_of u ∷ number_of v ∷ number_of w ∷ [])))
+after_three p q r crossed {place = place} {u = u} {v = v} {w = w} are one two three =
+    rw (are.are, faults_of_three p q r crossed place u v w, one, two, three) (after (crossed (number_of u ∷ number_of v ∷ number_of w ∷ [])))
 
 -- a bound that is read back
 read_back : (z : ℤ) → (least_bound ≤ℤ z) × (z ≤ℤ greatest_bound) → to_z w32 (of_z w32 z) ≡ z

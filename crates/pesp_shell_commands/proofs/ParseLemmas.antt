@@ -1,4 +1,4 @@
--- What a line says, from its first words and from the numbers behind its name.
+-- What a line says, from its first words and from the numbers after its name.
 use Rattle.std.proofs.Common.{◌≡◌, ◌≢◌, ℕ, ◌+◌, ◌-◌, ◌≤◌, inl, inr, Bool, true, false, ◌==◌, not, ◌&&◌, bytes_eq, cond, if◌then◌else◌, List, [], ◌∷◌, ◌++◌, length, take, map, Option, Some, None, Ok, Err, refl, ap, sym, ◌∙◌, arith, nat_eq, nat_lt, slice_index, get_or, Bor}
 use Rattle.std.specs.List.{find, list_all, starts_with}
 use Rattle.std.proofs.lemmas.Bool.{cases_eq, cases_lt, eq-eqb, ltb-true, ne_eqb}
@@ -8,11 +8,11 @@ use Rattle.pesp_shell_commands.specs.declared.command.Command.{Command}
 use Rattle.pesp_shell_commands.specs.declared.name.Name.{Name}
 use Rattle.pesp_shell_commands.specs.declared.parsing.ParseFault.{ParseFault}
 use Rattle.pesp_shell_commands.specs.declared.parsing.ParseFault.TheVariants as fault
-use Rattle.pesp_shell_commands.specs.Forms.{AreBehind, Arguments, as_said, faults_in, first_fault, first_of, said, unless_faulty, values}
+use Rattle.pesp_shell_commands.specs.Forms.{AreAfter, Arguments, as_said, faults_in, first_fault, first_of, said, unless_faulty, values}
 use Rattle.pesp_shell_commands.specs.Parsed.{Form, arguments, form_faults, form_for, form_of, names, number_faults, number_of, parsed, parsed_by, parsed_words}
 use Rattle.pesp_shell_commands.specs.Words.{words_of, texts}
 
--- ---- a name and the numbers behind it
+-- ---- a name and the numbers after it
 
 -- the first of several faults, or the command
 refused_by_first : (faults : List (Option ParseFault)) (c : Command) → unless_refused faults (Some c) ≡ as_said (unless_faulty (first_of faults) c)
@@ -20,41 +20,41 @@ refused_by_first [] c = refl
 refused_by_first (None ∷ faults) c = refused_by_first faults c
 refused_by_first (Some f ∷ faults) c = refl
 
--- as many words as a name and its numbers have, counted behind the name
-count_behind : (m n k : ℕ) → n ≤ m → (m == n + k) ≡ (m - n == k)
-count_behind m n k h =
+-- as many words as a name and its numbers have, counted after the name
+count_after : (m n k : ℕ) → n ≤ m → (m == n + k) ≡ (m - n == k)
+count_after m n k h =
     elim (cases_eq m (n + k)) [
       | inl e ↦ eq-eqb m (n + k) e ∙ sym (eq-eqb (m - n) k (omega (arith, e)))
       | inr d ↦ ne_eqb m (n + k) d ∙ sym (ne_eqb (m - n) k (λ e. d (omega (arith, e))))
     ]
 
--- the words behind the name of a form, and the place of the first of them
-abbrev behind : List (List ℕ) → Form → Arguments
-behind words form = record { words = arguments form words; place = length form.name + 1 }
+-- the words after the name of a form, and the place of the first of them
+abbrev after : List (List ℕ) → Form → Arguments
+after words form = record { words = arguments form words; place = length form.name + 1 }
 
--- the faults of a form are those of the words behind its name
-faults_behind : (words : List (List ℕ)) (form : Form) → length form.name ≤ length words → form_faults form words ≡ faults_in (behind words form) form.ranges form.is_crossed
-faults_behind words form h =
+-- the faults of a form are those of the words after its name
+faults_after : (words : List (List ℕ)) (form : Form) → length form.name ≤ length words → form_faults form words ≡ faults_in (after words form) form.ranges form.is_crossed
+faults_after words form h =
     let count : (length words == length form.name + length form.ranges) ≡ (length (arguments form words) == length form.ranges) =
-    count_behind (length words) (length form.name) (length form.ranges) h ∙ ap (λ n. n == length form.ranges) (sym (length-drop (length form.name) words)) in
-    ap (λ b. when (not b) fault.WordCount ∷ number_faults (length form.name + 1) form.ranges (arguments form words) ++ when (form.is_crossed (values (behind words form))) fault.Crossed ∷ []) count
+    count_after (length words) (length form.name) (length form.ranges) h ∙ ap (λ n. n == length form.ranges) (sym (length-drop (length form.name) words)) in
+    ap (λ b. when (not b) fault.WordCount ∷ number_faults (length form.name + 1) form.ranges (arguments form words) ++ when (form.is_crossed (values (after words form))) fault.Crossed ∷ []) count
 
--- what a form makes of words, by those behind its name
-by_behind : (words : List (List ℕ)) (form : Form) → length form.name ≤ length words
-    → parsed_by (Some form) words ≡ as_said (unless_faulty (first_fault (behind words form) form.ranges form.is_crossed) (form.made (values (behind words form))))
+-- what a form makes of words, by those after its name
+by_after : (words : List (List ℕ)) (form : Form) → length form.name ≤ length words
+    → parsed_by (Some form) words ≡ as_said (unless_faulty (first_fault (after words form) form.ranges form.is_crossed) (form.made (values (after words form))))
 unfolding first_fault
-by_behind words form h =
-    ap (λ faults. unless_refused faults (Some (form.made (values (behind words form))))) (faults_behind words form h)
-    ∙ refused_by_first (faults_in (behind words form) form.ranges form.is_crossed) (form.made (values (behind words form)))
+by_after words form h =
+    ap (λ faults. unless_refused faults (Some (form.made (values (after words form))))) (faults_after words form h)
+    ∙ refused_by_first (faults_in (after words form) form.ranges form.is_crossed) (form.made (values (after words form)))
 
 -- what words say whose name was found
-pub said_behind : (words : List (List ℕ)) (name : Name) (a : Arguments) → AreBehind words (form_for name) a → Some (form_for name) ≡ form_of words
+pub said_after : (words : List (List ℕ)) (name : Name) (a : Arguments) → AreAfter words (form_for name) a → Some (form_for name) ≡ form_of words
     → as_said (said name a) ≡ parsed_by (form_of words) words
-said_behind words name a at found =
+said_after words name a at found =
     let form = form_for name in
-    let same : a ≡ behind words form =
+    let same : a ≡ after words form =
     ap (λ ws. record { words = ws; place = a.place }) at.words ∙ ap (λ p. record { words = arguments form words; place = p }) at.place in
-    ap (λ b. as_said (said name b)) same ∙ sym (by_behind words form at.within) ∙ ap (λ f. parsed_by f words) found
+    ap (λ b. as_said (said name b)) same ∙ sym (by_after words form at.within) ∙ ap (λ f. parsed_by f words) found
 
 -- ---- the first nine words say as much as all of them
 

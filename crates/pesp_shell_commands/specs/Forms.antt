@@ -84,7 +84,7 @@ pub record IsNamed (row : Bor (List (Bor (List ℕ))) × Name) : Type 0 where
   pub few : length row.0.now ≤ 2
 
 -- the words after a form's name
-pub record AreBehind (line : List (List ℕ)) (form : Form) (a : Arguments) : Type 0 where
+pub record AreAfter (line : List (List ℕ)) (form : Form) (a : Arguments) : Type 0 where
   pub within : length form.name ≤ length line
   pub words : a.words ≡ arguments form line
   pub place : a.place ≡ length form.name + 1

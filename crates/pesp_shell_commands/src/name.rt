@@ -2,7 +2,7 @@
 
 ghost use Rattle.std.specs.Prelude.{◌≡◌, ◌≤◌, ◌+◌, All, bytes_eq, drop, find, is_some, length, map, IfSome};
 ghost use Rattle.std.specs.List.{starts_with};
-ghost use Rattle.pesp_shell_commands.specs.Forms.{AreBehind, IsNamed, begins_with, form_found};
+ghost use Rattle.pesp_shell_commands.specs.Forms.{AreAfter, IsNamed, begins_with, form_found};
 ghost use Rattle.pesp_shell_commands.specs.Parsed.{form_for, form_of};
 ghost use Rattle.pesp_shell_commands.specs.Words.{texts};
 
@@ -60,7 +60,7 @@ const NAMES: [(&[&[u8]], Name); 21] = [
 ];
 
 /// The words after a command's own ones, where the words begin with these.
-fn numbers_behind<'a>(own: &'static [&'static [u8]], words: &'a [&'a [u8]]) -> Option<Numbers<'a>>
+fn numbers_after<'a>(own: &'static [&'static [u8]], words: &'a [&'a [u8]]) -> Option<Numbers<'a>>
     requires { length own.now ≤ 2 }
     ensures begins { is_some result ≡ starts_with bytes_eq (texts words.now) (texts own.now) }
     ensures within { IfSome result (λ _. length own.now ≤ length words.now) }
@@ -68,7 +68,7 @@ fn numbers_behind<'a>(own: &'static [&'static [u8]], words: &'a [&'a [u8]]) -> O
     ensures place { IfSome result (λ a. a.place ≡ length own.now + 1) }
 {
     if words.starts_with(&*own) {
-        Some(Numbers::behind(words, own.len()))
+        Some(Numbers::after(words, own.len()))
     } else {
         None
     }
@@ -82,10 +82,10 @@ fn first_named<'a>(
     requires { All IsNamed names.now }
     ensures form { form_found result
         ≡ find (begins_with (texts words.now)) (map (λ row. form_for row.1) names.now) }
-    ensures numbers { IfSome result (λ p. AreBehind (texts words.now) (form_for p.0) p.1) }
+    ensures numbers { IfSome result (λ p. AreAfter (texts words.now) (form_for p.0) p.1) }
 {
     for (own, name) in names {
-        if let Some(numbers) = numbers_behind(own, words) {
+        if let Some(numbers) = numbers_after(own, words) {
             return Some((*name, numbers));
         }
     }
@@ -95,7 +95,7 @@ fn first_named<'a>(
 /// The command that the words name, and the words after its name.
 pub(crate) fn named<'a>(words: &'a [&'a [u8]]) -> Option<(Name, Numbers<'a>)>
     ensures form { form_found result ≡ form_of (texts words.now) }
-    ensures numbers { IfSome result (λ p. AreBehind (texts words.now) (form_for p.0) p.1) }
+    ensures numbers { IfSome result (λ p. AreAfter (texts words.now) (form_for p.0) p.1) }
 {
     first_named(&NAMES, words)
 }

@@ -90,8 +90,8 @@ impl<'a> Numbers<'a> {
     ghost use Rattle.pesp_shell_commands.specs.Words.{texts};
 
     /// The words of a line after its first ones, which are one or two.
-    #[tactic(auto, using(crate::proofs::TakenLemmas::texts_behind))]
-    pub(crate) fn behind(words: &'a [&'a [u8]], count: usize) -> Numbers<'a>
+    #[tactic(auto, using(crate::proofs::TakenLemmas::texts_after))]
+    pub(crate) fn after(words: &'a [&'a [u8]], count: usize) -> Numbers<'a>
         requires few { count ≤ 2 }
         requires present { count ≤ length words.now }
         ensures words { result.words ≡ drop count (texts words.now) }

@@ -79,12 +79,12 @@ pub fn replay(alloc: Global, period: Period, script: &[u8]) -> Result<Instance, 
     let mut instance = Instance::new(alloc, period);
     let mut rest = script;
     let mut number = 0;
-    'lines: while let Some((line, behind)) = split_line(rest) {
+    'lines: while let Some((line, after)) = split_line(rest) {
         number += 1;
         if let Err(kind) = take_line(&mut instance, number, line) {
             return Err(ReplayFault { line: number, kind });
         }
-        rest = behind;
+        rest = after;
     }
     Ok(instance)
 }

@@ -25,10 +25,10 @@ fn skip_spaces(text: &[u8]) -> &[u8]
     ensures word { IsAtWord result.now }
 {
     let mut rest = text;
-    while let [first, behind @ ..] = rest
+    while let [first, after @ ..] = rest
         && is_space(*first)
     {
-        rest = behind;
+        rest = after;
     }
     rest
 }
@@ -80,11 +80,11 @@ impl<'a> Words<'a> {
         let mut count = 0;
         let mut rest = line;
         while count < MOST_WORDS
-            && let Some((word, behind)) = first_word(rest)
+            && let Some((word, after)) = first_word(rest)
         {
             words[count] = word;
             count += 1;
-            rest = behind;
+            rest = after;
         }
         Words { words, count }
     }

@@ -8,7 +8,7 @@ pub IsUncut-append : (ends : ℕ → Bool) (p q : List ℕ) → IsUncut ends p �
 IsUncut-append ends [] q whole more = more
 IsUncut-append ends (b ∷ p) q whole more = (whole.0, IsUncut-append ends p q whole.1 more)
 
--- a piece, the byte that ends it, and what is cut behind that byte
+-- a piece, the byte that ends it, and what is cut after that byte
 pub cut_ended : (ends : ℕ → Bool) (piece : List ℕ) (b : ℕ) (rest : List ℕ) → IsUncut ends piece → ends b ≡ true
     → cut_at ends (piece ++ b ∷ rest) ≡ piece ∷ cut_at ends rest
 cut_ended ends [] b rest whole e = rw e refl

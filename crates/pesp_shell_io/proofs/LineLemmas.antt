@@ -8,17 +8,17 @@ use Rattle.pesp_shell_io.specs.Fronts.{IsFront}
 use Rattle.pesp_shell_io.specs.Lines.{IsUncut, before_pieces, cut_at, ended_lines, is_line_feed, lines_of}
 use Rattle.pesp_shell_io.proofs.CutLemmas.{AreLines, cut_ended, cut_whole}
 
--- a line and its line feed, and what is behind them
+-- a line and its line feed, and what is after them
 pub lines_of-ended : (line rest : List ℕ) → IsUncut is_line_feed line → lines_of (line ++ 10 ∷ rest) ≡ line ∷ lines_of rest
 lines_of-ended line rest whole = cut_ended is_line_feed line 10 rest whole refl
 
--- the bytes before a line feed, and those behind it
+-- the bytes before a line feed, and those after it
 line_feed_between : (held : List ℕ) (n : ℕ) → n < length held → slice_index held n ≡ 10 → held ≡ take n held ++ 10 ∷ drop (suc n) held
 line_feed_between [] n low at = absurd (omega (arith, low))
 line_feed_between (b ∷ held) zero low at = ap (λ x. x ∷ held) at
 line_feed_between (b ∷ held) (suc n) low at = ap (λ l. b ∷ l) (line_feed_between held n (omega (arith, low)) at)
 
--- a line at the front, and what is held behind it
+-- a line at the front, and what is held after it
 pub line_at_front : (held : List ℕ) (n : ℕ) → IsFront held (fronts.Line n) → held ≡ take n held ++ 10 ∷ drop (n + 1) held
 line_at_front held n front = rw (add-one n) (line_feed_between held n front.0 front.1)
 
@@ -41,7 +41,7 @@ count_by-uncut ends (b ∷ piece) rest whole =
     sum_by-cons (λ x. cond (ends x) 1 0) b (piece ++ rest) ∙ ap (λ is. cond is 1 0 + count_by ends (piece ++ rest)) whole.0
     ∙ zero-add (count_by ends (piece ++ rest)) ∙ count_by-uncut ends piece rest whole.1
 
--- a line feed stands behind each line, and none else
+-- a line feed stands after each line, and none else
 count_by-lines : (lines : List (List ℕ)) (p : List ℕ) → AreLines lines → IsUncut is_line_feed p → count_by is_line_feed (as_lines lines ++ p) ≡ length lines
 count_by-lines [] p whole uncut = ap (count_by is_line_feed) (sym (append-nil p)) ∙ count_by-uncut is_line_feed p [] uncut
 count_by-lines (line ∷ lines) p whole uncut =

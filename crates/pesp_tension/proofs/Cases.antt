@@ -26,12 +26,12 @@ times = with_time (with_time (no_times 10) 2 3) 1 0
 times_rise : times.entries ≡ (1, 0) ∷ (2, 3) ∷ []
 times_rise = refl
 
--- event 2 stands at place 1, and event 3 would stand behind it
+-- event 2 stands at place 1, and event 3 would stand after it
 second_place : IsAt times.entries 2 1
 second_place = record { within = omega arith; event = refl }
 
-gap_behind : IsGap times.entries 3 2
-gap_behind = record { within = omega arith; smaller = below_three; greater = λ i h k. absurd (omega (arith, h, k)) }
+gap_after : IsGap times.entries 3 2
+gap_after = record { within = omega arith; smaller = below_three; greater = λ i h k. absurd (omega (arith, h, k)) }
   where
     below_three : (i : ℕ) → i < 2 → event_at times.entries i < 3
     below_three zero h = omega arith
@@ -47,7 +47,7 @@ one_violation = refl
 the_cost : cost_of two times ≡ 3
 the_cost = refl
 
--- a fixed event at another time comes behind the activities
+-- a fixed event at another time comes after the activities
 fixed_event : violations_of (after two (do_.Fix 1 5 ∷ [])) times ≡ of_.Activity 2 ∷ of_.Event 1 ∷ []
 fixed_event = refl
 

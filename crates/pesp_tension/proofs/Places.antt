@@ -43,7 +43,7 @@ gap_all x es e gap = record {
 rising_tail : (x : ℕ × ℕ) (es : List (ℕ × ℕ)) → AreRising (x ∷ es) → AreRising es
 rising_tail x es rising i j h k = rising (suc i) (suc j) (omega arith) (omega arith)
 
--- the first event is below one that stands behind it
+-- the first event is below one that stands after it
 first_below : (x : ℕ × ℕ) (es : List (ℕ × ℕ)) (e place : ℕ) → AreRising (x ∷ es) → IsAt (x ∷ es) e (suc place) → x.0 < e
 first_below x es e place rising at = subst (λ n. x.0 < n) at.event (rising 0 (suc place) (omega arith) at.within)
 

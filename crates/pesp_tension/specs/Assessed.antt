@@ -12,7 +12,7 @@ pub record IsAssessment (I : Network) (m : Times) (a : Assessment) : Type 0 wher
   pub cost : a.cost ≡ cost_of I m
 
 -- what the activities answer stands after what was there
-pub record IsBehind (I : Network) (m : Times) (old new : Assessment) : Type 0 where
+pub record IsAfter (I : Network) (m : Times) (old new : Assessment) : Type 0 where
   pub tensions : new.tensions.items ≡ old.tensions.items ++ tensions_of I m
   pub violations : new.violations.items ≡ old.violations.items ++ unmet_among m I.activities
   pub cost : new.cost ≡ old.cost + cost_of I m

@@ -3,7 +3,7 @@
 ghost use Rattle.std.specs.Prelude.{◌≡◌, ◌≤◌, ◌+◌, ◌*◌, ◌-◌, ◌^◌, ◌++◌, [], ◌∷◌, IfOk, IfErr, OnOk, None};
 ghost use Rattle.pesp_base.specs.Limits.{greatest_period, greatest_weight};
 ghost use Rattle.pesp_tension.specs.Answers.{IsRefusalOf, IsTimed, cost_in, first_missing, tension_in, tensions_of, unmet_among, where_timed};
-ghost use Rattle.pesp_tension.specs.Assessed.{IsAssessment, IsBehind};
+ghost use Rattle.pesp_tension.specs.Assessed.{IsAssessment, IsAfter};
 
 use crate::answers::{cost_at, is_met_at, list_moved, require_times, tension_of};
 use crate::{ActivityTension, Tensions, Timetable, Violation, Violations};
@@ -56,7 +56,7 @@ fn add_activities(
 ) -> Result<(), AllocError>
     requires timed { first_missing instance.now timetable.now ≡ None }
     requires cost { assessment.old.cost ≡ 0 }
-    ensures { OnOk result (IsBehind instance.now timetable.now assessment.old assessment.new) }
+    ensures { OnOk result (IsAfter instance.now timetable.now assessment.old assessment.new) }
 {
     for activity in instance.activities() {
         add_activity(assessment, activity, timetable)?;

@@ -76,7 +76,7 @@ short_row : activities_read 10 (codes "1; 1; 2; 3; 5; 2\n2; 2; 1; 4") ≡ faulty
 unfolding records_from strip_bom next_record weight_fault
 short_row = refl
 
--- the repeated number is found before the short row behind it
+-- the repeated number is found before the short row after it
 first_faulty : activities_read 10 (codes "1; 1; 2; 3; 5; 2\n1; 2; 1; 4; 6; 1\n2; 2; 1") ≡ faulty 2 fault.DuplicateActivity
 unfolding records_from strip_bom next_record weight_fault
 first_faulty = refl
@@ -85,7 +85,7 @@ empty_file : activities_read 10 [] ≡ Ok (empty_network 10)
 unfolding records_from strip_bom next_record weight_fault
 empty_file = refl
 
--- a line without a byte is no record, one of blanks is a blank record, and a header may stand behind it
+-- a line without a byte is no record, one of blanks is a blank record, and a header may stand after it
 blank_lines : activities_read 10 (codes "\n  \nx\n1") ≡ faulty 3 fault.FieldCount
 unfolding records_from strip_bom next_record weight_fault
 blank_lines = refl
@@ -135,7 +135,7 @@ large_weight : weight_fault (codes "1000000001.0") ≡ Some (fault.OutOfRange 6)
 unfolding weight_fault
 large_weight = refl
 
--- a digit is needed before the point, and digits alone behind it
+-- a digit is needed before the point, and digits alone after it
 point_alone : weight_fault (codes ".5") ≡ Some (fault.BadNumber 6)
 unfolding weight_fault
 point_alone = refl

@@ -21,7 +21,7 @@ use Rattle.pesplib_reader.specs.declared.fault.FaultKind.{FaultKind}
 use Rattle.pesplib_reader.specs.declared.fault.FaultKind.TheVariants as fault
 use Rattle.pesplib_reader.specs.Records.{Row, rows_of}
 use Rattle.pesplib_reader.specs.Rows.{field, natural, time_faults, value}
-use Rattle.pesplib_reader.specs.Reading.{AreFixable, fixed_faults_behind, fixed_read, with_time_row}
+use Rattle.pesplib_reader.specs.Reading.{AreFixable, fixed_faults_after, fixed_read, with_time_row}
 use Rattle.pesplib_reader.specs.Taking.{at_place, on_ok, row_taken, taken}
 
 -- ---- what a file of fixed times stands for may be fixed
@@ -50,7 +50,7 @@ module _ (I : Network) where
   last_known (None ∷ own) p q x y h = last_known own p q x y h
   last_known (Some kind ∷ own) p q x y h = absurd (cc)
 
-  fixable_more : (some : 0 < I.period) (m y : Times) (fields : List (List ℕ)) → row_taken (fixed_faults_behind I) with_time_row m fields ≡ Ok y → IsFixable m → IsFixable y
+  fixable_more : (some : 0 < I.period) (m y : Times) (fields : List (List ℕ)) → row_taken (fixed_faults_after I) with_time_row m fields ≡ Ok y → IsFixable m → IsFixable y
   fixable_more some m y fields h fixable =
       let facts = last_known (time_faults fields) (is_some (time_of m (natural (field fields 1)))) (has_event I (natural (field fields 1))) (with_time_row m fields) y h in
       let below : residue m.period (value (field fields 2)) < I.period =
@@ -60,10 +60,10 @@ module _ (I : Network) where
         same = fixable.same;
       })
 
-  fixable_taken : (some : 0 < I.period) (rows : List Row) (m y : Times) → taken (fixed_faults_behind I) with_time_row m rows ≡ Ok y → IsFixable m → IsFixable y
+  fixable_taken : (some : 0 < I.period) (rows : List Row) (m y : Times) → taken (fixed_faults_after I) with_time_row m rows ≡ Ok y → IsFixable m → IsFixable y
   fixable_taken some [] m y h fixable = let same : m ≡ y = cc in subst IsFixable same fixable
   fixable_taken some (r ∷ rows) m y h fixable =
-      elim (row_taken (fixed_faults_behind I) with_time_row m r.fields) as (λ o. row_taken (fixed_faults_behind I) with_time_row m r.fields ≡ o → on_ok (λ z. taken (fixed_faults_behind I) with_time_row z rows) (at_place r.place o) ≡ Ok y → IsFixable y) [
+      elim (row_taken (fixed_faults_after I) with_time_row m r.fields) as (λ o. row_taken (fixed_faults_after I) with_time_row m r.fields ≡ o → on_ok (λ z. taken (fixed_faults_after I) with_time_row z rows) (at_place r.place o) ≡ Ok y → IsFixable y) [
         | Ok z ↦ λ e later. fixable_taken some rows z y later (fixable_more some m z r.fields e fixable)
         | Err kind ↦ λ e later. absurd (cc)
       ] refl h

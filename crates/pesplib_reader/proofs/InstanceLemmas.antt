@@ -174,11 +174,11 @@ module _ (I : Network) (e : ℕ) where
       not_memory : no.EventExists f ≡ no.Memory → ⊥
       not_memory h = cc
 
--- ---- an activity that is added behind its ends
+-- ---- an activity that is added after its ends
 
 module _ (I J : Network) (a : Activity) where
-  pub added_behind : edited (with_ends I a) (AddActivity a) ≡ Ok J → with_activity I a ≡ J
-  added_behind h =
+  pub added_after : edited (with_ends I a) (AddActivity a) ≡ Ok J → with_activity I a ≡ J
+  added_after h =
       (accepted (is_some (activity_of (with_ends I a) a.id)) (has_event (with_ends I a) a.from) (has_event (with_ends I a) a.to) (nat_le (max_activities (with_ends I a).period) (length (with_ends I a).activities)) (no.ActivityExists a.id) (no.NoEvent a.from) (no.NoEvent a.to) no.TooManyActivities (effect (with_ends I a) (AddActivity a)) J h).4
 
   few_by : (p q r : Bool) (x : Network) → unless_refused (when p fault.DuplicateActivity ∷ when q fault.TooManyEvents ∷ when r fault.TooManyActivities ∷ []) x ≡ Ok J → (q ≡ false) × (x ≡ J)

@@ -5,7 +5,7 @@ use Rattle.pesplib_reader.specs.declared.fault.ReadFault.{ReadFault}
 use Rattle.pesplib_reader.specs.declared.fault.FaultKind.TheVariants as fault
 use Rattle.pesplib_reader.specs.declared.records.Records.{Records}
 use Rattle.pesplib_reader.specs.Records.{Row, are_named, are_spoken, fields_in, row_at, spoken_from, without_header}
-use Rattle.pesplib_reader.specs.Left.{AreFrom, IsNextRow, IsReading, IsWant, count_of, is_row, left_of, row_of, rows_behind, rows_left, trimmed_fields}
+use Rattle.pesplib_reader.specs.Left.{AreFrom, IsNextRow, IsReading, IsWant, count_of, is_row, left_of, row_of, rows_after, rows_left, trimmed_fields}
 
 -- ---- the rows from one record on
 
@@ -19,8 +19,8 @@ step false named true r rows e = refl
 step false named false r rows e = refl
 
 pub rows_step : (begun : Bool) (place : ℕ) (fields : List (List ℕ)) (rs : List (List (List ℕ)))
-    → rows_behind begun place (fields ∷ rs)
-    ≡ cond (is_row begun (fields_in fields)) (record { place = place; fields = fields_in fields } ∷ rows_behind (begun || are_spoken (fields_in fields)) (place + 1) rs) (rows_behind (begun || are_spoken (fields_in fields)) (place + 1) rs)
+    → rows_after begun place (fields ∷ rs)
+    ≡ cond (is_row begun (fields_in fields)) (record { place = place; fields = fields_in fields } ∷ rows_after (begun || are_spoken (fields_in fields)) (place + 1) rs) (rows_after (begun || are_spoken (fields_in fields)) (place + 1) rs)
 rows_step begun place fields rs = step (are_spoken (fields_in fields)) (are_named (fields_in fields)) begun (row_at (place, fields)) (spoken_from (place + 1) rs) refl
 
 -- ---- the numbers of rows
@@ -49,14 +49,14 @@ AreFrom-without_header place (r ∷ rows) from =
 AreFrom-spoken : (place : ℕ) (rs : List (List (List ℕ))) → AreFrom place (spoken_from place rs)
 AreFrom-spoken place rs = AreFrom-filter _ place (map row_at (enumerate_from place rs)) (numbered place rs)
 
-AreFrom-rows_behind : (begun : Bool) (place : ℕ) (rs : List (List (List ℕ))) → AreFrom place (rows_behind begun place rs)
-AreFrom-rows_behind true place rs = AreFrom-spoken place rs
-AreFrom-rows_behind false place rs = AreFrom-without_header place (spoken_from place rs) (AreFrom-spoken place rs)
+AreFrom-rows_after : (begun : Bool) (place : ℕ) (rs : List (List (List ℕ))) → AreFrom place (rows_after begun place rs)
+AreFrom-rows_after true place rs = AreFrom-spoken place rs
+AreFrom-rows_after false place rs = AreFrom-without_header place (spoken_from place rs) (AreFrom-spoken place rs)
 
 pub AreFrom-rows_left : (s : Records) (place : ℕ) → place ≤ s.taken + 1 → AreFrom place (rows_left s)
 unfolding rows_left
 AreFrom-rows_left s place le =
-    AreFrom-less place (s.taken + 1) (rows_behind s.is_begun (s.taken + 1) (left_of s.reader)) le (AreFrom-rows_behind s.is_begun (s.taken + 1) (left_of s.reader))
+    AreFrom-less place (s.taken + 1) (rows_after s.is_begun (s.taken + 1) (left_of s.reader)) le (AreFrom-rows_after s.is_begun (s.taken + 1) (left_of s.reader))
 
 -- ---- one record more
 
@@ -76,12 +76,12 @@ module _ (old new : Records) (fields : List (List ℕ)) (left : left_of old.read
   module _ (cut : trimmed_fields new.last ≡ fields_in fields) (begun : new.is_begun ≡ old.is_begun) where
     -- the rows with a record, by its fields
     abbrev rows_with : Bool → ℕ → List (List ℕ) → List Row
-    rows_with b place fs = cond (is_row b fs) (record { place = place; fields = fs } ∷ rows_behind (b || are_spoken fs) (place + 1) (left_of new.reader)) (rows_behind (b || are_spoken fs) (place + 1) (left_of new.reader))
+    rows_with b place fs = cond (is_row b fs) (record { place = place; fields = fs } ∷ rows_after (b || are_spoken fs) (place + 1) (left_of new.reader)) (rows_after (b || are_spoken fs) (place + 1) (left_of new.reader))
 
     pub seen_rows : rows_left old ≡ cond (is_row new.is_begun (trimmed_fields new.last)) (row_of new ∷ rows_left (seen new)) (rows_left (seen new))
     unfolding rows_left
     seen_rows =
-        ap (rows_behind old.is_begun (old.taken + 1)) left
+        ap (rows_after old.is_begun (old.taken + 1)) left
         ∙ rows_step old.is_begun (old.taken + 1) fields (left_of new.reader)
         ∙ ap (λ b. rows_with b (old.taken + 1) (fields_in fields)) (sym begun)
         ∙ ap (λ place. rows_with new.is_begun place (fields_in fields)) (sym taken)

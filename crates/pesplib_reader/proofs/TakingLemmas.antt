@@ -25,19 +25,19 @@ value_is [] a v h = cc
 value_is (None ∷ faults) a v h = value_is faults a v h
 value_is (Some kind ∷ faults) a v h = absurd (cc)
 
--- where a row's faults are those it has by itself, and then those behind the rows before it
-module _ {X : Type 0} (own : List (List ℕ) → List (Option FaultKind)) (behind : X → List (List ℕ) → List (Option FaultKind)) (add : X → List (List ℕ) → X) where
+-- where a row's faults are those it has by itself, and then those after the rows before it
+module _ {X : Type 0} (own : List (List ℕ) → List (Option FaultKind)) (after : X → List (List ℕ) → List (Option FaultKind)) (add : X → List (List ℕ) → X) where
   abbrev both : X → List (List ℕ) → List (Option FaultKind)
-  both x fields = own fields ++ behind x fields
+  both x fields = own fields ++ after x fields
 
   module _ {A : Type 0} (x : X) (cut fields : List (List ℕ)) (a : A) (same : cut ≡ fields) where
-    -- a row without faults by itself stands or falls behind the others
-    pub good_row : (v : A) → Ok v ≡ unless_refused (own fields) a → row_taken both add x cut ≡ unless_refused (behind x fields) (add x fields)
-    good_row v h = ap (row_taken both add x) same ∙ past (own fields) (behind x fields) a v (add x fields) h
+    -- a row without faults by itself stands or falls after the others
+    pub good_row : (v : A) → Ok v ≡ unless_refused (own fields) a → row_taken both add x cut ≡ unless_refused (after x fields) (add x fields)
+    good_row v h = ap (row_taken both add x) same ∙ past (own fields) (after x fields) a v (add x fields) h
 
     -- a row with one falls by that
     pub bad_row : (kind : FaultKind) → Err kind ≡ unless_refused (own fields) a → row_taken both add x cut ≡ Err kind
-    bad_row kind h = ap (row_taken both add x) same ∙ stopped (own fields) (behind x fields) a kind (add x fields) h
+    bad_row kind h = ap (row_taken both add x) same ∙ stopped (own fields) (after x fields) a kind (add x fields) h
 
 module _ {X : Type 0} (faults : X → List (List ℕ) → List (Option FaultKind)) (add : X → List (List ℕ) → X) where
   abbrev From : ℕ → Result X ReadFault → Type 0
@@ -52,9 +52,9 @@ module _ {X : Type 0} (faults : X → List (List ℕ) → List (Option FaultKind
         | Err kind ↦ from.0
       ]
 
-  none_behind : (place : ℕ) (r : Row) (rows : List Row) (o : Result X FaultKind) → place ≤ r.place → AreFrom place rows → From place (on_ok (λ y. taken faults add y rows) (at_place r.place o))
-  none_behind place r rows (Ok y) le from = none_before place rows y from
-  none_behind place r rows (Err kind) le from = le
+  none_after : (place : ℕ) (r : Row) (rows : List Row) (o : Result X FaultKind) → place ≤ r.place → AreFrom place rows → From place (on_ok (λ y. taken faults add y rows) (at_place r.place o))
+  none_after place r rows (Ok y) le from = none_before place rows y from
+  none_after place r rows (Err kind) le from = le
 
   module _ (start : X) (bytes : List ℕ) where
     -- the rows before those that are left stand for x
@@ -98,7 +98,7 @@ module _ {X : Type 0} (faults : X → List (List ℕ) → List (Option FaultKind
         kind = same;
         from_one = more.from_one;
         in_file = omega (arith, more.count, h.count);
-        none_before = subst (From new.taken) row_stands (none_behind new.taken (row_of new) (rows_left new) (row_taken faults add x (row_of new).fields) (omega arith) more.later);
+        none_before = subst (From new.taken) row_stands (none_after new.taken (row_of new) (rows_left new) (row_taken faults add x (row_of new).fields) (omega arith) more.later);
       })
 
       -- a row that cannot be taken

@@ -55,12 +55,12 @@ abbrev pub is_row : Bool → List (List ℕ) → Bool
 is_row is_begun fields = are_spoken fields && (is_begun || not (are_named fields))
 
 -- the rows of records that are numbered from a number on
-abbrev pub rows_behind : Bool → ℕ → List (List (List ℕ)) → List Row
-rows_behind is_begun place rs = if is_begun then spoken_from place rs else without_header (spoken_from place rs)
+abbrev pub rows_after : Bool → ℕ → List (List (List ℕ)) → List Row
+rows_after is_begun place rs = if is_begun then spoken_from place rs else without_header (spoken_from place rs)
 
 -- the rows that are left
 unfoldable pub rows_left : Records → List Row
-rows_left s = rows_behind s.is_begun (s.taken + 1) (left_of s.reader)
+rows_left s = rows_after s.is_begun (s.taken + 1) (left_of s.reader)
 
 -- how many records there are, read and left
 unfoldable pub count_of : Records → ℕ

@@ -39,8 +39,8 @@ abbrev pub activity_taken : Network → Activity → Result Network FaultKind
 activity_taken I a = unless_refused (instance_faults I a) (with_activity I a)
 
 -- the faults that a row of an activity may have after other activities, in order
-abbrev pub activity_faults_behind : Network → List (List ℕ) → List (Option FaultKind)
-activity_faults_behind I fields = activity_faults fields ++ instance_faults I (activity_in fields)
+abbrev pub activity_faults_after : Network → List (List ℕ) → List (Option FaultKind)
+activity_faults_after I fields = activity_faults fields ++ instance_faults I (activity_in fields)
 
 -- the instance with the activity of one more row
 abbrev pub with_activity_row : Network → List (List ℕ) → Network
@@ -48,7 +48,7 @@ with_activity_row I fields = with_activity I (activity_in fields)
 
 -- the instance that a file of activities stands for
 abbrev pub activities_read : ℕ → List ℕ → Result Network ReadFault
-activities_read period bytes = taken activity_faults_behind with_activity_row (empty_network period) (rows_of bytes)
+activities_read period bytes = taken activity_faults_after with_activity_row (empty_network period) (rows_of bytes)
 
 -- the faults that an event may have after other events of a timetable, in order
 abbrev pub event_faults : Times → ℕ → List (Option FaultKind)
@@ -75,12 +75,12 @@ abbrev pub fixed_taken : Network → Times → ℕ → ℤ → Result Times Faul
 fixed_taken I m event time = unless_refused (fixed_faults I m event) (with_time_modulo m event time)
 
 -- the faults that a row of an event and a time may have after other events, in order
-abbrev pub time_faults_behind : Times → List (List ℕ) → List (Option FaultKind)
-time_faults_behind m fields = time_faults fields ++ event_faults m (natural (field fields 1))
+abbrev pub time_faults_after : Times → List (List ℕ) → List (Option FaultKind)
+time_faults_after m fields = time_faults fields ++ event_faults m (natural (field fields 1))
 
 -- the same, where the events are those of an instance
-abbrev pub fixed_faults_behind : Network → Times → List (List ℕ) → List (Option FaultKind)
-fixed_faults_behind I m fields = time_faults fields ++ fixed_faults I m (natural (field fields 1))
+abbrev pub fixed_faults_after : Network → Times → List (List ℕ) → List (Option FaultKind)
+fixed_faults_after I m fields = time_faults fields ++ fixed_faults I m (natural (field fields 1))
 
 -- the timetable with the event of one more row
 abbrev pub with_time_row : Times → List (List ℕ) → Times
@@ -88,11 +88,11 @@ with_time_row m fields = with_time_modulo m (natural (field fields 1)) (value (f
 
 -- the timetable that a file of times stands for
 abbrev pub times_read : ℕ → List ℕ → Result Times ReadFault
-times_read period bytes = taken time_faults_behind with_time_row (no_times period) (rows_of bytes)
+times_read period bytes = taken time_faults_after with_time_row (no_times period) (rows_of bytes)
 
 -- the fixed times that a file stands for, of events of an instance
 abbrev pub fixed_read : Network → List ℕ → Result Times ReadFault
-fixed_read I bytes = taken (fixed_faults_behind I) with_time_row (no_times I.period) (rows_of bytes)
+fixed_read I bytes = taken (fixed_faults_after I) with_time_row (no_times I.period) (rows_of bytes)
 
 -- the instance with these times fixed
 abbrev pub with_fixed : Network → Times → Network

@@ -6,7 +6,7 @@ ghost use Rattle.pesp_instance.specs.Network.{activity_of};
 ghost use Rattle.pesplib_reader.specs.declared.fault.FaultKind.TheVariants as fault;
 ghost use Rattle.pesplib_reader.specs.Left.{trimmed_fields};
 ghost use Rattle.pesplib_reader.specs.Taking.{IsReadFault, IsTakeFault, row_taken};
-ghost use Rattle.pesplib_reader.specs.Reading.{activities_read, activity_faults_behind, activity_taken, with_activity_row, with_ends, with_event};
+ghost use Rattle.pesplib_reader.specs.Reading.{activities_read, activity_faults_after, activity_taken, with_activity_row, with_ends, with_event};
 
 use crate::records::{Records, activity_row};
 use crate::{FaultKind, ReadFault};
@@ -98,11 +98,11 @@ fn add_activity(instance: &mut Instance, activity: &Activity) -> Result<(), Faul
 /// Takes the activity of a row.
 fn take_activity(instance: &mut Instance, fields: &ByteRecord) -> Result<(), FaultKind>
     requires { length instance.old.events ≤ limits.max_events instance.old.period }
-    ensures ok { OnOk result (row_taken activity_faults_behind with_activity_row instance.old
+    ensures ok { OnOk result (row_taken activity_faults_after with_activity_row instance.old
         (trimmed_fields fields.now) ≡ Ok instance.new) }
     ensures few { OnOk result (length instance.new.events ≤ limits.max_events instance.new.period) }
     ensures fault { IfErr result (IsTakeFault
-        (row_taken activity_faults_behind with_activity_row instance.old
+        (row_taken activity_faults_after with_activity_row instance.old
         (trimmed_fields fields.now))) }
 {
     let Some(row) = activity_row(fields) else {

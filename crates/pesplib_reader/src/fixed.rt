@@ -4,7 +4,7 @@ ghost use Rattle.std.specs.Prelude.{◌≡◌, Ok, IfOk, IfErr, OnOk, OnErr};
 ghost use Rattle.pesp_tension.specs.Timetables.{Times};
 ghost use Rattle.pesplib_reader.specs.Left.{trimmed_fields};
 ghost use Rattle.pesplib_reader.specs.Taking.{IsReadFault, IsTakeFault, row_taken};
-ghost use Rattle.pesplib_reader.specs.Reading.{AreFixable, fixed_faults_behind, fixed_read, fixed_taken, with_fixed, with_time_row};
+ghost use Rattle.pesplib_reader.specs.Reading.{AreFixable, fixed_faults_after, fixed_read, fixed_taken, with_fixed, with_time_row};
 
 use crate::records::{Records, time_row};
 use crate::times::remainder;
@@ -44,10 +44,10 @@ fn take_fixed(
     times: &mut Timetable,
     fields: &ByteRecord,
 ) -> Result<(), FaultKind>
-    ensures ok { OnOk result (row_taken (fixed_faults_behind instance.now) with_time_row times.old
+    ensures ok { OnOk result (row_taken (fixed_faults_after instance.now) with_time_row times.old
         (trimmed_fields fields.now) ≡ Ok times.new) }
     ensures fault { IfErr result (IsTakeFault
-        (row_taken (fixed_faults_behind instance.now) with_time_row times.old
+        (row_taken (fixed_faults_after instance.now) with_time_row times.old
         (trimmed_fields fields.now))) }
 {
     let Some(row) = time_row(fields) else {

@@ -4,7 +4,7 @@ ghost use Rattle.std.specs.Prelude.{◌≡◌, ◌<◌, Ok, IfOk, IfErr, OnOk};
 ghost use Rattle.pesp_base.specs.Tensions.{residue};
 ghost use Rattle.pesplib_reader.specs.Left.{trimmed_fields};
 ghost use Rattle.pesplib_reader.specs.Taking.{IsReadFault, IsTakeFault, row_taken};
-ghost use Rattle.pesplib_reader.specs.Reading.{event_taken, time_faults_behind, times_read, with_time_row};
+ghost use Rattle.pesplib_reader.specs.Reading.{event_taken, time_faults_after, times_read, with_time_row};
 
 use crate::records::{Records, time_row};
 use crate::{FaultKind, ReadFault};
@@ -40,11 +40,11 @@ fn add_time(timetable: &mut Timetable, event: EventId, time: i64) -> Result<(), 
 
 /// Takes the event and the time of a row.
 fn take_time(timetable: &mut Timetable, fields: &ByteRecord) -> Result<(), FaultKind>
-    ensures ok { OnOk result (row_taken time_faults_behind with_time_row timetable.old
+    ensures ok { OnOk result (row_taken time_faults_after with_time_row timetable.old
         (trimmed_fields fields.now) ≡ Ok timetable.new) }
     ensures period { timetable.new.period ≡ timetable.old.period }
     ensures fault { IfErr result (IsTakeFault
-        (row_taken time_faults_behind with_time_row timetable.old (trimmed_fields fields.now))) }
+        (row_taken time_faults_after with_time_row timetable.old (trimmed_fields fields.now))) }
 {
     let Some(row) = time_row(fields) else {
         return Err(FaultKind::FieldCount);

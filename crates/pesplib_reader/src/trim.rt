@@ -13,10 +13,10 @@ fn trim_start(text: &[u8]) -> &[u8]
     ensures { result.now ≡ records.trim_start text.now }
 {
     let mut rest = text;
-    while let [first, behind @ ..] = rest
+    while let [first, after @ ..] = rest
         && is_blank(*first)
     {
-        rest = behind;
+        rest = after;
     }
     rest
 }

@@ -12,7 +12,7 @@ use Rattle.pesp_instance.specs.declared.edit.Edit.TheVariants.{AddActivity, AddE
 use Rattle.pesp_instance.specs.Edited.{effect}
 use Rattle.pesp_instance.specs.Network.{Network, is_end_of, new_event}
 use Rattle.pesp_instance.proofs.Rising.{Rises, length-filter_le}
-use Rattle.pesplib_reader.specs.Reading.{activity_faults_behind, activity_taken, instance_faults, with_activity, with_activity_row, with_ends, with_event}
+use Rattle.pesplib_reader.specs.Reading.{activity_faults_after, activity_taken, instance_faults, with_activity, with_activity_row, with_ends, with_event}
 use Rattle.pesplib_reader.specs.Rows.{activity_faults, activity_in}
 use Rattle.pesplib_reader.specs.Taking.{at_place, on_ok, row_taken, taken}
 use Rattle.pesplib_reader.proofs.InstanceLemmas.{taken_whole}
@@ -118,7 +118,7 @@ module _ (period : ℕ) (events : List Event) (rises : Rises event_number events
           ∙ ap (λ J. Ok J) with_one_more
 
       -- the row of an activity of a greater number than all before it
-      next_row : row_taken activity_faults_behind with_activity_row (built done) (activity_fields a) ≡ Ok (built (done ++ (a ∷ [])))
+      next_row : row_taken activity_faults_after with_activity_row (built done) (activity_fields a) ≡ Ok (built (done ++ (a ∷ [])))
       next_row =
           good_row activity_faults (λ J fields. instance_faults J (activity_in fields)) with_activity_row (built done) (activity_fields a) (activity_fields a) a refl a (sym (activity_stands a is.within a))
           ∙ ap (activity_taken (built done)) (activity_back a is.within)
@@ -132,11 +132,11 @@ module _ (period : ℕ) (events : List Event) (rises : Rises event_number events
 
   -- the rows of ascending activities stand for these activities and their ends
   pub activities_taken : (done todo : List Activity) (place : ℕ) → All IsTakable todo → Rises activity_number (done ++ todo) → length events ≤ max_events period → length (done ++ todo) ≤ max_activities period
-      → taken activity_faults_behind with_activity_row (built done) (numbered place (map activity_fields todo)) ≡ Ok (built (done ++ todo))
+      → taken activity_faults_after with_activity_row (built done) (numbered place (map activity_fields todo)) ≡ Ok (built (done ++ todo))
   activities_taken done [] place all rising few_events few = ap (λ list. Ok (built list)) (sym (append-nil done))
   activities_taken done (a ∷ todo) place all rising few_events few =
       let joined = append_assoc done (a ∷ []) todo in
       let room : length done < max_activities period = omega (arith, few, length-append done (a ∷ todo)) in
-      ap (λ o. on_ok (λ J. taken activity_faults_behind with_activity_row J (numbered (place + 1) (map activity_fields todo))) (at_place place o)) (next_row done a (All-head IsTakable a todo all) (below_after activity_number done todo a rising) few_events room)
+      ap (λ o. on_ok (λ J. taken activity_faults_after with_activity_row J (numbered (place + 1) (map activity_fields todo))) (at_place place o)) (next_row done a (All-head IsTakable a todo all) (below_after activity_number done todo a rising) few_events room)
       ∙ activities_taken (done ++ (a ∷ [])) todo (place + 1) (All-tail IsTakable a todo all) (subst (Rises activity_number) (sym joined) rising) few_events (subst (λ list. length list ≤ max_activities period) (sym joined) few)
       ∙ ap (λ list. Ok (built list)) joined

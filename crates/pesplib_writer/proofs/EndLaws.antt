@@ -59,16 +59,16 @@ module _ {X : Type 0} (number : X → ℕ) where
         let others : IsAbove number (number v) (kept test xs) = IsAbove-filter number (number v) (λ x. test (number x)) xs above in
         rw (fails, eq-eqb (number v) (number v) refl, filter_below-above number (number v) (number v) (kept test xs) (omega arith) others, filter_above-above number (number v) (number v) (kept test xs) (omega arith) others, kept_above test (number v) (number v) xs (omega arith) above) refl
 
-    -- behind a member of a smaller number
-    put_behind : (x : X) (xs : List X) → number x < number v → put_in number v (kept test xs) ≡ kept (or_at test (number v)) xs → put_in number v (kept test (x ∷ xs)) ≡ kept (or_at test (number v)) (x ∷ xs)
-    put_behind x xs low later =
+    -- after a member of a smaller number
+    put_after : (x : X) (xs : List X) → number x < number v → put_in number v (kept test xs) ≡ kept (or_at test (number v)) xs → put_in number v (kept test (x ∷ xs)) ≡ kept (or_at test (number v)) (x ∷ xs)
+    put_after x xs low later =
         let apart : (number v == number x) ≡ false = ne_eqb (number v) (number x) (λ same. absurd (omega arith)) in
         rw apart (elim (test (number x)) as (λ b. put_in number v (cond b (x ∷ kept test xs) (kept test xs)) ≡ cond (b || false) (x ∷ kept (or_at test (number v)) xs) (kept (or_at test (number v)) xs)) [
           | true ↦ rw (lt-ltb (number x) (number v) low, le-ltb (number v) (number x) (omega arith)) (ap (λ ys. x ∷ ys) later)
           | false ↦ later
         ])
 
-    -- a member that is found behind another has a greater number
+    -- a member that is found after another has a greater number
     before_found : (x : X) (xs : List X) → IsAbove number (number x) xs → with_number number (number v) xs ≡ Some v → number x < number v
     before_found x xs above is = elim (cases_lt (number x) (number v)) [
       | inl low ↦ low
@@ -87,5 +87,5 @@ module _ {X : Type 0} (number : X → ℕ) where
               let e : v ≡ x = cc in
               let above : IsAbove number (number v) xs = subst (λ n. IsAbove number n xs) (eqb-true (number x) (number v) same) rises.0 in
               subst (λ y. put_in number v (kept test (y ∷ xs)) ≡ kept (or_at test (number v)) (y ∷ xs)) e (put_first xs above)
-          | false ↦ λ apart later. put_behind x xs (before_found x xs rises.0 later) (put_in-kept xs rises.1 later)
+          | false ↦ λ apart later. put_after x xs (before_found x xs rises.0 later) (put_in-kept xs rises.1 later)
         ] refl is

@@ -14,7 +14,7 @@ use Rattle.pesp_instance.specs.declared.event.Event.{Event}
 use Rattle.pesp_instance.specs.Network.{Network, IsNetwork, new_event}
 use Rattle.pesp_instance.proofs.Rising.{Rises, Rises-from_increasing}
 use Rattle.pesp_tension.specs.Timetables.{IsTimetable, Times, timed_events}
-use Rattle.pesplib_reader.specs.Reading.{activities_read, activity_faults_behind, time_faults_behind, times_read, with_activity_row, with_time_row}
+use Rattle.pesplib_reader.specs.Reading.{activities_read, activity_faults_after, time_faults_after, times_read, with_activity_row, with_time_row}
 use Rattle.pesplib_reader.specs.Records.{rows_of}
 use Rattle.pesplib_reader.specs.Taking.{taken}
 use Rattle.pesplib_writer.specs.Texts.{AreUsed, activities_text, activity_fields, activity_row, row_line, time_row, times_text, without_windows, without_window}
@@ -88,8 +88,8 @@ module _ (I : Network) (net : IsNetwork I) where
 
   windowless_back : AreUsed I → activities_read I.period (activities_text I) ≡ Ok (without_windows I)
   windowless_back used =
-      ap (λ es. taken activity_faults_behind with_activity_row (record { period = I.period; events = es; activities = [] }) (rows_of (activities_text I))) (sym (none_kept events))
-      ∙ ap (taken activity_faults_behind with_activity_row (built I.period events rising [])) activity_rows
+      ap (λ es. taken activity_faults_after with_activity_row (record { period = I.period; events = es; activities = [] }) (rows_of (activities_text I))) (sym (none_kept events))
+      ∙ ap (taken activity_faults_after with_activity_row (built I.period events rising [])) activity_rows
       ∙ activities_taken I.period events rising [] I.activities 1 takable (Rises-from_increasing activity_number I.activities net.activities_rise) few_events net.few_activities
       ∙ ap (λ es. Ok (record { period = I.period; events = es; activities = I.activities })) (all_kept (is_used I.activities) I.events used)
 
@@ -113,5 +113,5 @@ times_stand m le rises is =
     let all = times_are m.period m.entries le is.numbers is.times in
     let rising = Rises-from_increasing key m.entries (subst IsStrictlyIncreasing (same_keys m.entries) rises) in
     ap (λ ls. times_read m.period (as_lines ls)) (time_lines m.entries)
-    ∙ ap (taken time_faults_behind with_time_row (timed m.period [])) (rows_stand (map time_fields m.entries) (times_are_rows m.period m.entries all))
+    ∙ ap (taken time_faults_after with_time_row (timed m.period [])) (rows_stand (map time_fields m.entries) (times_are_rows m.period m.entries all))
     ∙ times_taken m.period [] m.entries 1 all rising is.few

@@ -36,7 +36,7 @@ abbrev pub AreRows : List (List (List ℕ)) → Type 0
 AreRows [] = Unit {0}
 AreRows (r ∷ rows) = IsRow r × AreRows rows
 
--- fields with a space in front of each, as they stand behind semicolons
+-- fields with a space in front of each, as they stand after semicolons
 abbrev pub spaced : List (List ℕ) → List (List ℕ)
 spaced fs = map (λ f. 32 ∷ f) fs
 
@@ -147,7 +147,7 @@ length-rows_text (r ∷ rows) =
 
 -- ---- the separator of the text, and its start
 
--- a semicolon is found behind any bytes
+-- a semicolon is found after any bytes
 has_separator : (f x : List ℕ) → list_any (λ b. b == 59) (f ++ (59 ∷ x)) ≡ true
 has_separator [] x = refl
 has_separator (b ∷ f) x = rw (has_separator f x) (or_right (b == 59) true refl)

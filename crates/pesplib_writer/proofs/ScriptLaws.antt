@@ -26,7 +26,7 @@ use Rattle.pesp_instance.proofs.PutLast.{none_before, put_last}
 -- ---- a number that is above those before it
 
 module _ {X : Type 0} (number : X → ℕ) where
-  -- a change reaches the one member of its number, with others before and behind it
+  -- a change reaches the one member of its number, with others before and after it
   change_between : (change : X → X) (xs : List X) (x : X) (rest : List X) → Rises number (xs ++ x ∷ rest)
       → change_in number (number x) change (xs ++ x ∷ rest) ≡ xs ++ change x ∷ rest
   change_between change [] x rest rises =
@@ -41,7 +41,7 @@ module _ {X : Type 0} (number : X → ℕ) where
       let apart : (number y == number x) ≡ false = ne_eqb (number y) (number x) (λ same. absurd (omega (arith, above_before number (number y) xs rest x rises.0, same))) in
       rw apart (found_between xs x rest rises.1)
 
--- ---- edits behind edits
+-- ---- edits after edits
 
 applied-append : (I : Network) (edits more : List Edit) → applied I (edits ++ more) ≡ on_accepted (λ J. applied J more) (applied I edits)
 applied-append I [] more = refl
@@ -110,13 +110,13 @@ above_windowless : (n : ℕ) (done events : List Event) → IsAbove number n (do
 above_windowless n [] events above = windowless_above n events above
 above_windowless n (d ∷ done) events above = (above.0, above_windowless n done events above.1)
 
--- the events whose windows are yet to be set rise behind those whose windows are
+-- the events whose windows are yet to be set rise after those whose windows are
 rises_windowless : (done events : List Event) → Rises number (done ++ events) → Rises number (done ++ map without_window events)
 rises_windowless [] events rises = windowless_rise events rises
 rises_windowless (d ∷ done) events rises = (above_windowless d.id done events rises.0, rises_windowless done events rises.1)
 
 module _ (period : ℕ) where
-  -- an event's window is set, with events before and behind it
+  -- an event's window is set, with events before and after it
   changed_to : (done rest : List Event) (e : Event) (w : Interval) → Rises number (done ++ without_window e ∷ rest) → e.window ≡ Some w
       → with_events period (change_in number e.id (λ x. record x { window = Some w }) (done ++ without_window e ∷ rest)) ≡ with_events period (done ++ e ∷ rest)
   changed_to done rest e w rises is =

@@ -11,7 +11,7 @@ use Rattle.pesp_base.specs.Tensions.{residue}
 use Rattle.pesp_instance.proofs.Rising.{Rises}
 use Rattle.pesp_tension.specs.Timetables.{Times, time_of}
 use Rattle.pesplib_reader.specs.declared.fault.FaultKind.TheVariants as fault
-use Rattle.pesplib_reader.specs.Reading.{event_faults, event_taken, time_faults_behind, with_time_row}
+use Rattle.pesplib_reader.specs.Reading.{event_faults, event_taken, time_faults_after, with_time_row}
 use Rattle.pesplib_reader.specs.Rows.{field, natural, time_faults, value}
 use Rattle.pesplib_reader.specs.Taking.{at_place, on_ok, row_taken, taken}
 use Rattle.pesplib_reader.proofs.TakingLemmas.{good_row}
@@ -62,7 +62,7 @@ module _ (period : ℕ) where
         ∙ ap (λ t. Ok (timed (done ++ ((x.0, t) ∷ [])))) (residue_kept x.1 below)
 
     -- the row of a greater event than all before it
-    next_row : IsTime x → x.1 < period → row_taken time_faults_behind with_time_row (timed done) (time_fields x) ≡ Ok (timed (done ++ (x ∷ [])))
+    next_row : IsTime x → x.1 < period → row_taken time_faults_after with_time_row (timed done) (time_fields x) ≡ Ok (timed (done ++ (x ∷ [])))
     next_row is below =
         good_row time_faults (λ m fields. event_faults m (natural (field fields 1))) with_time_row (timed done) (time_fields x) (time_fields x) x refl x (sym (time_stands x is x))
         ∙ ap (λ e. event_taken (timed done) e (value (field (time_fields x) 2))) (event_back x is)
@@ -71,11 +71,11 @@ module _ (period : ℕ) where
 
   -- the rows of ascending entries stand for these entries
   pub times_taken : (done todo : List (ℕ × ℕ)) (place : ℕ) → AreTimes todo → Rises key (done ++ todo) → length (done ++ todo) ≤ max_events period
-      → taken time_faults_behind with_time_row (timed done) (numbered place (map time_fields todo)) ≡ Ok (timed (done ++ todo))
+      → taken time_faults_after with_time_row (timed done) (numbered place (map time_fields todo)) ≡ Ok (timed (done ++ todo))
   times_taken done [] place all rises few = ap (λ es. Ok (timed es)) (sym (append-nil done))
   times_taken done (x ∷ todo) place all rises few =
       let joined = append_assoc done (x ∷ []) todo in
       let room : length done < max_events period = omega (arith, few, length-append done (x ∷ todo)) in
-      ap (λ o. on_ok (λ m. taken time_faults_behind with_time_row m (numbered (place + 1) (map time_fields todo))) (at_place place o)) (next_row done x (below_after key done todo x rises) room all.0 all.1)
+      ap (λ o. on_ok (λ m. taken time_faults_after with_time_row m (numbered (place + 1) (map time_fields todo))) (at_place place o)) (next_row done x (below_after key done todo x rises) room all.0 all.1)
       ∙ times_taken (done ++ (x ∷ [])) todo (place + 1) all.2 (subst (Rises key) (sym joined) rises) (subst (λ es. length es ≤ max_events period) (sym joined) few)
       ∙ ap (λ es. Ok (timed es)) joined

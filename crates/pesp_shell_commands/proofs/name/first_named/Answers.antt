@@ -1,6 +1,6 @@
 -- The row that is looked at is found, or passed.
 use Rattle.std.proofs.Common.{sym, ◌∙◌}
-use Rattle.pesp_shell_commands.proofs.NameLemmas.{behind, found, passed}
+use Rattle.pesp_shell_commands.proofs.NameLemmas.{after, found, passed}
 use Rattle.pesp_shell_commands.proofs.name.first_named.Goals as goal
 
 pub returns-in-Some-clause-form : goal.returns-in-Some-clause-form
@@ -9,7 +9,7 @@ returns-in-Some-clause-form c =
 
 pub returns-in-Some-clause-numbers : goal.returns-in-Some-clause-numbers
 returns-in-Some-clause-numbers c =
-    behind c.args.words.now c.args.names.now c.loop-own.own-index _ c.requires c.loop-own-test.true c.in-Some.numbers c.in-Some.ensures.within c.in-Some.ensures.words c.in-Some.ensures.place
+    after c.args.words.now c.args.names.now c.loop-own.own-index _ c.requires c.loop-own-test.true c.in-Some.numbers c.in-Some.ensures.within c.in-Some.ensures.words c.in-Some.ensures.place
 
 pub loop-own-preserved : goal.loop-own-preserved
 loop-own-preserved c =

@@ -1,4 +1,4 @@
--- The text behind its spaces begins with its first word.
+-- The text after its spaces begins with its first word.
 use Rattle.std.proofs.Common.{arith, ap, sym, ◌∙◌, ◌∷◌, take, drop}
 use Rattle.pesp_shell_commands.specs.Words.{words_of}
 use Rattle.pesp_shell_commands.proofs.FirstWordLemmas.{first_word_of, length_of_word-le-length}

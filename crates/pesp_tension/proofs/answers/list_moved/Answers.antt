@@ -1,4 +1,4 @@
--- Each event that stands at another time is put behind the violations before it.
+-- Each event that stands at another time is put after the violations before it.
 use Rattle.std.proofs.Common.{◌≡◌, true, false, [], ◌∷◌, ◌++◌, IsSome, append_assoc, refl, sym, ap, ◌∙◌, rules}
 use Rattle.pesp_tension.specs.declared.lists.Violation.TheVariants as of_
 use Rattle.pesp_tension.specs.Timetables.{time_of}

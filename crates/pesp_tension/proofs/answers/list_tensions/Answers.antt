@@ -1,4 +1,4 @@
--- Each activity's tension is put behind those before it.
+-- Each activity's tension is put after those before it.
 use Rattle.std.proofs.Common.{append_assoc, refl, ◌∙◌}
 use Rattle.pesp_tension.specs.Answers.{IsTimed}
 use Rattle.pesp_tension.proofs.Timed.{ends_timed, head_of, tail_of}

@@ -1,4 +1,4 @@
--- Each activity that is not met is put behind the violations before it.
+-- Each activity that is not met is put after the violations before it.
 use Rattle.std.proofs.Common.{◌≡◌, true, false, [], ◌∷◌, ◌++◌, append_assoc, refl, sym, ap, ◌∙◌, rules}
 use Rattle.pesp_tension.specs.declared.lists.Violation.TheVariants as of_
 use Rattle.pesp_tension.specs.Answers.{IsTimed, meets, unmet_among}

@@ -1,4 +1,4 @@
--- What each activity answers is put behind the answers of those before it.
+-- What each activity answers is put after the answers of those before it.
 use Rattle.std.proofs.Common.{◌≡◌, ◌+◌, not, List, [], ◌∷◌, ◌++◌, map, filter, sum_by, append_assoc, add_assoc, arith, refl, sym, ap, ◌∙◌}
 use Rattle.std.proofs.lemmas.List.{map-append}
 use Rattle.std.proofs.lemmas.List.Elements.{filter-append}

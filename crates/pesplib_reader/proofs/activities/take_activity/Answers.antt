@@ -4,7 +4,7 @@ use Rattle.pesplib_reader.specs.Left.{trimmed_fields}
 use Rattle.pesplib_reader.specs.RowFields.{activity_fields}
 use Rattle.pesplib_reader.specs.Rows.{activity_faults, activity_in}
 use Rattle.pesplib_reader.specs.Taking.{row_taken}
-use Rattle.pesplib_reader.specs.Reading.{activity_faults_behind, activity_taken, instance_faults, with_activity_row}
+use Rattle.pesplib_reader.specs.Reading.{activity_faults_after, activity_taken, instance_faults, with_activity_row}
 use Rattle.pesplib_reader.proofs.TakingLemmas.{good_row, bad_row, value_is}
 use Rattle.pesplib_reader.proofs.activities.take_activity.Goals as goal
 
@@ -14,7 +14,7 @@ returns-in_err-activity-clause-fault c =
     let stands = bad_row activity_faults (λ I fs. instance_faults I (activity_in fs)) with_activity_row c.args.instance.now (trimmed_fields c.args.fields.now) fields (activity_in fields) c.in-Some.ensures c.in_err-activity.field-0.0 c.in_err-activity.ensures in
     rw stands (search rules)
 
-stands : (c : goal.After-add_activity) → row_taken activity_faults_behind with_activity_row c.args.instance.now (trimmed_fields c.args.fields.now) ≡ activity_taken c.args.instance.now c.in_ok-activity.activity
+stands : (c : goal.After-add_activity) → row_taken activity_faults_after with_activity_row c.args.instance.now (trimmed_fields c.args.fields.now) ≡ activity_taken c.args.instance.now c.in_ok-activity.activity
 stands c =
     let fields = activity_fields c.in-Some.row in
     good_row activity_faults (λ I fs. instance_faults I (activity_in fs)) with_activity_row c.args.instance.now (trimmed_fields c.args.fields.now) fields (activity_in fields) c.in-Some.ensures c.in_ok-activity.activity c.in_ok-activity.ensures

@@ -1,4 +1,4 @@
--- The first of the times that are left is fixed, and the others may be fixed behind it.
+-- The first of the times that are left is fixed, and the others may be fixed after it.
 use Rattle.std.proofs.Common.{◌≡◌, ◌∷◌, ◌∙◌, sym, ap, fold, Ok}
 use Rattle.std.proofs.lemmas.Result.{IfOk-at_ok}
 use Rattle.pesp_instance.specs.declared.edit.Edit.TheVariants.{Fix}

@@ -2,25 +2,25 @@
 use Rattle.std.proofs.Common.{length, sym, subst, ap, arith}
 use Rattle.std.proofs.lemmas.Result.{err_from_is_err_and}
 use Rattle.pesp_tension.specs.Timetables.{no_times}
-use Rattle.pesplib_reader.specs.Reading.{time_faults_behind, with_time_row}
+use Rattle.pesplib_reader.specs.Reading.{time_faults_after, with_time_row}
 use Rattle.pesplib_reader.proofs.TakingLemmas.{IsReadTo, begun, ended, passed, stopped_at, wanting}
 use Rattle.pesplib_reader.proofs.times.read_times.Goals as goal
 
 pub returns-in_err-next-clause-fault : goal.returns-in_err-next-clause-fault
 returns-in_err-next-clause-fault c =
     let p = err_from_is_err_and c.from_residual.result c.from_residual.ensures.1 in
-    rw (p.1, p.2) (wanting time_faults_behind with_time_row (no_times c.args.period) c.args.bytes.now c.rows.timetable c.rows.records c.in_err-next.field-0.0 c.rows.invariant c.in_err-next.ensures.want)
+    rw (p.1, p.2) (wanting time_faults_after with_time_row (no_times c.args.period) c.args.bytes.now c.rows.timetable c.rows.records c.in_err-next.field-0.0 c.rows.invariant c.in_err-next.ensures.want)
 
 pub returns-in-Err-clause-fault : goal.returns-in-Err-clause-fault
 returns-in-Err-clause-fault c =
-    stopped_at time_faults_behind with_time_row (no_times c.args.period) c.args.bytes.now c.rows.timetable c.rows.records c.next.new.self c.rows.invariant (c.in_ok-next.ensures.found c.if-branch.true)
+    stopped_at time_faults_after with_time_row (no_times c.args.period) c.args.bytes.now c.rows.timetable c.rows.records c.next.new.self c.rows.invariant (c.in_ok-next.ensures.found c.if-branch.true)
     c.in-Err.kind c.fault.result (rw c.record.ensures at c.in-Err.ensures.fault) c.fault.ensures
 
 -- The others are found by search, and named so that they are found at once.
 pub rows-init : goal.rows-init
 rows-init c =
-    let begin = begun time_faults_behind with_time_row (no_times c.args.period) c.args.bytes.now c.new-records.result c.new-records.ensures.reading c.new-records.ensures.rows c.new-records.ensures.count in
-    subst (λ x. IsReadTo time_faults_behind with_time_row (no_times c.args.period) c.args.bytes.now x c.new-records.result) (sym c.new-timetable.ensures) begin
+    let begin = begun time_faults_after with_time_row (no_times c.args.period) c.args.bytes.now c.new-records.result c.new-records.ensures.reading c.new-records.ensures.rows c.new-records.ensures.count in
+    subst (λ x. IsReadTo time_faults_after with_time_row (no_times c.args.period) c.args.bytes.now x c.new-records.result) (sym c.new-timetable.ensures) begin
 
 pub returns-in_err-next-clause-ok : goal.returns-in_err-next-clause-ok
 returns-in_err-next-clause-ok c =
@@ -35,7 +35,7 @@ rows-smaller c =
 pub rows-preserved : goal.rows-preserved
 rows-preserved c =
     let more = c.in_ok-next.ensures.found c.if-branch.true in
-    passed time_faults_behind with_time_row (no_times c.args.period) c.args.bytes.now c.rows.timetable c.rows.records c.next.new.self c.rows.invariant more c.take_time.new.timetable (rw c.record.ensures at c.in_default.ensures.ok)
+    passed time_faults_after with_time_row (no_times c.args.period) c.args.bytes.now c.rows.timetable c.rows.records c.next.new.self c.rows.invariant more c.take_time.new.timetable (rw c.record.ensures at c.in_default.ensures.ok)
 
 pub returns-clause-ok : goal.returns-clause-ok
-returns-clause-ok c = ended time_faults_behind with_time_row (no_times c.args.period) c.args.bytes.now c.rows.timetable c.rows.records c.rows.invariant (c.in_ok-next.ensures.none c.if-branch.false)
+returns-clause-ok c = ended time_faults_after with_time_row (no_times c.args.period) c.args.bytes.now c.rows.timetable c.rows.records c.rows.invariant (c.in_ok-next.ensures.none c.if-branch.false)

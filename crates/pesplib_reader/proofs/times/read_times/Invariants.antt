@@ -1,13 +1,13 @@
 use Rattle.std.proofs.Common.{length}
 use Rattle.pesp_tension.specs.Timetables.{no_times}
 use Rattle.pesplib_reader.specs.Left.{rows_left}
-use Rattle.pesplib_reader.specs.Reading.{time_faults_behind, with_time_row}
+use Rattle.pesplib_reader.specs.Reading.{time_faults_after, with_time_row}
 use Rattle.pesplib_reader.proofs.TakingLemmas.{IsReadTo}
 use Rattle.pesplib_reader.proofs.times.read_times.Given as goal
 
 -- the rows so far stand for the timetable so far
 abbrev pub invariant-rows : goal.invariant-rows
-invariant-rows l = IsReadTo time_faults_behind with_time_row (no_times l.fn.period) l.bytes l.timetable l.records
+invariant-rows l = IsReadTo time_faults_after with_time_row (no_times l.fn.period) l.bytes l.timetable l.records
 
 abbrev pub decreases-rows : goal.decreases-rows
 decreases-rows l = length (rows_left l.records)

@@ -1,6 +1,6 @@
 -- The first fault is the one that is met, and the numbers are those that were read.
 use Rattle.std.proofs.Common.{refl, sym, ap, Some, ◌∙◌}
-use Rattle.pesp_shell_commands.proofs.NumberLemmas.{behind_six, crossing, fifth_of_six, first_of_six, fourth_of_six, passed_up, second_of_six, sixth_of_six, span_read, third_of_six}
+use Rattle.pesp_shell_commands.proofs.NumberLemmas.{after_six, crossing, fifth_of_six, first_of_six, fourth_of_six, passed_up, second_of_six, sixth_of_six, span_read, third_of_six}
 use Rattle.pesp_shell_commands.proofs.numbers.ActivityWords.activity_at.Goals as goal
 
 pub returns-in_err-id-clause-fault : goal.returns-in_err-id-clause-fault
@@ -36,12 +36,12 @@ returns-in_err-weight-clause-fault c =
 pub returns-in_err-span-clause-fault : goal.returns-in_err-span-clause-fault
 returns-in_err-span-clause-fault c =
     passed_up c.from_residual-in_err-span.result c.in_err-span.field-0.0 _ c.from_residual-in_err-span.ensures.1
-    (behind_six c.args.place c.args.self.now c.in_ok-id.ensures.no_fault c.in_ok-from.ensures.no_fault c.in_ok-to.ensures.no_fault c.in_ok-lower.ensures.no_fault c.in_ok-upper.ensures.no_fault c.in_ok-weight.ensures.no_fault
+    (after_six c.args.place c.args.self.now c.in_ok-id.ensures.no_fault c.in_ok-from.ensures.no_fault c.in_ok-to.ensures.no_fault c.in_ok-lower.ensures.no_fault c.in_ok-upper.ensures.no_fault c.in_ok-weight.ensures.no_fault
     ∙ rw (crossing c.in_ok-lower.lower c.in_ok-upper.upper c.in_ok-lower.ensures.within c.in_ok-upper.ensures.within c.in_ok-lower.ensures.value c.in_ok-upper.ensures.value c.in_err-span.ensures.crossed) (ap Some (sym c.in_err-span.ensures.fault)))
 
 pub returns-clause-no_fault : goal.returns-clause-no_fault
 returns-clause-no_fault c =
-    behind_six c.args.place c.args.self.now c.in_ok-id.ensures.no_fault c.in_ok-from.ensures.no_fault c.in_ok-to.ensures.no_fault c.in_ok-lower.ensures.no_fault c.in_ok-upper.ensures.no_fault c.in_ok-weight.ensures.no_fault
+    after_six c.args.place c.args.self.now c.in_ok-id.ensures.no_fault c.in_ok-from.ensures.no_fault c.in_ok-to.ensures.no_fault c.in_ok-lower.ensures.no_fault c.in_ok-upper.ensures.no_fault c.in_ok-weight.ensures.no_fault
     ∙ rw (crossing c.in_ok-lower.lower c.in_ok-upper.upper c.in_ok-lower.ensures.within c.in_ok-upper.ensures.within c.in_ok-lower.ensures.value c.in_ok-upper.ensures.value c.in_ok-span.ensures.in_order) refl
 
 pub returns-clause-value : goal.returns-clause-value

@@ -2,7 +2,7 @@
 use Rattle.std.proofs.Common.{sym, ap, ◌∙◌}
 use Rattle.pesp_shell_commands.specs.Forms.{values}
 use Rattle.pesp_shell_commands.specs.Parsed.{id, natural, never}
-use Rattle.pesp_shell_commands.proofs.NumberLemmas.{behind_three, first_of_three, passed_up, second_of_three, third_of_three, three_words}
+use Rattle.pesp_shell_commands.proofs.NumberLemmas.{after_three, first_of_three, passed_up, second_of_three, third_of_three, three_words}
 use Rattle.pesp_shell_commands.proofs.numbers.Numbers.id_and_ends.Goals as goal
 
 pub returns-in_err-id-clause-fault : goal.returns-in_err-id-clause-fault
@@ -22,7 +22,7 @@ returns-in_err-to-clause-fault c =
 
 pub returns-clause-no_fault : goal.returns-clause-no_fault
 returns-clause-no_fault c =
-    behind_three id id id never (three_words c.args.self.now c.self.inside.words.now c.self.inside.place _ c.self.view_is c.in-len3.len_at_least c.in-len3.len_below) c.in_ok-id.ensures.no_fault c.in_ok-from.ensures.no_fault c.in_ok-to.ensures.no_fault
+    after_three id id id never (three_words c.args.self.now c.self.inside.words.now c.self.inside.place _ c.self.view_is c.in-len3.len_at_least c.in-len3.len_below) c.in_ok-id.ensures.no_fault c.in_ok-from.ensures.no_fault c.in_ok-to.ensures.no_fault
 
 pub returns-clause-id : goal.returns-clause-id
 returns-clause-id c = c.in_ok-id.ensures.value ∙ ap (λ a. natural (values a) 0) (sym (three_words c.args.self.now c.self.inside.words.now c.self.inside.place _ c.self.view_is c.in-len3.len_at_least c.in-len3.len_below).are)

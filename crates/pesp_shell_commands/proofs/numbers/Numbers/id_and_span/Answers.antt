@@ -3,7 +3,7 @@ use Rattle.std.proofs.Common.{refl, sym, ap, ◌∙◌, Some}
 use Rattle.std.proofs.lemmas.Result.{IfOk-from_err}
 use Rattle.pesp_shell_commands.specs.Forms.{values}
 use Rattle.pesp_shell_commands.specs.Parsed.{bound, crosses_at, id, natural, span_at}
-use Rattle.pesp_shell_commands.proofs.NumberLemmas.{behind_three, crossing, first_of_three, passed_up, second_of_three, span_read, third_of_three, three_words}
+use Rattle.pesp_shell_commands.proofs.NumberLemmas.{after_three, crossing, first_of_three, passed_up, second_of_three, span_read, third_of_three, three_words}
 use Rattle.pesp_shell_commands.proofs.numbers.Numbers.id_and_span.Goals as goal
 
 pub returns-in_err-id-clause-no_fault : goal.returns-in_err-id-clause-no_fault
@@ -27,12 +27,12 @@ returns-in_err-upper-clause-fault c =
 pub returns-in_err-span-clause-fault : goal.returns-in_err-span-clause-fault
 returns-in_err-span-clause-fault c =
     passed_up c.from_residual-in_err-span.result c.in_err-span.field-0.0 _ c.from_residual-in_err-span.ensures.1
-    (behind_three id bound bound (crosses_at 1) (three_words c.args.self.now c.self.inside.words.now c.self.inside.place _ c.self.view_is c.in-len3.len_at_least c.in-len3.len_below) c.in_ok-id.ensures.no_fault c.in_ok-lower.ensures.no_fault c.in_ok-upper.ensures.no_fault
+    (after_three id bound bound (crosses_at 1) (three_words c.args.self.now c.self.inside.words.now c.self.inside.place _ c.self.view_is c.in-len3.len_at_least c.in-len3.len_below) c.in_ok-id.ensures.no_fault c.in_ok-lower.ensures.no_fault c.in_ok-upper.ensures.no_fault
     ∙ rw (crossing c.in_ok-lower.lower c.in_ok-upper.upper c.in_ok-lower.ensures.within c.in_ok-upper.ensures.within c.in_ok-lower.ensures.value c.in_ok-upper.ensures.value c.in_err-span.ensures.crossed) (ap Some (sym c.in_err-span.ensures.fault)))
 
 pub returns-clause-no_fault : goal.returns-clause-no_fault
 returns-clause-no_fault c =
-    behind_three id bound bound (crosses_at 1) (three_words c.args.self.now c.self.inside.words.now c.self.inside.place _ c.self.view_is c.in-len3.len_at_least c.in-len3.len_below) c.in_ok-id.ensures.no_fault c.in_ok-lower.ensures.no_fault c.in_ok-upper.ensures.no_fault
+    after_three id bound bound (crosses_at 1) (three_words c.args.self.now c.self.inside.words.now c.self.inside.place _ c.self.view_is c.in-len3.len_at_least c.in-len3.len_below) c.in_ok-id.ensures.no_fault c.in_ok-lower.ensures.no_fault c.in_ok-upper.ensures.no_fault
     ∙ rw (crossing c.in_ok-lower.lower c.in_ok-upper.upper c.in_ok-lower.ensures.within c.in_ok-upper.ensures.within c.in_ok-lower.ensures.value c.in_ok-upper.ensures.value c.in_ok-span.ensures.in_order) refl
 
 pub returns-clause-id : goal.returns-clause-id

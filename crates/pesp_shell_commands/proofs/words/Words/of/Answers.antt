@@ -10,7 +10,7 @@ loop-count-preserved c =
     let room : c.loop-count.count < length c.loop-count.words = omega (arith, c.loop-count.invariant.1) in (
       omega arith,
       omega (arith, length-set c.loop-count.words c.loop-count.count c.in-Some.word),
-      one_more c.loop-count.words c.loop-count.count (words_of c.args.line.now) c.in-Some.word (words_of c.loop-count.rest.now) (words_of c.in-Some.behind.now) room c.loop-count.invariant.2 c.in-Some.ensures,
+      one_more c.loop-count.words c.loop-count.count (words_of c.args.line.now) c.in-Some.word (words_of c.loop-count.rest.now) (words_of c.in-Some.after.now) room c.loop-count.invariant.2 c.in-Some.ensures,
     )
 
 pub returns : goal.returns

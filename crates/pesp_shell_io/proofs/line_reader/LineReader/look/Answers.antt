@@ -1,4 +1,4 @@
--- What one more call took stands behind what was taken before.
+-- What one more call took stands after what was taken before.
 use Rattle.std.proofs.Common.{◌≡◌, List, ℕ, ◌+◌, ◌-◌, ◌<◌, ◌≤◌, Bool, true, Option, Result, Ok, Err, IsErr, length, ◌++◌, ap, subst, ◌∙◌, append_assoc, arith, rules}
 use Rattle.std.specs.Io.KnownBytes.{Consumes}
 use Rattle.std.proofs.KnownBytes.{Consumes-trans}
@@ -9,7 +9,7 @@ use Rattle.pesp_shell_io.specs.declared.limits.TheConstants.{LONGEST_LINE}
 use Rattle.pesp_base.proofs.Tests.{always_err}
 use Rattle.pesp_shell_io.proofs.line_reader.LineReader.look.Goals as goal
 
--- these bytes left the source, and stand behind what was held
+-- these bytes left the source, and stand after what was held
 abbrev Taken : Option (List ℕ) → Option (List ℕ) → List ℕ → List ℕ → Type 0
 Taken left left' held held' = (bytes : List ℕ) × Consumes left left' bytes × (held' ≡ held ++ bytes)
 

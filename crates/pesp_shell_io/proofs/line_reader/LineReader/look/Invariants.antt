@@ -1,4 +1,4 @@
--- What is held behind what was held was taken, and no call failed; where what was held told its front, nothing was taken.
+-- What is held after what was held was taken, and no call failed; where what was held told its front, nothing was taken.
 use Rattle.std.proofs.Common.{ℕ, ◌≡◌, ◌+◌, ◌-◌, List, ◌++◌, length}
 use Rattle.std.specs.Io.KnownBytes.{Consumes}
 use Rattle.pesp_shell_io.specs.Fronts.{IsUnended}

@@ -1,7 +1,7 @@
 -- The texts begin with the name where the words do.
 use Rattle.std.proofs.Common.{sym, ◌∙◌}
 use Rattle.pesp_shell_commands.proofs.NameLemmas.{begins_texts}
-use Rattle.pesp_shell_commands.proofs.name.numbers_behind.Goals as goal
+use Rattle.pesp_shell_commands.proofs.name.numbers_after.Goals as goal
 
 pub returns-then-starts_with-clause-begins : goal.returns-then-starts_with-clause-begins
 returns-then-starts_with-clause-begins c =
