@@ -11,9 +11,9 @@ use Rattle.pesp_search_tables.proofs.Differences.{difference_adds}
 use Rattle.pesp_search_tables.proofs.Indices.{difference_below}
 use Rattle.pesp_search_tables.proofs.Totals.{admits_each}
 use Rattle.pesp_search_buckets.specs.declared.axis.Found.{Found}
-use Rattle.pesp_search_buckets.specs.declared.axis.Way.{Way}
-use Rattle.pesp_search_buckets.specs.declared.axis.Way.TheVariants.{Along, Against}
-use Rattle.pesp_search_buckets.specs.Factors.{Admits, IsPairOf, IsWay, difference_at}
+use Rattle.pesp_search_buckets.specs.declared.axis.Direction.{Direction}
+use Rattle.pesp_search_buckets.specs.declared.axis.Direction.TheVariants.{Along, Against}
+use Rattle.pesp_search_buckets.specs.Factors.{Admits, IsDirection, IsPairOf, difference_at}
 
 -- two differences that go round are each other's rest
 rest_of : (T d e : ℕ) → d < T → e < T → (d + e) % T ≡ 0 → e ≡ (T - d) % T
@@ -43,15 +43,15 @@ difference_against T r s some =
     rest_of T (difference T r s) (difference T s r) (difference_below T r s some) (difference_below T s r some) (sym (difference_adds T r s r some) ∙ none)
 
 -- the difference at the pair is that of the two nodes, as the pair has them
-pub at_pair : (R : Relaxation) (from to p : ℕ) (way : Way) (x : ℕ → ℕ) → IsWay R from to p way → differences R x p ≡ difference_at R.period way (x from) (x to)
+pub at_pair : (R : Relaxation) (from to p : ℕ) (direction : Direction) (x : ℕ → ℕ) → IsDirection R from to p direction → differences R x p ≡ difference_at R.period direction (x from) (x to)
 at_pair R from to p Along x is = ap (λ e. difference R.period (x e.from) (x e.to)) is
 at_pair R from to p Against x is = ap (λ e. difference R.period (x e.from) (x e.to)) is
 
 -- the pair admits it at each map that the tables admit
-pub pair_admits : (R : Relaxation) (from to e : ℕ) (found : Found) (x : ℕ → ℕ) → IsPairOf R from to found → Admits R x → difference_at R.period found.way (x from) (x to) ≡ e
+pub pair_admits : (R : Relaxation) (from to e : ℕ) (found : Found) (x : ℕ → ℕ) → IsPairOf R from to found → Admits R x → difference_at R.period found.direction (x from) (x to) ≡ e
     → admits_at R.period R.tests found.pair e ≡ true
 pair_admits R from to e found x pair all is =
-    ap (admits_at R.period R.tests found.pair) (sym is ∙ sym (at_pair R from to found.pair found.way x pair.1))
+    ap (admits_at R.period R.tests found.pair) (sym is ∙ sym (at_pair R from to found.pair found.direction x pair.1))
     ∙ admits_each R.period R.tests (differences R x) found.pair (length R.ends) pair.0 all
 
 -- with one more test, tests hold at an index where they held or the last one does

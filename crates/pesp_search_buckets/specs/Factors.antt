@@ -6,8 +6,8 @@ use Rattle.pesp_search_tables.specs.Relaxed.{Relaxation, differences, ends_at}
 use Rattle.pesp_search_tables.specs.Sums.{admits}
 use Rattle.pesp_search_buckets.specs.declared.axis.Axis.{Axis}
 use Rattle.pesp_search_buckets.specs.declared.axis.Found.{Found}
-use Rattle.pesp_search_buckets.specs.declared.axis.Way.{Way}
-use Rattle.pesp_search_buckets.specs.declared.axis.Way.TheVariants.{Along, Against}
+use Rattle.pesp_search_buckets.specs.declared.axis.Direction.{Direction}
+use Rattle.pesp_search_buckets.specs.declared.axis.Direction.TheVariants.{Along, Against}
 use Rattle.pesp_search_buckets.specs.Ranked.{rank_at}
 
 -- each pair of the tables admits its difference at the map
@@ -15,18 +15,18 @@ abbrev pub Admits : Relaxation → (ℕ → ℕ) → Type 0
 Admits R x = admits R.period R.tests (differences R x) (length R.ends) ≡ true
 
 -- a pair has the two nodes, this way round
-abbrev pub IsWay : Relaxation → ℕ → ℕ → ℕ → Way → Type 0
-IsWay R from to p Along = ends_at R.ends p ≡ record { from = from; to = to }
-IsWay R from to p Against = ends_at R.ends p ≡ record { from = to; to = from }
+abbrev pub IsDirection : Relaxation → ℕ → ℕ → ℕ → Direction → Type 0
+IsDirection R from to p Along = ends_at R.ends p ≡ record { from = from; to = to }
+IsDirection R from to p Against = ends_at R.ends p ≡ record { from = to; to = from }
 
 -- the difference at a pair that has two nodes this way round, at their residues
-abbrev pub difference_at : ℕ → Way → ℕ → ℕ → ℕ
+abbrev pub difference_at : ℕ → Direction → ℕ → ℕ → ℕ
 difference_at T Along r s = difference T r s
 difference_at T Against r s = difference T s r
 
 -- it is a pair of the two nodes
 abbrev pub IsPairOf : Relaxation → ℕ → ℕ → Found → Type 0
-IsPairOf R from to found = (found.pair < length R.ends) × IsWay R from to found.pair found.way
+IsPairOf R from to found = (found.pair < length R.ends) × IsDirection R from to found.pair found.direction
 
 -- ---- rows
 

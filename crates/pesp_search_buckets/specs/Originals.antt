@@ -4,7 +4,7 @@ use Rattle.pesp_search_tables.specs.declared.triple.Ends.{Ends}
 use Rattle.pesp_search_tables.specs.Differences.{difference}
 use Rattle.pesp_search_tables.specs.Relaxed.{Relaxation, differences, ends_at, triple_at}
 use Rattle.pesp_search_tables.specs.Sums.{admits_at, number_at}
-use Rattle.pesp_search_buckets.specs.declared.axis.Way.{Way}
+use Rattle.pesp_search_buckets.specs.declared.axis.Direction.{Direction}
 use Rattle.pesp_search_buckets.specs.declared.originals.Order.{Order}
 use Rattle.pesp_search_buckets.specs.declared.originals.Position.{Position}
 use Rattle.pesp_search_buckets.specs.Factors.{Admits, AllHaveRows, Factor, HasRows, difference_at, ids_to, total, value}
@@ -30,10 +30,10 @@ abbrev pub number_of : Relaxation → ℕ → (ℕ → ℕ) → ℤ
 number_of R pair x = number_at R.period R.numbers pair (differences R x pair)
 
 -- the entries are the pair's numbers where it admits the difference, by the difference of its nodes this way round
-abbrev pub AreEntriesOf : Relaxation → ℕ → Way → List ℤ → Type 0
-AreEntriesOf R pair way entries =
-    (r s : ℕ) → admits_at R.period R.tests pair (difference_at R.period way r s) ≡ true
-    → slice_index_or entries (difference R.period r s) (pos 0) ≡ number_at R.period R.numbers pair (difference_at R.period way r s)
+abbrev pub AreEntriesOf : Relaxation → ℕ → Direction → List ℤ → Type 0
+AreEntriesOf R pair direction entries =
+    (r s : ℕ) → admits_at R.period R.tests pair (difference_at R.period direction r s) ≡ true
+    → slice_index_or entries (difference R.period r s) (pos 0) ≡ number_at R.period R.numbers pair (difference_at R.period direction r s)
 
 -- ---- triples
 

@@ -4,7 +4,7 @@ ghost use Rattle.std.specs.Prelude.{◌≡◌, ℕ, ◌<◌, ◌≤◌, true, If
 ghost use Rattle.pesp_search_tables.specs.Differences.{difference};
 ghost use Rattle.pesp_search_tables.specs.Sums.{admits_at};
 ghost use Rattle.pesp_search_tables.specs.Relaxed.{ends_at};
-ghost use Rattle.pesp_search_buckets.specs.declared.axis.Way.TheVariants.{Along};
+ghost use Rattle.pesp_search_buckets.specs.declared.axis.Direction.TheVariants.{Along};
 ghost use Rattle.pesp_search_buckets.specs.Factors.{Admits, IsPairOf, difference_at, rank_of};
 
 use crate::growth::add;
@@ -24,7 +24,7 @@ pub struct Axis {
 
 /// Which way round a pair has two nodes.
 #[derive(Clone, Copy)]
-pub(crate) enum Way {
+pub(crate) enum Direction {
     /// From the first of them to the second.
     Along,
     /// From the second to the first.
@@ -37,7 +37,7 @@ pub(crate) struct Found {
     // One of the tables' pairs.
     pub(crate) pair: usize,
     // As it has the two nodes.
-    pub(crate) way: Way,
+    pub(crate) direction: Direction,
 }
 
 /// The pair of two nodes, if there is one.
@@ -49,13 +49,13 @@ pub(crate) fn pair_of(tables: &Tables, from: usize, to: usize) -> Option<Found>
         if ends.from == from && ends.to == to {
             return Some(Found {
                 pair,
-                way: Way::Along,
+                direction: Direction::Along,
             });
         }
         if ends.from == to && ends.to == from {
             return Some(Found {
                 pair,
-                way: Way::Against,
+                direction: Direction::Against,
             });
         }
     }
@@ -63,15 +63,15 @@ pub(crate) fn pair_of(tables: &Tables, from: usize, to: usize) -> Option<Found>
 }
 
 /// The difference at a pair where that of its nodes, in their order, is this.
-pub(crate) fn turned(period: usize, way: Way, difference: usize) -> usize
+pub(crate) fn turned(period: usize, direction: Direction, difference: usize) -> usize
     requires { difference < period }
     ensures below { result < period }
     ensures turned { (r s : ℕ) → difference_at period Along r s ≡ difference
-        → difference_at period way r s ≡ result }
+        → difference_at period direction r s ≡ result }
 {
-    match way {
-        Way::Along => difference,
-        Way::Against => (period - difference) % period,
+    match direction {
+        Direction::Along => difference,
+        Direction::Against => (period - difference) % period,
     }
 }
 
@@ -91,7 +91,7 @@ pub(crate) fn tests_of(
     let mut tests = Vec::new(alloc);
     for difference in 0..period {
         let test = match found {
-            Some(found) => tables.admits(found.pair, turned(period, found.way, difference)),
+            Some(found) => tables.admits(found.pair, turned(period, found.direction, difference)),
             None => true,
         };
         add(&mut tests, test)?;

@@ -3,10 +3,10 @@
 ghost use Rattle.std.specs.Prelude.{◌≡◌, ℕ, ℤ, pos, ◌+◌, ◌*◌, ◌<◌, ◌≤◌, ◌≤ℤ◌, true, Some, IfOk, length};
 ghost use Rattle.pesp_search_tables.specs.Relaxed.{ends_at, sum_at};
 ghost use Rattle.pesp_search_tables.specs.Sums.{admits_at, number_at};
-ghost use Rattle.pesp_search_buckets.specs.Factors.{AllHaveRows, IsWay, ids_to, total};
+ghost use Rattle.pesp_search_buckets.specs.Factors.{AllHaveRows, IsDirection, ids_to, total};
 ghost use Rattle.pesp_search_buckets.specs.Originals.{AreAmong, AreEntriesOf, AreSumsOf, IsAmong, IsEntryAt, IsFactorOf, IsMore, IsOrderOf, IsOwnAt, IsSumAt, Stands, number_of, own_of};
 
-use crate::axis::{Way, axis_of, turned};
+use crate::axis::{Direction, axis_of, turned};
 use crate::factor::{Factor, ahead};
 use crate::growth::add;
 use crate::message::GREATEST_ENTRY;
@@ -54,14 +54,19 @@ fn pair_entry(tables: &Tables, pair: usize, difference: usize) -> i32
 }
 
 /// The numbers of a pair, by the difference of its nodes this way round.
-fn pair_entries(alloc: Global, tables: &Tables, pair: usize, way: Way) -> Result<Vec<i32>, Memory>
+fn pair_entries(
+    alloc: Global,
+    tables: &Tables,
+    pair: usize,
+    direction: Direction,
+) -> Result<Vec<i32>, Memory>
     requires some { 0 < tables.now.period }
     requires pair { pair < length tables.now.ends }
-    ensures { IfOk result (λ entries. AreEntriesOf tables.now pair way entries.items) }
+    ensures { IfOk result (λ entries. AreEntriesOf tables.now pair direction entries.items) }
 {
     let mut entries = Vec::new(alloc);
     for difference in 0..tables.period() {
-        let there = turned(tables.period(), way, difference);
+        let there = turned(tables.period(), direction, difference);
         add(&mut entries, pair_entry(tables, pair, there))?;
     }
     Ok(entries)
@@ -75,26 +80,26 @@ struct Seen {
     // The other one.
     last: usize,
     // As it has the two nodes, from the reference on.
-    way: Way,
+    direction: Direction,
 }
 
 /// Which of a pair's nodes is left out first.
 fn see(tables: &Tables, plan: &Plan, pair: usize) -> Seen
     requires pair { pair < length tables.now.ends }
-    ensures { IsWay tables.now result.reference result.last pair result.way }
+    ensures { IsDirection tables.now result.reference result.last pair result.direction }
 {
     let ends = tables.ends(pair);
     if plan.turn(ends.from) < plan.turn(ends.to) {
         Seen {
             reference: ends.to,
             last: ends.from,
-            way: Way::Against,
+            direction: Direction::Against,
         }
     } else {
         Seen {
             reference: ends.from,
             last: ends.to,
-            way: Way::Along,
+            direction: Direction::Along,
         }
     }
 }
@@ -106,7 +111,7 @@ fn pair_factor(alloc: Global, tables: &Tables, plan: &Plan, pair: usize) -> Resu
     ensures { IfOk result (IsFactorOf tables.now (number_of tables.now pair)) }
 {
     let seen = see(tables, plan, pair);
-    let entries = pair_entries(alloc, tables, pair, seen.way)?;
+    let entries = pair_entries(alloc, tables, pair, seen.direction)?;
     Ok(Factor {
         reference: seen.reference,
         last: seen.last,

@@ -43,7 +43,10 @@ fn count(tables: &Tables, from: usize, to: usize) -> usize {
     };
     let mut count: usize = 0;
     for difference in 0..tables.period() {
-        if tables.admits(found.pair, turned(tables.period(), found.way, difference)) {
+        if tables.admits(
+            found.pair,
+            turned(tables.period(), found.direction, difference),
+        ) {
             count = count.saturating_add(1);
         }
     }

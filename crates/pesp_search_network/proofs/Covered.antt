@@ -16,7 +16,7 @@ use Rattle.pesp_search_network.specs.Told.{IsCovered, IsTold}
 use Rattle.pesp_search_network.specs.declared.scale.Scale.{Scale}
 use Rattle.pesp_search_network.proofs.Made.{relaxed_under}
 use Rattle.pesp_search_network.proofs.Searched.{is_there, under_cap, under_cut}
-use Rattle.pesp_search_network.proofs.Ways.{difference_from_zero, keeps_rows, origin_zero}
+use Rattle.pesp_search_network.proofs.Placements.{difference_from_zero, keeps_rows, origin_zero}
 
 -- ---- tables
 

@@ -6,6 +6,7 @@ pub mod Joined
 pub mod Made
 pub mod Narrowed
 pub mod Outcomes
+pub mod Placements
 pub mod Raised
 pub mod Ranged
 pub mod Scaled
@@ -16,4 +17,3 @@ pub mod Solved
 pub mod Thinned
 pub mod Together
 pub mod Turned
-pub mod Ways

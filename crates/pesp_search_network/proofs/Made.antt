@@ -8,15 +8,15 @@ use Rattle.pesp_search_tables.specs.declared.triple.Ends.{Ends}
 use Rattle.pesp_search_network.specs.Arcs.{Arcs, IsArc, IsMet, cost_in, has}
 use Rattle.pesp_search_network.specs.Relaxed.{AddsArc, AreUnder, HasNothing, IsAnchored, IsGrown, IsRelaxed}
 use Rattle.pesp_search_network.specs.Scales.{IsScaled}
-use Rattle.pesp_search_network.specs.Ways.{IsTable, IsWay, ahead, cost_at}
+use Rattle.pesp_search_network.specs.Placements.{IsTable, IsPlacement, ahead, cost_at}
 use Rattle.pesp_search_network.specs.declared.arc.Arc.{Arc}
 use Rattle.pesp_search_network.specs.declared.scale.Scale.{Scale}
-use Rattle.pesp_search_network.specs.declared.way.Way.{Way}
+use Rattle.pesp_search_network.specs.declared.placement.Placement.{Placement}
 use Rattle.pesp_base.proofs.Tests.{same_value}
 use Rattle.pesp_search_tables.proofs.Indices.{difference_below}
 use Rattle.pesp_search_network.proofs.ArcCosts.{cost_met-met, cost_more}
 use Rattle.pesp_search_network.proofs.Scaled.{scaled-add, scaled-more, scaled-zero}
-use Rattle.pesp_search_network.proofs.Ways.{difference_from_zero, keeps_rows, origin_zero}
+use Rattle.pesp_search_network.proofs.Placements.{difference_from_zero, keeps_rows, origin_zero}
 
 -- the value that there is
 pub some_value : {A : Type 0} (o : Option A) (P : A → Type 0) → IsSomeAnd o P → (v : A) × (o ≡ Some v) × P v
@@ -65,9 +65,9 @@ module _ (N : Arcs) (scale : Scale) (a : Arc) (R S : Relaxation) (period : R.per
   }
 
   -- the arc's table is joined to its pair
-  pub adds-table : (pair : ℕ) (way : Way) (table : List (Option ℕ)) → IsArc N a → IsWay N a (ends_at R.ends pair) way
-      → IsTable N.period a way scale table → IsJoined R S pair table → SameShape R S → AddsArc N scale a R S
-  adds-table pair way table there ways costs joined shape = record {
+  pub adds-table : (pair : ℕ) (placement : Placement) (table : List (Option ℕ)) → IsArc N a → IsPlacement N a (ends_at R.ends pair) placement
+      → IsTable N.period a placement scale table → IsJoined R S pair table → SameShape R S → AddsArc N scale a R S
+  adds-table pair placement table there placements costs joined shape = record {
     period = shape.period;
     more = (let long = ap length shape.ends in omega (arith, long));
     ends = λ p l. ap (λ es. ends_at es p) shape.ends;
@@ -78,8 +78,8 @@ module _ (N : Arcs) (scale : Scale) (a : Arc) (R S : Relaxation) (period : R.per
         let ends : Ends = ends_at R.ends pair in
         let here : ahead N.period map ends ≡ d = ap (λ (t : ℕ). difference t (slice_index map ends.from) (slice_index map ends.to)) (sym period) in
         let within : d < N.period = subst (λ n. n < N.period) here (difference_below N.period (slice_index map ends.from) (slice_index map ends.to) some) in
-        let known : cost_at N.period a way d ≡ Some (cost_in N.period map a) =
-        ap (cost_at N.period a way) (sym here) ∙ ways map is ∙ cost_met-met N.period map a (there.met map is) in
+        let known : cost_at N.period a placement d ≡ Some (cost_in N.period map a) =
+        ap (cost_at N.period a placement) (sym here) ∙ placements map is ∙ cost_met-met N.period map a (there.met map is) in
         let told = some_value (entry table d) (λ m. m * scale.over ≤ cost_in N.period map a * scale.times) (costs d within (cost_in N.period map a) known) in
         let grown = some_value (sum_at S (slice_index map)) (λ w. w ≤ℤ (z +ℤ pos told.0)) (joined.below (slice_index map) z told.0 sum told.1) in
         (grown.0, grown.1, scaled-add scale z grown.0 told.0 cost (cost_in N.period map a) scaled told.2 grown.2));

@@ -9,7 +9,7 @@ use Rattle.pesp_search_least.specs.Sums.{IsLowerBound, IsWithin}
 use Rattle.pesp_search_network.specs.Arcs.{Arcs, IsCosted, IsMet, cost_in, has, meets}
 use Rattle.pesp_search_network.specs.Narrow.{IsNarrowed}
 use Rattle.pesp_search_network.specs.declared.arc.Arc.{Arc}
-use Rattle.pesp_search_network.proofs.Ways.{keeps_rows}
+use Rattle.pesp_search_network.proofs.Placements.{keeps_rows}
 
 -- ---- one residue
 

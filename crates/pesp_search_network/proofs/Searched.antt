@@ -11,14 +11,14 @@ use Rattle.pesp_search_network.specs.Arcs.{Arcs, IsArc, IsMet, cost_in}
 use Rattle.pesp_search_network.specs.Relaxed.{AreUnder, IsAnchored, IsArcFloor, IsCutTo, IsSummed, IsUnderCap}
 use Rattle.pesp_search_network.specs.Scales.{IsScaled}
 use Rattle.pesp_search_network.specs.Splits.{AdmitsOne, AreOnes, IsOne, IsStuck}
-use Rattle.pesp_search_network.specs.Ways.{IsWay, ahead, cost_at}
+use Rattle.pesp_search_network.specs.Placements.{IsPlacement, ahead, cost_at}
 use Rattle.pesp_search_network.specs.declared.arc.Arc.{Arc}
 use Rattle.pesp_search_network.specs.declared.scale.Scale.{Scale}
-use Rattle.pesp_search_network.specs.declared.way.Way.{Way}
+use Rattle.pesp_search_network.specs.declared.placement.Placement.{Placement}
 use Rattle.pesp_base.proofs.Tests.{value_of}
 use Rattle.pesp_search_tables.proofs.Indices.{difference_below}
 use Rattle.pesp_search_network.proofs.ArcCosts.{cost_met-met}
-use Rattle.pesp_search_network.proofs.Ways.{difference_from_zero, keeps_rows, origin_zero}
+use Rattle.pesp_search_network.proofs.Placements.{difference_from_zero, keeps_rows, origin_zero}
 
 -- ---- values
 
@@ -189,14 +189,14 @@ only_one N R m map cost anchored single ones is =
 -- ---- what arcs cost at least
 
 -- an arc at its pair costs what it costs at a difference that the pair admits
-pub arc_floor : (N : Arcs) (R : Relaxation) (k pair floor : ℕ) (a : Arc) (way : Way) → IsAnchored N R → pair < length R.ends → IsArc N a → a ≡ get_or N.arcs k a → k < length N.arcs
-    → IsWay N a (ends_at R.ends pair) way → ((d cost : ℕ) → IsOne R pair d → cost_at N.period a way d ≡ Some cost → floor ≤ cost) → IsArcFloor N R k floor
-arc_floor N R k pair floor a way anchored h there at within ways least map cost b is =
+pub arc_floor : (N : Arcs) (R : Relaxation) (k pair floor : ℕ) (a : Arc) (placement : Placement) → IsAnchored N R → pair < length R.ends → IsArc N a → a ≡ get_or N.arcs k a → k < length N.arcs
+    → IsPlacement N a (ends_at R.ends pair) placement → ((d cost : ℕ) → IsOne R pair d → cost_at N.period a placement d ≡ Some cost → floor ≤ cost) → IsArcFloor N R k floor
+arc_floor N R k pair floor a placement anchored h there at within placements least map cost b is =
     let met = is.costed.met in
     let d : ℕ = differences R (slice_index map) pair in
     let ends : Ends = ends_at R.ends pair in
     let here : ahead N.period map ends ≡ d = ap (λ (t : ℕ). difference t (slice_index map ends.from) (slice_index map ends.to)) (sym anchored.period) in
-    let known : cost_at N.period a way d ≡ Some (cost_in N.period map a) = ap (cost_at N.period a way) (sym here) ∙ ways map met ∙ cost_met-met N.period map a (there.met map met) in
+    let known : cost_at N.period a placement d ≡ Some (cost_in N.period map a) = ap (cost_at N.period a placement) (sym here) ∙ placements map met ∙ cost_met-met N.period map a (there.met map met) in
     let one : IsOne R pair d = record {
       below = difference_below R.period (slice_index map ends.from) (slice_index map ends.to) anchored.some;
       admitted = admits-each R.period R.tests (differences R (slice_index map)) (length R.ends) pair (sum-admits R (slice_index map) is.admitted) h;

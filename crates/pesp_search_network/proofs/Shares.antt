@@ -9,7 +9,7 @@ use Rattle.pesp_search_network.specs.declared.arc.Arc.{Arc}
 use Rattle.pesp_base.proofs.WindowLaws.{after_no_step}
 use Rattle.pesp_search_network.proofs.Joined.{IsBuilt, all_both, build, joined_inside, joined_keeps_rows, joined_list, joined_outside, outside_same}
 use Rattle.pesp_search_network.proofs.Turned.{costs-turned, met-turned}
-use Rattle.pesp_search_network.proofs.Ways.{keeps_rows}
+use Rattle.pesp_search_network.proofs.Placements.{keeps_rows}
 
 -- ---- one share
 

@@ -2,7 +2,7 @@
 use Rattle.std.specs.Prelude.{◌≡◌, ℕ, ◌+◌, ◌%◌, ◌<◌, ◌⊎◌, ⊤, Bool, true, false, not, ◌||◌, IsTrue, Option, Some, None, List, All, filter, length, slice_index, slice_index_or}
 use Rattle.pesp_search_tables.specs.Differences.{difference}
 use Rattle.pesp_search_network.specs.Arcs.{Arcs, IsBetween, has}
-use Rattle.pesp_search_network.specs.Ways.{IsOnly}
+use Rattle.pesp_search_network.specs.Placements.{IsOnly}
 use Rattle.pesp_search_network.specs.declared.arc.Arc.{Arc}
 
 -- whether the event is in the piece

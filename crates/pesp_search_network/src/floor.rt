@@ -5,11 +5,11 @@
 
 ghost use Rattle.std.specs.Prelude.{◌≡◌, ℕ, ◌<◌, ◌≤◌, Some, length};
 ghost use Rattle.pesp_search_network.specs.Splits.{IsOne};
-ghost use Rattle.pesp_search_network.specs.Ways.{IsSeatBelow, cost_at};
+ghost use Rattle.pesp_search_network.specs.Placements.{IsSeatBelow, cost_at};
 
 use crate::Arc;
 use crate::costs::cost_between;
-use crate::way::Way;
+use crate::placement::Placement;
 use pesp_base::Period;
 use pesp_search_tables::Tables;
 
@@ -17,20 +17,26 @@ use pesp_search_tables::Tables;
 const MOST_COST: u64 = 1_439_000_000_000;
 
 /// What an arc costs at least, which has its table at this pair.
-pub(crate) fn least_cost(tables: &Tables, period: Period, arc: &Arc, pair: usize, way: Way) -> u64
+pub(crate) fn least_cost(
+    tables: &Tables,
+    period: Period,
+    arc: &Arc,
+    pair: usize,
+    placement: Placement,
+) -> u64
     requires pair { pair < length tables.now.ends }
     requires period { tables.now.period ≡ period }
-    requires from { IsSeatBelow period way.from }
-    requires to { IsSeatBelow period way.to }
+    requires from { IsSeatBelow period placement.from }
+    requires to { IsSeatBelow period placement.to }
     ensures small { result ≤ 1439000000000 }
     ensures least { (d cost : ℕ) → IsOne tables.now pair d
-        → cost_at period arc.now way d ≡ Some cost → result ≤ cost }
+        → cost_at period arc.now placement d ≡ Some cost → result ≤ cost }
 {
     let mut least = MOST_COST;
     for difference in 0..period.get() {
         if tables.admits(pair, usize::from(difference)) {
-            let from = way.from.residue(difference);
-            let to = way.to.residue(difference);
+            let from = placement.from.residue(difference);
+            let to = placement.to.residue(difference);
             if let Some(cost) = cost_between(period, arc, from, to) {
                 least = least.min(cost);
             }

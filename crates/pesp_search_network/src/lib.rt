@@ -21,6 +21,7 @@ mod network;
 mod node;
 mod pairs;
 mod pieces;
+mod placement;
 mod ranges;
 mod region;
 mod root;
@@ -37,7 +38,6 @@ mod tests_apart;
 mod told;
 mod traversal;
 mod turning;
-mod way;
 mod widest;
 
 pub use arc::Arc;

@@ -53,8 +53,14 @@ impl<'a> Node<'a> {
             return 0;
         }
         let arc = self.network.arc(index);
-        match self.network.way(&arc, self.tables.ends(*pair)) {
-            Some(way) => least_cost(&self.tables, self.network.period(), &arc, *pair, way),
+        match self.network.placement(&arc, self.tables.ends(*pair)) {
+            Some(placement) => least_cost(
+                &self.tables,
+                self.network.period(),
+                &arc,
+                *pair,
+                placement,
+            ),
             None => 0,
         }
     }

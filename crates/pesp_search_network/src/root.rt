@@ -121,10 +121,16 @@ impl<'a> Plan<'a> {
         ensures { IfOk result (AddsArc self.now.network.now self.now.scale arc.now tables) }
     {
         let ends = tables.ends(pair);
-        let Some(way) = self.network.way(arc, ends) else {
+        let Some(placement) = self.network.placement(arc, ends) else {
             return Ok(tables);
         };
-        let table = arc_table(self.alloc, self.network.period(), arc, way, self.scale)?;
+        let table = arc_table(
+            self.alloc,
+            self.network.period(),
+            arc,
+            placement,
+            self.scale,
+        )?;
         let mut joined = tables;
         joined.join(pair, &table);
         Ok(joined)

@@ -30,7 +30,7 @@ loop-difference-preserved c =
             all = λ x all h.
                 holds_more tests more test n (difference T (x from) (x to)) v.long pushed h (v.all x all)
                 (λ same.
-                let there = ap (λ P. difference_at P found.way (x from) (x to)) (sym c.period-period.ensures) ∙ w.turned.ensures.turned (x from) (x to) same in
+                let there = ap (λ P. difference_at P found.direction (x from) (x to)) (sym c.period-period.ensures) ∙ w.turned.ensures.turned (x from) (x to) same in
                 w.test-is ∙ w.admits-test.ensures ∙ pair_admits R from to w.turned.result found x pair all there);
           }
       | in-None w ↦

@@ -4,4 +4,4 @@ use Rattle.pesp_search_buckets.proofs.Pairs.{IsPairEntry}
 use Rattle.pesp_search_buckets.proofs.originals.pair_entries.Given as goal
 
 abbrev pub invariant-loop-difference : goal.invariant-loop-difference
-invariant-loop-difference l = AreEach (IsPairEntry l.tables l.pair l.way) l.entries.items l.difference
+invariant-loop-difference l = AreEach (IsPairEntry l.tables l.pair l.direction) l.entries.items l.difference

@@ -7,4 +7,4 @@ pub returns : goal.returns
 returns c =
     let seen = c.see-seen.result in
     let f : Factor = record { reference = seen.reference; last = seen.last; axes = c.new.result.items; entries = c.in_ok-entries.entries.items } in
-    pair_is c.args.tables.now c.args.pair seen.way f c.requires.pair c.new.ensures.items c.see-seen.ensures c.in_ok-entries.ensures
+    pair_is c.args.tables.now c.args.pair seen.direction f c.requires.pair c.new.ensures.items c.see-seen.ensures c.in_ok-entries.ensures

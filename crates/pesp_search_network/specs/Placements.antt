@@ -6,9 +6,9 @@ use Rattle.pesp_search_tables.specs.declared.triple.Ends.{Ends}
 use Rattle.pesp_search_network.specs.Arcs.{Arcs, IsMet, cost_met, has}
 use Rattle.pesp_search_network.specs.declared.arc.Arc.{Arc}
 use Rattle.pesp_search_network.specs.declared.scale.Scale.{Scale}
-use Rattle.pesp_search_network.specs.declared.way.Seat.{Seat}
-use Rattle.pesp_search_network.specs.declared.way.Seat.TheVariants.{At, Ahead}
-use Rattle.pesp_search_network.specs.declared.way.Way.{Way}
+use Rattle.pesp_search_network.specs.declared.placement.Seat.{Seat}
+use Rattle.pesp_search_network.specs.declared.placement.Seat.TheVariants.{At, Ahead}
+use Rattle.pesp_search_network.specs.declared.placement.Placement.{Placement}
 
 -- the residue of a seat, at a difference
 abbrev pub seat_at : Seat → ℕ → ℕ
@@ -33,18 +33,18 @@ abbrev pub ahead : ℕ → List ℕ → Ends → ℕ
 ahead T map ends = difference T (slice_index map ends.from) (slice_index map ends.to)
 
 -- what the arc costs with its ends in these seats, at a difference
-abbrev pub cost_at : ℕ → Arc → Way → ℕ → Option ℕ
-cost_at T a way d = cost_met T a (seat_at way.from d) (seat_at way.to d)
+abbrev pub cost_at : ℕ → Arc → Placement → ℕ → Option ℕ
+cost_at T a placement d = cost_met T a (seat_at placement.from d) (seat_at placement.to d)
 
 -- at the difference of the pair the arc costs in these seats what it costs
-abbrev pub IsWay : Arcs → Arc → Ends → Way → Type 0
-IsWay N a ends way =
-    (map : List ℕ) → IsMet N map → cost_at N.period a way (ahead N.period map ends) ≡ cost_met N.period a (slice_index map a.from) (slice_index map a.to)
+abbrev pub IsPlacement : Arcs → Arc → Ends → Placement → Type 0
+IsPlacement N a ends placement =
+    (map : List ℕ) → IsMet N map → cost_at N.period a placement (ahead N.period map ends) ≡ cost_met N.period a (slice_index map a.from) (slice_index map a.to)
 
 -- the entry is at most what the arc costs at the difference, in the scale, where it is met
-abbrev pub IsEntry : ℕ → Arc → Way → Scale → ℕ → Option ℕ → Type 0
-IsEntry T a way scale d e = (cost : ℕ) → cost_at T a way d ≡ Some cost → IsSomeAnd e (λ m. m * scale.over ≤ cost * scale.times)
+abbrev pub IsEntry : ℕ → Arc → Placement → Scale → ℕ → Option ℕ → Type 0
+IsEntry T a placement scale d e = (cost : ℕ) → cost_at T a placement d ≡ Some cost → IsSomeAnd e (λ m. m * scale.over ≤ cost * scale.times)
 
 -- so is each entry of the table
-abbrev pub IsTable : ℕ → Arc → Way → Scale → List (Option ℕ) → Type 0
-IsTable T a way scale table = (d : ℕ) → d < T → IsEntry T a way scale d (entry table d)
+abbrev pub IsTable : ℕ → Arc → Placement → Scale → List (Option ℕ) → Type 0
+IsTable T a placement scale table = (d : ℕ) → d < T → IsEntry T a placement scale d (entry table d)

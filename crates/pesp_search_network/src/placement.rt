@@ -2,7 +2,7 @@
 
 ghost use Rattle.std.specs.Prelude.{◌≡◌, ◌<◌, IfSome};
 ghost use Rattle.pesp_search_network.specs.Arcs.{IsBetween};
-ghost use Rattle.pesp_search_network.specs.Ways.{IsOnly, IsSeat, IsSeatBelow, IsWay, seat_at};
+ghost use Rattle.pesp_search_network.specs.Placements.{IsOnly, IsPlacement, IsSeat, IsSeatBelow, seat_at};
 
 use crate::{Arc, Network};
 use pesp_search_tables::Ends;
@@ -30,7 +30,7 @@ impl Seat {
 
 /// Where the ends of an arc stand. Turned together, they cost the same.
 #[derive(Clone, Copy)]
-pub(crate) struct Way {
+pub(crate) struct Placement {
     // The event that the arc leads from.
     pub(crate) from: Seat,
     // The one that it leads to.
@@ -71,25 +71,25 @@ impl Network {
     }
 
     /// Where the ends of an arc stand as the difference of a pair tells, if it does.
-    pub(crate) fn way(&self, arc: &Arc, ends: Ends) -> Option<Way>
+    pub(crate) fn placement(&self, arc: &Arc, ends: Ends) -> Option<Placement>
         requires { IsBetween self.now.events arc.now }
-        ensures way { IfSome result (IsWay self.now arc.now ends) }
-        ensures from { IfSome result (λ way. IsSeatBelow self.now.period way.from) }
-        ensures to { IfSome result (λ way. IsSeatBelow self.now.period way.to) }
+        ensures placement { IfSome result (IsPlacement self.now arc.now ends) }
+        ensures from { IfSome result (λ placement. IsSeatBelow self.now.period placement.from) }
+        ensures to { IfSome result (λ placement. IsSeatBelow self.now.period placement.to) }
     {
         if ends.from == self.events() {
             let from = self.seat(arc.from, ends.to)?;
             let to = self.seat(arc.to, ends.to)?;
-            return Some(Way { from, to });
+            return Some(Placement { from, to });
         }
         if ends.from == arc.from && ends.to == arc.to {
-            return Some(Way {
+            return Some(Placement {
                 from: Seat::At(0),
                 to: Seat::Ahead,
             });
         }
         if ends.from == arc.to && ends.to == arc.from {
-            return Some(Way {
+            return Some(Placement {
                 from: Seat::Ahead,
                 to: Seat::At(0),
             });

@@ -11,10 +11,10 @@ use Rattle.pesp_base.proofs.ResidueLaws.{residue-below_first, residue-residue_su
 use Rattle.pesp_search_tables.specs.Differences.{difference}
 use Rattle.pesp_search_tables.specs.declared.triple.Ends.{Ends}
 use Rattle.pesp_search_network.specs.Arcs.{Arcs, IsMet, KeepsRows, cost_met}
-use Rattle.pesp_search_network.specs.Ways.{IsOnly, IsSeat, IsWay, ahead, seat_at}
+use Rattle.pesp_search_network.specs.Placements.{IsOnly, IsPlacement, IsSeat, ahead, seat_at}
 use Rattle.pesp_search_network.specs.declared.arc.Arc.{Arc}
-use Rattle.pesp_search_network.specs.declared.way.Seat.{Seat}
-use Rattle.pesp_search_network.specs.declared.way.Seat.TheVariants.{At, Ahead}
+use Rattle.pesp_search_network.specs.declared.placement.Seat.{Seat}
+use Rattle.pesp_search_network.specs.declared.placement.Seat.TheVariants.{At, Ahead}
 use Rattle.pesp_search_tables.proofs.Differences.{difference_is}
 use Rattle.pesp_search_tables.proofs.Indices.{difference_below}
 
@@ -126,7 +126,7 @@ below_period N map v some is = elim (cases_lt v (length map)) [
   | inl within ↦ All-get_or (λ r. r < N.period) map v 0 within is.below
 ]
 
--- ---- ways
+-- ---- placements
 
 -- at a pair from the origin the difference is the residue of the other node
 ahead-origin : (N : Arcs) (map : List ℕ) (ends : Ends) → 0 < N.period → ends.from ≡ N.events → IsMet N map → ahead N.period map ends ≡ slice_index map ends.to
@@ -134,22 +134,22 @@ ahead-origin N map ends some origin is =
     let zero_from : slice_index map ends.from ≡ 0 = ap (slice_index map) origin ∙ origin_zero N map is in
     ap (λ r. difference N.period r (slice_index map ends.to)) zero_from ∙ difference_from_zero N.period (slice_index map ends.to) (below_period N map ends.to some is)
 
-pub way-origin : (N : Arcs) (a : Arc) (ends : Ends) (from to : Seat) → 0 < N.period → ends.from ≡ N.events → IsSeat N a.from ends.to from → IsSeat N a.to ends.to to
-    → IsWay N a ends (record { from = from; to = to })
-way-origin N a ends from to some origin tail head map is =
+pub placement-origin : (N : Arcs) (a : Arc) (ends : Ends) (from to : Seat) → 0 < N.period → ends.from ≡ N.events → IsSeat N a.from ends.to from → IsSeat N a.to ends.to to
+    → IsPlacement N a ends (record { from = from; to = to })
+placement-origin N a ends from to some origin tail head map is =
     let here = ahead-origin N map ends some origin is in
     ap (λ d. cost_met N.period a (seat_at from d) (seat_at to d)) here
     ∙ ap (λ r. cost_met N.period a r (seat_at to (slice_index map ends.to))) (tail map is)
     ∙ ap (cost_met N.period a (slice_index map a.from)) (head map is)
 
-pub way-forward : (N : Arcs) (a : Arc) (ends : Ends) → 0 < N.period → ends.from ≡ a.from → ends.to ≡ a.to → IsWay N a ends (record { from = At 0; to = Ahead })
-way-forward N a ends some from to map is =
+pub placement-forward : (N : Arcs) (a : Arc) (ends : Ends) → 0 < N.period → ends.from ≡ a.from → ends.to ≡ a.to → IsPlacement N a ends (record { from = At 0; to = Ahead })
+placement-forward N a ends some from to map is =
     ap (λ v. cost_met N.period a 0 (difference N.period (slice_index map v) (slice_index map ends.to))) from
     ∙ ap (λ v. cost_met N.period a 0 (difference N.period (slice_index map a.from) (slice_index map v))) to
     ∙ cost-forward N.period a (slice_index map a.from) (slice_index map a.to) (below_period N map a.from some is)
 
-pub way-backward : (N : Arcs) (a : Arc) (ends : Ends) → 0 < N.period → ends.from ≡ a.to → ends.to ≡ a.from → IsWay N a ends (record { from = Ahead; to = At 0 })
-way-backward N a ends some from to map is =
+pub placement-backward : (N : Arcs) (a : Arc) (ends : Ends) → 0 < N.period → ends.from ≡ a.to → ends.to ≡ a.from → IsPlacement N a ends (record { from = Ahead; to = At 0 })
+placement-backward N a ends some from to map is =
     ap (λ v. cost_met N.period a (difference N.period (slice_index map v) (slice_index map ends.to)) 0) from
     ∙ ap (λ v. cost_met N.period a (difference N.period (slice_index map a.to) (slice_index map v)) 0) to
     ∙ cost-backward N.period a (slice_index map a.from) (slice_index map a.to) (below_period N map a.from some is) (below_period N map a.to some is)
