@@ -3,14 +3,11 @@ use Rattle.std.proofs.Common.{◌≡◌, ℕ, Bool, true, false, ℤ, pos, ◌+�
 use Rattle.std.proofs.lemmas.Int.{ints}
 use Rattle.pesp_search_tables.specs.Relaxed.{Relaxation, differences, sum_at}
 use Rattle.pesp_search_tables.specs.Sums.{admits}
-use Rattle.pesp_search_buckets.specs.Assigned.{Agrees, residue_at}
+use Rattle.pesp_search_buckets.specs.Assigned.{residue_at}
 use Rattle.pesp_search_buckets.specs.Factors.{Admits}
 use Rattle.pesp_search_buckets.specs.Levels.{IsFor, weight}
+use Rattle.pesp_search_buckets.proofs.Contexts.{agrees_none}
 use Rattle.pesp_search_contexts.specs.Gained.{IsAbout, IsGained, IsLowest, Question}
-
--- each map agrees where no node has a residue
-pub agrees_none : (residues : List (Option ℕ)) (x : ℕ → ℕ) → ((v : ℕ) → residue_at residues v ≡ None) → Agrees residues x
-agrees_none residues x none v r is = let all = none v in cc
 
 -- what a test leads to, if it leads to something
 chosen : (b : Bool) (s z : ℤ) → (if b then Some s else None) ≡ Some z → b ≡ true

@@ -74,6 +74,7 @@ pub struct Limits {
 /// Tables with their buckets.
 #[derive(Drop)]
 pub struct Elimination<'a> {
+    // Those whose sums are bounded.
     pub(crate) tables: &'a Tables,
     // The node after the events.
     pub(crate) origin: usize,

@@ -24,6 +24,7 @@ pub(crate) const NO_MAP: u64 = 1_152_921_504_606_846_976;
 /// What a search is for, and what is known before it.
 #[derive(Clone, Copy)]
 pub(crate) struct Search<'a> {
+    // Where residues and keys are made.
     pub(crate) alloc: Global,
     // The maps that are looked at.
     pub(crate) question: &'a Question<'a>,

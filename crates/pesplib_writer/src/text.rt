@@ -45,11 +45,11 @@ pub fn put_signed(text: &mut Vec<u8>, number: i32) -> Result<(), AllocError>
 }
 
 /// Puts a number, and a text after it.
-pub(crate) fn put_before(text: &mut Vec<u8>, number: u64, after: &[u8]) -> Result<(), AllocError>
-    ensures { OnOk result (text.new.items ≡ text.old.items ++ (decimal number ++ after.now)) }
+pub(crate) fn put_before(text: &mut Vec<u8>, number: u64, ending: &[u8]) -> Result<(), AllocError>
+    ensures { OnOk result (text.new.items ≡ text.old.items ++ (decimal number ++ ending.now)) }
 {
     put_number(text, number)?;
-    put(text, after)
+    put(text, ending)
 }
 
 /// Puts a number between two texts.
