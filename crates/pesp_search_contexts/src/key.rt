@@ -21,7 +21,9 @@ pub(crate) fn key_of(
     ensures { IfOk result (λ key. IfSome key (λ k. (x : ℕ → ℕ) → Agrees residues.now x
         → StandsAt context.now k.items (seen_from period (first_of context.now) x))) }
 {
-    let mut key = Vec::new(alloc);
+    let Ok(mut key) = Vec::with_capacity(alloc, context.len()) else {
+        return Err(Memory);
+    };
     let Some(first) = context.first() else {
         return Ok(Some(key));
     };

@@ -89,14 +89,17 @@ impl Graph {
         self.turns.get(node).copied().unwrap_or(0)
     }
 
-    /// Whether a node is joined with one that is left out after it.
-    fn is_joined_later(&self, node: usize, other: usize) -> bool {
-        let is_joined = self
-            .joined
+    /// Whether two nodes are joined.
+    fn is_joined(&self, node: usize, other: usize) -> bool {
+        self.joined
             .get(self.cell(node, other))
             .copied()
-            .unwrap_or(false);
-        is_joined && self.turn(node) < self.turn(other)
+            .unwrap_or(false)
+    }
+
+    /// Whether a node is joined with one that is left out after it.
+    fn is_joined_later(&self, node: usize, other: usize) -> bool {
+        self.is_joined(node, other) && self.turn(node) < self.turn(other)
     }
 
     /// Of the nodes that a node is joined with, and that are left out after it, the first to be.
@@ -158,6 +161,63 @@ fn parents_of(
         }
     }
     Ok(parents)
+}
+
+/// Of the nodes that are not there yet, the first of those that are joined with the most that are.
+fn most_joined(counts: &[usize], is_there: &[bool]) -> Option<usize> {
+    let mut most: Option<usize> = None;
+    for (node, count) in counts.iter().enumerate() {
+        let is_more = match most {
+            Some(best) => counts.get(best).copied().unwrap_or(0) < *count,
+            None => true,
+        };
+        if is_more && !is_there.get(node).copied().unwrap_or(true) {
+            most = Some(node);
+        }
+    }
+    most
+}
+
+/// A maximum cardinality search of the graph from a node. In the opposite order nodes can be left out without a new join, if there
+/// is such an order.
+fn searched(alloc: Global, graph: &Graph, first: usize) -> Result<Vec<usize>, Memory> {
+    let mut counts = repeated(alloc, 0usize, graph.nodes)?;
+    let mut is_there = repeated(alloc, false, graph.nodes)?;
+    let mut nodes = Vec::new(alloc);
+    let mut next = Some(first);
+    for _node in 0..graph.nodes {
+        let Some(node) = next else {
+            return Ok(nodes);
+        };
+        add(&mut nodes, node)?;
+        if node < is_there.len() {
+            is_there[node] = true;
+        }
+        for (other, count) in counts.iter_mut().enumerate() {
+            if graph.is_joined(node, other) {
+                *count = count.saturating_add(1);
+            }
+        }
+        next = most_joined(&counts, &is_there);
+    }
+    Ok(nodes)
+}
+
+/// The order in which nodes are left out after the origin's and the first event's: these are the last, so that maps are placed as soon as
+/// the search begins.
+fn placed_first(
+    alloc: Global,
+    graph: &mut Graph,
+    order: &[usize],
+    origin: usize,
+) -> Result<Vec<usize>, Memory> {
+    parents_of(alloc, graph, order)?;
+    let mut placed = Vec::new(alloc);
+    for node in searched(alloc, graph, origin)?.iter().rev() {
+        add(&mut placed, *node)?;
+    }
+    graph.turns = turns_of(alloc, &placed)?;
+    Ok(placed)
 }
 
 /// The node on which a node hangs.
@@ -229,10 +289,11 @@ pub fn in_blocks(
     order: &[usize],
     origin: Option<usize>,
 ) -> Result<InBlocks, Memory> {
-    let order = origin_last(alloc, order, origin)?;
+    let mut order = origin_last(alloc, order, origin)?;
     let mut graph = Graph::of(alloc, tables, &order)?;
     if let Some(origin) = origin {
         graph.join_all(origin);
+        order = placed_first(alloc, &mut graph, &order, origin)?;
     }
     let parents = parents_of(alloc, &mut graph, &order)?;
     let by_node = sizes_of(alloc, &order, &parents)?;

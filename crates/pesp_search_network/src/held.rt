@@ -9,22 +9,95 @@ ghost use Rattle.pesp_search_network.specs.Arcs.{IsCosted};
 ghost use Rattle.pesp_search_network.specs.Told.{IsCovered};
 
 use crate::Network;
-use crate::ranges::{has_many, units_of};
+use crate::ranges::{Size, has_many, units_of};
 use crate::scale::Scale;
 use crate::search::{Made, making_units, stopped};
 use pesp_base::Memory;
-use pesp_search_contexts::{Elimination, Plan};
+use pesp_search_contexts::{Elimination, Least, Limits as Within, Plan};
 use pesp_search_least::{Budget, Candidate, First, Limits, Outcome, Region, first};
 use std::alloc::Global;
 
 /// How few events there may be for an elimination to take less than the questions of the first map that it answers.
 const FEWEST_EVENTS: usize = 24;
 
-/// How many entries a message of its buckets may have.
-const MOST_ENTRIES: usize = 16_384;
-
-/// How many units a search by them may take.
+/// How many units a question may take.
 const SEARCH_UNITS: u64 = 8_000_000;
+
+/// Small buckets are made first,
+const SMALL: Size = Size {
+    entries: 16_384,
+    units: 1_000_000,
+};
+
+/// and large ones where those do not tell what all maps cost.
+const LARGE: Size = Size {
+    entries: 131_072,
+    units: 8_000_000,
+};
+
+/// An elimination that was asked for all maps.
+#[derive(Drop)]
+struct Asked<'a> {
+    // Knows bounds of them.
+    made: Elimination<'a>,
+    // Whether a bound was told.
+    is_told: bool,
+}
+
+/// An elimination of so many entries, once it was asked for all maps.
+fn ask_for_all<'a>(
+    alloc: Global,
+    plan: Plan<'a>,
+    within: Within,
+    budget: &mut Budget,
+) -> Result<Option<Asked<'a>>, Memory>
+    ensures tables { IfOk result (λ asked. IfSome asked (λ a.
+        a.made.tables.now ≡ plan.entry.tables.now)) }
+    ensures origin { IfOk result (λ asked. IfSome asked (λ a. a.made.origin ≡ plan.entry.origin)) }
+    ensures budget { OnlySpends budget.old.left budget.new.left }
+{
+    budget.spend(making_units(plan.most_entries));
+    let Some(mut made) = Elimination::of(alloc, plan)? else {
+        return Ok(None);
+    };
+    let answer = made.least(alloc, within)?;
+    budget.spend(answer.spent);
+    let is_told = matches!(answer.least, Least::Bound { .. });
+    Ok(Some(Asked { made, is_told }))
+}
+
+/// An elimination of the least size that tells what all maps cost, or of the greatest.
+fn elimination<'a>(
+    alloc: Global,
+    plan: Plan<'a>,
+    scale: Scale,
+    cap: u64,
+    budget: &mut Budget,
+) -> Result<Option<Elimination<'a>>, Memory>
+    ensures tables { IfOk result (λ made. IfSome made (λ e. e.tables.now ≡ plan.entry.tables.now)) }
+    ensures origin { IfOk result (λ made. IfSome made (λ e. e.origin ≡ plan.entry.origin)) }
+    ensures budget { OnlySpends budget.old.left budget.new.left }
+{
+    let small = Plan {
+        most_entries: SMALL.entries,
+        ..plan
+    };
+    let within = scale.limits(cap, units_of(budget, SMALL.units));
+    if let Some(asked) = ask_for_all(alloc, small, within, budget)? {
+        if asked.is_told {
+            return Ok(Some(asked.made));
+        }
+    }
+    let large = Plan {
+        most_entries: LARGE.entries,
+        ..plan
+    };
+    let within = scale.limits(cap, units_of(budget, LARGE.units));
+    match ask_for_all(alloc, large, within, budget)? {
+        Some(asked) => Ok(Some(asked.made)),
+        None => Ok(None),
+    }
+}
 
 /// A network that may have been narrowed since its tables were eliminated.
 #[derive(Drop)]
@@ -181,20 +254,16 @@ impl Network {
         let scale = Scale::of(self.most());
         let cap = candidate.cost + 1;
         let Made { tables, order, .. } = self.climbed(alloc, scale, cap, budget)?;
-        budget.spend(making_units(MOST_ENTRIES));
         let plan = Plan {
             tables: &tables,
             order: &order,
             origin: self.events(),
             is_rooted: true,
-            most_entries: MOST_ENTRIES,
+            most_entries: SMALL.entries,
         };
-        let Some(mut made) = Elimination::of(alloc, plan)? else {
+        let Some(made) = elimination(alloc, plan, scale, cap, budget)? else {
             return first(alloc, self, candidate, budget);
         };
-        // So that it knows bounds of all maps.
-        let answer = made.least(alloc, scale.limits(cap, units_of(budget, SEARCH_UNITS)))?;
-        budget.spend(answer.spent);
         let held = Held {
             network: self,
             made: &made,
