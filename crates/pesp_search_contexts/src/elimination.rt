@@ -18,7 +18,7 @@ use pesp_search_tables::Tables;
 use std::alloc::Global;
 
 /// How many bounds are kept at most,
-const MOST_SLOTS: usize = 65_536;
+const MOST_SLOTS: usize = 131_072;
 
 /// and for each two levels.
 const SLOTS_A_PAIR: usize = 16;

@@ -6,6 +6,7 @@ mod apart;
 mod arc;
 #[cfg(test)]
 mod by_ranges;
+mod caps;
 mod climb;
 mod costs;
 mod cut;
@@ -35,6 +36,8 @@ mod share;
 mod tests;
 #[cfg(test)]
 mod tests_apart;
+#[cfg(test)]
+mod tests_buckets;
 mod told;
 mod traversal;
 mod turning;

@@ -34,7 +34,7 @@ const SMALL: Size = Size {
 /// and then large ones.
 const LARGE: Size = Size {
     entries: 131_072,
-    units: 8_000_000,
+    units: 32_000_000,
 };
 
 /// How large buckets are made.

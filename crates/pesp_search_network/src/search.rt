@@ -181,10 +181,7 @@ impl Network {
         let Some(mut made) = Elimination::of(alloc, plan)? else {
             return Ok(stopped(None, limits.floor));
         };
-        let most = budget.left.unwrap_or(u64::MAX);
-        let answer = made.least(alloc, scale.limits(limits.cap, most))?;
-        budget.spend(answer.spent);
-        self.outcome_of(alloc, scale, answer.least, limits)
+        self.least_by_caps(alloc, &mut made, scale, limits, budget)
     }
 
     /// What an outcome below the cost of the best that is known comes to.
