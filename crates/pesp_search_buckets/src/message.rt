@@ -205,7 +205,9 @@ fn rows(
     let Ok(mut sums) = vec![in alloc; 0i64; period] else {
         return Err(Memory);
     };
-    let mut entries = Vec::new(alloc);
+    let Ok(mut entries) = Vec::with_capacity(alloc, contexts.len().saturating_mul(period)) else {
+        return Err(Memory);
+    };
     for context in contexts {
         if !fill_row(part, last, context.try_clone()?, &mut sums, &mut entries)? {
             return Ok(None);

@@ -17,16 +17,16 @@ use pesp_search_buckets::{Buckets, Residues};
 use pesp_search_tables::Tables;
 use std::alloc::Global;
 
-/// How many bounds are kept at most,
-const MOST_SLOTS: usize = 131_072;
+/// How many bounds are kept at most for each two levels,
+const BOUNDS_A_PAIR: usize = 16;
 
-/// and for each two levels.
-const SLOTS_A_PAIR: usize = 16;
+/// and in all of maps that stand in rows, beside those of all maps.
+const MOST_BESIDE: usize = 65_536;
 
 /// How many bounds are kept of so many levels.
-fn slots_of(levels: usize) -> usize {
+fn bounds_of(levels: usize, most: usize) -> usize {
     let pairs = levels.saturating_mul(levels);
-    pairs.saturating_mul(SLOTS_A_PAIR).min(MOST_SLOTS)
+    pairs.saturating_mul(BOUNDS_A_PAIR).min(most)
 }
 
 /// What maps sum up to at least.
@@ -60,6 +60,8 @@ pub struct Plan<'a> {
     pub is_rooted: bool,
     /// How many entries a message may have: with more, bounds are better, and buckets take longer to make.
     pub most_entries: usize,
+    /// How many bounds may be kept of all maps.
+    pub most_bounds: usize,
 }
 
 /// How far a search goes.
@@ -84,7 +86,7 @@ pub struct Elimination<'a> {
     pub(crate) blocks: Blocks,
     // and with the origin in each context, as rows are asked for.
     pub(crate) rooted: Blocks,
-    // Bounds of all maps, once they were asked for.
+    // Bounds of all maps, as far as they were asked for.
     pub(crate) kept: Kept,
     ghost stands: { IsFor tables.now buckets },
     ghost bounds: { AreBounds (record { tables = tables.now; buckets = buckets; rows = []; origin = origin }) blocks kept },
@@ -149,7 +151,7 @@ fn least_among<'b>(
     };
     let levels = made.buckets.levels();
     let mut work = Work {
-        kept: Kept::new(alloc, slots_of(levels))?,
+        kept: Kept::new(alloc, bounds_of(levels, MOST_BESIDE))?,
         spent: 0,
         most: limits.most,
     };
@@ -182,13 +184,14 @@ impl<'a> Elimination<'a> {
         };
         let blocks = Blocks::of(alloc, &buckets, &sizes, None)?;
         let rooted = Blocks::of(alloc, &buckets, &sizes, root)?;
+        let kept = Kept::new(alloc, bounds_of(buckets.levels(), plan.most_bounds))?;
         Ok(Some(Elimination {
             tables,
             origin: plan.origin,
             buckets,
             blocks,
             rooted,
-            kept: Kept::new(alloc, 0)?,
+            kept,
         }))
     }
 
@@ -200,6 +203,7 @@ impl<'a> Elimination<'a> {
             IsToldLeast self.old.tables.now [] self.old.origin answer.least) }
     {
         let none = Kept::new(alloc, 0)?;
+        let known = std::mem::replace(&mut self.kept, Kept::new(alloc, 0)?);
         let question = Question {
             tables: self.tables,
             buckets: &self.buckets,
@@ -216,9 +220,8 @@ impl<'a> Elimination<'a> {
                 kept: &none,
             },
         };
-        let levels = self.buckets.levels();
         let mut work = Work {
-            kept: Kept::new(alloc, slots_of(levels))?,
+            kept: known,
             spent: 0,
             most: limits.most,
         };

@@ -26,12 +26,14 @@ const SEARCH_UNITS: u64 = 8_000_000;
 /// Small buckets are made first,
 const SMALL: Size = Size {
     entries: 16_384,
+    bounds: 131_072,
     units: 1_000_000,
 };
 
 /// and large ones where those do not tell what all maps cost.
 const LARGE: Size = Size {
     entries: 131_072,
+    bounds: 131_072,
     units: 8_000_000,
 };
 
@@ -80,6 +82,7 @@ fn elimination<'a>(
 {
     let small = Plan {
         most_entries: SMALL.entries,
+        most_bounds: SMALL.bounds,
         ..plan
     };
     let within = scale.limits(cap, units_of(budget, SMALL.units));
@@ -90,6 +93,7 @@ fn elimination<'a>(
     }
     let large = Plan {
         most_entries: LARGE.entries,
+        most_bounds: LARGE.bounds,
         ..plan
     };
     let within = scale.limits(cap, units_of(budget, LARGE.units));
@@ -260,6 +264,7 @@ impl Network {
             origin: self.events(),
             is_rooted: true,
             most_entries: SMALL.entries,
+            most_bounds: SMALL.bounds,
         };
         let Some(made) = elimination(alloc, plan, scale, cap, budget)? else {
             return first(alloc, self, candidate, budget);

@@ -28,12 +28,21 @@ const MANY_UNITS: u64 = 2_000_000;
 /// small ones first,
 const SMALL: Size = Size {
     entries: 8_192,
+    bounds: 131_072,
     units: 500_000,
 };
 
-/// and then large ones.
+/// and then large ones,
 const LARGE: Size = Size {
     entries: 131_072,
+    bounds: 131_072,
+    units: 32_000_000,
+};
+
+/// but for one cost alone: those who ask for it may hold large ones of other tables.
+const LARGE_FOR_ONE_COST: Size = Size {
+    entries: 32_768,
+    bounds: 32_768,
     units: 32_000_000,
 };
 
@@ -42,8 +51,21 @@ const LARGE: Size = Size {
 pub(crate) struct Size {
     // How many entries a message may have.
     pub(crate) entries: usize,
+    // How many bounds are kept at most.
+    pub(crate) bounds: usize,
     // How many units they are made and searched with at most.
     pub(crate) units: u64,
+}
+
+/// The size of large buckets.
+fn large(limits: Limits) -> Size
+    ensures { 0 < result.units }
+{
+    if limits.cap.saturating_sub(limits.floor) > 1 {
+        LARGE
+    } else {
+        LARGE_FOR_ONE_COST
+    }
 }
 
 /// So many units of a budget, or all that are left.
@@ -124,7 +146,7 @@ impl Network {
     {
         let units = units_of(budget, size.units);
         let mut part = Budget::of(units);
-        let outcome = self.least_in_buckets(alloc, limits, best, size.entries, &mut part)?;
+        let outcome = self.least_in_buckets(alloc, limits, best, size, &mut part)?;
         budget.spend(units - part.left.unwrap_or(0));
         Ok(outcome)
     }
@@ -146,7 +168,9 @@ impl Network {
             return Ok(stopped(best, limits.floor));
         }
         match self.least_in_size(alloc, limits, best, SMALL, budget)? {
-            Outcome::Spent { best, .. } => self.least_in_size(alloc, limits, best, LARGE, budget),
+            Outcome::Spent { best, .. } => {
+                self.least_in_size(alloc, limits, best, large(limits), budget)
+            }
             ended => Ok(ended),
         }
     }

@@ -15,6 +15,7 @@ use crate::costs::most_between;
 use crate::eliminate::{Eliminated, eliminate};
 use crate::node::Node;
 use crate::pairs::has_room;
+use crate::ranges::Size;
 use crate::root::{Joined, Plan};
 use crate::scale::Scale;
 use crate::selections::limit;
@@ -161,7 +162,7 @@ impl Network {
         &self,
         alloc: Global,
         limits: Limits,
-        entries: usize,
+        size: Size,
         budget: &mut Budget,
     ) -> Result<Outcome, Memory>
         requires floor { IsLowerBound (IsCosted self.now) limits.floor }
@@ -170,13 +171,14 @@ impl Network {
     {
         let scale = Scale::of(self.most());
         let Made { tables, order, .. } = self.climbed(alloc, scale, limits.cap, budget)?;
-        budget.spend(making_units(entries));
+        budget.spend(making_units(size.entries));
         let plan = pesp_search_contexts::Plan {
             tables: &tables,
             order: &order,
             origin: self.events(),
             is_rooted: false,
-            most_entries: entries,
+            most_entries: size.entries,
+            most_bounds: size.bounds,
         };
         let Some(mut made) = Elimination::of(alloc, plan)? else {
             return Ok(stopped(None, limits.floor));
@@ -216,7 +218,7 @@ impl Network {
         alloc: Global,
         limits: Limits,
         best: Option<Candidate>,
-        entries: usize,
+        size: Size,
         budget: &mut Budget,
     ) -> Result<Outcome, Memory>
         requires floor { IsLowerBound (IsCosted self.now) limits.floor }
@@ -228,7 +230,7 @@ impl Network {
             floor: limits.floor,
             cap: limit(limits.cap, &best),
         };
-        let outcome = self.least_assigned(alloc, within, entries, budget)?;
+        let outcome = self.least_assigned(alloc, within, size, budget)?;
         Ok(self.from_best(outcome, best, limits.cap))
     }
 }

@@ -11,7 +11,7 @@ loop-context-init c =
     let part = c.args.part in
     let long = c.in-Ok.ensures.len in
     let all = c.in-Ok.sums.ok.0 in
-    record { long = omega (arith, long, all); begun = rows_none c.args.period part.factors.now part.ids.now part.node c.args.last c.args.contexts.now c.new-entries.result.items c.new-entries.ensures.items }
+    record { long = omega (arith, long, all); begun = rows_none c.args.period part.factors.now part.ids.now part.node c.args.last c.args.contexts.now c.in-Ok-with_capacity.entries.items c.in-Ok-with_capacity.ensures.items }
 
 pub loop-context-preserved : goal.loop-context-preserved
 loop-context-preserved c =
