@@ -1,19 +1,23 @@
 -- What one end after another brings.
-use Rattle.std.proofs.Common.{◌≡◌, ℕ, ◌+◌, ◌<◌, ◌≤◌, ◌==◌, ◌&&◌, ◌||◌, not, nat_le, nat_lt, Bool, true, false, Some, None, List, [], ◌∷◌, length, take, get_or, sym, ap, ◌∙◌, inl, inr, arith, IsTrue}
-use Rattle.std.proofs.lemmas.Bool.{cases_Bool, cases_lt, false≢true, ltb-true}
+use Rattle.std.proofs.Common.{◌≡◌, ℕ, ◌+◌, ◌<◌, ◌≤◌, ◌==◌, ◌&&◌, ◌||◌, not, nat_le, nat_lt, Bool, true, false, Some, None, List, [], ◌∷◌, length, take, get_or, refl, sym, ap, ◌∙◌, inl, inr, arith, IsTrue}
+use Rattle.std.proofs.lemmas.Bool.{cases_Bool, cases_lt, false≢true, ltb-true, eqb-true}
 use Rattle.std.proofs.lemmas.List.{take_more}
 use Rattle.std.proofs.lemmas.List.Folds.{list_any-append}
 use Rattle.std.specs.List.{list_any}
 use Rattle.std.specs.Option.{option_map_or}
+use Rattle.pesp_base.specs.Windows.{Interval, is_held}
+use Rattle.pesp_counts_supports.specs.declared.bringing.Admitted.TheVariants.{Within}
 use Rattle.pesp_instance.specs.Network.{Network, admits}
 use Rattle.pesp_domains.specs.Sweeps.{Pairs}
 use Rattle.pesp_domains.proofs.Families.{and_left, and_right}
-use Rattle.pesp_counts_arcs.specs.Ends.{is_from_to}
+use Rattle.pesp_counts_arcs.specs.declared.end.End.{End}
+use Rattle.pesp_counts_arcs.specs.declared.end.Ranges.{Ranges}
+use Rattle.pesp_counts_arcs.specs.Ends.{is_from_to, passes}
 use Rattle.pesp_counts_supports.specs.Counts.{has_at}
 use Rattle.pesp_counts_arcs.specs.Links.{Links}
 use Rattle.pesp_counts_arcs.specs.Places.{number_at}
 use Rattle.pesp_counts_supports.specs.Put.{Back}
-use Rattle.pesp_counts_supports.specs.Restored.{IsBrought, of_range, of_start, of_starts}
+use Rattle.pesp_counts_supports.specs.Restored.{IsBrought, in_ranges, of_admitted, of_end, of_range, of_start, of_ranges, of_starts}
 use Rattle.pesp_counts_supports.specs.Restoring.{admits_at}
 use Rattle.pesp_counts_supports.specs.Supports.{HaveSameShape, Supports, held}
 use Rattle.pesp_base.proofs.Tests.{or_alone}
@@ -47,6 +51,32 @@ admits_below I links p r =
       | Some e ↦ λ h. ltb-true r I.period (and_left (nat_lt r I.period) (admits I e r) h)
     ]
 
+-- the window of an end has what it passes
+pub ranges_end : (period : ℕ) (I : Network) (links : Links) (residue : ℕ) (end : End) (w : Ranges) → period ≡ I.period → ((s : ℕ) → s < period → passes period end residue s ≡ in_ranges w s) → (p r : ℕ) → of_admitted I links end.looks_at w p r ≡ of_end period I links residue end p r
+ranges_end period I links residue end w same is p r =
+    elim (cases_Bool (admits_at I links end.looks_at r)) [
+      | inl there ↦
+          let below = admits_below I links end.looks_at r there in
+          rw (is r (omega (arith, below, same))) refl
+      | inr out ↦ rw out (by (p == end.looks_at) (in_ranges w r) (passes period end residue r))
+    ]
+  where
+    by : (a b c : Bool) → (a && (b && false)) ≡ (a && (c && false))
+    by false b c = refl
+    by true true true = refl
+    by true true false = refl
+    by true false true = refl
+    by true false false = refl
+
+-- a full window brings nothing
+pub ranges_full : (period : ℕ) (I : Network) (links : Links) (residue : ℕ) (end : End) (w : Ranges) (rows : List (List Bool)) → period ≡ I.period → ((s : ℕ) → s < period → passes period end residue s ≡ in_ranges w s) → ((r : ℕ) → IsTrue (in_ranges w r) → IsTrue (has_at rows end.looks_at r)) → (p r : ℕ) → IsTrue (of_end period I links residue end p r) → IsTrue (has_at rows p r)
+ranges_full period I links residue end w rows same is full p r h =
+    let place = eqb-true p end.looks_at (and_left (p == end.looks_at) (passes period end residue r && admits_at I links end.looks_at r) h) in
+    let rest = and_right (p == end.looks_at) (passes period end residue r && admits_at I links end.looks_at r) h in
+    let pass = and_left (passes period end residue r) (admits_at I links end.looks_at r) rest in
+    let below = admits_below I links end.looks_at r (and_right (passes period end residue r) (admits_at I links end.looks_at r) rest) in
+    rw place (full r (sym (is r (omega (arith, below, same))) ∙ pass))
+
 -- ---- one start
 
 -- a test that is that of what is admitted below the period, and of nothing beyond it
@@ -69,6 +99,17 @@ pub start_none : (I : Network) (links : Links) (place : ℕ) → ((r : ℕ) → 
 start_none I links place is p r h =
     let there = and_right (p == place) (admits_at I links place r) h in
     false≢true (is r (admits_below I links place r there) ∙ there)
+
+-- the residues of an event's window are admitted
+pub start_within : (I : Network) (links : Links) (place n : ℕ) (event : Interval) → n ≡ I.period → ((r : ℕ) → r < I.period → is_held I.period event r ≡ admits_at I links place r) → (p r : ℕ) → of_ranges I.period place (record { start = 0; end = n; wrapped = 0 }) (Within event) p r ≡ of_start I links place p r
+start_within I links place n event all is =
+    start_is I links place (λ r. in_ranges (record { start = 0; end = n; wrapped = 0 }) r && is_held I.period event r) within out
+  where
+    within : (r : ℕ) → r < I.period → (in_ranges (record { start = 0; end = n; wrapped = 0 }) r && is_held I.period event r) ≡ admits_at I links place r
+    within r below = rw (range_from_to 0 n r (omega arith) (omega (arith, below, all))) (is r below)
+
+    out : (r : ℕ) → I.period ≤ r → (in_ranges (record { start = 0; end = n; wrapped = 0 }) r && is_held I.period event r) ≡ false
+    out r beyond = let high : nat_lt r I.period ≡ false = grind (arith, beyond) in rw high (no_and _)
 
 -- each residue is admitted
 pub start_all : (I : Network) (links : Links) (place n : ℕ) → n ≡ I.period → ((r : ℕ) → r < I.period → true ≡ admits_at I links place r) → (p r : ℕ) → of_range place 0 n p r ≡ of_start I links place p r

@@ -1,6 +1,6 @@
 -- Pairs come to the rows and into a list, one after another.
-use Rattle.std.proofs.Common.{◌≡◌, ℕ, ◌+◌, ◌*◌, ◌%◌, ◌<◌, ◌≤◌, pos, ◌-ℤ◌, mod-lt, ◌==◌, ◌&&◌, ◌||◌, not, nat_lt, Bool, true, false, Some, None, [], ◌∷◌, ◌++◌, length, refl, sym, ap, subst, ◌∙◌, inl, inr, arith, IsTrue, IfSome, append_assoc}
-use Rattle.std.proofs.lemmas.Bool.{cases_eq, cases_lt, eq-eqb, lt-ltb, ne_eqb, false≢true, eqb-true}
+use Rattle.std.proofs.Common.{◌≡◌, ℕ, ◌+◌, ◌*◌, ◌%◌, ◌<◌, ◌≤◌, pos, ◌-ℤ◌, mod-lt, ◌==◌, ◌&&◌, ◌||◌, not, nat_le, nat_lt, Bool, true, false, Some, None, [], ◌∷◌, ◌++◌, length, refl, sym, ap, subst, ◌∙◌, inl, inr, arith, IsTrue, IfSome, append_assoc}
+use Rattle.std.proofs.lemmas.Bool.{cases_Bool, cases_eq, cases_lt, eq-eqb, lt-ltb, ne_eqb, false≢true, eqb-true}
 use Rattle.std.proofs.lemmas.List.{append-nil, length_push}
 use Rattle.std.proofs.lemmas.List.Folds.{list_any-append}
 use Rattle.std.specs.Option.{option_and_then}
@@ -16,11 +16,16 @@ use Rattle.pesp_instance.specs.Network.{IsEvent, IsNetwork, Network, event_of, w
 use Rattle.pesp_instance.proofs.Rising.{IfSome-with_number, number-with_number}
 use Rattle.pesp_domains.specs.Sweeps.{Pairs}
 use Rattle.pesp_domains.proofs.Families.{and_left, and_right}
+use Rattle.pesp_counts_supports.specs.declared.bringing.Admitted.{Admitted}
+use Rattle.pesp_counts_supports.specs.declared.bringing.Admitted.TheVariants.{Any, Nothing, Within}
+use Rattle.pesp_counts_arcs.specs.declared.end.Ranges.{Ranges}
 use Rattle.pesp_counts_supports.specs.declared.trail.Placed.{Placed}
 use Rattle.pesp_counts_supports.specs.Counts.{has_at}
+use Rattle.pesp_counts_arcs.specs.Links.{Links}
 use Rattle.pesp_counts_supports.specs.Put.{Back}
 use Rattle.pesp_counts_arcs.specs.Ends.{is_from_to}
-use Rattle.pesp_counts_supports.specs.Restored.{HasRoom, IsBrought, of_pair, of_range}
+use Rattle.pesp_counts_supports.specs.Restored.{HasRoom, IsBrought, admitted_by, in_ranges, of_admitted, of_pair, of_range, of_ranges}
+use Rattle.pesp_counts_supports.specs.Restoring.{admits_at}
 use Rattle.pesp_counts_supports.specs.Supports.{HaveSameShape, Supports, held, is_in, joined}
 use Rattle.pesp_base.proofs.Orders.{eqb_turned}
 use Rattle.pesp_counts_supports.proofs.Ranges.{no_and, range_in, range_out, range_same, empty}
@@ -180,6 +185,16 @@ range_step place low q p r le =
 pub range_none : (place low p r : ℕ) → IsTrue (of_range place low low p r) → ⊥
 range_none place low p r h = false≢true (sym (rw (empty low r) (no_and (p == place))) ∙ h)
 
+-- both ranges of a window
+pub ranges_any : (period place : ℕ) (w : Ranges) (p r : ℕ) → (of_range place w.start w.end p r || of_range place 0 w.wrapped p r) ≡ of_ranges period place w Any p r
+ranges_any period place w p r = by (p == place) (is_from_to w.start w.end r) (is_from_to 0 w.wrapped r)
+  where
+    by : (a b c : Bool) → ((a && b) || (a && c)) ≡ (a && ((b || c) && true))
+    by true true c = refl
+    by true false true = refl
+    by true false false = refl
+    by false b c = refl
+
 -- a window of one residue more holds this one too
 pub held_more : (T first k r : ℕ) → 0 < T → k < T → is_held T (record { first = first; length = k + 1 }) r ≡ (is_held T (record { first = first; length = k }) r || r == (first + k) % T)
 held_more T first k r some few =
@@ -209,6 +224,84 @@ held_more T first k r some few =
           | inl low ↦ let x : nat_lt d k ≡ true = lt-ltb d k low in let y : nat_lt d (k + 1) ≡ true = lt-ltb d (k + 1) (omega (arith, low)) in rw (x, y) refl
           | inr high ↦ let x : nat_lt d k ≡ false = grind (arith, high) in let y : nat_lt d (k + 1) ≡ false = grind (arith, high, apart) in rw (x, y) refl
         ]
+
+-- one step more along an event's window, at a residue that is in the ranges
+pub within_step : (period place first k : ℕ) (w : Ranges) (p r : ℕ) → 0 < period → k < period → in_ranges w ((first + k) % period) ≡ true
+    → (of_ranges period place w (Within (record { first = first; length = k })) p r || of_pair place ((first + k) % period) p r) ≡ of_ranges period place w (Within (record { first = first; length = k + 1 })) p r
+within_step period place first k w p r some few there =
+    rw (held_more period first k r some few)
+    (elim (cases_eq r ((first + k) % period)) [
+      | inl at ↦ rw (eq-eqb r ((first + k) % period) at, at, there) (by_one (p == place) (is_held period (record { first = first; length = k }) ((first + k) % period)))
+      | inr apart ↦ rw (ne_eqb r ((first + k) % period) apart) (by_none (p == place) (in_ranges w r) (is_held period (record { first = first; length = k }) r))
+    ])
+  where
+    by_one : (a b : Bool) → ((a && (true && b)) || (a && true)) ≡ (a && (true && (b || true)))
+    by_one true true = refl
+    by_one true false = refl
+    by_one false b = refl
+
+    by_none : (a b c : Bool) → ((a && (b && c)) || (a && false)) ≡ (a && (b && (c || false)))
+    by_none true true true = refl
+    by_none true true false = refl
+    by_none true false c = refl
+    by_none false b c = refl
+
+-- and at one that is not
+pub within_skipped : (period place first k : ℕ) (w : Ranges) (p r : ℕ) → 0 < period → k < period → in_ranges w ((first + k) % period) ≡ false
+    → of_ranges period place w (Within (record { first = first; length = k })) p r ≡ of_ranges period place w (Within (record { first = first; length = k + 1 })) p r
+within_skipped period place first k w p r some few out =
+    rw (held_more period first k r some few)
+    (elim (cases_eq r ((first + k) % period)) [
+      | inl at ↦ rw (eq-eqb r ((first + k) % period) at, at, out) (by_none (p == place) (is_held period (record { first = first; length = k }) ((first + k) % period)))
+      | inr apart ↦ rw (ne_eqb r ((first + k) % period) apart) (by_same (p == place) (in_ranges w r) (is_held period (record { first = first; length = k }) r))
+    ])
+  where
+    by_none : (a b : Bool) → (a && (false && b)) ≡ (a && (false && (b || true)))
+    by_none true b = refl
+    by_none false b = refl
+
+    by_same : (a b c : Bool) → (a && (b && c)) ≡ (a && (b && (c || false)))
+    by_same true true true = refl
+    by_same true true false = refl
+    by_same true false c = refl
+    by_same false b c = refl
+
+-- before the first step there is none
+pub within_none : (period place first : ℕ) (w : Ranges) (p r : ℕ) → IsTrue (of_ranges period place w (Within (record { first = first; length = 0 })) p r) → ⊥
+within_none period place first w p r h =
+    let held = and_right (in_ranges w r) (is_held period (record { first = first; length = 0 }) r) (and_right (p == place) (in_ranges w r && is_held period (record { first = first; length = 0 }) r) h) in
+    let none : nat_lt (residue period (pos r -ℤ pos first)) 0 ≡ false = grind arith in
+    false≢true (sym none ∙ and_right (nat_lt r period) (nat_lt (residue period (pos r -ℤ pos first)) 0) held)
+
+-- nothing is admitted
+pub ranges_nothing : (period place : ℕ) (w : Ranges) (p r : ℕ) → IsTrue (of_ranges period place w Nothing p r) → ⊥
+ranges_nothing period place w p r h = false≢true (sym (no_and (in_ranges w r)) ∙ and_right (p == place) (in_ranges w r && false) h)
+
+-- a residue of a window is below its end
+pub in_ranges_below : (w : Ranges) (n r : ℕ) → w.end ≤ n → w.wrapped ≤ n → IsTrue (in_ranges w r) → r < n
+in_ranges_below w n r end wrapped h =
+    elim (cases_lt r n) [
+      | inl below ↦ below
+      | inr above ↦
+          let first : nat_lt r w.end ≡ false = grind (arith, above, end) in
+          let second : nat_lt r w.wrapped ≡ false = grind (arith, above, wrapped) in
+          let none : in_ranges w r ≡ false = rw (first, second) (by (nat_le w.start r) (nat_le 0 r)) in
+          absurd (false≢true (sym none ∙ h))
+    ]
+  where
+    by : (a b : Bool) → ((a && false) || (b && false)) ≡ false
+    by true true = refl
+    by true false = refl
+    by false true = refl
+    by false false = refl
+
+-- what the event's window leaves is what is admitted
+pub ranges_admitted : (I : Network) (links : Links) (place : ℕ) (w : Ranges) (admitted : Admitted) → w.end ≤ I.period → w.wrapped ≤ I.period → ((r : ℕ) → r < I.period → admitted_by I.period admitted r ≡ admits_at I links place r) → (p r : ℕ) → of_ranges I.period place w admitted p r ≡ of_admitted I links place w p r
+ranges_admitted I links place w admitted end wrapped is p r =
+    elim (cases_Bool (in_ranges w r)) [
+      | inl there ↦ rw (there, is r (in_ranges_below w I.period r end wrapped there)) refl
+      | inr out ↦ rw out refl
+    ]
 
 -- ---- windows of events
 

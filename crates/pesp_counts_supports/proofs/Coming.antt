@@ -17,7 +17,7 @@ use Rattle.pesp_counts_supports.specs.Put.{Back}
 use Rattle.pesp_counts_supports.specs.Restored.{AreExactBut, AreSparedTogether, HasRoom, IsBrought, of_end, of_ends, of_starts}
 use Rattle.pesp_counts_supports.specs.Restoring.{IsRestored, ReachedAt, admits_at, is_spared}
 use Rattle.pesp_counts_supports.specs.Restoring.ReachedAt.{begins, follows}
-use Rattle.pesp_counts_supports.specs.Supports.{AreLevel, HaveSameShape, Supports, held, is_in}
+use Rattle.pesp_counts_supports.specs.Supports.{AreLevel, HaveSameShape, Supports, held, is_in, joined}
 use Rattle.pesp_base.proofs.Tests.{or_alone as or_none}
 use Rattle.pesp_counts_supports.proofs.AlongEnds.{admits_below}
 use Rattle.pesp_counts_supports.proofs.Brought.{room_then}

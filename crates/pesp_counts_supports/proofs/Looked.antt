@@ -1,18 +1,22 @@
 -- Probes are paid for by ends and by pairs that come.
 use Rattle.std.proofs.Common.{◌≡◌, ℕ, ◌+◌, ◌-◌, ◌*◌, ◌<◌, ◌≤◌, true, false, List, [], ◌∷◌, ◌++◌, length, get_or, take, sum_by, refl, sym, ap, ◌∙◌, arith, IsTrue}
-use Rattle.std.proofs.lemmas.Bool.{false≢true}
+use Rattle.std.proofs.lemmas.Bool.{eq-eqb, false≢true}
 use Rattle.std.proofs.lemmas.List.{append-nil, length-append, take-append-le}
 use Rattle.std.proofs.lemmas.List.Sums.{sum_by_more}
 use Rattle.std.proofs.Math.Nat.{mul-le-mul_left}
+use Rattle.pesp_base.specs.Windows.{Interval}
 use Rattle.pesp_domains.specs.Sweeps.{Pairs}
+use Rattle.pesp_counts_supports.specs.declared.bringing.Admitted.{Admitted}
+use Rattle.pesp_counts_supports.specs.declared.bringing.Admitted.TheVariants.{Any, Nothing, Within}
+use Rattle.pesp_counts_arcs.specs.declared.end.Ranges.{Ranges}
 use Rattle.pesp_counts_supports.specs.declared.trail.Placed.{Placed}
 use Rattle.pesp_counts_arcs.specs.Ends.{ends_of}
 use Rattle.pesp_counts_supports.specs.Counts.{has_at}
 use Rattle.pesp_counts_arcs.specs.Links.{Links}
 use Rattle.pesp_counts_supports.specs.Put.{Back}
-use Rattle.pesp_counts_supports.specs.Restored.{IsBrought}
+use Rattle.pesp_counts_supports.specs.Restored.{IsBrought, in_ranges, of_ranges}
 use Rattle.pesp_counts_supports.specs.Supports.{Supports, is_in}
-use Rattle.pesp_counts_supports.specs.Spent.{ends_at}
+use Rattle.pesp_counts_supports.specs.Spent.{ends_at, looked}
 
 -- the list only grows
 pub brought_longer : (may : Pairs) (s t : Supports) (back now : Back) → IsBrought may s t back now → length back.pairs ≤ length now.pairs
@@ -27,6 +31,16 @@ brought_some may s t back now p r there lacks h =
     filled : (xs : List Placed) → is_in xs p r ≡ true → 0 < length xs
     filled [] e = absurd (false≢true e)
     filled (x ∷ xs) e = omega arith
+
+-- fewer looks than there are residues are free, and more than that are paid for by a pair that comes
+pub looked_paid : (admitted : Admitted) (w : Ranges) (place period : ℕ) (s t : Supports) (back now : Back) → w.end ≤ period → 1 ≤ period
+    → ((window : Interval) → admitted ≡ Within window → (window.first < period) × (window.length < period)) → ((r : ℕ) × IsTrue (in_ranges w r) × (has_at s.rows place r ≡ false))
+    → IsBrought (of_ranges period place w admitted) s t back now → looked admitted w + period * length back.pairs ≤ (period - 1) + period * length now.pairs
+looked_paid Nothing w place period s t back now end some within lacks h = omega (arith, mul-le-mul_left period (brought_longer _ s t back now h))
+looked_paid (Within window) w place period s t back now end some within lacks h = omega (arith, mul-le-mul_left period (brought_longer _ s t back now h), (within window refl).1)
+looked_paid Any w place period s t back now end some within (r, there, absent) h =
+    let may : IsTrue (of_ranges period place w Any place r) = rw (eq-eqb place place refl, there) refl in
+    omega (arith, end, some, mul-le-mul_left period (brought_some (of_ranges period place w Any) s t back now place r may absent h))
 
 -- ---- one end after another
 

@@ -1,21 +1,24 @@
 -- What a block meets comes to the rows.
-use Rattle.std.proofs.Common.{◌≡◌, ℕ, ◌+◌, ◌-◌, ◌*◌, ◌%◌, ◌<◌, ◌≤◌, ◌==◌, ◌&&◌, ◌||◌, not, nat_lt, Bool, true, false, Option, List, [], ◌∷◌, ◌++◌, length, refl, sym, ap, ◌∙◌, inl, inr, arith, IsTrue, pos, ◌-ℤ◌}
+use Rattle.std.proofs.Common.{◌≡◌, ◌≢◌, ℕ, ◌+◌, ◌-◌, ◌*◌, ◌%◌, ◌<◌, ◌≤◌, ◌==◌, ◌&&◌, ◌||◌, not, nat_lt, Bool, true, false, Option, List, [], ◌∷◌, ◌++◌, length, refl, sym, ap, ◌∙◌, inl, inr, arith, IsTrue, pos, ◌-ℤ◌}
 use Rattle.pesp_counts_supports.proofs.Partners.{not_below}
 use Rattle.pesp_counts_supports.proofs.Rows.{below_same}
 use Rattle.std.proofs.Math.Bool.{and-false, or-false}
 use Rattle.std.proofs.Math.Nat.{mod-lt, mod_self, mul-le-mul_left}
-use Rattle.std.proofs.lemmas.Bool.{cases_Bool, cases_eq, cases_lt, eq-eqb, lt-ltb, ne_eqb, false≢true, not-true}
+use Rattle.std.proofs.lemmas.Bool.{cases_Bool, cases_eq, cases_lt, eq-eqb, lt-ltb, ne_eqb, false≢true, not-true, eqb-true as eqb_is}
 use Rattle.std.proofs.lemmas.List.Folds.{list_any-append}
 use Rattle.pesp_base.specs.Windows.{is_held}
 use Rattle.pesp_instance.specs.Network.{Network}
 use Rattle.pesp_base.specs.Tensions.{residue}
-use Rattle.pesp_domains.proofs.Families.{and_right}
+use Rattle.pesp_domains.proofs.Families.{and_left, and_right}
 use Rattle.pesp_domains.specs.Sweeps.{Pairs}
 use Rattle.pesp_counts_arcs.specs.declared.end.End.{End}
 use Rattle.pesp_counts_arcs.specs.Ends.{end_at, passes}
 use Rattle.pesp_counts_arcs.specs.Links.{Links}
 use Rattle.pesp_counts_supports.specs.Blocks.{AreSums, come_at, is_met, is_moved, joined_block, of_block, of_blocks, of_met, of_window}
 use Rattle.pesp_counts_supports.specs.Counts.{has_at, supporters}
+use Rattle.pesp_counts_supports.specs.declared.leaving.Moved.{Moved}
+use Rattle.pesp_counts_supports.specs.declared.leaving.Moved.TheVariants.{Block, One}
+use Rattle.pesp_counts_supports.specs.Leaving.{comes_of}
 use Rattle.pesp_counts_supports.specs.Put.{Back}
 use Rattle.pesp_counts_supports.specs.Restored.{IsBrought, of_pair, of_range, of_start}
 use Rattle.pesp_counts_supports.specs.Restoring.{admits_at, is_spared}
@@ -257,3 +260,20 @@ moved_none S place m p r = let none : nat_lt r 0 ≡ false = grind arith in rw n
 -- what waits to be counted is not counted
 pub not_counted : (s : Supports) (p r : ℕ) → IsTrue (come_at s p r) → has_at s.counted p r ≡ false
 not_counted s p r h = not-true (has_at s.counted p r) (and_right (has_at s.rows p r) (not (has_at s.counted p r)) h)
+
+-- what comes with a pair that is not counted yet is in the rows, and not counted
+pub came_with : (s : Supports) (p x : ℕ) (coming : Moved) → IsTrue (has_at s.rows p x) → has_at s.counted p x ≡ false → ((residue : ℕ) → coming ≡ One residue → residue ≡ x) → (r : ℕ) → IsTrue (comes_of s p coming r) → IsTrue (has_at s.rows p r) × (has_at s.counted p r ≡ false)
+came_with s p x (One residue) there lone alone r h =
+    let same : r ≡ x = eqb_is r residue h ∙ alone residue refl in
+    (ap (has_at s.rows p) same ∙ there, ap (has_at s.counted p) same ∙ lone)
+came_with s p x Block there lone alone r h = (and_left (has_at s.rows p r) (not (has_at s.counted p r)) h, not_counted s p r h)
+
+-- and the pair is among it
+pub came_itself : (s : Supports) (p x : ℕ) (coming : Moved) → IsTrue (has_at s.rows p x) → has_at s.counted p x ≡ false → ((residue : ℕ) → coming ≡ One residue → residue ≡ x) → IsTrue (comes_of s p coming x)
+came_itself s p x (One residue) there lone alone = eq-eqb x residue (sym (alone residue refl))
+came_itself s p x Block there lone alone = rw (there, lone) refl
+
+-- other sums leave what comes as it is
+pub comes_same : (s t : Supports) (p : ℕ) (coming : Moved) → t ≡ record s { sums = t.sums } → comes_of t p coming ≡ comes_of s p coming
+comes_same s t p (One residue) same = refl
+comes_same s t p Block same = ap (λ (u : Supports). come_at u p) same

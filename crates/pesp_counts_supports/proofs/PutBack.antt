@@ -5,17 +5,34 @@ use Rattle.std.specs.List.{Contains}
 use Rattle.std.proofs.lemmas.Bool.{and_from, and_parts, cases_Bool, cases_eq, eq-eqb, ne_eqb, false≢true, or_right}
 use Rattle.std.proofs.lemmas.List.Folds.{list_any-append}
 use Rattle.pesp_domains.specs.Removals.{without}
+use Rattle.pesp_domains.specs.Sweeps.{Of}
 use Rattle.pesp_domains.proofs.Families.{none_passes, passing}
 use Rattle.pesp_counts_supports.specs.declared.trail.Placed.{Placed}
 use Rattle.pesp_counts_arcs.specs.Ends.{end_at, ends_of, passes}
-use Rattle.pesp_counts_supports.specs.Counts.{ArePending, KeepsClosed, count_at, has_at}
+use Rattle.pesp_counts_supports.specs.Counts.{ArePending, IsLiveAt, KeepsClosed, count_at, has_at}
 use Rattle.pesp_counts_supports.specs.Resting.{AreAtRest, AreLive, ArePendingBut}
 use Rattle.pesp_counts_arcs.specs.Links.{Links}
-use Rattle.pesp_counts_supports.specs.Supports.{HaveSameShape, IsTaken, Keeps, Supports, is_in, lacks_partner}
+use Rattle.pesp_counts_supports.specs.Supports.{AreExact, AreLevel, AreOut, HaveSameShape, IsTaken, Keeps, Supports, is_in, lacks_partner, without_those}
+use Rattle.pesp_base.proofs.Tests.{or_second}
 use Rattle.pesp_counts_supports.proofs.Marks.{out_more, pending_rest}
 use Rattle.pesp_counts_supports.proofs.Ranges.{all_and, no_and}
 use Rattle.pesp_counts_supports.proofs.Supporters.{supporters_from}
 use Rattle.pesp_counts_supports.proofs.Taken.{gone_at, kept_shape, shape_then, stands_in, still_at, taken_fewer, taken_then}
+
+-- what was taken out of level rows waits
+pub pending_but : (links : Links) (s m : Supports) (back : List Placed) → AreExact links s (has_at s.counted) → AreLevel s → ((p k : ℕ) → Contains (ends_of links.lists p) k → IsLiveAt m.period m.counts (without_those (has_at m.rows) back) p k) → IsTaken s m → Keeps s m → ((p r : ℕ) → Of (has_at s.rows) p r → r < s.period) → AreOut s s.trail → ArePendingBut links m back
+pending_but links s m back exact level live taken keeps below out =
+    record {
+      exact = λ p k is. rw (keeps.period, keeps.counts, keeps.counted) (exact p k is);
+      live = live;
+      within = λ p r here. ap (λ rows. has_at rows p r) keeps.counted ∙ level p r ∙ taken_fewer s m taken p r here;
+      waiting = λ p r here gone.
+          let was : IsTrue (has_at s.rows p r) = sym (level p r) ∙ ap (λ rows. has_at rows p r) (sym keeps.counted) ∙ here in
+          let late : IsTrue (is_in taken.more p r) = or_second (has_at m.rows p r) (is_in taken.more p r) (sym (taken.parted p r) ∙ was) gone in
+          ap (λ xs. is_in xs p r) taken.trail ∙ list_any-append (λ (x : Placed). x.place == p && x.residue == r) s.trail taken.more ∙ or_right (is_in s.trail p r) _ late;
+      below = λ p r here. let l = below p r (taken_fewer s m taken p r here) in omega (arith, l, keeps.period);
+      out = out_more s m out below (kept_shape s m keeps) taken;
+    }
 
 -- a pair with all its counts above 0
 partnered : (links : Links) (s : Supports) (p r k : ℕ) → lacks_partner links s p r ≡ false → Contains (ends_of links.lists p) k → 0 < count_at s.period s.counts k r

@@ -7,7 +7,7 @@ use Rattle.std.proofs.lemmas.Bool.{cases_Bool, cases_eq, cases_lt, eq-eqb, ne_eq
 use Rattle.std.proofs.lemmas.List.{get_or-set_other, get_or-set_same, get_or_read}
 use Rattle.std.proofs.lemmas.List.Sums.{sum_by-set}
 use Rattle.pesp_domains.specs.Domains.{holds}
-use Rattle.pesp_counts_arcs.specs.Ends.{is_from_to}
+use Rattle.pesp_counts_arcs.specs.Ends.{is_from_to, passes}
 use Rattle.pesp_counts_supports.specs.Counts.{has_at, held_in, supporters}
 use Rattle.pesp_counts_supports.specs.Supports.{held, joined}
 use Rattle.pesp_base.proofs.Orders.{eqb_turned}

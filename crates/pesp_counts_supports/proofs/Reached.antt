@@ -1,7 +1,7 @@
 -- What a block brings is what its residues bring, one by one.
-use Rattle.std.proofs.Common.{ℕ, ◌+◌, ◌%◌, ◌<◌, ◌==◌, ◌&&◌, not, nat_lt, Bool, true, false, Option, sym, ◌≡◌, ◌∙◌, inl, inr, arith, IsTrue}
+use Rattle.std.proofs.Common.{ℕ, ◌+◌, ◌%◌, ◌<◌, ◌==◌, ◌&&◌, not, nat_lt, Bool, true, false, Option, refl, sym, ◌≡◌, ◌∙◌, inl, inr, arith, IsTrue}
 use Rattle.std.proofs.Math.Nat.{mod-lt}
-use Rattle.std.proofs.lemmas.Bool.{cases_lt, lt-ltb, false≢true, and_from as and_both}
+use Rattle.std.proofs.lemmas.Bool.{cases_Bool, cases_lt, lt-ltb, false≢true, and_from as and_both}
 use Rattle.std.specs.List.{Contains}
 use Rattle.pesp_instance.specs.Network.{Network}
 use Rattle.pesp_domains.proofs.Families.{and_left, and_right, passing}
@@ -15,7 +15,8 @@ use Rattle.pesp_counts_supports.specs.Restoring.{admits_at, is_spared}
 use Rattle.pesp_counts_supports.proofs.AlongEnds.{admits_below}
 use Rattle.pesp_counts_supports.proofs.Coming.{any_of}
 use Rattle.pesp_counts_supports.proofs.Meeting.{passes_some}
-use Rattle.pesp_counts_supports.proofs.Supporters.{supporters_from, supporters_some}
+use Rattle.pesp_counts_supports.proofs.Parted.{partners_of_one}
+use Rattle.pesp_counts_supports.proofs.Supporters.{one, supporters_from, supporters_some}
 
 some_from : (n : ℕ) → IsTrue (nat_lt 0 n) → 0 < n
 some_from n h =
@@ -94,3 +95,26 @@ block_some T links linked place D m d listed dl held =
     let rl = mod-lt (d + end.first) some in
     let pass = passes_some T end d some at.some in
     (r, rl, supporters_from T D (passes T mate r) d dl held (sym (at.both_ways d r dl rl) ∙ pass))
+
+-- along an end a block of one residue brings what the residue brings
+pub block_of_one : (T : ℕ) (I : Network) (links : Links) → AreLinked T links.ends links.lists → T ≡ I.period → (place m s : ℕ) (D : ℕ → Bool) → Contains (ends_of links.lists place) m → s < T → ((q : ℕ) → D q ≡ (q == s))
+    → (p r : ℕ) → of_end T I links s (end_at links.ends m) p r ≡ of_block T I links D (end_at links.ends (end_at links.ends m).mate) (end_at links.ends m).looks_at p r
+block_of_one T I links linked same place m s D listed sl is p r =
+    let end : End = end_at links.ends m in
+    elim (cases_Bool (admits_at I links end.looks_at r)) [
+      | inl there ↦
+          let rl : r < T = let low = admits_below I links end.looks_at r there in omega (arith, low, same) in
+          let partners = partners_of_one T links.ends links.lists place m D s r linked listed sl rl is in
+          rw (there, partners) (by (p == end.looks_at) (passes T end s r))
+      | inr out ↦ rw out (none (p == end.looks_at) (passes T end s r) (nat_lt 0 (supporters T D (passes T (end_at links.ends end.mate) r))))
+    ]
+  where
+    by : (a b : Bool) → (a && (b && true)) ≡ ((a && true) && nat_lt 0 (one b))
+    by true true = refl
+    by true false = refl
+    by false b = refl
+
+    none : (a b c : Bool) → (a && (b && false)) ≡ ((a && false) && c)
+    none true true c = refl
+    none true false c = refl
+    none false b c = refl

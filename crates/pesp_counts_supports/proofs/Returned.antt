@@ -1,5 +1,5 @@
 -- Pairs of the trail come back.
-use Rattle.std.proofs.Common.{◌≡◌, ◌≢◌, ℕ, ◌+◌, ◌-◌, ◌<◌, ◌≤◌, ◌==◌, ◌&&◌, ◌||◌, not, Bool, true, false, List, [], ◌∷◌, ◌++◌, AllPairs, Some, length, get_or, take, drop, refl, sym, ap, subst, ◌∙◌, inl, inr, arith, IsTrue, append_assoc}
+use Rattle.std.proofs.Common.{◌≡◌, ◌≢◌, ℕ, ◌+◌, ◌-◌, ◌<◌, ◌≤◌, ◌==◌, ◌&&◌, ◌||◌, not, Bool, true, false, List, [], ◌∷◌, ◌++◌, All, AllPairs, Some, length, get_or, take, drop, refl, sym, ap, subst, ◌∙◌, inl, inr, arith, IsTrue, append_assoc}
 use Rattle.std.proofs.Math.Bool.{and-false, and-true, or-false, or-true}
 use Rattle.std.proofs.Math.Seq.{drop-append_seam, drop-length, get_or-append_seam, take-append_seam, take-length}
 use Rattle.std.proofs.lemmas.Bool.{and_parts, cases_Bool, eq-eqb, false≢true, or_parts, eqb-true as eqb_is}

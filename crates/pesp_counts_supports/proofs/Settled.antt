@@ -1,5 +1,5 @@
 -- What waits at a place leaves what is counted, and pays for the looks that it costs.
-use Rattle.std.proofs.Common.{◌≡◌, ℕ, ◌+◌, ◌*◌, ◌<◌, ◌≤◌, not, Bool, false, IsTrue, length, get_or, drop, refl, sym, ap, subst, ◌∙◌, arith}
+use Rattle.std.proofs.Common.{◌≡◌, ℕ, ◌+◌, ◌*◌, ◌<◌, ◌≤◌, not, Bool, false, IsTrue, List, length, get_or, drop, refl, sym, ap, subst, ◌∙◌, arith}
 use Rattle.std.specs.List.{Contains}
 use Rattle.std.proofs.lemmas.Bool.{eq-eqb, not-true}
 use Rattle.pesp_domains.specs.Sweeps.{Of}
@@ -18,6 +18,11 @@ use Rattle.pesp_counts_supports.proofs.Parted.{eqb_is, owed_fewer, owed_one, owe
 use Rattle.pesp_counts_supports.proofs.Waiting.{pending_then}
 
 -- ---- which residues leave
+
+-- the sums that were made do not say which
+pub leaves_kept : (s : Supports) (sums : List ℕ) (p : ℕ) (l : Moved) → leaves_of (record s { sums = sums }) p l ≡ leaves_of s p l
+leaves_kept s sums p (One residue) = refl
+leaves_kept s sums p Block = refl
 
 module _ (s : Supports) (p q : ℕ) where
   -- the pair that they leave with is among them

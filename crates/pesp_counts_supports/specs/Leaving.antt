@@ -7,7 +7,7 @@ use Rattle.pesp_counts_supports.specs.declared.trail.Placed.{Placed}
 use Rattle.pesp_counts_arcs.specs.declared.end.End.{End}
 use Rattle.pesp_counts_arcs.specs.Ends.{end_at, ends_of, passes}
 use Rattle.pesp_counts_arcs.specs.Links.{Links}
-use Rattle.pesp_counts_supports.specs.Blocks.{AreSums, gone_at}
+use Rattle.pesp_counts_supports.specs.Blocks.{AreSums, come_at, gone_at}
 use Rattle.pesp_counts_supports.specs.Counts.{count_at, supporters}
 use Rattle.pesp_counts_supports.specs.Supports.{Supports}
 
@@ -24,6 +24,11 @@ IsMoved period Block sums leaves = AreSums period leaves sums
 abbrev pub leaves_of : Supports → ℕ → Moved → ℕ → Bool
 leaves_of s p (One residue) r = r == residue
 leaves_of s p Block r = gone_at s p r
+
+-- to a place one residue comes, or all that the rows hold and the counts have not seen
+abbrev pub comes_of : Supports → ℕ → Moved → ℕ → Bool
+comes_of s p (One residue) r = r == residue
+comes_of s p Block r = come_at s p r
 
 -- how many partners a residue at the far end of an activity has among those that leave the near one
 abbrev pub partners : ℕ → List End → ℕ → (ℕ → Bool) → ℕ → ℕ

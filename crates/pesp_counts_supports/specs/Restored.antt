@@ -7,6 +7,7 @@ use Rattle.pesp_domains.specs.Sweeps.{Pairs}
 use Rattle.pesp_counts_supports.specs.declared.bringing.Admitted.{Admitted}
 use Rattle.pesp_counts_supports.specs.declared.bringing.Admitted.TheVariants.{Nothing, Within, Any}
 use Rattle.pesp_counts_arcs.specs.declared.end.End.{End}
+use Rattle.pesp_counts_arcs.specs.declared.end.Ranges.{Ranges}
 use Rattle.pesp_counts_supports.specs.declared.trail.Placed.{Placed}
 use Rattle.pesp_counts_arcs.specs.Ends.{end_at, ends_of, is_from_to, passes}
 use Rattle.pesp_counts_supports.specs.Counts.{IsExactAt, has_at}
@@ -16,6 +17,10 @@ use Rattle.pesp_counts_supports.specs.Restoring.{admits_at, is_spared}
 use Rattle.pesp_counts_supports.specs.Supports.{HaveSameShape, Supports, held, is_in}
 
 -- ---- which pairs a step may bring
+
+-- whether the residue is in one of the two ranges of a window
+abbrev pub in_ranges : Ranges → ℕ → Bool
+in_ranges w r = is_from_to w.start w.end r || is_from_to 0 w.wrapped r
 
 -- whether the residue is among those that an event's window leaves
 abbrev pub admitted_by : ℕ → Admitted → ℕ → Bool
@@ -30,6 +35,14 @@ of_pair place residue p r = p == place && r == residue
 -- those of a place in a range
 abbrev pub of_range : ℕ → ℕ → ℕ → Pairs
 of_range place low high p r = p == place && is_from_to low high r
+
+-- those of a place in the ranges of an end that the event's window leaves
+abbrev pub of_ranges : ℕ → ℕ → Ranges → Admitted → Pairs
+of_ranges period place w admitted p r = p == place && (in_ranges w r && admitted_by period admitted r)
+
+-- those of a place in a window that are admitted there
+abbrev pub of_admitted : Network → Links → ℕ → Ranges → Pairs
+of_admitted I links place w p r = p == place && (in_ranges w r && admits_at I links place r)
 
 -- the admitted ones that go with a residue along an activity
 abbrev pub of_end : ℕ → Network → Links → ℕ → End → Pairs

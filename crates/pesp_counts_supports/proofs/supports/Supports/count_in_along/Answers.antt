@@ -1,5 +1,5 @@
 -- The end is one that is listed, and so is its mate.
-use Rattle.std.proofs.Common.{◌≡◌, ◌+◌, ◌==◌, ◌&&◌, cond, Bool, true, false, IsTrue, ap, subst, sym, ◌∙◌, refl, arith}
+use Rattle.std.proofs.Common.{◌≡◌, ◌+◌, ◌≤◌, ◌==◌, ◌&&◌, ◌*◌, cond, Bool, true, false, IsTrue, length, ap, subst, sym, ◌∙◌, refl, arith}
 use Rattle.pesp_counts_arcs.specs.declared.end.End.{End}
 use Rattle.pesp_counts_arcs.specs.Ends.{end_at, passes}
 use Rattle.pesp_counts_supports.specs.Counts.{count_at, supporters}

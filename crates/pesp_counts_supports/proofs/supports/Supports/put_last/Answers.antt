@@ -1,5 +1,5 @@
 -- The rows hold one pair more, and the counts are those of the rows with it.
-use Rattle.std.proofs.Common.{◌≡◌, ◌*◌, ◌<◌, ◌≤◌, ◌++◌, ◌∷◌, [], length, slice_set, vec_capacity, subst, sym, ap, ◌∙◌, refl, false, arith}
+use Rattle.std.proofs.Common.{◌≡◌, ◌+◌, ◌*◌, ◌<◌, ◌≤◌, ◌++◌, ◌∷◌, [], length, slice_set, vec_capacity, subst, sym, ap, ◌∙◌, refl, false, arith}
 use Rattle.std.proofs.lemmas.List.{length-set, length_push}
 use Rattle.std.proofs.lemmas.List.Elements.{All-get_or}
 use Rattle.pesp_counts_supports.specs.Counts.{has_at}

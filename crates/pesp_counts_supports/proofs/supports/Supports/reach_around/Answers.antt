@@ -1,19 +1,19 @@
 -- An end more is counted in, and the first of those to come is at the place.
-use Rattle.std.proofs.Common.{◌≡◌, ◌≤◌, ◌+◌, ◌-◌, ◌*◌, ◌∷◌, ◌++◌, ◌||◌, false, [], ℕ, Bool, length, sym, ap, subst, ◌∙◌, append_assoc, refl, arith}
+use Rattle.std.proofs.Common.{◌≡◌, ◌≤◌, ◌+◌, ◌-◌, ◌*◌, ◌∷◌, ◌++◌, ◌||◌, false, [], ℕ, Bool, length, sym, ap, subst, ◌∙◌, append_assoc, arith}
 use Rattle.std.proofs.lemmas.Bool.{false≢true}
 use Rattle.std.specs.List.{Contains}
 use Rattle.pesp_counts_arcs.specs.declared.end.End.{End}
-use Rattle.pesp_counts_arcs.specs.Ends.{AreLinked, end_at, ends_of}
-use Rattle.pesp_counts_supports.specs.Blocks.{AreSums, come_at, joined_block, of_block, of_blocks}
+use Rattle.pesp_counts_arcs.specs.Ends.{end_at, ends_of}
+use Rattle.pesp_counts_supports.specs.Blocks.{joined_block, of_block, of_blocks}
 use Rattle.pesp_counts_supports.specs.Counts.{IsExactAt, has_at}
+use Rattle.pesp_counts_supports.specs.Leaving.{IsMoved, comes_of}
 use Rattle.pesp_counts_supports.specs.Restored.{IsBrought}
 use Rattle.pesp_counts_supports.specs.Restoring.{is_spared}
 use Rattle.pesp_counts_supports.specs.Returning.{RiseBy}
 use Rattle.pesp_counts_supports.proofs.Blocked.{AreBlockedBut, blocked_end, blocked_low, blocked_more, blocked_passed, blocked_start}
 use Rattle.pesp_counts_supports.proofs.Brought.{brought_as, brought_none, brought_then, room_then}
-use Rattle.pesp_counts_supports.proofs.Known.{end_known}
 use Rattle.pesp_counts_supports.proofs.Looked.{one_end_less, one_end_more}
-use Rattle.pesp_counts_supports.proofs.Meeting.{blocks_none, blocks_one, not_counted}
+use Rattle.pesp_counts_supports.proofs.Meeting.{blocks_none, blocks_one}
 use Rattle.pesp_counts_supports.proofs.Reached.{block_some}
 use Rattle.pesp_counts_supports.proofs.Spread.{next_end}
 use Rattle.pesp_counts_supports.proofs.Taken.{fit_then}
@@ -24,7 +24,7 @@ loop-number-init c =
     let start = c.args.self.now in
     let links = c.args.links.now in
     let p = c.args.place in
-    let D : ℕ → Bool = come_at start p in
+    let D : ℕ → Bool = comes_of start p c.args.coming in
     let S = has_at start.counted in
     let all = c.into_iter-number-iterator.ensures.into_iter_gives ∙ c.at-number-items.ensures in
     record {
@@ -32,19 +32,13 @@ loop-number-init c =
       is_finite = tt;
       walked = ([], all, brought_none (of_blocks start.period c.args.instance.now links c.args.spared D []) start c.args.back.now (λ p r h. absurd (false≢true h)));
       blocked = subst (AreBlockedBut start.period links.ends links.lists c.args.spared S p D start.counts) (sym all)
-          (blocked_start start.period links.ends links.lists c.args.spared c.requires.linked c.requires.mates S p D (not_counted start p) start.counts c.requires.exact);
-      sums = refl;
+          (blocked_start start.period links.ends links.lists c.args.spared c.requires.linked c.requires.mates S p D c.requires.absent start.counts c.requires.exact);
+      moved = c.requires.coming;
       probes = let long = ap (λ xs. (2 * start.period - 1) * length xs) all in omega (arith, long);
     }
 
-pub end-end-requires : goal.end-end-requires
-end-end-requires c =
-    let w = c.loop-number.invariant.walked in
-    let (listed, once) = next_end w.0 c.next.new.self c.in-Some.number (ends_of c.args.links.now.lists c.args.place) c.loop-number.number-iterator c.in-Some.ensures.steps w.1 (c.requires.linked.once c.args.place) in
-    (c.requires.linked.each c.args.place c.in-Some.number listed).within
-
-pub reach_block-requires : goal.reach_block-requires
-reach_block-requires c =
+pub reach_along-requires : goal.reach_along-requires
+reach_along-requires c =
     let start = c.args.self.now in
     let links = c.args.links.now in
     let now = c.loop-number.self in
@@ -53,26 +47,21 @@ reach_block-requires c =
     let T = start.period in
     let p = c.args.place in
     let S = has_at start.counted in
-    let D : ℕ → Bool = come_at start p in
+    let D : ℕ → Bool = comes_of start p c.args.coming in
     let inv = c.loop-number.invariant in
     let w = inv.walked in
     let (listed, once) = next_end w.0 rest number (ends_of links.lists p) c.loop-number.number-iterator c.in-Some.ensures.steps w.1 (c.requires.linked.once p) in
     let free = sym c.is_spared_end.ensures ∙ c.if-not-is_spared_end.true in
     let so_far = subst (AreBlockedBut T links.ends links.lists c.args.spared S p D now.counts) c.in-Some.ensures.steps inv.blocked in
-    let low = blocked_low T links.ends links.lists c.args.spared c.requires.linked c.requires.mates S p D (not_counted start p) now.counts number rest listed free so_far in
+    let low = blocked_low T links.ends links.lists c.args.spared c.requires.linked c.requires.mates S p D c.requires.absent now.counts number rest listed free so_far in
     let some = c.requires.some in
     let same = w.2.shape.period in
-    let linked : AreLinked now.period links.ends links.lists = rw same c.requires.linked in
-    let known = end_known links now linked (fit_then links start now w.2.shape c.requires.fit) p number listed c.end-end.result c.end-end.ensures in
-    let sums : AreSums T D now.sums = rw inv.sums c.requires.sums in
     record {
+      linked = rw same c.requires.linked;
+      fit = fit_then links start now w.2.shape c.requires.fit;
       period = same ∙ c.requires.period;
-      mate = known.1.within;
-      first = known.1.first;
-      width = known.1.width;
-      looks = known.2;
-      block = known.3;
-      moved = rw (c.end-end.ensures, same) (D, sums, low, block_some T links c.requires.linked p D number some.0 listed some.1 some.2);
+      listed = (p, listed);
+      some = rw same (D, inv.moved, low, block_some T links c.requires.linked p D number some.0 listed some.1 some.2);
       trail = w.2.trail ∙ c.requires.trail;
       room = room_then (of_blocks T c.args.instance.now links c.args.spared D w.0) start now c.args.back.now c.loop-number.back w.2 c.requires.room;
     }
@@ -83,13 +72,13 @@ loop-number-preserved-then-not-is_spared_end c =
     let I = c.args.instance.now in
     let links = c.args.links.now in
     let now = c.loop-number.self in
-    let after = c.reach_block.new.self in
+    let after = c.reach_along.new.self in
     let number = c.in-Some.number in
     let rest = c.next.new.self in
     let T = start.period in
     let p = c.args.place in
     let S = has_at start.counted in
-    let D : ℕ → Bool = come_at start p in
+    let D : ℕ → Bool = comes_of start p c.args.coming in
     let spared = c.args.spared in
     let end : End = end_at links.ends number in
     let inv = c.loop-number.invariant in
@@ -98,28 +87,26 @@ loop-number-preserved-then-not-is_spared_end c =
     let free = sym c.is_spared_end.ensures ∙ c.if-not-is_spared_end.true in
     let so_far = subst (AreBlockedBut T links.ends links.lists spared S p D now.counts) c.in-Some.ensures.steps inv.blocked in
     let same = w.2.shape.period in
-    let sums : AreSums now.period D now.sums = rw (same, inv.sums) c.requires.sums in
-    let risen : RiseBy now.period links.ends number D now.counts after.counts = rw (← c.end-end.ensures) (c.reach_block.ensures.counts D sums) in
-    let rise : RiseBy T links.ends number D now.counts after.counts = subst (λ n. RiseBy n links.ends number D now.counts after.counts) same risen in
+    let moved : IsMoved now.period c.args.coming now.sums D = rw same inv.moved in
+    let rise : RiseBy T links.ends number D now.counts after.counts = subst (λ n. RiseBy n links.ends number D now.counts after.counts) same (c.reach_along.ensures.counts D moved) in
     let this = of_block T I links D (end_at links.ends end.mate) end.looks_at in
-    let brought : IsBrought (of_block now.period I links D (end_at links.ends end.mate) end.looks_at) now after c.loop-number.back c.reach_block.new.back = rw (← c.end-end.ensures) (c.reach_block.ensures.brought D sums) in
-    let came : IsBrought this now after c.loop-number.back c.reach_block.new.back =
-    subst (λ n. IsBrought (of_block n I links D (end_at links.ends end.mate) end.looks_at) now after c.loop-number.back c.reach_block.new.back) same brought
+    let came : IsBrought this now after c.loop-number.back c.reach_along.new.back =
+    subst (λ n. IsBrought (of_block n I links D (end_at links.ends end.mate) end.looks_at) now after c.loop-number.back c.reach_along.new.back) same (c.reach_along.ensures.brought D moved)
     in
-    let looked = subst (λ n. after.probes + n * length c.loop-number.back.pairs ≤ now.probes + (2 * n - 1) + n * length c.reach_block.new.back.pairs) same c.reach_block.ensures.probes in
+    let looked = subst (λ n. after.probes + n * length c.loop-number.back.pairs ≤ now.probes + (2 * n - 1) + n * length c.reach_along.new.back.pairs) same c.reach_along.ensures.probes in
     record {
       can_next = tt;
       is_finite = tt;
       walked = (
         w.0 ++ number ∷ [],
         append_assoc w.0 (number ∷ []) rest ∙ ap (λ xs. w.0 ++ xs) (sym c.in-Some.ensures.steps) ∙ w.1,
-        brought_as (λ q r. of_blocks T I links spared D w.0 q r || this q r) (of_blocks T I links spared D (w.0 ++ number ∷ [])) start after c.args.back.now c.reach_block.new.back
+        brought_as (λ q r. of_blocks T I links spared D w.0 q r || this q r) (of_blocks T I links spared D (w.0 ++ number ∷ [])) start after c.args.back.now c.reach_along.new.back
             (blocks_one T I links spared D w.0 number free)
-            (brought_then (of_blocks T I links spared D w.0) this start now after c.args.back.now c.loop-number.back c.reach_block.new.back w.2 came),
+            (brought_then (of_blocks T I links spared D w.0) this start now after c.args.back.now c.loop-number.back c.reach_along.new.back w.2 came),
       );
-      blocked = blocked_more T links.ends links.lists spared c.requires.linked c.requires.mates S p D (not_counted start p) now.counts number rest listed free so_far after.counts once rise;
-      sums = c.reach_block.ensures.sums ∙ inv.sums;
-      probes = one_end_more T c.args.back.now.pairs c.loop-number.back.pairs c.reach_block.new.back.pairs start.probes now.probes after.probes (ends_of links.lists p) c.loop-number.number-iterator rest number c.in-Some.ensures.steps inv.probes looked;
+      blocked = blocked_more T links.ends links.lists spared c.requires.linked c.requires.mates S p D c.requires.absent now.counts number rest listed free so_far after.counts once rise;
+      moved = subst (λ n. IsMoved n c.args.coming after.sums D) same (c.reach_along.ensures.coming D moved);
+      probes = one_end_more T c.args.back.now.pairs c.loop-number.back.pairs c.reach_along.new.back.pairs start.probes now.probes after.probes (ends_of links.lists p) c.loop-number.number-iterator rest number c.in-Some.ensures.steps inv.probes looked;
     }
 
 pub loop-number-preserved : goal.loop-number-preserved
@@ -132,7 +119,7 @@ loop-number-preserved c =
     let rest = c.next.new.self in
     let T = start.period in
     let p = c.args.place in
-    let D : ℕ → Bool = come_at start p in
+    let D : ℕ → Bool = comes_of start p c.args.coming in
     let spared = c.args.spared in
     let inv = c.loop-number.invariant in
     let w = inv.walked in
@@ -147,8 +134,8 @@ loop-number-preserved c =
         brought_as (of_blocks T I links spared D w.0) (of_blocks T I links spared D (w.0 ++ number ∷ [])) start now c.args.back.now c.loop-number.back
             (blocks_none T I links spared D w.0 number out) w.2,
       );
-      blocked = blocked_passed T links.ends links.lists spared c.requires.linked c.requires.mates (has_at start.counted) p D (not_counted start p) now.counts number rest out so_far;
-      sums = inv.sums;
+      blocked = blocked_passed T links.ends links.lists spared c.requires.linked c.requires.mates (has_at start.counted) p D c.requires.absent now.counts number rest out so_far;
+      moved = inv.moved;
       probes = one_end_less T c.args.back.now.pairs c.loop-number.back.pairs start.probes now.probes (ends_of links.lists p) c.loop-number.number-iterator rest number c.in-Some.ensures.steps inv.probes;
     }
 
@@ -159,12 +146,12 @@ returns-clause-exact c =
     let now = c.loop-number.self in
     let p = c.args.place in
     let S = has_at start.counted in
-    let D : ℕ → Bool = come_at start p in
+    let D : ℕ → Bool = comes_of start p c.args.coming in
     let spared = c.args.spared in
     let inv = c.loop-number.invariant in
     let so_far = subst (AreBlockedBut start.period links.ends links.lists spared S p D now.counts) c.in-None.ensures.steps.0 inv.blocked in
     subst (λ n. (q k : ℕ) → Contains (ends_of links.lists q) k → is_spared spared k ≡ false → IsExactAt n links.ends now.counts (joined_block S p D) k) (sym inv.walked.2.shape.period)
-    (blocked_end start.period links.ends links.lists spared c.requires.linked c.requires.mates S p D (not_counted start p) now.counts so_far)
+    (blocked_end start.period links.ends links.lists spared c.requires.linked c.requires.mates S p D c.requires.absent now.counts so_far)
 
 pub returns-clause-probes : goal.returns-clause-probes
 returns-clause-probes c =
