@@ -68,14 +68,19 @@ def window_of(network, event, length):
 
 
 def measure_windows(network, events, built):
-    """What windows take: a narrow one where there was none, and then a wide one. NaN where the program knows none."""
+    """What windows take: a narrow one where there was none, then a wide one, and one of all residues but one that is taken
+    away again. NaN where the program knows none."""
     narrow, wide = ([window_of(network, event, length) for event in events] for length in [NARROW, WIDE])
-    if network.answers(narrow + wide) != "ok\n" * (len(narrow) + len(wide)):
-        return {"window": math.nan, "wider": math.nan}
+    most = [f"window {event} {(network.times[event] + 1) % PERIOD} {PERIOD - 1}" for event in events]
+    opened = [f"unfix {event}" for event in events]
+    lines = narrow + wide + opened + most + opened
+    if network.answers(lines) != "ok\n" * len(lines):
+        return {"window": math.nan, "wider": math.nan, "lone": math.nan}
     narrowed = network.takes(narrow)
     return {
         "window": (narrowed - built) / len(events),
         "wider": (network.takes(narrow + wide) - narrowed) / len(events),
+        "lone": (network.takes(most + opened) - network.takes(most)) / len(events),
     }
 
 
@@ -123,10 +128,10 @@ def measure_search(program, folder, events):
 def print_edits(table):
     print("\ninstructions of a building for each activity, and of each edit")
     print(
-        f"{'rows':>7} {'events':>7} {'building':>9} {'span':>9} {'weight':>9} {'drop':>9} {'add':>9} {'window':>9} {'wider':>9} {'fix':>9} {'unfix':>11} {'residues moved':>15} {'peak kB':>9}"
+        f"{'rows':>7} {'events':>7} {'building':>9} {'span':>9} {'weight':>9} {'drop':>9} {'add':>9} {'window':>9} {'wider':>9} {'lone':>9} {'fix':>9} {'unfix':>11} {'residues moved':>15} {'peak kB':>9}"
     )
     for row in table:
-        edits = "".join(f" {row[name]:>9.0f}" for name in ["span", "weight", "drop", "add", "window", "wider", "fix"])
+        edits = "".join(f" {row[name]:>9.0f}" for name in ["span", "weight", "drop", "add", "window", "wider", "lone", "fix"])
         figures = f"{row['building']:>9.0f}{edits} {row['unfix']:>11.0f}"
         print(f"{row['rows']:>7} {row['events']:>7} {figures} {row['pairs']:>15.1f} {row['memory']:>9}")
 
