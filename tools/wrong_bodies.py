@@ -1,19 +1,21 @@
 """The two shelves of wrong bodies of each crate, and how those of the second one are tried.
 
-The gate tries `must-fail/` itself. Those of `wrong-bodies/` are tried in its place on a copy of the tree, by the
-toolchain's `rt must-fail`, which keeps on the machine what it has tried.
+The gate tries `must-fail/` itself. Those of `wrong-bodies/` are tried in its place on a copy of the tree, by the gate's
+own `rt ci NAME`, which keeps on the machine what it has proved and tried.
 """
 
 import pathlib
 import re
 import shutil
 import subprocess
-from typing import Dict, List, Sequence, Tuple
+from typing import Dict, List, Sequence
 
 FIRST, SECOND = "must-fail", "wrong-bodies"
 # The toolchain's line on an edit; what is in brackets after the first words takes from what a refusal shows.
 LINE = re.compile(r"(?:rt: )?must-fail (?P<crate>\w+)/(?P<name>[\w.-]+\.edit): (?P<told>.*)")
 REFUSED = "refused, as it must be"
+# Its line on a crate that it does not prove, or on one below it.
+UNPROVED = re.compile(r"rt: \w+( NOT PROVED.*|: its tests are NOT PROVED)")
 
 
 class Missing(Exception):
@@ -74,17 +76,17 @@ def crates_of(top: pathlib.Path, names: Sequence[str]) -> List[str]:
 
 
 def copy_tree(top: pathlib.Path, to: pathlib.Path, crate: str) -> None:
-    """Copies what a check of the crate reads, with its second shelf where the gate looks for the first."""
+    """Copies what the gate reads of the crate, with its second shelf where it looks for the first."""
     shutil.copytree(top / "crates", to / "crates", ignore=shutil.ignore_patterns("out", FIRST, SECOND))
     for name in ["crates.txt", "HANDLES"]:
         shutil.copy(top / name, to / name)
     shutil.copytree(top / "crates" / crate / SECOND, to / "crates" / crate / FIRST)
 
 
-def called(words: Sequence[str], folder: pathlib.Path) -> Tuple[int, List[str]]:
-    """The status of a command of the toolchain, and the lines that it wrote."""
+def called(words: Sequence[str], folder: pathlib.Path) -> List[str]:
+    """The lines that a command of the toolchain wrote."""
     done = subprocess.run(words, cwd=folder, stdin=subprocess.DEVNULL, stdout=subprocess.PIPE, stderr=subprocess.STDOUT)
-    return done.returncode, done.stdout.decode(errors="replace").splitlines()
+    return done.stdout.decode(errors="replace").splitlines()
 
 
 def told_of(lines: Sequence[str]) -> Dict[str, str]:
@@ -106,17 +108,14 @@ def told_of(lines: Sequence[str]) -> Dict[str, str]:
 def try_crate(top: pathlib.Path, room: pathlib.Path, crate: str) -> Dict[str, str]:
     """What is told of each edit of the crate's second shelf, by its file's name.
 
-    A crate that is not proved would refuse whatever is tried, so it is checked first, where the tree itself stands:
-    what that keeps serves the copy, and later runs too.
+    A crate that is not proved would refuse whatever is tried, so none of its edits is.
     """
-    names = [path.name for path in edits(top, SECOND, crate)]
-    status, lines = called(["rt", "check"], top / "crates" / crate)
-    if status:
-        return dict.fromkeys(names, f"NOT TRIED: the crate itself is not proved: {(lines or ['no word'])[-1]}")
     copy_tree(top, room, crate)
-    _, lines = called(["rt", "must-fail", crate], room)
+    lines = called(["rt", "ci", crate], room)
     told = told_of(lines)
-    return {name: told.get(name, "NOT TRIED: no word of it") for name in names}
+    unproved = [line for line in lines if UNPROVED.fullmatch(line)]
+    silent = f"NOT TRIED: {unproved[0]}" if unproved else "NOT TRIED: no word of it"
+    return {path.name: told.get(path.name, silent) for path in edits(top, SECOND, crate)}
 
 
 def is_refused(told: str) -> bool:
