@@ -68,20 +68,26 @@ def window_of(network, event, length):
 
 
 def measure_windows(network, events, built):
-    """What windows take: a narrow one where there was none, then a wide one, and one of all residues but one that is taken
-    away again. NaN where the program knows none."""
+    """What windows take: a narrow one where there was none, and then a wide one. NaN where the program knows none."""
     narrow, wide = ([window_of(network, event, length) for event in events] for length in [NARROW, WIDE])
-    most = [f"window {event} {(network.times[event] + 1) % PERIOD} {PERIOD - 1}" for event in events]
-    opened = [f"unfix {event}" for event in events]
-    lines = narrow + wide + opened + most + opened
-    if network.answers(lines) != "ok\n" * len(lines):
-        return {"window": math.nan, "wider": math.nan, "lone": math.nan}
+    if network.answers(narrow + wide) != "ok\n" * (len(narrow) + len(wide)):
+        return {"window": math.nan, "wider": math.nan}
     narrowed = network.takes(narrow)
     return {
         "window": (narrowed - built) / len(events),
         "wider": (network.takes(narrow + wide) - narrowed) / len(events),
-        "lone": (network.takes(most + opened) - network.takes(most)) / len(events),
     }
+
+
+def measure_lone(program, folder, rows):
+    """What it takes that one residue comes back, which a window left out, where no event has a fixed time."""
+    network = Network(program, folder, rows, events_of(rows), lambda event: False)
+    events = some_of(range(len(network.times)))
+    narrowed = [f"window {event} {network.times[event]} {PERIOD - 1}" for event in events]
+    lines = narrowed + [f"unfix {event}" for event in events]
+    if network.answers(lines) != "ok\n" * len(lines):
+        return math.nan
+    return (network.takes(lines) - network.takes(narrowed)) / len(events)
 
 
 def measure_edits(program, folder, rows):
@@ -113,6 +119,7 @@ def measure_edits(program, folder, rows):
         "fix": (fixed - built) / len(free),
         "unfix": (network.takes(fix + unfix) - fixed) / len(free),
         **measure_windows(network, free, built),
+        "lone": measure_lone(program, folder, rows),
         "memory": peak(network.words, network.memory),
     }
 
