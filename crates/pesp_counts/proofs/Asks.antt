@@ -3,11 +3,11 @@ use Rattle.std.proofs.Common.{◌≡◌, ◌≢◌, ℕ, ◌<◌, ◌==◌, cond
 use Rattle.std.specs.List.{Contains}
 use Rattle.std.specs.Option.{option_and_then, option_map_or}
 use Rattle.std.specs.Result.{is_ok}
-use Rattle.std.proofs.lemmas.Bool.{cases_Bool, cases_eq, eq-eqb, ne_eqb, false≢true, eqb-true}
+use Rattle.std.proofs.lemmas.Bool.{cases_Bool, cases_eq, eq-eqb, ne_eqb, false≢true}
 use Rattle.std.proofs.lemmas.List.Elements.{All-contains, All-contains_itself}
 use Rattle.pesp_base.specs.declared.activity.Activity.{Activity}
 use Rattle.pesp_base.specs.declared.refusal.Refusal.{Refusal}
-use Rattle.pesp_base.specs.Numbered.{change_in, put_in, take_out, with_number}
+use Rattle.pesp_base.specs.Numbered.{with_number}
 use Rattle.pesp_base.specs.Refusals.{unless_refused, when}
 use Rattle.pesp_base.specs.Tensions.{IsMet}
 use Rattle.pesp_base.specs.Windows.{Interval, at_time}
@@ -25,9 +25,10 @@ use Rattle.pesp_domains.proofs.Families.{here, there}
 use Rattle.pesp_counts.specs.Loosened.{AsksAgain, HasHeir}
 use Rattle.pesp_domains.specs.Loosening.{admits_anew, admits_more, is_looser}
 use Rattle.pesp_counts.specs.Changes.{limited_by}
-use Rattle.pesp_counts.specs.Reached.{ends_of, is_edited}
+use Rattle.pesp_counts.specs.Reached.{ends_of, is_edited, starts}
 use Rattle.pesp_domains.proofs.Anew.{anew_at}
 use Rattle.pesp_domains.proofs.Wider.{no_more_met}
+use Rattle.pesp_counts_arcs.proofs.StandMembers.{in_change_other, in_change_same, in_put_in, in_take_out}
 
 abbrev id_of : Activity → ℕ
 id_of a = a.id
@@ -56,28 +57,6 @@ first_fails false refusal rest x J ok = refl
 
 -- ---- heirs
 
-itself : (I : Network) (edit : Edit) (side : Side) (a : Activity) → Contains (effect I edit).activities a → is_edited edit a ≡ false → HasHeir I edit side a
-itself I edit side a is unedited =
-    record { heir = a; there = is; own_end = refl; other_end = refl; no_more = λ r s rl sl joins. joins; unedited = inl unedited }
-
--- an activity of another number stays where one is changed
-others_stay : (I : Network) (n : ℕ) (change : Activity → Activity) → ((a : Activity) → (change a).id ≡ a.id) → (a : Activity) → IsNetwork I → Contains I.activities a → (a.id == n) ≡ false → Contains (change_in id_of n change I.activities) a
-others_stay I n change keeps a network is apart =
-    found_in id_of a.id (change_in id_of n change I.activities) a
-    (with_number-change_in id_of a.id n change keeps I.activities ∙ ap (option_map (λ x. cond (id_of x == n) (change x) x)) (activity_found I a network is) ∙ rw apart refl)
-
--- and the one of the number is there changed
-one_changes : (I : Network) (n : ℕ) (change : Activity → Activity) → ((a : Activity) → (change a).id ≡ a.id) → (a : Activity) → IsNetwork I → Contains I.activities a → (a.id == n) ≡ true → Contains (change_in id_of n change I.activities) (change a)
-one_changes I n change keeps a network is same =
-    found_in id_of a.id (change_in id_of n change I.activities) (change a)
-    (with_number-change_in id_of a.id n change keeps I.activities ∙ ap (option_map (λ x. cond (id_of x == n) (change x) x)) (activity_found I a network is) ∙ rw same refl)
-
-at_start : (I : Network) (n : ℕ) (side : Side) (a : Activity) → IsNetwork I → Contains I.activities a → (a.id == n) ≡ true → Contains (ends_of (activity_of I n)) (own side a)
-at_start I n side a network is same =
-    subst (λ o. Contains (ends_of o) (own side a)) (sym (activity_found I a network is) ∙ ap (activity_of I) (eqb-true a.id n same)) (own_of_ends side a)
-
--- ---- spans
-
 joins_less : (side : Side) (period : ℕ) (a b : Activity) → ((r s : ℕ) → IsMet period b.span r s → IsMet period a.span r s) → (r s : ℕ) → Joins side period b r s → Joins side period a r s
 joins_less Tail period a b less r s m = less r s m
 joins_less Head period a b less r s m = less s r m
@@ -90,10 +69,25 @@ other_same : (side : Side) (a b : Activity) → b.from ≡ a.from → b.to ≡ a
 other_same Tail a b from to = to
 other_same Head a b from to = from
 
--- ---- windows
+-- one at the same ends that joins no more
+heir : (I : Network) (edit : Edit) (side : Side) (a b : Activity) → Contains (effect I edit).activities b → b.from ≡ a.from → b.to ≡ a.to → ((r s : ℕ) → IsMet I.period b.span r s → IsMet I.period a.span r s) → (is_edited edit a ≡ false) ⊎ (starts I edit ≡ []) → HasHeir I edit side a
+heir I edit side a b there from to less unedited =
+    record {
+      heir = b;
+      there = there;
+      own_end = own_same side a b from to;
+      other_end = other_same side a b from to;
+      no_more = λ r s rl sl. joins_less side I.period a b less r s;
+      unedited = unedited;
+    }
 
-fixed_stays : (period : ℕ) (o p : Option Event) → p ≡ o → (r : ℕ) → IsTrue (agrees_with period (option_and_then (λ x. x.window) p) r) → IsTrue (agrees_with period (option_and_then (λ x. x.window) o) r)
-fixed_stays period o p same r h = subst (λ q. IsTrue (agrees_with period (option_and_then (λ x. x.window) q) r)) same h
+itself : (I : Network) (edit : Edit) (side : Side) (a : Activity) → Contains (effect I edit).activities a → is_edited edit a ≡ false → HasHeir I edit side a
+itself I edit side a is unedited = heir I edit side a a is refl refl (λ r s met. met) (inl unedited)
+
+at_start : (I : Network) (n : ℕ) (side : Side) (a : Activity) → IsNetwork I → Contains I.activities a → a.id ≡ n → Contains (ends_of (activity_of I n)) (own side a)
+at_start I n side a network is same = subst (λ o. Contains (ends_of o) (own side a)) (sym (activity_found I a network is) ∙ ap (activity_of I) same) (own_of_ends side a)
+
+-- ---- windows
 
 rewindowed_elsewhere : (I : Network) (n e : ℕ) (window : Option Interval) → e ≢ n → event_of (rewindowed I n window) e ≡ event_of I e
 rewindowed_elsewhere I n e window apart = with_number-change_in number e n (λ x. record x { window = window }) (λ x. refl) I.events ∙ still (event_of I e) (λ x. number-with_number number e I.events x)
@@ -101,6 +95,32 @@ rewindowed_elsewhere I n e window apart = with_number-change_in number e n (λ x
     still : (o : Option Event) → ((x : Event) → o ≡ Some x → number x ≡ e) → option_map (λ x. cond (number x == n) (record x { window = window }) x) o ≡ o
     still None at = refl
     still (Some x) at = rw (ne_eqb (number x) n (λ same. apart (sym (at x refl) ∙ same))) refl
+
+-- an event that was there and stays is as it was, but for one whose window the edit changes
+still_there : (I J : Network) (edit : Edit) (e : ℕ) → edited I edit ≡ Ok J → IsTrue (has_event I e) → IsTrue (has_event (effect I edit) e) → (limited_by edit ≡ Some e → ⊥) → event_of (effect I edit) e ≡ event_of I e
+still_there I J (AddEvent v) e ok was is unlimited =
+    let apart : v ≢ e = λ same. false≢true (sym (first_fails _ _ _ _ J ok) ∙ ap (has_event I) same ∙ was) in
+    with_number-put_in number e (record { id = v; window = None }) I.events ∙ rw (ne_eqb v e apart) refl
+still_there I J (DropEvent n) e ok was is unlimited =
+    let found = with_number-take_out number e n I.events in
+    elim (cases_eq e n) [
+      | inl same ↦ let gone : event_of (effect I (DropEvent n)) e ≡ None = found ∙ rw (eq-eqb e n same) refl in absurd (false≢true (sym (ap is_some gone) ∙ is))
+      | inr apart ↦ found ∙ rw (ne_eqb e n apart) refl
+    ]
+still_there I J (Fix n t) e ok was is unlimited = rewindowed_elsewhere I n e (Some (at_time t)) (λ same. unlimited (ap Some (sym same)))
+still_there I J (SetWindow n first length) e ok was is unlimited = rewindowed_elsewhere I n e (Some (record { first = first; length = length })) (λ same. unlimited (ap Some (sym same)))
+still_there I J (Unfix n) e ok was is unlimited = rewindowed_elsewhere I n e None (λ same. unlimited (ap Some (sym same)))
+still_there I J (AddActivity b) e ok was is unlimited = refl
+still_there I J (DropActivity n) e ok was is unlimited = refl
+still_there I J (SetSpan n span) e ok was is unlimited = refl
+still_there I J (SetWeight n weight) e ok was is unlimited = refl
+still_there I J (SetEnds n from to) e ok was is unlimited = refl
+
+-- so it admits what it did
+admits_same : (I J : Network) (edit : Edit) (e r : ℕ) → edited I edit ≡ Ok J → (effect I edit).period ≡ I.period → IsTrue (has_event I e) → IsTrue (has_event (effect I edit) e) → (limited_by edit ≡ Some e → ⊥) → admits (effect I edit) e r ≡ admits I e r
+admits_same I J edit e r ok period was is unlimited =
+    ap (λ k. agrees_with k (window_of (effect I edit) e) r) period
+    ∙ ap (λ (o : Option Event). agrees_with I.period (option_and_then (λ (x : Event). x.window) o) r) (still_there I J edit e ok was is unlimited)
 
 -- what is admitted after was admitted before, or is a reason to begin at the event
 before_or_start : (I J : Network) (n e r : ℕ) → e ≡ n → r < I.period → IsTrue (admits J e r) → IsTrue (admits I e r) ⊎ Contains (if admits_anew I J n then n ∷ [] else []) e
@@ -112,171 +132,81 @@ before_or_start I J n e r same below agrees =
           inr (rw new (subst (Contains (n ∷ [])) (sym same) (here n [])))
     ]
 
--- ---- the nine edits
+-- ---- the ten edits
+
+-- at the event whose window the edit changes chains begin where it admits more
+abbrev BeginsWindow : Network → Edit → Type 0
+BeginsWindow I edit = (n : ℕ) × (limited_by edit ≡ Some n) × (starts I edit ≡ (if admits_anew I (effect I edit) n then n ∷ [] else []))
+
+asked : (I J : Network) (edit : Edit) → edited I edit ≡ Ok J → (effect I edit).period ≡ I.period → (limited_by edit ≡ None) ⊎ BeginsWindow I edit → ((side : Side) (a : Activity) → Contains I.activities a → Contains (starts I edit) (own side a) ⊎ HasHeir I edit side a) → AsksAgain I edit
+asked I J edit ok period limits activities =
+    record {
+      period = period;
+      window = λ e r below was is agrees.
+          let stays : (limited_by edit ≡ Some e → ⊥) → IsTrue (admits I e r) = λ unlimited. sym (admits_same I J edit e r ok period was is unlimited) ∙ agrees in
+          elim limits [
+            | inl none ↦ inl (stays (λ same. false≢true (ap is_some (sym none ∙ same))))
+            | inr w ↦
+                elim (cases_eq e w.0) [
+                  | inr apart ↦ inl (stays (λ same. let both : Some w.0 ≡ Some e = sym w.1 ∙ same in apart (cc)))
+                  | inl same ↦ rw w.2 (before_or_start I (effect I edit) w.0 e r same below agrees)
+                ]
+          ];
+      activities = activities;
+    }
 
 pub asks_again : (I J : Network) (edit : Edit) → IsNetwork I → edited I edit ≡ Ok J → AsksAgain I edit
-asks_again I J (AddEvent v) network ok =
-    let new : has_event I v ≡ false = first_fails _ _ _ _ J ok in
-    record {
-      period = refl;
-      window = λ e r below event event' agrees.
-          let apart : v ≢ e = λ same. false≢true (sym new ∙ ap (has_event I) same ∙ event) in
-          let same : event_of (effect I (AddEvent v)) e ≡ event_of I e = with_number-put_in number e (record { id = v; window = None }) I.events ∙ rw (ne_eqb v e apart) refl in
-          inl (fixed_stays I.period (event_of I e) (event_of (effect I (AddEvent v)) e) same r agrees);
-      activities = λ side a is. inr (itself I (AddEvent v) side a is refl);
-    }
-asks_again I J (DropEvent n) network ok =
-    record {
-      period = refl;
-      window = λ e r below event event' agrees.
-          let found = with_number-take_out number e n I.events in
-          let apart : (e == n) ≡ false =
-          elim (cases_Bool (e == n)) [
-            | inr no_one ↦ no_one
-            | inl same ↦ let gone : event_of (effect I (DropEvent n)) e ≡ None = found ∙ rw same refl in absurd (false≢true (sym (ap is_some gone) ∙ event'))
-          ]
-          in
-          let stays : event_of (effect I (DropEvent n)) e ≡ event_of I e = found ∙ rw apart refl in
-          inl (fixed_stays I.period (event_of I e) (event_of (effect I (DropEvent n)) e) stays r agrees);
-      activities = λ side a is. inr (itself I (DropEvent n) side a is refl);
-    }
-asks_again I J (Fix n t) network ok =
-    record {
-      period = refl;
-      window = λ e r below event event' agrees.
-          elim (cases_eq e n) [
-            | inr apart ↦ inl (fixed_stays I.period (event_of I e) (event_of (effect I (Fix n t)) e) (rewindowed_elsewhere I n e (Some (at_time t)) apart) r agrees)
-            | inl same ↦ before_or_start I (effect I (Fix n t)) n e r same below agrees
-          ];
-      activities = λ side a is. inr (itself I (Fix n t) side a is refl);
-    }
-asks_again I J (SetWindow n first length) network ok =
-    record {
-      period = refl;
-      window = λ e r below event event' agrees.
-          elim (cases_eq e n) [
-            | inr apart ↦ inl (fixed_stays I.period (event_of I e) (event_of (effect I (SetWindow n first length)) e) (rewindowed_elsewhere I n e (Some (record { first = first; length = length })) apart) r agrees)
-            | inl same ↦ before_or_start I (effect I (SetWindow n first length)) n e r same below agrees
-          ];
-      activities = λ side a is. inr (itself I (SetWindow n first length) side a is refl);
-    }
-asks_again I J (Unfix n) network ok =
-    record {
-      period = refl;
-      window = λ e r below event event' agrees.
-          elim (cases_eq e n) [
-            | inr apart ↦ inl (fixed_stays I.period (event_of I e) (event_of (effect I (Unfix n)) e) (rewindowed_elsewhere I n e None apart) r agrees)
-            | inl same ↦ before_or_start I (effect I (Unfix n)) n e r same below agrees
-          ];
-      activities = λ side a is. inr (itself I (Unfix n) side a is refl);
-    }
+asks_again I J (AddEvent v) network ok = asked I J (AddEvent v) ok refl (inl refl) (λ side a is. inr (itself I (AddEvent v) side a is refl))
+asks_again I J (DropEvent n) network ok = asked I J (DropEvent n) ok refl (inl refl) (λ side a is. inr (itself I (DropEvent n) side a is refl))
+asks_again I J (Fix n t) network ok = asked I J (Fix n t) ok refl (inr (n, refl, refl)) (λ side a is. inr (itself I (Fix n t) side a is refl))
+asks_again I J (SetWindow n first length) network ok = asked I J (SetWindow n first length) ok refl (inr (n, refl, refl)) (λ side a is. inr (itself I (SetWindow n first length) side a is refl))
+asks_again I J (Unfix n) network ok = asked I J (Unfix n) ok refl (inr (n, refl, refl)) (λ side a is. inr (itself I (Unfix n) side a is refl))
 asks_again I J (AddActivity b) network ok =
-    let new : is_some (activity_of I b.id) ≡ false = first_fails _ _ _ _ J ok in
-    record {
-      period = refl;
-      window = λ e r below event event' agrees. inl agrees;
-      activities = λ side a is.
-          let found = activity_found I a network is in
-          let apart : b.id ≢ a.id = λ same. false≢true (sym new ∙ ap (λ n. is_some (activity_of I n)) same ∙ ap is_some found) in
-          inr (itself I (AddActivity b) side a
-          (found_in id_of a.id (put_in id_of b I.activities) a (with_number-put_in id_of a.id b I.activities ∙ rw (ne_eqb b.id a.id apart) found)) refl);
-    }
+    asked I J (AddActivity b) ok refl (inl refl)
+    (λ side a is.
+    let apart : a.id ≢ b.id = λ same. false≢true (sym (first_fails _ _ _ _ J ok) ∙ ap (λ n. is_some (activity_of I n)) (sym same) ∙ ap is_some (activity_found I a network is)) in
+    inr (itself I (AddActivity b) side a (in_put_in id_of b I.activities a is apart) refl))
 asks_again I J (DropActivity n) network ok =
-    record {
-      period = refl;
-      window = λ e r below event event' agrees. inl agrees;
-      activities = λ side a is.
-          elim (cases_Bool (a.id == n)) [
-            | inl same ↦ inl (at_start I n side a network is same)
-            | inr apart ↦ inr (itself I (DropActivity n) side a
-                (found_in id_of a.id (take_out id_of n I.activities) a (with_number-take_out id_of a.id n I.activities ∙ rw apart (activity_found I a network is))) apart)
-          ];
-    }
+    asked I J (DropActivity n) ok refl (inl refl)
+    (λ side a is.
+    elim (cases_eq a.id n) [
+      | inl same ↦ inl (at_start I n side a network is same)
+      | inr apart ↦ inr (itself I (DropActivity n) side a (in_take_out id_of n I.activities a is apart) (ne_eqb a.id n apart))
+    ])
 asks_again I J (SetSpan n span) network ok =
     let set : Activity → Activity = λ a. record a { span = span } in
-    record {
-      period = refl;
-      window = λ e r below event event' agrees. inl agrees;
-      activities = λ side a is.
-          elim (cases_Bool (a.id == n)) [
-            | inr apart ↦ inr (itself I (SetSpan n span) side a (others_stay I n set (λ b. refl) a network is apart) apart)
-            | inl same ↦
-                let found : activity_of I n ≡ Some a = ap (activity_of I) (sym (eqb-true a.id n same)) ∙ activity_found I a network is in
-                elim (is_looser I n span) as (λ b. is_looser I n span ≡ b → Contains (if b then ends_of (activity_of I n) else []) (own side a) ⊎ HasHeir I (SetSpan n span) side a) [
-                  | true ↦ λ _. inl (at_start I n side a network is same)
-                  | false ↦ λ tight.
-                      let less : admits_more I.period a.span span ≡ false = sym (ap (λ o. option_map_or (λ b. admits_more I.period b.span span) o false) found) ∙ tight in
-                      inr (record {
-                        heir = record a { span = span };
-                        there = one_changes I n set (λ b. refl) a network is same;
-                        own_end = own_same side a (record a { span = span }) refl refl;
-                        other_end = other_same side a (record a { span = span }) refl refl;
-                        no_more = λ r s rl sl. joins_less side I.period a (record a { span = span }) (no_more_met I.period a.span span (omega (arith, rl)) less) r s;
-                        unedited = inr (rw tight refl);
-                      })
-                ] refl
-          ];
-    }
+    asked I J (SetSpan n span) ok refl (inl refl)
+    (λ side a is.
+    elim (cases_eq a.id n) [
+      | inr apart ↦ inr (itself I (SetSpan n span) side a (in_change_other id_of n set I.activities a is apart) (ne_eqb a.id n apart))
+      | inl same ↦
+          elim (is_looser I n span) as (λ b. is_looser I n span ≡ b → Contains (if b then ends_of (activity_of I n) else []) (own side a) ⊎ HasHeir I (SetSpan n span) side a) [
+            | true ↦ λ _. inl (at_start I n side a network is same)
+            | false ↦ λ tight.
+                let found : activity_of I n ≡ Some a = ap (activity_of I) (sym same) ∙ activity_found I a network is in
+                let less : admits_more I.period a.span span ≡ false = sym (ap (λ o. option_map_or (λ b. admits_more I.period b.span span) o false) found) ∙ tight in
+                inr (heir I (SetSpan n span) side a (set a) (in_change_same id_of n set I.activities a is same) refl refl (no_more_met I.period a.span span (omega (arith, network.period_low)) less) (inr (rw tight refl)))
+          ] refl
+    ])
 asks_again I J (SetWeight n weight) network ok =
     let set : Activity → Activity = λ a. record a { weight = weight } in
-    record {
-      period = refl;
-      window = λ e r below event event' agrees. inl agrees;
-      activities = λ side a is.
-          elim (cases_Bool (a.id == n)) [
-            | inr apart ↦ inr (itself I (SetWeight n weight) side a (others_stay I n set (λ b. refl) a network is apart) refl)
-            | inl same ↦
-                inr (record {
-                  heir = record a { weight = weight };
-                  there = one_changes I n set (λ b. refl) a network is same;
-                  own_end = own_same side a (record a { weight = weight }) refl refl;
-                  other_end = other_same side a (record a { weight = weight }) refl refl;
-                  no_more = λ r s rl sl. joins_less side I.period a (record a { weight = weight }) (λ p q m. m) r s;
-                  unedited = inl refl;
-                })
-          ];
-    }
+    asked I J (SetWeight n weight) ok refl (inl refl)
+    (λ side a is.
+    elim (cases_eq a.id n) [
+      | inr apart ↦ inr (itself I (SetWeight n weight) side a (in_change_other id_of n set I.activities a is apart) refl)
+      | inl same ↦ inr (heir I (SetWeight n weight) side a (set a) (in_change_same id_of n set I.activities a is same) refl refl (λ p q met. met) (inl refl))
+    ])
 asks_again I J (SetEnds n from to) network ok =
-    let set : Activity → Activity = λ a. record a { from = from; to = to } in
-    record {
-      period = refl;
-      window = λ e r below event event' agrees. inl agrees;
-      activities = λ side a is.
-          elim (cases_Bool (a.id == n)) [
-            | inl same ↦ inl (at_start I n side a network is same)
-            | inr apart ↦ inr (itself I (SetEnds n from to) side a (others_stay I n set (λ b. refl) a network is apart) apart)
-          ];
-    }
+    asked I J (SetEnds n from to) ok refl (inl refl)
+    (λ side a is.
+    elim (cases_eq a.id n) [
+      | inl same ↦ inl (at_start I n side a network is same)
+      | inr apart ↦ inr (itself I (SetEnds n from to) side a (in_change_other id_of n (λ b. record b { from = from; to = to }) I.activities a is apart) (ne_eqb a.id n apart))
+    ])
 
--- ---- windows that stay
-
-new_window : (o p : Option Event) → p ≡ o → option_and_then (λ (x : Event). x.window) p ≡ option_and_then (λ (x : Event). x.window) o
-new_window o p same = ap (option_and_then (λ (x : Event). x.window)) same
-
--- an event that was there and stays keeps its window, but for one whose window the edit changes
-still_windowed : (I J : Network) (edit : Edit) (e : ℕ) → edited I edit ≡ Ok J → IsTrue (has_event I e) → IsTrue (has_event (effect I edit) e) → (limited_by edit ≡ Some e → ⊥) → window_of (effect I edit) e ≡ window_of I e
-still_windowed I J (AddEvent v) e ok was is unlimited =
-    let apart : v ≢ e = λ same. false≢true (sym (first_fails _ _ _ _ J ok) ∙ ap (has_event I) same ∙ was) in
-    new_window (event_of I e) (event_of (effect I (AddEvent v)) e) (with_number-put_in number e (record { id = v; window = None }) I.events ∙ rw (ne_eqb v e apart) refl)
-still_windowed I J (DropEvent n) e ok was is unlimited =
-    let found = with_number-take_out number e n I.events in
-    elim (cases_eq e n) [
-      | inl same ↦ let gone : event_of (effect I (DropEvent n)) e ≡ None = found ∙ rw (eq-eqb e n same) refl in absurd (false≢true (sym (ap is_some gone) ∙ is))
-      | inr apart ↦ new_window (event_of I e) (event_of (effect I (DropEvent n)) e) (found ∙ rw (ne_eqb e n apart) refl)
-    ]
-still_windowed I J (Fix n t) e ok was is unlimited = new_window (event_of I e) (event_of (effect I (Fix n t)) e) (rewindowed_elsewhere I n e (Some (at_time t)) (λ same. unlimited (ap Some (sym same))))
-still_windowed I J (SetWindow n first length) e ok was is unlimited = new_window (event_of I e) (event_of (effect I (SetWindow n first length)) e) (rewindowed_elsewhere I n e (Some (record { first = first; length = length })) (λ same. unlimited (ap Some (sym same))))
-still_windowed I J (Unfix n) e ok was is unlimited = new_window (event_of I e) (event_of (effect I (Unfix n)) e) (rewindowed_elsewhere I n e None (λ same. unlimited (ap Some (sym same))))
-still_windowed I J (AddActivity b) e ok was is unlimited = refl
-still_windowed I J (DropActivity n) e ok was is unlimited = refl
-still_windowed I J (SetSpan n span) e ok was is unlimited = refl
-still_windowed I J (SetWeight n weight) e ok was is unlimited = refl
-still_windowed I J (SetEnds n from to) e ok was is unlimited = refl
-
--- so it admits what it did
+-- an event that stays admits what it did, where the edit does not change its window
 pub still_admits : (I J : Network) (edit : Edit) (e r : ℕ) → IsNetwork I → edited I edit ≡ Ok J → IsTrue (has_event I e) → IsTrue (has_event J e) → (limited_by edit ≡ Some e → ⊥) → IsTrue (admits I e r) → IsTrue (admits J e r)
 still_admits I J edit e r network ok was is unlimited agrees =
     let same : J ≡ effect I edit = effect_is I J edit ok in
-    let window = still_windowed I J edit e ok was (subst (λ (K : Network). IsTrue (has_event K e)) same is) unlimited in
-    subst (λ (K : Network). IsTrue (admits K e r)) (sym same)
-    (ap (λ k. agrees_with k (window_of (effect I edit) e) r) (asks_again I J edit network ok).period ∙ ap (λ o. agrees_with I.period o r) window ∙ agrees)
+    let stays = subst (λ (K : Network). IsTrue (has_event K e)) same is in
+    ap (λ (K : Network). admits K e r) same ∙ admits_same I J edit e r ok (asks_again I J edit network ok).period was stays unlimited ∙ agrees

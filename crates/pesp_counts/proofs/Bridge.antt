@@ -15,13 +15,13 @@ use Rattle.pesp_counts_arcs.specs.Ends.{end_at, passes}
 use Rattle.pesp_counts_supports.specs.Counts.{IsClosed, KeepsClosed, has_at}
 use Rattle.pesp_counts.specs.Keeping.{rows_of}
 use Rattle.pesp_counts_supports.specs.Resting.{AreAtRest, AreLive}
-use Rattle.pesp_counts_arcs.specs.Links.{IsEndOf, Links, StandFor, end_number, opposite}
+use Rattle.pesp_counts_arcs.specs.Links.{Links, StandFor, end_number}
 use Rattle.pesp_counts_arcs.specs.Places.{Places, number_at, numbered, place_of}
 use Rattle.pesp_counts_supports.specs.Supports.{AreExact, AreLevel, Supports}
 use Rattle.pesp_base.proofs.Tests.{same_value}
 use Rattle.pesp_counts_supports.proofs.Supporters.{supporters_from, supporters_some}
 
--- ---- both ends of an activity
+-- ---- what an option holds
 
 pub some_of : {X : Type 0} (o : Option X) → is_some o ≡ true → (x : X) × (o ≡ Some x)
 some_of None h = absurd (false≢true h)
@@ -49,13 +49,6 @@ pub numbered_same : (events : Places) (S S' : Pairs) → ((p r : ℕ) → S' p r
 numbered_same events S S' same e r = ap (λ (test : ℕ → Bool). option_map_or test (place_of events e) false) (λ i p. same p r i)
 
 module _ (I : Network) (links : Links) (stand : StandFor I links) where
-  -- the other end of an activity
-  pub other_end : (side : Side) (a : Activity) (p q : ℕ) → Contains I.activities a → IsEndOf I.period links side a p q → (p' : ℕ) × IsEndOf I.period links (opposite side) a p' q
-  other_end side a p q is end =
-      let w = stand.all (opposite side) a is in
-      let same : w.1 ≡ q = same_value (place_of links.activities a.id) w.1 q w.2.numbered end.numbered in
-      (w.0, subst (λ k. IsEndOf I.period links (opposite side) a w.0 k) same w.2)
-
   pub place_is : (e : ℕ) → IsTrue (has_event I e) → (p : ℕ) × (place_of links.events e ≡ Some p)
   place_is e is = some_of (place_of links.events e) (stand.of_events e ∙ is)
 

@@ -1,10 +1,10 @@
 -- What is so of links, counts and rows as the links follow an edit.
-use Rattle.std.proofs.Common.{◌≡◌, ◌≢◌, ℕ, ◌+◌, ◌*◌, ◌<◌, ◌==◌, IsTrue, false, Option, Some, None, is_some, option_map, Ok, IfSome, length, refl, sym, ap, subst, ◌∙◌, arith}
+use Rattle.std.proofs.Common.{◌≡◌, ◌≢◌, ℕ, ◌+◌, ◌*◌, ◌<◌, ◌≤◌, ◌==◌, ◌⊎◌, IsTrue, false, Option, Some, None, is_none, is_some, option_map, Ok, length, refl, sym, ap, subst, ◌∙◌, inl, inr, arith}
 use Rattle.std.proofs.Math.Bool.{or-true}
 use Rattle.std.specs.List.{Contains}
 use Rattle.std.proofs.lemmas.Bool.{eq-eqb, false≢true}
 use Rattle.pesp_instance.specs.declared.edit.Edit.{Edit}
-use Rattle.pesp_instance.specs.declared.edit.Edit.TheVariants.{DropEvent, DropActivity, SetSpan, SetEnds}
+use Rattle.pesp_instance.specs.declared.edit.Edit.TheVariants.{DropEvent}
 use Rattle.pesp_instance.specs.Edited.{edited}
 use Rattle.pesp_instance.specs.Network.{IsNetwork, Network, activity_of, has_event}
 use Rattle.pesp_domains.proofs.Edits.{effect_is, has_out}
@@ -12,7 +12,7 @@ use Rattle.pesp_instance.proofs.Rising.{number-with_number}
 use Rattle.pesp_base.specs.declared.activity.Activity.{Activity}
 use Rattle.pesp_domains.specs.declared.side.Side.{Side}
 use Rattle.pesp_domains.specs.declared.side.Side.TheVariants.{Tail, Head}
-use Rattle.pesp_domains.specs.Sweeps.{Of}
+use Rattle.pesp_counts_arcs.proofs.StandLaws.{linked_from}
 use Rattle.pesp_counts_arcs.specs.Ends.{end_at, ends_of}
 use Rattle.pesp_counts_supports.specs.Counts.{IsExactAt, IsLiveAt, has_at}
 use Rattle.pesp_counts.specs.Keeping.{AreFor}
@@ -20,46 +20,46 @@ use Rattle.pesp_counts_supports.specs.Resting.{AreAtRest}
 use Rattle.pesp_counts_arcs.specs.Links.{IsEndOf, Links, StandFor, end_number}
 use Rattle.pesp_counts_arcs.specs.Places.{place_of}
 use Rattle.pesp_counts_supports.specs.Restoring.{is_spared}
-use Rattle.pesp_counts_supports.specs.Supports.{AreLevel, IsRoomier, Supports}
+use Rattle.pesp_counts_supports.specs.Supports.{IsRoomier, Supports}
 use Rattle.pesp_base.proofs.Tests.{same_value, some_from}
-use Rattle.pesp_counts.proofs.Asks.{asks_again, first_fails, found_in}
+use Rattle.pesp_counts.proofs.Asks.{asks_again, found_in}
 use Rattle.pesp_counts.proofs.Bridge.{some_of}
 use Rattle.pesp_counts_supports.proofs.Supporters.{supporters_same}
-
-pub if_some : {X : Type 0} (P : X → Type 0) (o : Option X) (x : X) → o ≡ Some x → IfSome o P → P x
-if_some P None x is h = absurd (false≢true (ap is_some is))
-if_some P (Some y) x is h = let e : y ≡ x = cc in subst P e h
 
 pub same_period : (I J : Network) (edit : Edit) → IsNetwork I → edited I edit ≡ Ok J → J.period ≡ I.period
 same_period I J edit network made = ap (λ (K : Network). K.period) (effect_is I J edit made) ∙ (asks_again I J edit network made).period
 
--- an activity that is dropped or changed has a place
-pub place_dropped : (I J : Network) (links : Links) (n : ℕ) → StandFor I links → edited I (DropActivity n) ≡ Ok J → (q : ℕ) × (place_of links.activities n ≡ Some q)
-place_dropped I J links n stand made = some_of (place_of links.activities n) (stand.of_activities n ∙ some_from (activity_of I n) (first_fails _ _ _ _ J made))
+-- an activity that is there has a place
+pub place_there : (I : Network) (links : Links) (n : ℕ) → StandFor I links → is_none (activity_of I n) ≡ false → (q : ℕ) × (place_of links.activities n ≡ Some q)
+place_there I links n stand there = some_of (place_of links.activities n) (stand.of_activities n ∙ some_from (activity_of I n) there)
 
--- nor has one of which the ends are set
-pub place_moved : (I J : Network) (links : Links) (n from to : ℕ) → StandFor I links → edited I (SetEnds n from to) ≡ Ok J → (q : ℕ) × (place_of links.activities n ≡ Some q)
-place_moved I J links n from to stand made = some_of (place_of links.activities n) (stand.of_activities n ∙ some_from (activity_of I n) (first_fails _ _ _ _ J made))
-
-pub place_changed : (I J : Network) (links : Links) (n : ℕ) (span : _) → StandFor I links → edited I (SetSpan n span) ≡ Ok J → (q : ℕ) × (place_of links.activities n ≡ Some q)
-place_changed I J links n span stand made = some_of (place_of links.activities n) (stand.of_activities n ∙ some_from (activity_of I n) (first_fails _ _ _ _ J made))
-
--- links that stand for the instance after an edit, and list no new end, have rows and counts
-pub for_relinked : (I J : Network) (links links' : Links) (s : Supports) → AreFor I links s → J.period ≡ I.period → StandFor J links' → ((p k : ℕ) → Contains (ends_of links'.lists p) k → (q : ℕ) × Contains (ends_of links.lists q) k) → ((e p : ℕ) → place_of links'.events e ≡ Some p → place_of links.events e ≡ Some p) → AreFor J links' s
-for_relinked I J links links' s h period stand listed places =
+-- links that stand for an instance of the same period have rows and counts, where each event had its place or has a row
+pub for_carried : (I J : Network) (links links' : Links) (s s' : Supports) → AreFor I links s → J.period ≡ I.period → StandFor J links' → IsRoomier s s' → length s'.counted ≡ length s'.rows → ((e p : ℕ) → place_of links'.events e ≡ Some p → (place_of links.events e ≡ Some p) ⊎ (p < length s'.rows)) → ((p k : ℕ) → Contains (ends_of links'.lists p) k → k * s.period + s.period ≤ length s'.counts) → AreFor J links' s'
+for_carried I J links links' s s' h period stand more even places counts =
     record {
-      period = h.period ∙ sym period;
+      period = more.period ∙ h.period ∙ sym period;
       stand = stand;
       fit =
           record {
-            rows = λ p k is. let l = stand.only p k is in h.housed _ p (places _ p l.is_end.at);
-            counted = λ p k is. let l = stand.only p k is in h.counted _ p (places _ p l.is_end.at);
-            counts = λ p k is. let q = listed p k is in h.fit.counts q.0 k q.1;
+            linked = rw (more.period ∙ h.period ∙ sym period) (linked_from J links' stand);
+            rows = λ p k is. let l = stand.only p k is in low _ p l.is_end.at;
+            counted = λ p k is. let l = stand.only p k is in let b = low _ p l.is_end.at in omega (arith, b, even);
+            counts = λ p k is. rw more.period (counts p k is);
           };
-      housed = λ e p at. h.housed e p (places e p at);
-      counted = λ e p at. h.counted e p (places e p at);
-      even = h.even;
+      housed = low;
+      even = even;
     }
+  where
+    low : (e p : ℕ) → place_of links'.events e ≡ Some p → p < length s'.rows
+    low e p at =
+        elim (places e p at) [
+          | inl was ↦ let l = h.housed e p was in omega (arith, l, more.more_rows)
+          | inr new ↦ new
+        ]
+
+-- ends that were listed before have their counts
+pub counts_there : (I : Network) (links : Links) (s s' : Supports) (p k : ℕ) → AreFor I links s → IsRoomier s s' → Contains (ends_of links.lists p) k → k * s.period + s.period ≤ length s'.counts
+counts_there I links s s' p k h more is = let l = h.fit.counts p k is in omega (arith, l, more.more_counts)
 
 -- a dropped event is not there
 pub dropped_not : (I J : Network) (n : ℕ) → edited I (DropEvent n) ≡ Ok J → (e : ℕ) → IsTrue (has_event J e) → e ≢ n
@@ -131,20 +131,14 @@ module _ (links links' : Links) (s s' : Supports) (more : IsRoomier s s') where
   pub live_at : (p k : ℕ) → IsLiveAt s.period s.counts (has_at s.rows) p k → IsLiveAt s'.period s'.counts (has_at s'.rows) p k
   live_at p k live = rw more.period (λ r rl here. subst (λ n. 0 < n) (sym (more.counts (k * s.period + r))) (live r rl (sym (more.rows p r) ∙ here)))
 
-  level_more : AreLevel s → AreLevel s'
-  level_more level p r = more.counted p r ∙ level p r ∙ sym (more.rows p r)
-
-  below_more : ((p r : ℕ) → Of (has_at s.rows) p r → r < s.period) → (p r : ℕ) → Of (has_at s'.rows) p r → r < s'.period
-  below_more below p r i = let l = below p r (sym (more.rows p r) ∙ i) in omega (arith, l, more.period)
-
   -- what is at rest stays so where ends are as before
   pub rest_same : AreAtRest links s → ((p k : ℕ) → Contains (ends_of links'.lists p) k → Contains (ends_of links.lists p) k) → ((p k : ℕ) → Contains (ends_of links'.lists p) k → end_at links'.ends k ≡ end_at links.ends k) → AreAtRest links' s'
   rest_same h lists ends =
       record {
         exact = λ p k is. exact_at k (ends p k is) (h.exact p k (lists p k is));
-        level = level_more h.level;
+        level = λ p r. more.counted p r ∙ h.level p r ∙ sym (more.rows p r);
         live = λ p k is. live_at p k (h.live p k (lists p k is));
-        below = below_more h.below;
+        below = λ p r i. let l = h.below p r (sym (more.rows p r) ∙ i) in omega (arith, l, more.period);
         out = rw more.trail
             (record {
               out = λ p r i. more.rows p r ∙ h.out.out p r i;

@@ -87,7 +87,7 @@ limits_one = refl
 limits_none : limited_by (do_.SetWeight 2 3) ≡ None
 limits_none = refl
 
-from_both : places (AtBoth 1 0) ≡ 1 ∷ 0 ∷ []
+from_both : places (AtBoth (1 ∷ 0 ∷ [])) ≡ 1 ∷ 0 ∷ []
 from_both = refl
 
 -- residue 0 alone of the fixed event

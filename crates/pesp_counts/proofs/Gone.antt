@@ -1,7 +1,7 @@
 -- The pairs that an edit took out, and the probes that it made.
-use Rattle.std.proofs.Common.{◌-◌, ◌≡◌, ℕ, ◌+◌, ◌*◌, ◌≤◌, ◌⊎◌, ◌==◌, ◌&&◌, ◌||◌, Bool, true, false, List, [], ◌∷◌, ◌++◌, Option, Some, None, length, refl, sym, ap, subst, ◌∙◌, inl, inr, arith, IsTrue}
+use Rattle.std.proofs.Common.{◌-◌, ◌≡◌, ℕ, ◌+◌, ◌*◌, ◌≤◌, ◌⊎◌, ◌==◌, ◌&&◌, ◌||◌, false, List, [], ◌∷◌, ◌++◌, Option, Some, None, length, refl, sym, ap, subst, ◌∙◌, inl, inr, arith, IsTrue}
 use Rattle.std.specs.List.{Contains}
-use Rattle.std.proofs.lemmas.Bool.{and_from, and_parts, cases_eq, eq-eqb, false≢true, ne_eqb, eqb-true, or_cases}
+use Rattle.std.proofs.lemmas.Bool.{and_from, and_parts, cases_eq, eq-eqb, false≢true, ne_eqb, eqb-true, or_cases, or_left, or_right}
 use Rattle.std.proofs.Math.Nat.{add-mul}
 use Rattle.pesp_instance.specs.Network.{Network}
 use Rattle.pesp_domains.specs.Domains.{own}
@@ -57,11 +57,6 @@ left_placed J links period (Some w) before after stand at keeps p r was out =
 
 -- ---- the trail of an edit
 
-either : (a b : Bool) → IsTrue a ⊎ IsTrue b → IsTrue (a || b)
-either true b h = refl
-either false b (inl a) = absurd (false≢true a)
-either false b (inr h) = h
-
 -- what was taken out of the rows, after a list of pairs came to them
 module _ (links : Links) (s m n : Supports) (back : List Placed) (empty : s.trail ≡ []) (trail : m.trail ≡ s.trail) (rows : (p r : ℕ) → has_at m.rows p r ≡ (has_at s.rows p r || is_in back p r)) (taken : IsTaken m n) where
   trail_is : n.trail ≡ taken.more
@@ -69,14 +64,14 @@ module _ (links : Links) (s m n : Supports) (back : List Placed) (empty : s.trai
 
   pub worked_gone : (p r : ℕ) → Of (has_at s.rows) p r ⊎ IsTrue (is_in back p r) → has_at n.rows p r ≡ false → IsTrue (is_in n.trail p r)
   worked_gone p r h out =
-      let was : IsTrue (has_at m.rows p r) = rows p r ∙ either (has_at s.rows p r) (is_in back p r) h in
+      let was : IsTrue (has_at m.rows p r) = rows p r ∙ (elim h [ inl was ↦ or_left (has_at s.rows p r) _ was | inr came ↦ or_right _ (is_in back p r) came ]) in
       let more : IsTrue (is_in taken.more p r) = ap (λ b. b || is_in taken.more p r) (sym out) ∙ sym (taken.parted p r) ∙ was in
       subst (λ xs. IsTrue (is_in xs p r)) (sym trail_is) more
 
   pub worked_in : (p r : ℕ) → IsTrue (is_in n.trail p r) → Of (has_at m.rows) p r × (has_at n.rows p r ≡ false)
   worked_in p r i =
       let more = subst (λ xs. IsTrue (is_in xs p r)) trail_is i in
-      (taken.parted p r ∙ either (has_at n.rows p r) (is_in taken.more p r) (inr more), taken.out p r more)
+      (taken.parted p r ∙ or_right (has_at n.rows p r) _ more, taken.out p r more)
 
   pub worked_is : ((p r : ℕ) → Of (has_at m.rows) p r → has_at n.rows p r ≡ false → (e : ℕ) × (place_of links.events e ≡ Some p))
       → n.probes ≤ s.probes + 8 * s.period + 2 * s.period * ends_at links back + s.period * length back + s.period * ends_at links n.trail

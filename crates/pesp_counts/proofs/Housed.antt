@@ -1,5 +1,5 @@
 -- Events and activities that are given places, and those that are taken back.
-use Rattle.std.proofs.Common.{◌≡◌, ◌≢◌, ℕ, ◌+◌, ◌*◌, ◌<◌, ◌≤◌, ◌==◌, ◌&&◌, ◌||◌, nat_lt, Bool, true, false, List, [], Some, None, is_some, Result, Ok, Err, OnOk, IfErr, length, refl, sym, ap, subst, ◌∙◌, inl, inr, arith, IsTrue}
+use Rattle.std.proofs.Common.{◌≡◌, ◌≢◌, ℕ, ◌+◌, ◌*◌, ◌<◌, ◌≤◌, ◌==◌, ◌&&◌, ◌||◌, nat_lt, Bool, true, false, List, [], Some, None, is_some, Result, Ok, Err, OnOk, IfErr, length, refl, sym, ap, subst, ◌∙◌, inl, inr, arith, nat_le, cond, if◌then◌else◌, ◌∷◌, ◌++◌}
 use Rattle.std.proofs.Math.Bool.{and-false, or-false, or-true}
 use Rattle.std.specs.List.{Contains}
 use Rattle.std.specs.Option.{option_and_then, option_map_or}
@@ -10,11 +10,11 @@ use Rattle.pesp_base.specs.declared.refusal.Refusal.{Refusal}
 use Rattle.pesp_instance.specs.declared.edit.Edit.TheVariants.{AddEvent, DropEvent, AddActivity, DropActivity}
 use Rattle.pesp_instance.specs.declared.event.Event.{Event}
 use Rattle.pesp_instance.specs.Edited.{IsRefusal, edited, effect}
-use Rattle.pesp_instance.specs.Network.{IsNetwork, Network, activity_of, admits, agrees_with, event_of, window_of, has_event, new_event}
-use Rattle.pesp_instance.proofs.Rising.{Rises-from_increasing, with_number-put_in, take_out-put_in}
+use Rattle.pesp_instance.specs.Network.{IsNetwork, Network, activity_of, admits, agrees_with, event_of, window_of, has_event, new_event, HasEnds}
+use Rattle.pesp_instance.proofs.Rising.{Rises-from_increasing, with_number-put_in, take_out-put_in, Rises}
 use Rattle.pesp_domains.specs.declared.pair.Pair.{Pair}
-use Rattle.pesp_domains.proofs.Edits.{effect_is, undone}
-use Rattle.pesp_domains.proofs.Families.{not_in_none}
+use Rattle.pesp_domains.proofs.Edits.{effect_is, undone, has_put}
+use Rattle.pesp_domains.proofs.Families.{not_in_none, here}
 use Rattle.pesp_domains.proofs.Laws.{InDomains-admitted}
 use Rattle.pesp_counts_arcs.specs.Ends.{end_at, ends_of}
 use Rattle.pesp_counts_supports.specs.Counts.{has_at}
@@ -23,16 +23,22 @@ use Rattle.pesp_counts_supports.specs.Resting.{AreAtRest}
 use Rattle.pesp_counts_arcs.specs.Links.{IsChangedAt, IsEndOfPlace, Links, LookSame, StandFor}
 use Rattle.pesp_counts_arcs.specs.Places.{place_of}
 use Rattle.pesp_counts_supports.specs.Supports.{HaveSameShape, IsRoomier, Supports}
-use Rattle.pesp_base.proofs.Tests.{none_from}
+use Rattle.pesp_base.proofs.Tests.{none_from, same_value}
 use Rattle.pesp_counts.proofs.Asks.{first_fails}
 use Rattle.pesp_counts.proofs.Bridge.{counts_settle, numbered_at, test_of}
-use Rattle.pesp_counts.proofs.Carried.{rest_same, same_period}
-use Rattle.pesp_counts.proofs.Followed.{still_admitted, tight_settles}
+use Rattle.pesp_counts.proofs.Carried.{counts_there, for_carried, rest_same, same_period}
+use Rattle.pesp_counts.proofs.Union.{still_admitted, tight_settles}
 use Rattle.pesp_counts.proofs.Keeping.{domains_same, for_same}
 use Rattle.pesp_counts.proofs.Remade.{out_none}
-use Rattle.pesp_counts_supports.proofs.Spread.{block_below}
+use Rattle.pesp_counts_supports.proofs.Raised.{block_below}
 use Rattle.pesp_counts_supports.proofs.Supporters.{supporters_same}
 use Rattle.pesp_counts_supports.proofs.Taken.{keeps_none}
+use Rattle.std.proofs.lemmas.List.{length-append}
+use Rattle.std.proofs.lemmas.List.Elements.{All-contains, Contains-append_right}
+use Rattle.pesp_base.specs.Limits.{max_activities}
+use Rattle.pesp_base.specs.Numbered.{with_number}
+use Rattle.pesp_instance.proofs.PutLast.{none_before, put_last}
+use Rattle.pesp_counts_arcs.proofs.StandLaws.{stands_kept}
 
 -- ---- nothing is seen of what was tried
 
@@ -46,19 +52,7 @@ look_seen links links' same =
 
 pub for_seen : (I : Network) (links links' : Links) (s s' : Supports) → AreFor I links s → StandFor I links' → SeeSame links links' → IsRoomier s s' → length s'.counted ≡ length s'.rows → AreFor I links' s'
 for_seen I links links' s s' h stand seen more even =
-    record {
-      period = more.period ∙ h.period;
-      stand = stand;
-      fit =
-          record {
-            rows = λ p k is. let l = h.fit.rows p k (seen.lists p k is) in omega (arith, l, more.more_rows);
-            counted = λ p k is. let l = h.fit.counted p k (seen.lists p k is) in omega (arith, l, more.more_counted);
-            counts = λ p k is. rw more.period (let l = h.fit.counts p k (seen.lists p k is) in omega (arith, l, more.more_counts));
-          };
-      housed = λ e p at. let l = h.housed e p (sym (seen.events e) ∙ at) in omega (arith, l, more.more_rows);
-      counted = λ e p at. let l = h.counted e p (sym (seen.events e) ∙ at) in omega (arith, l, more.more_counted);
-      even = even;
-    }
+    for_carried I I links links' s s' h refl stand more even (λ e p at. inl (sym (seen.events e) ∙ at)) (λ p k is. counts_there I links s s' p k h more (seen.lists p k is))
 
 pub settled_seen : (I : Network) (pushes : List Pair) (links links' : Links) (s s' : Supports) → AreSettled I pushes links s → AreFor I links' s' → SeeSame links links' → IsRoomier s s' → AreSettled I pushes links' s'
 settled_seen I pushes links links' s s' h fits seen more =
@@ -75,40 +69,18 @@ settled_seen I pushes links links' s s' h fits seen more =
 
 -- ---- an event more
 
-pub for_housed : (I J : Network) (links links' : Links) (s s' : Supports) (event p : ℕ) → AreFor I links s → StandFor J links' → J.period ≡ I.period → IsHousedAt links links' event p → IsRoomier s s' → length s'.counted ≡ length s'.rows → p < length s'.rows → p < length s'.counted → AreFor J links' s'
-for_housed I J links links' s s' event p h stand period at more even low low' =
-    let listed : (q k : ℕ) → Contains (ends_of links'.lists q) k → Contains (ends_of links.lists q) k = λ q k is. subst (λ xs. Contains xs k) (at.lists q) is in
-    record {
-      period = more.period ∙ h.period ∙ sym period;
-      stand = stand;
-      fit =
-          record {
-            rows = λ q k is. let l = h.fit.rows q k (listed q k is) in omega (arith, l, more.more_rows);
-            counted = λ q k is. let l = h.fit.counted q k (listed q k is) in omega (arith, l, more.more_counted);
-            counts = λ q k is. rw more.period (let l = h.fit.counts q k (listed q k is) in omega (arith, l, more.more_counts));
-          };
-      housed = λ e q is.
-          elim (cases_eq e event) [
-            | inl same ↦ subst (λ n. n < length s'.rows) (the_place e q same is) low
-            | inr apart ↦ let l = h.housed e q (sym (at.others e apart) ∙ is) in omega (arith, l, more.more_rows)
-          ];
-      counted = λ e q is.
-          elim (cases_eq e event) [
-            | inl same ↦ subst (λ n. n < length s'.counted) (the_place e q same is) low'
-            | inr apart ↦ let l = h.counted e q (sym (at.others e apart) ∙ is) in omega (arith, l, more.more_counted)
-          ];
-      even = even;
-    }
-  where
-    the_place : (e q : ℕ) → e ≡ event → place_of links'.events e ≡ Some q → p ≡ q
-    the_place e q same is = let w : Some p ≡ Some q = sym at.place ∙ ap (place_of links'.events) (sym same) ∙ is in cc
+pub for_housed : (I J : Network) (links links' : Links) (s s' : Supports) (event p : ℕ) → AreFor I links s → StandFor J links' → J.period ≡ I.period → IsHousedAt links links' event p → IsRoomier s s' → length s'.counted ≡ length s'.rows → p < length s'.rows → AreFor J links' s'
+for_housed I J links links' s s' event p h stand period at more even low =
+    for_carried I J links links' s s' h period stand more even
+    (λ e q is.
+    elim (cases_eq e event) [
+      | inl same ↦ inr (subst (λ n. n < length s'.rows) (same_value (place_of links'.events event) p q at.place (ap (place_of links'.events) (sym same) ∙ is)) low)
+      | inr apart ↦ inl (sym (at.others e apart) ∙ is)
+    ])
+    (λ q k is. counts_there I links s s' q k h more (subst (λ xs. Contains xs k) (at.lists q) is))
 
 or_none : (b c : Bool) → c ≡ false → (b || c) ≡ b
 or_none b c none = rw none (or-false b)
-
-either : (a b : Bool) → IsTrue (a || b) → (IsTrue a → ⊥) → IsTrue b
-either true b h none = absurd (none refl)
-either false b h none = h
 
 module _ (I J : Network) (links links' : Links) (s m n : Supports) (event p : ℕ) (h : AreSettled I [] links s) (network : IsNetwork J) (made : edited I (AddEvent event) ≡ Ok J) (fits : AreFor J links' m) (at : IsHousedAt links links' event p) (more : IsRoomier s m)
     (rows : (q r : ℕ) → has_at n.rows q r ≡ (has_at m.rows q r || (q == p && nat_lt r m.period))) (counted : (q r : ℕ) → has_at n.counted q r ≡ (has_at m.counted q r || (q == p && nat_lt r m.period))) (counts : n.counts ≡ m.counts) (trail : n.trail ≡ []) (shape : HaveSameShape m n) where
@@ -241,25 +213,8 @@ dropped_seen I links links' links'' event p none stand absent at others ends lis
 
 pub for_linked_more : (I J : Network) (links links' : Links) (s s' : Supports) (q : ℕ) → AreFor I links s → StandFor J links' → J.period ≡ I.period → IsChangedAt links links' q → IsRoomier s s' → length s'.counted ≡ length s'.rows → length links'.ends * s.period ≤ length s'.counts → AreFor J links' s'
 for_linked_more I J links links' s s' q h stand period changed more even room =
-    record {
-      period = more.period ∙ h.period ∙ sym period;
-      stand = stand;
-      fit =
-          record {
-            rows = λ p k is. let l = stand.only p k is in low _ p l.is_end.at;
-            counted = λ p k is. let l = stand.only p k is in low' _ p l.is_end.at;
-            counts = λ p k is. rw more.period (let b = block_below s.period k (length links'.ends) (stand.shared.within p k is) in omega (arith, b, room));
-          };
-      housed = low;
-      counted = low';
-      even = even;
-    }
-  where
-    low : (e p : ℕ) → place_of links'.events e ≡ Some p → p < length s'.rows
-    low e p at = let l = h.housed e p (sym (changed.events e) ∙ at) in omega (arith, l, more.more_rows)
-
-    low' : (e p : ℕ) → place_of links'.events e ≡ Some p → p < length s'.counted
-    low' e p at = let l = h.counted e p (sym (changed.events e) ∙ at) in omega (arith, l, more.more_counted)
+    for_carried I J links links' s s' h period stand more even (λ e p at. inl (sym (changed.events e) ∙ at))
+    (λ p k is. let b = block_below s.period k (length links'.ends) (stand.shared.within p k is) in omega (arith, b, room))
 
 -- what is seen once its ends are away again
 pub unlinked_seen : (links links' links'' : Links) (q : ℕ) → IsChangedAt links links' q → IsChangedAt links' links'' q → ((p k : ℕ) → Contains (ends_of links''.lists p) k → IsEndOfPlace q k → ⊥) → SeeSame links links''
@@ -297,3 +252,56 @@ pub opened_places : (I J : Network) (links : Links) (event e p : ℕ) → edited
 opened_places I J links event e p made stand is same =
     let there : has_event I event ≡ true = sym (stand.of_events event) ∙ ap is_some (ap (place_of links.events) (sym same) ∙ is) in
     false≢true (sym (new_event_of I J event made) ∙ there)
+
+-- ---- events, one after another
+
+has_push : (xs : List Event) (x : Event) (e : ℕ) → is_some (with_number (λ y. y.id) e (xs ++ x ∷ [])) ≡ (if e == x.id then true else is_some (with_number (λ y. y.id) e xs))
+has_push [] x e =
+    elim (cases_eq e x.id) [
+      | inl same ↦ rw (eq-eqb x.id e (sym same), eq-eqb e x.id same) refl
+      | inr apart ↦ rw (ne_eqb x.id e (λ same. apart (sym same)), ne_eqb e x.id apart) refl
+    ]
+has_push (y ∷ xs) x e =
+    elim (y.id == e) as (λ b. is_some (cond b (Some y) (with_number (λ z. z.id) e (xs ++ x ∷ []))) ≡ (if e == x.id then true else is_some (cond b (Some y) (with_number (λ z. z.id) e xs)))) [
+      | true ↦ either (e == x.id)
+      | false ↦ has_push xs x e
+    ]
+  where
+    either : (b : Bool) → true ≡ (if b then true else true)
+    either true = refl
+    either false = refl
+
+pub event_absent : (I : Network) (links : Links) (xs : List Event) (x : Event) (rest : List Event) → IsNetwork I → xs ++ x ∷ rest ≡ I.events → StandFor (record { period = I.period; events = xs; activities = [] }) links → place_of links.events x.id ≡ None
+event_absent I links xs x rest network is stand =
+    let rises : Rises (λ (y : Event). y.id) (xs ++ x ∷ rest) = rw is (Rises-from_increasing (λ (y : Event). y.id) I.events network.events_rise) in
+    none_from (place_of links.events x.id) (stand.of_events x.id ∙ ap is_some (none_before (λ (y : Event). y.id) xs x rest rises))
+
+pub for_event : (T : ℕ) (links : Links) (s : Supports) (xs : List Event) (x : Event) → AreFor (effect (record { period = T; events = xs; activities = [] }) (AddEvent x.id)) links s → AreFor (record { period = T; events = xs ++ x ∷ []; activities = [] }) links s
+for_event T links s xs x h =
+    record {
+      period = h.period;
+      stand = stands_kept (effect (record { period = T; events = xs; activities = [] }) (AddEvent x.id)) (record { period = T; events = xs ++ x ∷ []; activities = [] }) links refl refl
+          (λ e. has_push xs x e ∙ sym (has_put xs (new_event x.id) e)) h.stand;
+      fit = h.fit;
+      housed = h.housed;
+      even = h.even;
+    }
+
+-- ---- activities, one after another
+
+module _ (I : Network) (xs : List Activity) (x : Activity) (rest : List Activity) (network : IsNetwork I) (is : xs ++ x ∷ rest ≡ I.activities) where
+  abbrev so_far : Network
+  so_far = record { period = I.period; events = I.events; activities = xs }
+
+  rises_here : Rises (λ (a : Activity). a.id) (xs ++ x ∷ rest)
+  rises_here = rw is (Rises-from_increasing (λ (a : Activity). a.id) I.activities network.activities_rise)
+
+  activity_new : activity_of so_far x.id ≡ None
+  activity_new = none_before (λ (a : Activity). a.id) xs x rest rises_here
+
+  pub activity_made : edited so_far (AddActivity x) ≡ Ok (record { period = I.period; events = I.events; activities = xs ++ x ∷ [] })
+  activity_made =
+      let ends : HasEnds I.events x = All-contains (HasEnds I.events) I.activities x network.ends (subst (λ ys. Contains ys x) is (Contains-append_right xs (x ∷ rest) x (here x rest))) in
+      let long = ap length is in
+      let few : nat_le (max_activities I.period) (length xs) ≡ false = (let n = network.few_activities in let m = length-append xs (x ∷ rest) in grind (arith, n, m, long)) in
+      rw (activity_new, ends.from, ends.to, few) (ap (λ ys. Ok (record { period = I.period; events = I.events; activities = ys })) (put_last (λ (a : Activity). a.id) xs x rest rises_here))

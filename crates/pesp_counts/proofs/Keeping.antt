@@ -1,9 +1,9 @@
 -- What the keeper keeps, as pairs are pushed and popped.
-use Rattle.std.proofs.Common.{◌≡◌, ◌≢◌, ℕ, ◌+◌, ◌<◌, ◌≤◌, ◌==◌, ◌&&◌, ◌||◌, not, Bool, true, false, List, [], ◌∷◌, ◌++◌, Option, Some, None, length, get_or, take, drop, AllPairs, refl, sym, ap, subst, ◌∙◌, inl, inr, arith, IsTrue}
+use Rattle.std.proofs.Common.{◌≡◌, ◌≢◌, ℕ, ◌+◌, ◌<◌, ◌≤◌, ◌==◌, ◌&&◌, ◌||◌, not, Bool, false, List, [], ◌∷◌, ◌++◌, Option, Some, None, length, get_or, take, drop, AllPairs, refl, sym, ap, subst, ◌∙◌, inl, inr, arith, IsTrue}
 use Rattle.std.specs.List.{Contains}
 use Rattle.std.specs.Option.{option_map_or}
 use Rattle.std.proofs.lemmas.Bool.{cases_Bool, cases_eq, cases_lt, eq-eqb, ne_eqb, false≢true, or_cases}
-use Rattle.std.proofs.lemmas.List.{drop-append-le, get_or-drop, get_or-take, get_or_append_left, get_or_push, length-append, length-drop, length-take-le, length_push, take-append-drop, take-append-le, take_all}
+use Rattle.std.proofs.lemmas.List.{drop-append-le, get_or-drop, get_or-take, get_or_append_left, length-append, length-drop, length-take-le, length_push, map-append, same_from_push, take-append-drop, take_all}
 use Rattle.std.proofs.lemmas.List.Elements.{All-contains, All-drop, All-take}
 use Rattle.std.proofs.lemmas.List.Folds.{list_any-append}
 use Rattle.std.proofs.Math.Seq.{drop-append_seam}
@@ -15,15 +15,15 @@ use Rattle.pesp_domains.specs.Kept.{ArePushed}
 use Rattle.pesp_domains.specs.Sweeps.{AreDomains, Pairs, limited, narrowed_to}
 use Rattle.pesp_domains.proofs.Pushes.{push_settles, pushed_more}
 use Rattle.pesp_counts_supports.specs.declared.trail.Placed.{Placed}
-use Rattle.pesp_counts_arcs.specs.Ends.{AreLinked}
 use Rattle.pesp_counts_supports.specs.Counts.{has_at}
-use Rattle.pesp_counts.specs.Keeping.{AreFor, AreMarks, AreSettled, IsKeeping, rows_of, with_pairs}
+use Rattle.pesp_counts.specs.declared.keeper.Pushed.{Pushed}
+use Rattle.pesp_counts.specs.Keeping.{AreFor, AreMarked, AreSettled, IsKeeping, pairs_of, rows_of, with_pairs}
+use Rattle.pesp_counts.specs.Keeping.AreMarked.{above, bottom}
 use Rattle.pesp_counts_supports.specs.Resting.{HaveRoom, IsNarrowed}
 use Rattle.pesp_counts_arcs.specs.Links.{Links}
 use Rattle.pesp_counts_arcs.specs.Places.{ArePlaces, Places, number_at, numbered, place_of}
 use Rattle.pesp_counts_supports.specs.Supports.{AreExact, AreLevel, AreOut, HaveSameShape, IsTaken, Supports, is_in}
 use Rattle.pesp_base.proofs.Tests.{same_value, or_turned}
-use Rattle.pesp_counts_arcs.proofs.StandLaws.{linked_from}
 use Rattle.pesp_counts.proofs.Bridge.{counts_settle, domains_live, numbered_at, numbered_same}
 use Rattle.pesp_counts_supports.proofs.Marks.{keeps_like}
 use Rattle.pesp_counts_supports.proofs.Taken.{stands_in, fit_then}
@@ -39,13 +39,8 @@ for_same I links before after shape h =
       stand = h.stand;
       fit = fit_then links before after shape h.fit;
       housed = λ e p at. let l = h.housed e p at in omega (arith, l, shape.rows);
-      counted = λ e p at. let l = h.counted e p at in omega (arith, l, shape.counted);
       even = shape.counted ∙ h.even ∙ sym shape.rows;
     }
-
--- the ends are linked, by the period of the counts
-pub for_linked : (I : Network) (links : Links) (s : Supports) → AreFor I links s → AreLinked s.period links.ends links.lists
-for_linked I links s h = rw h.period (linked_from I links h.stand)
 
 pub room_same : (s n : Supports) (for_back for_restored : ℕ) → HaveSameShape s n → HaveRoom s for_back for_restored → HaveRoom n for_back for_restored
 room_same s n for_back for_restored shape room = record { back = rw (shape.rows, shape.period) room.back; restored = rw (shape.rows, shape.period) room.restored }
@@ -69,13 +64,6 @@ narrowed_numbered places S event p test paired at e r =
 
 -- ---- what was taken out since
 
-or_swap : (a b c : Bool) → (a || (b || c)) ≡ ((a || c) || b)
-or_swap true b c = refl
-or_swap false true true = refl
-or_swap false true false = refl
-or_swap false false true = refl
-or_swap false false false = refl
-
 in_both : (xs ys : List Placed) (p r : ℕ) → is_in (xs ++ ys) p r ≡ (is_in xs p r || is_in ys p r)
 in_both xs ys p r = list_any-append (λ (x : Placed). x.place == p && x.residue == r) xs ys
 
@@ -85,7 +73,7 @@ with_taken s n m taken low p r =
     ap (λ xs. has_at n.rows p r || is_in (drop m xs) p r) taken.trail
     ∙ ap (λ xs. has_at n.rows p r || is_in xs p r) (drop-append-le m s.trail taken.more low)
     ∙ ap (λ b. has_at n.rows p r || b) (in_both (drop m s.trail) taken.more p r)
-    ∙ or_swap (has_at n.rows p r) (is_in (drop m s.trail) p r) (is_in taken.more p r)
+    ∙ sym (or_turned (has_at n.rows p r) (is_in taken.more p r) (is_in (drop m s.trail) p r))
     ∙ ap (λ b. b || is_in (drop m s.trail) p r) (sym (taken.parted p r))
 
 with_last : (s n : Supports) → IsTaken s n → (p r : ℕ) → with_pairs n (drop (length s.trail) n.trail) p r ≡ has_at s.rows p r
@@ -93,73 +81,38 @@ with_last s n taken p r =
     ap (λ xs. has_at n.rows p r || is_in xs p r) (ap (drop (length s.trail)) taken.trail ∙ drop-append_seam s.trail taken.more)
     ∙ sym (taken.parted p r)
 
-pub marks_push : (I : Network) (pushes : List Pair) (x : Pair) (links : Links) (s n : Supports) (marks : List ℕ) → AreMarks I pushes links s marks → AreDomains I pushes (rows_of links s) → IsTaken s n → AreMarks I (pushes ++ x ∷ []) links n (marks ++ length s.trail ∷ [])
-marks_push I pushes x links s n marks h domains taken =
-    let top : ℕ = length s.trail in
-    let old : (i d : ℕ) → i < length marks → get_or (marks ++ top ∷ []) i d ≡ get_or marks i d = λ i d l. get_or_append_left marks (top ∷ []) d i l in
-    let last : (i d : ℕ) → i ≡ length marks → get_or (marks ++ top ∷ []) i d ≡ top = λ i d e. get_or_push marks top d i (sym e) in
-    let long = length_push marks top in
-    let le : top ≤ length n.trail = (let e = ap length taken.trail in let f = grown s.trail taken.more in omega (arith, e, f)) in
-    record {
-      long = let a = h.long in let b = length_push pushes x in omega (arith, a, b, long);
-      within = λ i d l.
-          elim (cases_lt i (length marks)) [
-            | inl m ↦ let w = h.within i d m in let e = old i d m in omega (arith, w, e, le)
-            | inr g ↦ let at : i ≡ length marks = omega (arith, g, l, long) in let e = last i d at in omega (arith, e, le)
-          ];
-      rising = λ i j d ij jl.
-          elim (cases_lt j (length marks)) [
-            | inl m ↦
-                let w = h.rising i j d ij m in
-                let e = old i d (omega (arith, ij, m)) in
-                let f = old j d m in
-                omega (arith, w, e, f)
-            | inr g ↦
-                let at : j ≡ length marks = omega (arith, g, jl, long) in
-                let f = last j d at in
-                elim (cases_lt i (length marks)) [
-                  | inl m ↦ let w = h.within i d m in let e = old i d m in omega (arith, w, e, f)
-                  | inr g' ↦ let at' : i ≡ length marks = omega (arith, g', ij, at) in let e = last i d at' in omega (arith, e, f)
-                ]
-          ];
-      domains = λ i d l.
-          elim (cases_lt i (length marks)) [
-            | inl m ↦
-                let w = h.within i d m in
-                let a : take i (pushes ++ x ∷ []) ≡ take i pushes = take-append-le i pushes (x ∷ []) (let k = h.long in omega (arith, m, k)) in
-                rw (a, old i d m)
-                (domains_same I (take i pushes) _ _ (numbered_same links.events (with_pairs s (drop (get_or marks i d) s.trail)) (with_pairs n (drop (get_or marks i d) n.trail)) (with_taken s n (get_or marks i d) taken w)) (h.domains i d m))
-            | inr g ↦
-                let at : i ≡ length marks = omega (arith, g, l, long) in
-                let long' = h.long in
-                let a : take i (pushes ++ x ∷ []) ≡ pushes = take-append-le i pushes (x ∷ []) (omega (arith, at, long')) ∙ take_all i pushes (omega (arith, at, long')) in
-                rw (a, last i d at)
-                (domains_same I pushes _ _ (numbered_same links.events (has_at s.rows) (with_pairs n (drop top n.trail)) (with_last s n taken)) domains)
-          ];
-    }
-  where
-    grown : (xs ys : List Placed) → length xs ≤ length (xs ++ ys)
-    grown xs ys = omega (arith, length-append xs ys)
+-- what lies below a mark is marked as it was
+marked_like : (I : Network) (links : Links) (s n : Supports) (top : ℕ) (stack : List Pushed) → ((i : ℕ) → i ≤ top → (p r : ℕ) → with_pairs n (drop i n.trail) p r ≡ with_pairs s (drop i s.trail) p r) → AreMarked I links s top stack → AreMarked I links n top stack
+marked_like I links s n _ _ same (bottom top) = bottom top
+marked_like I links s n _ _ same (above top before x low domains rest) =
+    above top before x low
+    (domains_same I (pairs_of before) _ _ (numbered_same links.events (with_pairs s (drop x.mark s.trail)) (with_pairs n (drop x.mark n.trail)) (same x.mark low)) domains)
+    (marked_like I links s n x.mark before (λ i l. same i (omega (arith, l, low))) rest)
 
 -- one pair more is pushed
-pub keeping_push : (I : Network) (pushes : List Pair) (x : Pair) (links : Links) (s n : Supports) (marks : List ℕ) (p a b for_back for_restored : ℕ) → IsKeeping I pushes marks links s a b for_back for_restored → IsTrue (has_event I x.event) → ((r : ℕ) → In pushes x.event r → ⊥) → place_of links.events x.event ≡ Some p → IsNarrowed links p (λ r. r == x.residue) s n → IsKeeping I (pushes ++ x ∷ []) (marks ++ length s.trail ∷ []) links n a b for_back for_restored
-keeping_push I pushes x links s n marks p a b for_back for_restored h event free at narrow =
+pub keeping_push : (I : Network) (stack : List Pushed) (x : Pair) (links : Links) (s n : Supports) (p for_pushed for_back for_restored : ℕ) → IsKeeping I stack links s for_pushed for_back for_restored → IsTrue (has_event I x.event) → ((r : ℕ) → In (pairs_of stack) x.event r → ⊥) → place_of links.events x.event ≡ Some p → IsNarrowed links p (λ r. r == x.residue) s n → IsKeeping I (stack ++ record { pair = x; mark = length s.trail } ∷ []) links n for_pushed for_back for_restored
+keeping_push I stack x links s n p for_pushed for_back for_restored h event free at narrow =
     let fits = h.settled.fits in
     let period : n.period ≡ I.period = narrow.shape.period ∙ fits.period in
     let M : Pairs = limited (has_at s.rows) p x.residue in
     let settles = counts_settle I links fits.stand M n period narrow.rest (keeps_like links n.period s.period M M (has_at n.rows) (sym narrow.shape.period) (λ q r. refl) narrow.keeps) in
+    let last : Pushed = record { pair = x; mark = length s.trail } in
+    let all : pairs_of (stack ++ last ∷ []) ≡ pairs_of stack ++ x ∷ [] = map-append (λ (y : Pushed). y.pair) stack (last ∷ []) in
+    let long : length s.trail ≤ length n.trail = (let e = ap length narrow.taken.trail in let f = length-append s.trail narrow.taken.more in omega (arith, e, f)) in
     record {
       settled =
           record {
             network = h.settled.network;
             fits = for_same I links s n narrow.shape fits;
             rest = narrow.rest;
-            domains = push_settles I pushes x (rows_of links s) (numbered links.events M) (rows_of links n) (narrowed_numbered links.events (has_at s.rows) x.event p (λ r. r == x.residue) fits.stand.events at) settles h.settled.domains;
+            domains = rw all
+                (push_settles I (pairs_of stack) x (rows_of links s) (numbered links.events M) (rows_of links n) (narrowed_numbered links.events (has_at s.rows) x.event p (λ r. r == x.residue) fits.stand.events at) settles h.settled.domains);
           };
-      pushed = pushed_more I pushes x event free h.pushed;
-      marked = marks_push I pushes x links s n marks h.marked h.settled.domains narrow.taken;
+      pushed = rw all (pushed_more I (pairs_of stack) x event free h.pushed);
+      marked = above (length n.trail) stack last long
+          (domains_same I (pairs_of stack) _ _ (numbered_same links.events (has_at s.rows) (with_pairs n (drop (length s.trail) n.trail)) (with_last s n narrow.taken)) h.settled.domains)
+          (marked_like I links s n (length s.trail) stack (λ i low. with_taken s n i narrow.taken low) h.marked);
       room_pushed = h.room_pushed;
-      room_marks = h.room_marks;
       room_back = room_same s n for_back for_restored narrow.shape h.room_back;
     }
 
@@ -230,32 +183,31 @@ with_back s n m i back trail low le p r =
     ∙ ap (λ b. has_at s.rows p r || b) (sym (in_both (drop i (take m s.trail)) (drop m s.trail) p r))
     ∙ ap (λ xs. has_at s.rows p r || is_in xs p r) (sym parts)
 
--- the last mark is within the trail
-pub last_mark : (I : Network) (pushes : List Pair) (links : Links) (s : Supports) (marks marks' : List ℕ) (m : ℕ) → AreMarks I pushes links s marks → marks ≡ marks' ++ m ∷ [] → m ≤ length s.trail
-last_mark I pushes links s marks marks' m h is =
-    let last : length marks' < length marks = (let f = ap length is in let g = length_push marks' m in omega (arith, f, g)) in
-    let top : get_or marks (length marks') 0 ≡ m = ap (λ xs. get_or xs (length marks') 0) is ∙ get_or_push marks' m 0 (length marks') refl in
-    let w = h.within (length marks') 0 last in
-    omega (arith, w, top)
+-- the last mark is within the trail, and what was taken out since makes the rows those before the push
+pub last_marked : (I : Network) (links : Links) (s : Supports) (top : ℕ) (stack before : List Pushed) (x : Pushed) → AreMarked I links s top stack → stack ≡ before ++ x ∷ [] → (x.mark ≤ top) × AreDomains I (pairs_of before) (numbered links.events (with_pairs s (drop x.mark s.trail))) × AreMarked I links s x.mark before
+last_marked I links s _ _ before x (bottom top) is = absurd (omega (arith, ap length is, length_push before x))
+last_marked I links s _ _ before x (above top before' x' low domains rest) is = let same = same_from_push before' before x' x is in rw (← same.0, ← same.1) (low, domains, rest)
+
+-- without the last pair they are still of events, each of another one
+fewer_pushed : (I : Network) (pushes after : List Pair) (x : Pair) → pushes ≡ after ++ x ∷ [] → ArePushed I pushes → ArePushed I after
+fewer_pushed I pushes after x is h =
+    let long = length_push after x in
+    let e = ap length is in
+    let same : (i : ℕ) (d : Pair) → i < length after → get_or pushes i d ≡ get_or after i d = λ i d l. ap (λ xs. get_or xs i d) is ∙ get_or_append_left after (x ∷ []) d i l in
+    record {
+      inside = λ i d l. subst (λ (y : Pair). IsTrue (has_event I y.event)) (same i d l) (h.inside i d (omega (arith, l, e, long)));
+      apart = λ i j d ij jl q. h.apart i j d ij (omega (arith, jl, e, long)) (ap (λ (y : Pair). y.event) (same i d (omega (arith, ij, jl))) ∙ q ∙ ap (λ (y : Pair). y.event) (sym (same j d jl)));
+    }
 
 -- the pair that was pushed last is popped
-pub keeping_pop : (I : Network) (pushes after : List Pair) (x : Pair) (links : Links) (s n : Supports) (marks marks' : List ℕ) (m a b for_back for_restored : ℕ) → IsKeeping I pushes marks links s a b for_back for_restored → pushes ≡ after ++ x ∷ [] → marks ≡ marks' ++ m ∷ [] → ((p r : ℕ) → has_at n.rows p r ≡ (has_at s.rows p r || is_in (drop m s.trail) p r)) → AreExact links n (has_at n.counted) → AreLevel n → n.trail ≡ take m s.trail → HaveSameShape s n → IsKeeping I after marks' links n a b for_back for_restored
-keeping_pop I pushes after x links s n marks marks' m a b for_back for_restored h pushes_is marks_is back exact level trail shape =
+pub keeping_pop : (I : Network) (stack before : List Pushed) (x : Pushed) (links : Links) (s n : Supports) (for_pushed for_back for_restored : ℕ) → IsKeeping I stack links s for_pushed for_back for_restored → stack ≡ before ++ x ∷ [] → ((p r : ℕ) → has_at n.rows p r ≡ (has_at s.rows p r || is_in (drop x.mark s.trail) p r)) → AreExact links n (has_at n.counted) → AreLevel n → n.trail ≡ take x.mark s.trail → HaveSameShape s n → IsKeeping I before links n for_pushed for_back for_restored
+keeping_pop I stack before x links s n for_pushed for_back for_restored h is back exact level trail shape =
     let fits = h.settled.fits in
     let out = h.settled.rest.out in
-    let n_marks = length_push marks' m in
-    let n_after = length_push after x in
-    let long : length marks' ≡ length after = (let e = ap length pushes_is in let f = ap length marks_is in let g = h.marked.long in omega (arith, e, f, g, n_marks, n_after)) in
-    let last : length marks' < length marks = (let f = ap length marks_is in omega (arith, f, n_marks)) in
-    let top : get_or marks (length marks') 0 ≡ m = ap (λ xs. get_or xs (length marks') 0) marks_is ∙ get_or_push marks' m 0 (length marks') refl in
-    let low : m ≤ length s.trail = (let w = h.marked.within (length marks') 0 last in omega (arith, w, top)) in
-    let before : take (length marks') pushes ≡ after = ap (take (length marks')) pushes_is ∙ take-append-le (length marks') after (x ∷ []) (omega (arith, long)) ∙ take_all (length marks') after (omega (arith, long)) in
-    let was : AreDomains I after (numbered links.events (with_pairs s (drop m s.trail))) = rw (← before, ← top) (h.marked.domains (length marks') 0 last) in
-    let domains : AreDomains I after (rows_of links n) = domains_same I after _ _ (numbered_same links.events (with_pairs s (drop m s.trail)) (has_at n.rows) back) was in
-    let old : (i d : ℕ) → i < length marks' → get_or marks' i d ≡ get_or marks i d = λ i d l. sym (get_or_append_left marks' (m ∷ []) d i l) ∙ ap (λ xs. get_or xs i d) (sym marks_is) in
-    let top_at : (d : ℕ) → get_or marks (length marks') d ≡ m = λ d. ap (λ xs. get_or xs (length marks') d) marks_is ∙ get_or_push marks' m d (length marks') refl in
-    let under : (i d : ℕ) → i < length marks' → get_or marks i d ≤ m = λ i d l. let r = h.marked.rising i (length marks') d (omega (arith, l)) last in let e = top_at d in omega (arith, r, e) in
-    let n_trail : length n.trail ≡ m = ap length trail ∙ length-take-le m s.trail low in
+    let all : pairs_of stack ≡ pairs_of before ++ x.pair ∷ [] = ap pairs_of is ∙ map-append (λ (y : Pushed). y.pair) before (x ∷ []) in
+    let (low, was, marked) = last_marked I links s (length s.trail) stack before x h.marked is in
+    let domains : AreDomains I (pairs_of before) (rows_of links n) = domains_same I (pairs_of before) _ _ (numbered_same links.events (with_pairs s (drop x.mark s.trail)) (has_at n.rows) back) was in
+    let top : length n.trail ≡ x.mark = ap length trail ∙ length-take-le x.mark s.trail low in
     record {
       settled =
           record {
@@ -265,45 +217,21 @@ keeping_pop I pushes after x links s n marks marks' m a b for_back for_restored 
                 record {
                   exact = exact;
                   level = level;
-                  live = domains_live I links fits.stand after n (shape.period ∙ fits.period) exact level domains;
+                  live = domains_live I links fits.stand (pairs_of before) n (shape.period ∙ fits.period) exact level domains;
                   below = λ p r i.
-                      elim (or_cases (has_at s.rows p r) (is_in (drop m s.trail) p r) (sym (back p r) ∙ i)) [
+                      elim (or_cases (has_at s.rows p r) (is_in (drop x.mark s.trail) p r) (sym (back p r) ∙ i)) [
                         | inl there ↦ let l = h.settled.rest.below p r there in omega (arith, l, shape.period)
-                        | inr late ↦ let l = All-contains (λ (y : Placed). y.residue < s.period) (drop m s.trail) (record { place = p; residue = r }) (All-drop (λ y. y.residue < s.period) m s.trail out.below) (stands_in (drop m s.trail) p r late) in omega (arith, l, shape.period)
+                        | inr late ↦ let l = All-contains (λ (y : Placed). y.residue < s.period) (drop x.mark s.trail) (record { place = p; residue = r }) (All-drop (λ y. y.residue < s.period) x.mark s.trail out.below) (stands_in (drop x.mark s.trail) p r late) in omega (arith, l, shape.period)
                       ];
-                  out = subst (AreOut n) (sym trail) (out_early s n m out shape back);
+                  out = subst (AreOut n) (sym trail) (out_early s n x.mark out shape back);
                 };
             domains = domains;
           };
-      pushed = fewer_pushed;
-      marked =
-          record {
-            long = long;
-            within = λ i d l. let e = old i d l in let u = under i d l in omega (arith, e, u, n_trail);
-            rising = λ i j d ij jl.
-                let e = old i d (omega (arith, ij, jl)) in
-                let f = old j d jl in
-                let r = h.marked.rising i j d ij (omega (arith, jl, last)) in
-                omega (arith, e, f, r);
-            domains = λ i d l.
-                let short : take i after ≡ take i pushes = sym (take-append-le i after (x ∷ []) (omega (arith, l, long))) ∙ ap (take i) (sym pushes_is) in
-                rw (short, old i d l)
-                (domains_same I (take i pushes) _ _ (numbered_same links.events (with_pairs s (drop (get_or marks i d) s.trail)) (with_pairs n (drop (get_or marks i d) n.trail)) (with_back s n m (get_or marks i d) back trail low (under i d l))) (h.marked.domains i d (omega (arith, l, last))));
-          };
+      pushed = fewer_pushed I (pairs_of stack) (pairs_of before) x.pair all h.pushed;
+      marked = rw top (marked_like I links s n x.mark before (λ i l. with_back s n x.mark i back trail low l) marked);
       room_pushed = h.room_pushed;
-      room_marks = h.room_marks;
       room_back = room_same s n for_back for_restored shape h.room_back;
     }
-  where
-    fewer_pushed : ArePushed I after
-    fewer_pushed =
-        let n_after = length_push after x in
-        let e = ap length pushes_is in
-        let same : (i : ℕ) (d : Pair) → i < length after → get_or pushes i d ≡ get_or after i d = λ i d l. ap (λ xs. get_or xs i d) pushes_is ∙ get_or_append_left after (x ∷ []) d i l in
-        record {
-          inside = λ i d l. subst (λ (y : Pair). IsTrue (has_event I y.event)) (same i d l) (h.pushed.inside i d (omega (arith, l, e, n_after)));
-          apart = λ i j d ij jl q. h.pushed.apart i j d ij (omega (arith, jl, e, n_after)) (ap (λ (y : Pair). y.event) (same i d (omega (arith, ij, jl))) ∙ q ∙ ap (λ (y : Pair). y.event) (sym (same j d jl)));
-        }
 
 -- ---- what is read
 

@@ -1,14 +1,9 @@
 mod Cases
-pub mod Added
 pub mod Applied
 pub mod Asks
 pub mod Bridge
 pub mod Carried
 pub mod Changed
-pub mod Degrees
-pub mod EditStarts
-pub mod Filled
-pub mod Followed
 pub mod Gone
 pub mod Housed
 pub mod Keeping
@@ -20,5 +15,4 @@ pub mod Remade
 pub mod Supported
 pub mod Told
 pub mod Union
-pub mod Wider
 pub mod Worked

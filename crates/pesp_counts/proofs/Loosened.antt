@@ -7,29 +7,34 @@ use Rattle.pesp_instance.specs.Network.{IsNetwork, Network, admits, has_event}
 use Rattle.pesp_domains.specs.Domains.{InDomains, IsAdmitted}
 use Rattle.pesp_domains.specs.Sweeps.{Of, Pairs, Settles}
 use Rattle.pesp_domains.proofs.Edits.{effect_is}
-use Rattle.pesp_domains.proofs.Families.{and_left}
+use Rattle.pesp_domains.proofs.Families.{and_left, not_in_none}
 use Rattle.pesp_domains.proofs.Laws.{InDomains-admitted}
 use Rattle.pesp_domains.proofs.Pushes.{narrowed_keeps, narrowed_passes}
 use Rattle.pesp_counts_supports.specs.declared.trail.Placed.{Placed}
 use Rattle.pesp_counts_supports.specs.Counts.{has_at}
-use Rattle.pesp_counts_supports.specs.Supports.{Supports, is_in}
-use Rattle.pesp_counts_arcs.specs.Links.{Links}
+use Rattle.pesp_counts_supports.specs.Supports.{Supports, is_in, IsRoomier}
+use Rattle.pesp_counts_arcs.specs.Links.{Links, IsChangedAt}
 use Rattle.pesp_counts_arcs.specs.Places.{ArePlaces, Places, number_at, numbered, place_of}
 use Rattle.pesp_counts.specs.declared.keeper.change.Change.{Change}
 use Rattle.pesp_counts.specs.declared.keeper.change.PlacedEvent.{PlacedEvent}
-use Rattle.pesp_counts.specs.Changes.{AreReached, AreSpared, AreStarts, IsFollowed, IsPutBack, IsReady, IsRelinked, WereSettled, event_at, left, limited_by, places}
-use Rattle.pesp_counts.specs.Keeping.{AreFor, AreSettled, rows_of}
+use Rattle.pesp_counts.specs.Changes.{AreReached, AreSpared, AreStarts, HaveFollowed, IsChange, IsFollowed, IsPutBack, IsReady, IsRelinked, WereSettled, event_at, left, limited_by, places}
+use Rattle.pesp_counts.specs.Keeping.{AreFor, AreSettled, rows_of, SeeSame}
 use Rattle.pesp_counts.specs.Reached.{starts}
 use Rattle.pesp_counts.specs.Works.{IsWorked}
 use Rattle.pesp_base.proofs.Tests.{or_second, same_value}
 use Rattle.pesp_counts.proofs.Asks.{asks_again, still_admits}
 use Rattle.pesp_counts.proofs.Bridge.{counts_settle, numbered_at, place_is, test_of}
-use Rattle.pesp_counts.proofs.Carried.{same_period}
-use Rattle.pesp_counts.proofs.Followed.{still_admitted}
+use Rattle.pesp_counts.proofs.Carried.{same_period, tail_listed}
+use Rattle.pesp_counts.proofs.Union.{still_admitted, reach_covers}
 use Rattle.pesp_counts.proofs.Keeping.{for_same}
 use Rattle.pesp_counts.proofs.ReachLaws.{outside_of, restored_reach, restored_reached}
-use Rattle.pesp_counts.proofs.Relinked.{had_place, stays}
-use Rattle.pesp_counts.proofs.Union.{reach_covers}
+use Rattle.pesp_counts.proofs.Relinked.{followed_ready, had_place, stays, ready, relinked_changed}
+use Rattle.pesp_base.specs.declared.activity.Activity.{Activity}
+use Rattle.pesp_instance.specs.declared.edit.Edit.TheVariants.{AddActivity}
+use Rattle.pesp_counts.specs.declared.keeper.change.Starts.TheVariants.{Nowhere}
+use Rattle.pesp_counts.proofs.Changed.{no_start}
+use Rattle.pesp_counts.proofs.Gone.{worked_grown}
+use Rattle.pesp_counts.proofs.Housed.{for_seen, settled_seen}
 
 -- ---- what a window leaves
 
@@ -143,3 +148,36 @@ module _ (I J : Network) (edit : Edit) (links links' : Links) (s n : Supports) (
               placed = λ p r i. let v = worked.placed p r i in (v.0, had v.0 p v.1, v.1);
             };
       }
+
+pub followed_put : (I J : Network) (edit : Edit) (links links' : Links) (s n : Supports) (change : Change) (back : List Placed) → WereSettled I J edit links s → IsNetwork J → IsChange I edit links change → HaveFollowed I J edit links links' → IsPutBack J links' change s n back → IsWorked links' s n back → IsFollowed I J edit links links' s n back
+followed_put I J edit links links' s n change back w network is h put worked =
+    let both = followed_ready I J edit links links' s change w is h in
+    followed I J edit links links' s n change back w network (rw is.recounted h.relinked) both.0 both.1 (λ e i. rw is.recounted (h.spared e i)) is.window put worked
+
+-- ---- an activity that is added
+
+module _ (I J : Network) (a : Activity) (links after : Links) (s m : Supports) (place : Option ℕ) (q : ℕ) (w : WereSettled I J (AddActivity a) links s) (fits : AreFor J after m) (at : place_of after.activities a.id ≡ Some q) (changed : IsChangedAt links after q) (grown : IsRoomier s m) (found : place ≡ place_of after.activities a.id) where
+  abbrev change : Change
+  change = record { loosened = Nowhere; limited = None; recounted = place }
+
+  seen : SeeSame links links
+  seen = record { events = λ e. refl; ends = λ p k is. refl; lists = λ p k is. is }
+
+  were : WereSettled I J (AddActivity a) links m
+  were =
+      let before = for_seen I links links s m w.settled.fits w.settled.fits.stand seen grown fits.even in
+      record { made = w.made; settled = settled_seen I [] links links s m w.settled before seen grown; trail = grown.trail ∙ w.trail }
+
+  relinked : IsRelinked J (AddActivity a) links after place
+  relinked = subst (IsRelinked J (AddActivity a) links after) (sym (found ∙ at)) (relinked_changed J (AddActivity a) links after q fits.stand changed (tail_listed J after a.id q fits.stand at))
+
+  both : IsReady J after m change × AreStarts I (AddActivity a) after []
+  both = ready I J (AddActivity a) links after place w.made relinked m change were fits (no_start I (AddActivity a) links refl) refl (λ v has. absurd (cc)) refl
+
+  pub added_ready : IsReady J after m change
+  added_ready = both.0
+
+  pub added_followed : (n : Supports) (back : List Placed) → IsNetwork J → IsPutBack J after change m n back → IsWorked after m n back → IsFollowed I J (AddActivity a) links after s n back
+  added_followed n back network put worked =
+      let f = followed I J (AddActivity a) links after m n change back were network relinked both.0 both.1 (λ e i. absurd (not_in_none e i)) refl put worked in
+      record { settled = f.settled; reached = f.reached; worked = worked_grown after s m n back grown f.worked; places = f.places }

@@ -1,14 +1,13 @@
 -- Pairs come back, and those without a partner wait to be counted out.
-use Rattle.std.proofs.Common.{◌≡◌, ◌≢◌, ℕ, ◌+◌, ◌*◌, ◌<◌, ◌==◌, ◌&&◌, ◌||◌, nat_lt, not, Bool, true, false, List, Option, Some, None, refl, sym, ap, subst, ◌∙◌, inl, inr, arith, IsTrue}
+use Rattle.std.proofs.Common.{◌≡◌, ◌≢◌, ℕ, ◌+◌, ◌*◌, ◌<◌, ◌==◌, ◌&&◌, nat_lt, not, Bool, true, false, List, Option, Some, None, refl, sym, ap, subst, ◌∙◌, inl, inr, arith, IsTrue}
 use Rattle.std.specs.List.{Contains}
-use Rattle.std.proofs.lemmas.Bool.{and_from, and_parts, cases_Bool, cases_eq, eq-eqb, ne_eqb, false≢true, ltb-true, not-true, or_left, or_right}
+use Rattle.std.proofs.lemmas.Bool.{and_from, and_parts, cases_Bool, cases_eq, eq-eqb, ne_eqb, false≢true, ltb-true, not-true, or_cases, or_left, or_right}
 use Rattle.std.proofs.lemmas.List.Folds.{list_any-append}
 use Rattle.pesp_instance.specs.Network.{Network, admits}
 use Rattle.pesp_domains.specs.Sweeps.{Of, Pairs}
 use Rattle.pesp_counts_supports.specs.declared.trail.Placed.{Placed}
-use Rattle.pesp_counts_arcs.specs.declared.end.End.{End}
 use Rattle.pesp_counts_arcs.specs.Ends.{AreLinked, IsEndAt, end_at, ends_of, passes}
-use Rattle.pesp_counts_supports.specs.Counts.{IsClosed, IsExactAt, IsLiveAt, KeepsClosed, count_at, has_at, supporters}
+use Rattle.pesp_counts_supports.specs.Counts.{IsClosed, IsExactAt, IsLiveAt, KeepsClosed, count_at, has_at}
 use Rattle.pesp_counts_supports.specs.Resting.{ArePendingBut}
 use Rattle.pesp_counts_arcs.specs.Links.{Links}
 use Rattle.pesp_counts_arcs.specs.Places.{number_at}
@@ -24,12 +23,7 @@ use Rattle.pesp_counts.proofs.Remade.{out_none}
 use Rattle.pesp_counts_supports.proofs.Marks.{out_more}
 use Rattle.pesp_counts_supports.proofs.Supporters.{supporters_from, supporters_some}
 use Rattle.pesp_counts_supports.proofs.Taken.{fit_then, kept_shape, taken_fewer}
-use Rattle.pesp_counts.proofs.Keeping.{for_linked}
 use Rattle.pesp_counts.specs.Keeping.{AreFor}
-
-or_first : (a b : Bool) → IsTrue (a || b) → b ≡ false → IsTrue a
-or_first true b h none = refl
-or_first false b h none = absurd (false≢true (sym none ∙ h))
 
 -- what is admitted somewhere is below the period
 admitted_below : (I : Network) (links : Links) (p r : ℕ) → Of (admits_at I links) p r → r < I.period
@@ -47,7 +41,7 @@ module _ (I : Network) (links : Links) (starts : List ℕ) (spared : Option ℕ)
   live_after p k is unspared r rl i =
       let both = and_parts (has_at m.rows p r) (not (is_in back p r)) i in
       let low : r < s.period = omega (arith, rl, restored.shape.period) in
-      let was : IsTrue (has_at s.rows p r) = or_first (has_at s.rows p r) (is_in back p r) (sym (restored.rows p r) ∙ both.0) (not-true (is_in back p r) both.1) in
+      let was : IsTrue (has_at s.rows p r) = elim (or_cases (has_at s.rows p r) (is_in back p r) (sym (restored.rows p r) ∙ both.0)) [ inl there ↦ there | inr came ↦ absurd (false≢true (sym (not-true (is_in back p r) both.1) ∙ came)) ] in
       let looks = (end_at links.ends k).looks_at in
       let some = live p k is unspared r low was in
       let x = supporters_some s.period (has_at s.counted looks) (passes s.period (end_at links.ends k) r) (subst (λ n. 0 < n) (exact p k is unspared r low) some) in
@@ -122,10 +116,6 @@ not_lone period counts place end p r b same h =
           absurd (false≢true (rw (eq-eqb p place same, eq-eqb (count_at period counts end r) 0 none) at w))
     ]
 
--- the rows without the lone pairs of a place
-abbrev pub Sifts : Supports → ℕ → ℕ → Supports → Type 0
-Sifts s place end n = (p r : ℕ) → has_at n.rows p r ≡ (has_at s.rows p r && not (p == place && (count_at s.period s.counts end r == 0)))
-
 -- a pair of a closed set has a count above 0, so none of it goes as lone
 module _ (links : Links) (b : Supports) (exact : AreExact links b (has_at b.counted)) (within : (p r : ℕ) → Of (has_at b.rows) p r → Of (has_at b.counted) p r) (below : (p r : ℕ) → Of (has_at b.rows) p r → r < b.period) where
   sift_keeps : (S : Pairs) → IsClosed b.period links.ends links.lists S → ((p r : ℕ) → Of S p r → Of (has_at b.rows) p r) → (place end : ℕ) → Contains (ends_of links.lists place) end → (p r : ℕ) → Of S p r → not (is_lone b.period b.counts place end p r) ≡ true
@@ -144,7 +134,7 @@ module _ (links : Links) (b : Supports) (exact : AreExact links b (has_at b.coun
 module _ (links : Links) (s b d n : Supports) (q p : ℕ) (back : List Placed) (linked : AreLinked s.period links.ends links.lists) (listed : Contains (ends_of links.lists p) (2 * q)) (mate : (end_at links.ends (2 * q)).mate ≡ 2 * q + 1) (w : AreWaitingBut links s (Some q) back)
     (rows : b.rows ≡ s.rows) (counted : b.counted ≡ s.counted) (trail : b.trail ≡ s.trail) (shape : HaveSameShape s b)
     (tail : IsExactAt s.period links.ends b.counts (has_at s.counted) (2 * q)) (head : IsExactAt s.period links.ends b.counts (has_at s.counted) (2 * q + 1)) (elsewhere : (k r : ℕ) → k ≢ 2 * q → k ≢ 2 * q + 1 → r < s.period → count_at s.period b.counts k r ≡ count_at s.period s.counts k r)
-    (first : Sifts b (end_at links.ends (2 * q + 1)).looks_at (2 * q) d) (second : (x r : ℕ) → has_at n.rows x r ≡ (has_at d.rows x r && not (x == (end_at links.ends (2 * q)).looks_at && (count_at b.period b.counts (2 * q + 1) r == 0)))) (taken : IsTaken b n) (keeps : Keeps b n) where
+    (first : (x r : ℕ) → has_at d.rows x r ≡ (has_at b.rows x r && not (is_lone b.period b.counts (end_at links.ends (2 * q + 1)).looks_at (2 * q) x r))) (second : (x r : ℕ) → has_at n.rows x r ≡ (has_at d.rows x r && not (is_lone b.period b.counts (end_at links.ends (2 * q)).looks_at (2 * q + 1) x r))) (taken : IsTaken b n) (keeps : Keeps b n) where
   exact_all : AreExact links b (has_at b.counted)
   exact_all x k is =
       let here : IsExactAt s.period links.ends b.counts (has_at s.counted) k =
@@ -182,33 +172,25 @@ module _ (links : Links) (s b d n : Supports) (q p : ℕ) (back : List Placed) (
   tail_listed : Contains (ends_of links.lists (end_at links.ends (2 * q + 1)).looks_at) (2 * q)
   tail_listed = subst (λ x. Contains (ends_of links.lists x) (2 * q)) (sym tail_at) listed
 
-  -- where an end stands
-  at_place : (x k : ℕ) → Contains (ends_of links.lists x) k → x ≡ (end_at links.ends (end_at links.ends k).mate).looks_at
-  at_place x k is = sym (linked.each x k is).mate_looks
+  -- what was not taken out as lone at an end has a count above 0 there
+  live_at_end : (j m : ℕ) (S S' : Pairs) → (end_at links.ends j).mate ≡ m → ((x r : ℕ) → S' x r ≡ (S x r && not (is_lone b.period b.counts (end_at links.ends m).looks_at j x r))) → (x k r : ℕ) → Contains (ends_of links.lists x) k → k ≡ j → Of S' x r → 0 < count_at b.period b.counts k r
+  live_at_end j m S S' mates sifts x k r is same i =
+      let at : x ≡ (end_at links.ends m).looks_at = sym (linked.each x k is).mate_looks ∙ ap (λ h. (end_at links.ends h).looks_at) (ap (λ h. (end_at links.ends h).mate) same ∙ mates) in
+      subst (λ h. 0 < count_at b.period b.counts h r) (sym same) (not_lone b.period b.counts (end_at links.ends m).looks_at j x r (S x r) at (sym (sifts x r) ∙ i))
 
-  pub recounted_pending : ArePendingBut links n back
+  recounted_pending : ArePendingBut links n back
   recounted_pending =
       let now = waiting_taken links (Some q) back b n waiting taken keeps in
+      let back_mate : (end_at links.ends (2 * q + 1)).mate ≡ 2 * q = ap (λ j. (end_at links.ends j).mate) (sym mate) ∙ (linked.each p (2 * q) listed).mate_back in
       record {
         exact = λ x k is. rw (keeps.period, keeps.counts, keeps.counted) (exact_all x k is);
         live = λ x k is.
             elim (cases_eq k (2 * q)) [
-              | inl same ↦
-                  let at : x ≡ (end_at links.ends (2 * q + 1)).looks_at = at_place x k is ∙ ap (λ j. (end_at links.ends j).looks_at) (ap (λ j. (end_at links.ends j).mate) same ∙ mate) in
-                  rw (keeps.period, keeps.counts)
-                  (λ r rl i.
-                  let in_n = (and_parts _ _ i).0 in
-                  let in_d = (and_parts _ _ (sym (second x r) ∙ in_n)).0 in
-                  subst (λ j. 0 < count_at b.period b.counts j r) (sym same) (not_lone b.period b.counts (end_at links.ends (2 * q + 1)).looks_at (2 * q) x r (has_at b.rows x r) at (sym (first x r) ∙ in_d)))
+              | inl same ↦ rw (keeps.period, keeps.counts)
+                  (λ r rl i. live_at_end (2 * q) (2 * q + 1) (has_at b.rows) (has_at d.rows) mate first x k r is same (and_parts _ _ (sym (second x r) ∙ (and_parts _ _ i).0)).0)
               | inr apart ↦
                   elim (cases_eq k (2 * q + 1)) [
-                    | inl same ↦
-                        let back_mate : (end_at links.ends (2 * q + 1)).mate ≡ 2 * q = ap (λ j. (end_at links.ends j).mate) (sym mate) ∙ (linked.each p (2 * q) listed).mate_back in
-                        let at : x ≡ (end_at links.ends (2 * q)).looks_at = at_place x k is ∙ ap (λ j. (end_at links.ends j).looks_at) (ap (λ j. (end_at links.ends j).mate) same ∙ back_mate) in
-                        rw (keeps.period, keeps.counts)
-                        (λ r rl i.
-                        let in_n = (and_parts _ _ i).0 in
-                        subst (λ j. 0 < count_at b.period b.counts j r) (sym same) (not_lone b.period b.counts (end_at links.ends (2 * q)).looks_at (2 * q + 1) x r (has_at d.rows x r) at (sym (second x r) ∙ in_n)))
+                    | inl same ↦ rw (keeps.period, keeps.counts) (λ r rl i. live_at_end (2 * q + 1) (2 * q) (has_at d.rows) (has_at n.rows) back_mate second x k r is same (and_parts _ _ i).0)
                     | inr other ↦ now.live x k is (unspared_from q k apart other)
                   ]
             ];
@@ -218,7 +200,7 @@ module _ (links : Links) (s b d n : Supports) (q p : ℕ) (back : List Placed) (
         out = now.out;
       }
 
-  pub recounted_keeps : KeepsClosed s.period links.ends links.lists (has_at s.rows) (has_at n.rows)
+  recounted_keeps : KeepsClosed s.period links.ends links.lists (has_at s.rows) (has_at n.rows)
   recounted_keeps =
       record {
         fewer = λ x r i. ap (λ xs. has_at xs x r) (sym rows) ∙ taken_fewer b n taken x r i;
@@ -230,59 +212,12 @@ module _ (links : Links) (s b d n : Supports) (q p : ℕ) (back : List Placed) (
             second x r ∙ and_from _ _ in_d (stays (end_at links.ends (2 * q)).looks_at (2 * q + 1) head_listed x r i);
       }
 
+  pub recounted : ArePendingBut links n back × KeepsClosed s.period links.ends links.lists (has_at s.rows) (has_at n.rows)
+  recounted = (recounted_pending, recounted_keeps)
+
 -- both ends of an activity, in counts of the same shape
 pub both_ends : (I : Network) (links : Links) (s n : Supports) (q : ℕ) → AreFor I links s → HaveSameShape s n → (listed : (p : ℕ) × Contains (ends_of links.lists p) (2 * q)) → IsEndAt s.period links.ends links.lists listed.0 (2 * q) × IsEndAt s.period links.ends links.lists (end_at links.ends (2 * q)).looks_at (end_at links.ends (2 * q)).mate × Fit links n
 both_ends I links s n q fits shape listed =
-    let linked = for_linked I links s fits in
+    let linked = fits.fit.linked in
     let tail = linked.each listed.0 (2 * q) listed.1 in
     (tail, linked.each _ _ tail.mate_there, fit_then links s n shape fits.fit)
-
--- ---- what the two steps of code say of the ends
-
--- the counts at an end, as they are made anew
-abbrev pub IsMade : ℕ → List ℕ → List (List Bool) → ℕ → End → Type 0
-IsMade period counts rows k e = (r : ℕ) → r < period → count_at period counts k r ≡ supporters period (has_at rows e.looks_at) (passes period e r)
-
--- counts at other ends than this one are as before
-abbrev pub AreElse : ℕ → List ℕ → List ℕ → ℕ → Type 0
-AreElse period before after number = (k r : ℕ) → (k ≡ number → ⊥) → r < period → count_at period after k r ≡ count_at period before k r
-
-module _ (links : Links) (s a b : Supports) (q t : ℕ) (e m : End) (t_is : t ≡ 2 * q) (e_is : e ≡ end_at links.ends t) (m_is : m ≡ end_at links.ends e.mate) (mate : (end_at links.ends (2 * q)).mate ≡ 2 * q + 1) (counted : a.counted ≡ s.counted) (period : a.period ≡ s.period)
-    (first : IsMade s.period a.counts s.counted t e) (elsewhere : AreElse s.period s.counts a.counts t) (second : IsMade a.period b.counts a.counted e.mate m) (elsewhere' : AreElse a.period a.counts b.counts e.mate) where
-  tail_is : e ≡ end_at links.ends (2 * q)
-  tail_is = e_is ∙ ap (end_at links.ends) t_is
-
-  head_at : e.mate ≡ 2 * q + 1
-  head_at = ap (λ (x : End). x.mate) tail_is ∙ mate
-
-  head_is : m ≡ end_at links.ends (2 * q + 1)
-  head_is = m_is ∙ ap (end_at links.ends) head_at
-
-  later : AreElse s.period a.counts b.counts (2 * q + 1)
-  later = subst (AreElse s.period a.counts b.counts) head_at (subst (λ n. AreElse n a.counts b.counts e.mate) period elsewhere')
-
-  earlier : AreElse s.period s.counts a.counts (2 * q)
-  earlier = subst (AreElse s.period s.counts a.counts) t_is elsewhere
-
-  pub tail_made : IsExactAt s.period links.ends b.counts (has_at s.counted) (2 * q)
-  tail_made r rl =
-      let apart : 2 * q ≡ 2 * q + 1 → ⊥ = λ same. absurd (omega (arith, same)) in
-      later (2 * q) r apart rl ∙ subst (IsMade s.period a.counts s.counted (2 * q)) tail_is (subst (λ k. IsMade s.period a.counts s.counted k e) t_is first) r rl
-
-  pub head_made : IsExactAt s.period links.ends b.counts (has_at s.counted) (2 * q + 1)
-  head_made r rl =
-      let one : IsMade s.period b.counts s.counted e.mate m = subst (λ n. IsMade n b.counts s.counted e.mate m) period (subst (λ rows. IsMade a.period b.counts rows e.mate m) counted second) in
-      subst (IsMade s.period b.counts s.counted (2 * q + 1)) head_is (subst (λ k. IsMade s.period b.counts s.counted k m) head_at one) r rl
-
-  pub others_made : (k r : ℕ) → k ≢ 2 * q → k ≢ 2 * q + 1 → r < s.period → count_at s.period b.counts k r ≡ count_at s.period s.counts k r
-  others_made k r apart other rl = later k r other rl ∙ earlier k r apart rl
-
-  pub tail_sifted : (d : Supports) → Sifts b m.looks_at t d → Sifts b (end_at links.ends (2 * q + 1)).looks_at (2 * q) d
-  tail_sifted d is = subst (λ (x : End). Sifts b x.looks_at (2 * q) d) head_is (subst (λ k. Sifts b m.looks_at k d) t_is is)
-
-  pub head_sifted : (d n : Supports) → Keeps b d → Sifts d e.looks_at e.mate n → (x r : ℕ) → has_at n.rows x r ≡ (has_at d.rows x r && not (x == (end_at links.ends (2 * q)).looks_at && (count_at b.period b.counts (2 * q + 1) r == 0)))
-  head_sifted d n keeps is =
-      subst (λ (z : End). (x r : ℕ) → has_at n.rows x r ≡ (has_at d.rows x r && not (x == z.looks_at && (count_at b.period b.counts (2 * q + 1) r == 0)))) tail_is
-      (subst (λ k. (x r : ℕ) → has_at n.rows x r ≡ (has_at d.rows x r && not (x == e.looks_at && (count_at b.period b.counts k r == 0)))) head_at
-      (subst (λ counts. (x r : ℕ) → has_at n.rows x r ≡ (has_at d.rows x r && not (x == e.looks_at && (count_at b.period counts e.mate r == 0)))) keeps.counts
-      (subst (λ T. (x r : ℕ) → has_at n.rows x r ≡ (has_at d.rows x r && not (x == e.looks_at && (count_at T d.counts e.mate r == 0)))) keeps.period is)))

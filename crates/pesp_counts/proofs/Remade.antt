@@ -1,8 +1,8 @@
 -- Domains from full rows.
-use Rattle.std.proofs.Common.{◌≡◌, ◌≢◌, ℕ, ◌+◌, ◌-◌, ◌%◌, ◌<◌, ◌==◌, ◌&&◌, ◌||◌, not, nat_lt, Bool, true, false, List, [], ◌∷◌, Option, Some, None, is_some, length, refl, sym, ap, subst, ◌∙◌, inl, inr, arith, IsTrue, if◌then◌else◌}
+use Rattle.std.proofs.Common.{◌≡◌, ◌≢◌, ℕ, ◌+◌, ◌-◌, ◌%◌, ◌<◌, ◌==◌, ◌&&◌, ◌||◌, not, nat_lt, Bool, true, false, List, [], ◌∷◌, Some, is_some, length, refl, sym, ap, subst, ◌∙◌, inl, inr, arith, IsTrue, if◌then◌else◌}
 use Rattle.std.specs.List.{Contains}
 use Rattle.std.specs.Option.{option_and_then, option_map_or}
-use Rattle.std.proofs.lemmas.Bool.{and_from, and_parts, cases_eq, eq-eqb, lt-ltb, ne_eqb, false≢true, ltb-true}
+use Rattle.std.proofs.lemmas.Bool.{and_from, and_parts, cases_Bool, cases_eq, eq-eqb, lt-ltb, ne_eqb, false≢true, ltb-true}
 use Rattle.std.proofs.lemmas.List.Elements.{All-contains}
 use Rattle.pesp_base.specs.Numbered.{with_number}
 use Rattle.pesp_instance.specs.declared.event.Event.{Event}
@@ -18,8 +18,9 @@ use Rattle.pesp_counts_supports.specs.Resting.{AreAtRest, AreLive}
 use Rattle.pesp_counts_arcs.specs.Links.{Links, StandFor}
 use Rattle.pesp_counts_arcs.specs.Places.{numbered, place_of}
 use Rattle.pesp_counts_supports.specs.Supports.{AreExact, AreOut, HaveSameShape, IsTaken, Keeps, Supports}
+use Rattle.pesp_base.proofs.Tests.{none_from}
 use Rattle.pesp_counts.proofs.Bridge.{counts_settle, numbered_at, numbered_same, place_is}
-use Rattle.pesp_counts.proofs.Keeping.{for_linked, for_same, narrowed_numbered}
+use Rattle.pesp_counts.proofs.Keeping.{for_same, narrowed_numbered}
 use Rattle.pesp_counts_supports.proofs.Marks.{keeps_like, out_more, pending_rest}
 use Rattle.pesp_counts_supports.proofs.Supporters.{supporters_from}
 use Rattle.pesp_counts_supports.proofs.Taken.{kept_shape, shape_then, taken_fewer, taken_then}
@@ -50,7 +51,7 @@ some_passes period first width r some wide =
 
 full_live : (I : Network) (links : Links) (s : Supports) → AreFor I links s → AreExact links s (has_at s.counted) → ((p r : ℕ) → has_at s.counted p r ≡ is_full s.counted s.period p r) → AreLive links s
 full_live I links s fits exact full p k is r rl here =
-    let end = (for_linked I links s fits).each p k is in
+    let end = fits.fit.linked.each p k is in
     let e = end_at links.ends k in
     let low = fits.fit.counted e.looks_at e.mate end.mate_there in
     let x : ℕ = (r + e.first) % s.period in
@@ -59,14 +60,14 @@ full_live I links s fits exact full p k is r rl here =
     let some = supporters_from s.period (has_at s.counted e.looks_at) (passes s.period e r) x xl there (some_passes s.period e.first e.width r (omega (arith, rl)) end.some) in
     subst (λ n. 0 < n) (sym (exact p k is r rl)) some
 
--- full rows are at rest
-pub full_rest : (I : Network) (links : Links) (s : Supports) → AreFor I links s → AreExact links s (has_at s.counted) → ((p r : ℕ) → has_at s.counted p r ≡ is_full s.counted s.period p r) → ((p r : ℕ) → has_at s.rows p r ≡ is_full s.rows s.period p r) → s.trail ≡ [] → AreAtRest links s
-full_rest I links s fits exact counted rows trail =
+-- rows that were filled are at rest
+pub full_as : (I : Network) (links : Links) (before s : Supports) → AreFor I links before → HaveSameShape before s → AreExact links s (has_at s.counted) → ((p r : ℕ) → has_at s.counted p r ≡ is_full before.counted before.period p r) → ((p r : ℕ) → has_at s.rows p r ≡ is_full before.rows before.period p r) → s.trail ≡ [] → AreAtRest links s
+full_as I links before s fits shape exact counted rows trail =
     record {
       exact = exact;
-      level = λ p r. counted p r ∙ ap (λ n. nat_lt p n && nat_lt r s.period) fits.even ∙ sym (rows p r);
-      live = full_live I links s fits exact counted;
-      below = λ p r i. ltb-true r s.period (and_parts _ _ (sym (rows p r) ∙ i)).1;
+      level = λ p r. counted p r ∙ ap (λ n. nat_lt p n && nat_lt r before.period) fits.even ∙ sym (rows p r);
+      live = full_live I links s (for_same I links before s shape fits) exact (λ p r. rw (shape.counted, shape.period) (counted p r));
+      below = λ p r i. rw shape.period (ltb-true r before.period (and_parts _ _ (sym (rows p r) ∙ i)).1);
       out = out_none s trail;
     }
 
@@ -114,43 +115,25 @@ module _ (I : Network) (network : IsNetwork I) (x : Event) (rest : List Event) (
       by true = refl
       by false = refl
 
-  -- the events to come still have all their residues
-  pub to_come_more : ((e r : ℕ) → IsTrue (is_some (with_number id_of e (x ∷ rest))) → S e r ≡ nat_lt r I.period) → (e r : ℕ) → IsTrue (is_some (with_number id_of e rest)) → S' e r ≡ nat_lt r I.period
-  to_come_more before e r later =
-      let apart : e ≢ x.id = λ same. false≢true (sym (ap is_some (with_number-above id_of e x.id rest (omega (arith, same)) rises.0)) ∙ later) in
-      elsewhere e r apart ∙ before e r (rw (ne_eqb x.id e (λ same. apart (sym same))) later)
-
   -- and one more event is done
-  pub done_more : ((e r : ℕ) → IsTrue (is_some (with_number id_of e (x ∷ rest))) → S e r ≡ nat_lt r I.period) → ((e r : ℕ) → with_number id_of e (x ∷ rest) ≡ None → S e r ≡ opened I e r) → (e r : ℕ) → with_number id_of e rest ≡ None → S' e r ≡ opened I e r
-  done_more full before e r none =
+  pub state_more : ((e r : ℕ) → S e r ≡ (if is_some (with_number id_of e (x ∷ rest)) then nat_lt r I.period else opened I e r)) → (e r : ℕ) → S' e r ≡ (if is_some (with_number id_of e rest) then nat_lt r I.period else opened I e r)
+  state_more before e r =
       elim (cases_eq e x.id) [
-        | inr apart ↦ elsewhere e r apart ∙ before e r (rw (ne_eqb x.id e (λ same. apart (sym same))) none)
+        | inr apart ↦ elsewhere e r apart ∙ (rw (ne_eqb x.id e (λ same. apart (sym same))) at (before e r))
         | inl same ↦
-            let found = event_there I x network is in
-            let all : S x.id r ≡ nat_lt r I.period = full x.id r (rw (eq-eqb x.id x.id refl) refl) in
+            let gone = with_number-above id_of x.id x.id rest (omega arith) rises.0 in
+            let all : S x.id r ≡ nat_lt r I.period = rw (eq-eqb x.id x.id refl) at (before x.id r) in
             let one : S' x.id r ≡ (nat_lt r I.period && agrees_with I.period x.window r) = agrees x.id r ∙ rw (eq-eqb x.id x.id refl, all) refl in
-            let want : opened I x.id r ≡ (nat_lt r I.period && agrees_with I.period x.window r) = ap (λ o. if is_some o then (nat_lt r I.period && agrees_with I.period (option_and_then (λ (y : Event). y.window) o) r) else false) found in
-            ap (λ n. S' n r) same ∙ one ∙ sym want ∙ ap (λ n. opened I n r) (sym same)
+            let want : opened I x.id r ≡ (nat_lt r I.period && agrees_with I.period x.window r) = ap (λ o. if is_some o then (nat_lt r I.period && agrees_with I.period (option_and_then (λ (y : Event). y.window) o) r) else false) (event_there I x network is) in
+            rw (same, gone) (one ∙ sym want)
       ]
 
 -- at first all events have all residues
-pub to_come_first : (I : Network) (links : Links) (s : Supports) → AreFor I links s → ((p r : ℕ) → has_at s.rows p r ≡ is_full s.rows s.period p r) → (e r : ℕ) → IsTrue (has_event I e) → rows_of links s e r ≡ nat_lt r I.period
-to_come_first I links s fits full e r event =
-    let p = place_is I links fits.stand e event in
-    numbered_at links.events (has_at s.rows) e p.0 r p.1 ∙ full p.0 r ∙ rw (lt-ltb p.0 (length s.rows) (fits.housed e p.0 p.1), fits.period) refl
-
-pub done_first : (I : Network) (links : Links) (s : Supports) → AreFor I links s → (e r : ℕ) → with_number id_of e I.events ≡ None → rows_of links s e r ≡ opened I e r
-done_first I links s fits e r none =
-    let no_event : has_event I e ≡ false = ap is_some none in
-    rw no_event (by (place_of links.events e) (fits.stand.of_events e ∙ no_event))
-  where
-    by : (o : Option ℕ) → is_some o ≡ false → option_map_or (λ p. has_at s.rows p r) o false ≡ false
-    by None is = refl
-    by (Some p) is = absurd (false≢true (sym is))
-
--- rows that were filled are at rest
-pub full_as : (I : Network) (links : Links) (before s : Supports) → AreFor I links before → HaveSameShape before s → AreExact links s (has_at s.counted) → ((p r : ℕ) → has_at s.counted p r ≡ is_full before.counted before.period p r) → ((p r : ℕ) → has_at s.rows p r ≡ is_full before.rows before.period p r) → s.trail ≡ [] → AreAtRest links s
-full_as I links before s fits shape exact counted rows trail =
-    full_rest I links s (for_same I links before s shape fits) exact
-    (λ p r. rw (shape.counted, shape.period) (counted p r))
-    (λ p r. rw (shape.rows, shape.period) (rows p r)) trail
+pub state_first : (I : Network) (links : Links) (s : Supports) → AreFor I links s → ((p r : ℕ) → has_at s.rows p r ≡ is_full s.rows s.period p r) → (e r : ℕ) → rows_of links s e r ≡ (if has_event I e then nat_lt r I.period else opened I e r)
+state_first I links s fits full e r =
+    elim (cases_Bool (has_event I e)) [
+      | inl event ↦
+          let p = place_is I links fits.stand e event in
+          rw event (numbered_at links.events (has_at s.rows) e p.0 r p.1 ∙ full p.0 r ∙ rw (lt-ltb p.0 (length s.rows) (fits.housed e p.0 p.1), fits.period) refl)
+      | inr none ↦ rw none (ap (λ o. option_map_or (λ p. has_at s.rows p r) o false) (none_from (place_of links.events e) (fits.stand.of_events e ∙ none)))
+    ]

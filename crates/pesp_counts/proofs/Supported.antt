@@ -1,10 +1,12 @@
 -- A count is that of the partners in the domains.
-use Rattle.std.proofs.Common.{◌≡◌, ℕ, zero, suc, ◌+◌, ◌*◌, ◌<◌, ◌&&◌, cond, Bool, true, false, List, [], ◌∷◌, ◌++◌, get_or, length, Option, Some, None, is_some, option_map, refl, sym, ap, subst, ◌∙◌, inl, inr, arith, IsTrue}
+use Rattle.std.proofs.Common.{◌≡◌, ℕ, zero, suc, add-one, ◌+◌, ◌*◌, ◌<◌, ◌&&◌, cond, Bool, true, false, List, [], ◌∷◌, ◌++◌, get_or, length, map, Some, None, is_some, option_map, refl, sym, ap, subst, ◌∙◌, arith, IsTrue}
 use Rattle.std.specs.List.{Contains}
 use Rattle.std.specs.List.Sorted.{IsStrictlyIncreasing}
-use Rattle.std.proofs.lemmas.Bool.{and_from, and_parts, cases_eq, cases_lt, false≢true}
-use Rattle.std.proofs.lemmas.List.{get_or_append_left, get_or_push, length_push}
-use Rattle.std.proofs.lemmas.List.Elements.{Contains-append_left, Contains-get_or, Contains-push, Contains-push_cases}
+use Rattle.std.proofs.lemmas.Bool.{and_from, and_parts, false≢true}
+use Rattle.std.specs.List.{filter, range_with_len}
+use Rattle.std.proofs.lemmas.List.{append-nil, length_push}
+use Rattle.std.proofs.lemmas.List.FromFn.{filter_of_map_range_with_len_more, get_or-map-range_with_len, length-map-range_with_len}
+use Rattle.std.proofs.lemmas.List.Kept.{IsStrictlyIncreasing-filter}
 use Rattle.pesp_base.specs.declared.activity.Activity.{Activity}
 use Rattle.pesp_instance.specs.Network.{Network, activity_of}
 use Rattle.pesp_instance.proofs.Rising.{number-with_number}
@@ -12,7 +14,7 @@ use Rattle.pesp_domains.specs.declared.pair.Pair.{Pair}
 use Rattle.pesp_domains.specs.declared.side.Side.{Side}
 use Rattle.pesp_domains.specs.Domains.{InDomains, other, own}
 use Rattle.pesp_domains.proofs.Laws.{InDomains-admitted}
-use Rattle.pesp_domains.proofs.Families.{not_in_none}
+use Rattle.pesp_domains.proofs.Families.{in_filter, of_filter}
 use Rattle.pesp_counts_arcs.specs.Ends.{end_at, passes}
 use Rattle.pesp_counts_supports.specs.Counts.{count_at, has_at, supporters}
 use Rattle.pesp_counts.specs.Keeping.{AreSettled, rows_of}
@@ -21,73 +23,45 @@ use Rattle.pesp_counts_arcs.specs.Places.{place_of}
 use Rattle.pesp_counts.specs.Support.{IsSupport}
 use Rattle.pesp_counts_supports.specs.Supports.{Supports}
 use Rattle.pesp_counts.proofs.Asks.{found_in}
-use Rattle.pesp_counts.proofs.Bridge.{numbered_at}
+use Rattle.pesp_counts.proofs.Bridge.{numbered_at, some_of}
+use Rattle.pesp_counts.proofs.Carried.{twice_of}
 
--- the numbers below n that are in the set and pass, ascending
-those : ℕ → (ℕ → Bool) → (ℕ → Bool) → List ℕ
-those zero S f = []
-those (suc n) S f = cond (S n && f n) (those n S f ++ n ∷ []) (those n S f)
+-- the numbers below n, and those of them that are in the set and pass, ascending
+abbrev below : ℕ → List ℕ
+below n = map (λ s. s) (range_with_len 0 n)
+
+abbrev those : ℕ → (ℕ → Bool) → (ℕ → Bool) → List ℕ
+those n S f = filter (λ s. S s && f s) (below n)
 
 length_those : (n : ℕ) (S f : ℕ → Bool) → length (those n S f) ≡ supporters n S f
-unfolding those
 length_those zero S f = refl
 length_those (suc n) S f =
     let rest = length_those n S f in
-    elim (S n && f n) as (λ b. length (cond b (those n S f ++ n ∷ []) (those n S f)) ≡ cond b 1 0 + supporters n S f) [
+    ap (λ k. length (those k S f)) (sym (add-one n)) ∙ ap length (filter_of_map_range_with_len_more (λ s. S s && f s) (λ s. s) 0 n n (omega arith))
+    ∙ (elim (S n && f n) as (λ b. length (those n S f ++ cond b (n ∷ []) []) ≡ cond b 1 0 + supporters n S f) [
       | true ↦ let long = length_push (those n S f) n in omega (arith, long, rest)
-      | false ↦ omega (arith, rest)
-    ]
+      | false ↦ let long = ap length (append-nil (those n S f)) in omega (arith, long, rest)
+    ])
+
+below_at : (n k d : ℕ) → k < n → get_or (below n) k d ≡ k
+below_at n k d l = get_or-map-range_with_len (λ s. s) 0 n k k d l (omega arith)
 
 of_those : (n : ℕ) (S f : ℕ → Bool) (s : ℕ) → Contains (those n S f) s → (s < n) × IsTrue (S s && f s)
-unfolding those
-of_those zero S f s i = absurd (not_in_none s i)
-of_those (suc n) S f s i =
-    elim (S n && f n) as (λ b. (S n && f n) ≡ b → Contains (cond b (those n S f ++ n ∷ []) (those n S f)) s → (s < suc n) × IsTrue (S s && f s)) [
-      | true ↦ λ is j.
-          elim (Contains-push_cases (those n S f) n s j) [
-            | inl old ↦ let w = of_those n S f s old in (let l = w.0 in omega (arith, l), w.1)
-            | inr new ↦ (omega (arith, new), subst (λ k. IsTrue (S k && f k)) new is)
-          ]
-      | false ↦ λ is j. let w = of_those n S f s j in (let l = w.0 in omega (arith, l), w.1)
-    ] refl i
+of_those n S f s i =
+    let w = of_filter (λ s. S s && f s) (below n) s i in
+    let l : w.0.0 < n = omega (arith, w.0.1, length-map-range_with_len (λ s. s) 0 n) in
+    (omega (arith, l, below_at n w.0.0 s l, w.0.2), w.1)
 
 in_those : (n : ℕ) (S f : ℕ → Bool) (s : ℕ) → s < n → IsTrue (S s && f s) → Contains (those n S f) s
-unfolding those
-in_those zero S f s l h = absurd (omega (arith, l))
-in_those (suc n) S f s l h =
-    elim (cases_eq s n) [
-      | inl same ↦
-          let here : (S n && f n) ≡ true = subst (λ k. IsTrue (S k && f k)) same h in
-          rw here (subst (λ k. Contains (those n S f ++ n ∷ []) k) (sym same) (Contains-push (those n S f) n))
-      | inr apart ↦
-          let old = in_those n S f s (omega (arith, l, apart)) h in
-          elim (S n && f n) as (λ b. Contains (cond b (those n S f ++ n ∷ []) (those n S f)) s) [
-            | true ↦ Contains-append_left (those n S f) (n ∷ []) s old
-            | false ↦ old
-          ]
-    ]
-
-push_rising : (xs : List ℕ) (n : ℕ) → IsStrictlyIncreasing xs → ((x : ℕ) → Contains xs x → x < n) → IsStrictlyIncreasing (xs ++ n ∷ [])
-push_rising xs n rising below k l =
-    let long = length_push xs n in
-    elim (cases_lt (k + 1) (length xs)) [
-      | inl low ↦
-          rw (get_or_append_left xs (n ∷ []) 0 k (omega (arith, low)), get_or_append_left xs (n ∷ []) 0 (k + 1) low) (rising k low)
-      | inr high ↦
-          let at : length xs ≡ k + 1 = omega (arith, high, l, long) in
-          let under : k < length xs = omega (arith, at) in
-          rw (get_or_append_left xs (n ∷ []) 0 k under, get_or_push xs n 0 (k + 1) at) (below (get_or xs k 0) (Contains-get_or xs k 0 under))
-    ]
+in_those n S f s l h = in_filter (λ s. S s && f s) (below n) s (s, omega (arith, l, length-map-range_with_len (λ s. s) 0 n), below_at n s s l) h
 
 rising_those : (n : ℕ) (S f : ℕ → Bool) → IsStrictlyIncreasing (those n S f)
-unfolding those
-rising_those zero S f = λ k l. absurd (omega (arith, l))
-rising_those (suc n) S f =
-    let rest = rising_those n S f in
-    elim (S n && f n) as (λ b. IsStrictlyIncreasing (cond b (those n S f ++ n ∷ []) (those n S f))) [
-      | true ↦ push_rising (those n S f) n rest (λ x i. (of_those n S f x i).0)
-      | false ↦ rest
-    ]
+rising_those n S f =
+    IsStrictlyIncreasing-filter (λ s. S s && f s) (below n)
+    (λ k l. let m : k + 1 < n = omega (arith, l, length-map-range_with_len (λ s. s) 0 n) in omega (arith, below_at n k 0 (omega (arith, m)), below_at n (k + 1) 0 m))
+
+pub activity_id : (I : Network) (n : ℕ) (a : Activity) → activity_of I n ≡ Some a → a.id ≡ n
+activity_id I n a named = number-with_number (λ (b : Activity). b.id) n I.activities a named
 
 -- the end of an activity of the instance, by its number
 pub end_of : (I : Network) (links : Links) (n q : ℕ) (side : Side) (a : Activity) → StandFor I links → activity_of I n ≡ Some a → a.id ≡ n → place_of links.activities n ≡ Some q → (p : ℕ) × IsEndOf I.period links side a p q
@@ -130,13 +104,16 @@ is_support I pushes links s n q p r side a h named end held =
       counted = length_those s.period S f ∙ sym (h.rest.exact p k end.listed r low);
     }
 
+-- with the tail that was found for it
+pub found_end : (I : Network) (links : Links) (n tail : ℕ) (side : Side) (a : Activity) → StandFor I links → activity_of I n ≡ Some a → option_map (λ q. 2 * q) (place_of links.activities a.id) ≡ Some tail → (q : ℕ) × (place_of links.activities a.id ≡ Some q) × (tail ≡ 2 * q) × (p : ℕ) × IsEndOf I.period links side a p q
+found_end I links n tail side a stand named found =
+    let q = twice_of (place_of links.activities a.id) tail found in
+    let id = activity_id I n a named in
+    let end = end_of I links n q.0 side a stand named id (ap (place_of links.activities) (sym id) ∙ q.1) in
+    (q.0, q.1, q.2, end.0, end.1)
+
 -- an activity that is there has a place
 pub no_tail : (I : Network) (links : Links) (n : ℕ) (a : Activity) → StandFor I links → activity_of I n ≡ Some a → option_map (λ q. 2 * q) (place_of links.activities n) ≡ None → ⊥
-no_tail I links n a stand named none = by (place_of links.activities n) (stand.of_activities n ∙ ap is_some named) none
-  where
-    by : (o : Option ℕ) → is_some o ≡ true → option_map (λ q. 2 * q) o ≡ None → ⊥
-    by None some none = false≢true some
-    by (Some q) some none = false≢true (sym (ap is_some none))
-
-pub activity_id : (I : Network) (n : ℕ) (a : Activity) → activity_of I n ≡ Some a → a.id ≡ n
-activity_id I n a named = number-with_number (λ (b : Activity). b.id) n I.activities a named
+no_tail I links n a stand named none =
+    let q = some_of (place_of links.activities n) (stand.of_activities n ∙ ap is_some named) in
+    false≢true (sym (ap is_some (sym (ap (option_map (λ k. 2 * k)) q.1) ∙ none)))

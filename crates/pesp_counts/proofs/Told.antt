@@ -18,19 +18,18 @@ use Rattle.pesp_domains.proofs.Edits.{effect_is}
 use Rattle.pesp_domains.proofs.Families.{and_left, and_right, none_passes, passing}
 use Rattle.pesp_domains.proofs.Sweeps.{left, swept, swept_at_last}
 use Rattle.pesp_counts_supports.specs.declared.trail.Placed.{Placed}
-use Rattle.pesp_counts.specs.Keeping.{AreFor}
 use Rattle.pesp_counts_supports.specs.Resting.{HaveRoom}
 use Rattle.pesp_counts_arcs.specs.Links.{Links, StandFor}
 use Rattle.pesp_counts.specs.Changes.{AreReached, IsFollowed}
-use Rattle.pesp_counts_arcs.specs.Places.{number_at, place_of}
+use Rattle.pesp_counts_arcs.specs.Places.{ArePlaces, number_at, place_of}
 use Rattle.pesp_counts.specs.Reached.{Reached, starts}
 use Rattle.pesp_counts.specs.Restores.{IsEventPlace, Restores, StaysWithin, numbered_pair}
-use Rattle.pesp_counts_supports.specs.Supports.{Supports}
+use Rattle.pesp_counts_supports.specs.Supports.{Supports, is_in}
 use Rattle.pesp_base.proofs.Tests.{same_value, or_second}
 use Rattle.pesp_counts.proofs.Asks.{asks_again}
 use Rattle.pesp_counts.proofs.Bridge.{place_is, some_of}
 use Rattle.pesp_counts.proofs.ReachLaws.{outside_of}
-use Rattle.pesp_counts_supports.proofs.Spread.{block_below, blocks_apart}
+use Rattle.pesp_counts_supports.proofs.Raised.{block_below, blocks_apart}
 use Rattle.pesp_counts_arcs.proofs.StandMembers.{in_map, of_map}
 use Rattle.pesp_counts_supports.proofs.Taken.{found_in, stands_in}
 use Rattle.pesp_counts.proofs.Union.{reach_covers, reached_nowhere}
@@ -77,71 +76,104 @@ few_placed n period pairs once within =
               ap (λ (q : ℕ). record { place = q; residue = x.residue }) at ∙ ap (λ (q : ℕ). record { place = y.place; residue = q }) there
         ]
 
-module _ (I J : Network) (edit : Edit) (links : Links) (back : List Placed) (reached : AreReached I edit links back) (made : edited I edit ≡ Ok J) (stand : StandFor J links) where
+-- ---- pairs at the places of events, by number
+
+-- each pair of the list is at the place of an event
+abbrev pub AreOfEvents : Links → List Placed → Type 0
+AreOfEvents links xs = (x : Placed) → Contains xs x → (e : ℕ) × (place_of links.events e ≡ Some x.place)
+
+module _ (links : Links) (events : ArePlaces links.events) (xs : List Placed) (housed : AreOfEvents links xs) where
+  numbers_it : (x : Placed) (i : Contains xs x) → (numbered_pair links x).event ≡ (housed x i).0
+  numbers_it x i = ap (λ o. unwrap_or o 0) ((events.paired (housed x i).0 x.place).0 (housed x i).1)
+
+  alike : (x y : Placed) → Contains xs x → Contains xs y → numbered_pair links x ≡ numbered_pair links y → x ≡ y
+  alike x y i j same =
+      let numbers : (housed x i).0 ≡ (housed y j).0 = sym (numbers_it x i) ∙ ap (λ (p : Pair). p.event) same ∙ numbers_it y j in
+      let places : x.place ≡ y.place = same_value (place_of links.events (housed y j).0) x.place y.place (ap (place_of links.events) (sym numbers) ∙ (housed x i).1) (housed y j).1 in
+      ap (λ (q : ℕ). record { place = q; residue = x.residue }) places ∙ ap (λ (q : ℕ). record { place = y.place; residue = q }) (ap (λ (p : Pair). p.residue) same)
+
+  -- different pairs have different numbers or residues
+  pub once_numbered : AllPairs (λ x y. x ≢ y) xs → AllPairs (λ p q. p ≢ q) (map (numbered_pair links) xs)
+  once_numbered once i j d lt l =
+      let long = length-map xs (numbered_pair links) in
+      let jl : j < length xs = omega (arith, l, long) in
+      let il : i < length xs = omega (arith, jl, lt) in
+      let o : Placed = record { place = 0; residue = 0 } in
+      λ same.
+      once i j o lt jl
+      (alike (get_or xs i o) (get_or xs j o) (Contains-get_or xs i o il) (Contains-get_or xs j o jl)
+      (sym (get_or-map (numbered_pair links) xs i o d il) ∙ same ∙ get_or-map (numbered_pair links) xs j o d jl))
+
+  -- a pair by number is one of the list, at its event's place
+  pub of_numbered : (e r : ℕ) → In (map (numbered_pair links) xs) e r → (p : ℕ) × (place_of links.events e ≡ Some p) × IsTrue (is_in xs p r)
+  of_numbered e r i =
+      let w = of_map (numbered_pair links) xs (record { event = e; residue = r }) i in
+      let x = w.0 in
+      let number : (housed x w.1).0 ≡ e = sym (numbers_it x w.1) ∙ ap (λ (p : Pair). p.event) w.2 in
+      (x.place, ap (place_of links.events) (sym number) ∙ (housed x w.1).1, subst (λ s. IsTrue (is_in xs x.place s)) (ap (λ (p : Pair). p.residue) w.2) (found_in xs x w.1))
+
+  -- and the other way round
+  pub in_numbered : (e p r : ℕ) → place_of links.events e ≡ Some p → IsTrue (is_in xs p r) → In (map (numbered_pair links) xs) e r
+  in_numbered e p r at i =
+      subst (λ f. In (map (numbered_pair links) xs) f r) (ap (λ o. unwrap_or o 0) ((events.paired e p).0 at))
+      (in_map (numbered_pair links) xs (record { place = p; residue = r }) (stands_in xs p r i))
+
+-- ---- the pairs that came
+
+module _ (I J : Network) (edit : Edit) (before links : Links) (s0 s : Supports) (back : List Placed) (followed : IsFollowed I J edit before links s0 s back) (made : edited I edit ≡ Ok J) where
+  abbrev reached : AreReached I edit links back
+  reached = followed.reached
+
+  abbrev stand : StandFor J links
+  stand = followed.settled.fits.stand
+
   its_event : (x : Placed) → Contains back x → (e : ℕ) × (place_of links.events e ≡ Some x.place) × Reached I edit e x.residue
   its_event x i = reached.only x.place x.residue (found_in back x i)
 
-  its_number : (x : Placed) (i : Contains back x) → number_at links.events x.place ≡ Some (its_event x i).0
-  its_number x i = let w = its_event x i in (stand.events.paired w.0 x.place).0 w.1
-
-  numbers_it : (x : Placed) (i : Contains back x) → (numbered_pair links x).event ≡ (its_event x i).0
-  numbers_it x i = ap (λ o. unwrap_or o 0) (its_number x i)
+  housed : AreOfEvents links back
+  housed x i = let w = its_event x i in (w.0, w.1)
 
   -- each is of an event
-  pub back_places : IsNetwork J → All (λ x. IsEventPlace links x.place) back
-  back_places network k d l =
+  pub told_places : All (λ x. IsEventPlace links x.place) back
+  told_places k d l =
       let x = get_or back k d in
-      let i = Contains-get_or back k d l in
-      let w = its_event x i in
+      let w = its_event x (Contains-get_or back k d l) in
       let event : has_event J w.0 ≡ true = sym (stand.of_events w.0) ∙ ap is_some w.1 in
       let found = some_of (event_of J w.0) event in
       let number = number-with_number (λ (e : Event). e.id) w.0 J.events found.0 found.1 in
-      let within = (IfSome-with_number (λ (e : Event). e.id) (IsEvent J.period) w.0 J.events found.0 network.events_within found.1).number in
-      (w.0, its_number x i, omega (arith, number, within))
+      let within = (IfSome-with_number (λ (e : Event). e.id) (IsEvent J.period) w.0 J.events found.0 followed.settled.network.events_within found.1).number in
+      (w.0, (stand.events.paired w.0 x.place).0 w.1, omega (arith, number, within))
 
   -- and there is room for them
-  pub back_few : (s : Supports) → AreFor J links s → length back ≤ length s.rows * s.period
-  back_few s fits =
-      few_placed (length s.rows) s.period back reached.once
+  pub told_room : (for_back for_restored : ℕ) → HaveRoom s for_back for_restored → length back ≤ for_restored
+  told_room for_back for_restored room =
+      let fits = followed.settled.fits in
+      let few = few_placed (length s.rows) s.period back reached.once
       (λ x i.
       let w = its_event x i in
       let below = (outside_of I edit w.0 x.residue w.2).admitted.below in
       let period = ap (λ (K : Network). K.period) (effect_is I J edit made) in
       (fits.housed w.0 x.place w.1, omega (arith, below, period, fits.period)))
+      in
+      omega (arith, few, room.restored)
 
   -- by number they are just those that the edit reaches
-  pub restores_told : Restores I edit (map (numbered_pair links) back)
-  restores_told =
+  pub told_restored : Restores I edit (map (numbered_pair links) back)
+  told_restored =
       record {
         exact = λ e r. (
           λ i.
-              let w = of_map (numbered_pair links) back (record { event = e; residue = r }) i in
-              let x = w.0 in
-              let event : (its_event x w.1).0 ≡ e = sym (numbers_it x w.1) ∙ ap (λ (p : Pair). p.event) w.2 in
-              subst (λ f. Reached I edit f r) event (subst (Reached I edit (its_event x w.1).0) (ap (λ (p : Pair). p.residue) w.2) (its_event x w.1).2),
+              let w = of_numbered links stand.events back housed e r i in
+              let v = reached.only w.0 r w.2 in
+              let event : v.0 ≡ e = same_value (number_at links.events w.0) v.0 e ((stand.events.paired v.0 w.0).0 v.1) ((stand.events.paired e w.0).0 w.1) in
+              subst (λ f. Reached I edit f r) event v.2,
           λ h.
               let a = (outside_of I edit e r h).admitted in
               let p = place_is J links stand e (subst (λ (K : Network). IsTrue (has_event K e)) (sym (effect_is I J edit made)) a.of_event) in
-              let there = stands_in back p.0 r (reached.all e p.0 r p.1 h) in
-              let number : unwrap_or (number_at links.events p.0) 0 ≡ e = ap (λ o. unwrap_or o 0) ((stand.events.paired e p.0).0 p.1) in
-              subst (λ f. In (map (numbered_pair links) back) f r) number (in_map (numbered_pair links) back (record { place = p.0; residue = r }) there),
+              in_numbered links stand.events back housed e p.0 r p.1 (reached.all e p.0 r p.1 h),
         );
-        once = λ i j d lt l.
-            let long = length-map back (numbered_pair links) in
-            let jl : j < length back = omega (arith, l, long) in
-            let il : i < length back = omega (arith, jl, lt) in
-            let o : Placed = record { place = 0; residue = 0 } in
-            λ same.
-            reached.once i j o lt jl
-            (alike (get_or back i o) (get_or back j o) (Contains-get_or back i o il) (Contains-get_or back j o jl)
-            (sym (get_or-map (numbered_pair links) back i o d il) ∙ same ∙ get_or-map (numbered_pair links) back j o d jl));
+        once = once_numbered links stand.events back housed reached.once;
       }
-    where
-      alike : (x y : Placed) → Contains back x → Contains back y → numbered_pair links x ≡ numbered_pair links y → x ≡ y
-      alike x y i j same =
-          let events : (its_event x i).0 ≡ (its_event y j).0 = sym (numbers_it x i) ∙ ap (λ (p : Pair). p.event) same ∙ numbers_it y j in
-          let places : x.place ≡ y.place = same_value (place_of links.events (its_event y j).0) x.place y.place (ap (place_of links.events) (sym events) ∙ (its_event x i).1) (its_event y j).1 in
-          ap (λ (q : ℕ). record { place = q; residue = x.residue }) places ∙ ap (λ (q : ℕ). record { place = y.place; residue = q }) (ap (λ (p : Pair). p.residue) same)
 
 -- ---- the domains after the edit
 
@@ -186,17 +218,3 @@ within_told I J edit restored network made told e r i =
             | inr new ↦ inr (inl (test_to restored e r (or_second (before e r) (in_test restored e r) there new)))
           ]
     ]
-
--- ---- after an edit that was followed
-
-module _ (I J : Network) (edit : Edit) (before links : Links) (s0 s : Supports) (back : List Placed) (followed : IsFollowed I J edit before links s0 s back) (made : edited I edit ≡ Ok J) where
-  pub told_places : All (λ x. IsEventPlace links x.place) back
-  told_places = back_places I J edit links back followed.reached made followed.settled.fits.stand followed.settled.network
-
-  pub told_room : (for_back for_restored : ℕ) → HaveRoom s for_back for_restored → length back ≤ for_restored
-  told_room for_back for_restored room =
-      let few = back_few I J edit links back followed.reached made followed.settled.fits.stand s followed.settled.fits in
-      omega (arith, few, room.restored)
-
-  pub told_restored : Restores I edit (map (numbered_pair links) back)
-  told_restored = restores_told I J edit links back followed.reached made followed.settled.fits.stand

@@ -1,15 +1,15 @@
 -- The domains after an edit lie within those before it and the reached pairs.
-use Rattle.std.proofs.Common.{◌≡◌, ℕ, ◌<◌, ◌==◌, ◌&&◌, ◌||◌, not, false, [], sym, ap, subst, ◌∙◌, inl, inr, ◌⊎◌, IsTrue}
+use Rattle.std.proofs.Common.{◌≡◌, ℕ, ◌<◌, ◌==◌, ◌&&◌, ◌||◌, not, false, [], sym, ap, subst, ◌∙◌, inl, inr, ◌⊎◌, IsTrue, Ok, arith}
 use Rattle.std.specs.List.{Contains, list_any}
 use Rattle.std.proofs.lemmas.Bool.{and_from, and_parts, cases_Bool, false≢true, not-true, or_cases, or_left, or_right}
 use Rattle.pesp_base.specs.declared.activity.Activity.{Activity}
 use Rattle.pesp_instance.specs.declared.edit.Edit.{Edit}
-use Rattle.pesp_instance.specs.Edited.{effect}
-use Rattle.pesp_instance.specs.Network.{IsNetwork, Network, has_event}
+use Rattle.pesp_instance.specs.Edited.{effect, edited}
+use Rattle.pesp_instance.specs.Network.{IsNetwork, Network, has_event, admits}
 use Rattle.pesp_domains.specs.declared.side.Side.{Side}
 use Rattle.pesp_domains.specs.declared.side.Side.TheVariants.{Tail, Head}
 use Rattle.pesp_domains.specs.Domains.{InDomains, IsAdmitted, Joins, Stands, other, own}
-use Rattle.pesp_domains.specs.Sweeps.{AreDomains, Of, Pairs}
+use Rattle.pesp_domains.specs.Sweeps.{AreDomains, Of, Pairs, Settles}
 use Rattle.pesp_domains.proofs.Families.{not_in_none}
 use Rattle.pesp_domains.proofs.Laws.{InDomains-admitted, InDomains-stands, Stands-more, standing_within}
 use Rattle.pesp_domains.proofs.Passes.{own_is_event}
@@ -17,6 +17,8 @@ use Rattle.pesp_domains.proofs.Sweeps.{left, swept, swept_at_last}
 use Rattle.pesp_counts.specs.Loosened.{AsksAgain, IsReach}
 use Rattle.pesp_counts.specs.Reached.{IsOutside, Reached, is_edited, starts}
 use Rattle.pesp_counts.specs.Reached.Reached.{begins, follows}
+use Rattle.pesp_domains.proofs.Edits.{effect_is}
+use Rattle.pesp_counts.proofs.Asks.{asks_again}
 
 -- where no chain begins nothing is reached
 pub reached_nowhere : (I : Network) (edit : Edit) (e r : ℕ) → starts I edit ≡ [] → Reached I edit e r → ⊥
@@ -125,3 +127,35 @@ reach_covers I edit before reached network asks domains reach =
     let n = swept_at_last (effect I edit) [] in
     within_reach I edit network asks before reached domains reach (λ e r. list_any (λ p. p.event == e && p.residue == r) (left (effect I edit) [] n.0))
     (λ e r. (swept (effect I edit) [] n.0 n.1 e r).0) (λ e r. (swept (effect I edit) [] n.0 n.1 e r).1)
+
+-- ---- an edit that brings no pair back
+
+-- a pair of the new domains, of an event that was there, was in the old ones
+pub old_covers : (I J : Network) (edit : Edit) (before : Pairs) → IsNetwork I → edited I edit ≡ Ok J → starts I edit ≡ [] → AreDomains I [] before → (e r : ℕ) → IsTrue (has_event I e) → InDomains J [] e r → Of before e r
+old_covers I J edit before network made tight domains e r event new =
+    reach_covers I edit before before network (asks_again I J edit network made) domains
+    (record {
+      more = λ f s h. h;
+      all = λ f s h. absurd (reached_nowhere I edit f s tight h);
+      only = λ f s h none. absurd (false≢true (sym none ∙ h));
+    })
+    e r event (subst (λ (K : Network). InDomains K [] e r) (effect_is I J edit made) new)
+
+-- from a set of admitted pairs that has the old domains, as far as they may stay, settling ends at the new ones
+pub tight_settles : (I J : Network) (edit : Edit) (before S after : Pairs) → IsNetwork I → edited I edit ≡ Ok J → starts I edit ≡ [] → AreDomains I [] before
+    → ((e r : ℕ) → Of S e r → IsAdmitted J [] e r) → ((e r : ℕ) → IsAdmitted J [] e r → (IsTrue (has_event I e) → Of before e r) → Of S e r) → Settles J S after → AreDomains J [] after
+tight_settles I J edit before S after network made tight domains admitted covers settles =
+    settles.settles []
+    (record { each = admitted })
+    (record { each = λ e r i. covers e r (InDomains-admitted J [] e r i) (λ event. old_covers I J edit before network made tight domains e r event i) })
+
+-- a pair of the old domains is admitted where its event is still there and admits it
+pub still_admitted : (I J : Network) (before : Pairs) (e r : ℕ) → AreDomains I [] before → J.period ≡ I.period → Of before e r → IsTrue (has_event J e) → IsTrue (admits J e r) → IsAdmitted J [] e r
+still_admitted I J before e r domains period h event agrees =
+    let l = (InDomains-admitted I [] e r ((domains.exact e r).0 h)).below in
+    record {
+      of_event = event;
+      below = omega (arith, l, period);
+      window = agrees;
+      pushed = λ s i. absurd (not_in_none _ i);
+    }

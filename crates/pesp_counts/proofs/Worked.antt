@@ -1,79 +1,104 @@
 -- The work of an edit, by number.
-use Rattle.std.proofs.Common.{◌≡◌, ◌≢◌, ℕ, ◌+◌, ◌*◌, ◌<◌, ◌≤◌, List, [], ◌∷◌, Some, is_some, Ok, get_or, length, map, unwrap_or, AllPairs, sym, ap, subst, ◌∙◌, inl, inr, ◌⊎◌, arith, IsTrue}
+use Rattle.std.proofs.Common.{◌≡◌, ℕ, ◌+◌, ◌*◌, ◌≤◌, List, [], ◌∷◌, Some, is_some, Ok, length, map, unwrap_or, sym, ap, subst, ◌∙◌, inl, inr, ◌⊎◌, arith, IsTrue, ◌≢◌, ◌==◌, eqb, ◌++◌, AllPairs, filter}
 use Rattle.std.specs.Prelude.{max}
-use Rattle.std.specs.List.{Contains}
 use Rattle.std.proofs.Math.Nat.{le-max_right, mul-add, mul_assoc, mul-le-mul_left, mul-le-mul_right}
-use Rattle.std.proofs.lemmas.Bool.{cases_Bool}
-use Rattle.std.proofs.lemmas.List.{get_or-map, length-map}
-use Rattle.std.proofs.lemmas.List.Elements.{Contains-get_or}
-use Rattle.std.proofs.lemmas.List.Sums.{sum_by-cons}
+use Rattle.std.proofs.lemmas.Bool.{cases_Bool, eq-eqb, ne_eqb}
+use Rattle.std.proofs.lemmas.List.{length-map, length-append}
+use Rattle.std.proofs.lemmas.List.Sums.{sum_by-cons, length-filter}
 use Rattle.pesp_instance.specs.declared.edit.Edit.{Edit}
 use Rattle.pesp_instance.specs.Edited.{edited}
 use Rattle.pesp_instance.specs.Network.{Network, has_event}
 use Rattle.pesp_domains.specs.declared.pair.Pair.{Pair}
-use Rattle.pesp_domains.specs.Domains.{In, InDomains}
+use Rattle.pesp_domains.specs.Domains.{In, InDomains, own}
 use Rattle.pesp_domains.specs.Sweeps.{Of}
 use Rattle.pesp_domains.proofs.Edits.{effect_is}
-use Rattle.pesp_domains.proofs.Families.{here, there}
+use Rattle.pesp_domains.proofs.Families.{here, there, in_filter, none_passes, passing}
 use Rattle.pesp_counts_supports.specs.declared.trail.Placed.{Placed}
 use Rattle.pesp_counts.specs.declared.work.Work.{Work}
 use Rattle.pesp_counts_arcs.specs.Ends.{ends_of}
 use Rattle.pesp_counts_supports.specs.Counts.{has_at}
 use Rattle.pesp_counts.specs.Keeping.{AreSettled}
-use Rattle.pesp_counts_arcs.specs.Links.{Links, StandFor}
+use Rattle.pesp_counts_arcs.specs.Links.{Links, StandFor, end_number}
 use Rattle.pesp_counts.specs.Changes.{AreReached}
-use Rattle.pesp_counts_arcs.specs.Places.{ArePlaces, place_of}
+use Rattle.pesp_counts_arcs.specs.Places.{place_of, number_at}
 use Rattle.pesp_counts.specs.Restores.{AreThePairs, numbered_pair}
 use Rattle.pesp_counts_supports.specs.Supports.{Supports, is_in}
 use Rattle.pesp_counts.specs.Works.{IsRemoved, IsWork, IsWorked, KeepPlaces, degree, probe_bound, weight_of}
 use Rattle.pesp_counts_supports.specs.Spent.{ends_at}
 use Rattle.pesp_base.proofs.Tests.{same_value}
 use Rattle.pesp_counts.proofs.Bridge.{numbered_at, test_of}
-use Rattle.pesp_counts.proofs.Degrees.{ends_le_degree}
-use Rattle.pesp_counts_arcs.proofs.StandMembers.{in_map, of_map}
-use Rattle.pesp_counts_supports.proofs.Taken.{found_in, stands_in}
+use Rattle.pesp_counts.proofs.Told.{AreOfEvents, in_numbered, of_numbered, once_numbered}
+use Rattle.pesp_counts_supports.proofs.Taken.{found_in}
+use Rattle.std.specs.List.{Contains, list_any}
+use Rattle.std.specs.Cmp.{nat_eq_equiv}
+use Rattle.std.specs.Option.{unwrap_or}
+use Rattle.std.proofs.lemmas.List.Elements.{Contains-append_left, Contains-append_right}
+use Rattle.std.proofs.lemmas.Map.Keys.{IsDistinct-from_apart}
+use Rattle.std.proofs.lemmas.Map.Made.{length-le_from_is_member}
+use Rattle.pesp_base.specs.declared.activity.Activity.{Activity}
+use Rattle.pesp_domains.specs.declared.side.Side.{Side}
+use Rattle.pesp_domains.specs.declared.side.Side.TheVariants.{Tail, Head}
+use Rattle.pesp_counts_arcs.proofs.StandMembers.{in_map}
 
--- ---- pairs at the places of events, by number
+-- ---- there are no more ends at an event's place than its degree
 
--- each pair of the list is at the place of an event
-abbrev pub AreOfEvents : Links → List Placed → Type 0
-AreOfEvents links xs = (x : Placed) → Contains xs x → (e : ℕ) × (place_of links.events e ≡ Some x.place)
+-- different numbers that all stand in another list are no more than it is long
+pub no_more_within : (xs ys : List ℕ) → AllPairs (λ j k. j ≢ k) xs → ((k : ℕ) → Contains xs k → Contains ys k) → length xs ≤ length ys
+no_more_within xs ys once within =
+    let distinct = IsDistinct-from_apart eqb xs (λ i j d l m. ne_eqb _ _ (once i j d l m)) in
+    length-le_from_is_member nat_eq_equiv xs ys distinct
+    (λ q found.
+    let w = passing (eqb q) xs found in
+    elim (cases_Bool (list_any (eqb q) ys)) [
+      | inl there ↦ there
+      | inr none ↦ absurd (none_passes (eqb q) ys none w.0 (within w.0 w.1) w.2)
+    ])
 
-module _ (links : Links) (events : ArePlaces links.events) (xs : List Placed) (housed : AreOfEvents links xs) where
-  numbers_it : (x : Placed) (i : Contains xs x) → (numbered_pair links x).event ≡ (housed x i).0
-  numbers_it x i = ap (λ o. unwrap_or o 0) ((events.paired (housed x i).0 x.place).0 (housed x i).1)
+module _ (J : Network) (links : Links) (e : ℕ) where
+  -- the number of an activity's end
+  abbrev number_of : Side → Activity → ℕ
+  number_of side a = end_number side (unwrap_or (place_of links.activities a.id) 0)
 
-  alike : (x y : Placed) → Contains xs x → Contains xs y → numbered_pair links x ≡ numbered_pair links y → x ≡ y
-  alike x y i j same =
-      let numbers : (housed x i).0 ≡ (housed y j).0 = sym (numbers_it x i) ∙ ap (λ (p : Pair). p.event) same ∙ numbers_it y j in
-      let places : x.place ≡ y.place = same_value (place_of links.events (housed y j).0) x.place y.place (ap (place_of links.events) (sym numbers) ∙ (housed x i).1) (housed y j).1 in
-      ap (λ (q : ℕ). record { place = q; residue = x.residue }) places ∙ ap (λ (q : ℕ). record { place = y.place; residue = q }) (ap (λ (p : Pair). p.residue) same)
+  abbrev tails : List ℕ
+  tails = map (number_of Tail) (filter (λ a. a.from == e) J.activities)
 
-  -- different pairs have different numbers or residues
-  once_numbered : AllPairs (λ x y. x ≢ y) xs → AllPairs (λ p q. p ≢ q) (map (numbered_pair links) xs)
-  once_numbered once i j d lt l =
-      let long = length-map xs (numbered_pair links) in
-      let jl : j < length xs = omega (arith, l, long) in
-      let il : i < length xs = omega (arith, jl, lt) in
-      let o : Placed = record { place = 0; residue = 0 } in
-      λ same.
-      once i j o lt jl
-      (alike (get_or xs i o) (get_or xs j o) (Contains-get_or xs i o il) (Contains-get_or xs j o jl)
-      (sym (get_or-map (numbered_pair links) xs i o d il) ∙ same ∙ get_or-map (numbered_pair links) xs j o d jl))
+  abbrev heads : List ℕ
+  heads = map (number_of Head) (filter (λ a. a.to == e) J.activities)
 
-  -- a pair by number is one of the list, at its event's place
-  of_numbered : (e r : ℕ) → In (map (numbered_pair links) xs) e r → (p : ℕ) × (place_of links.events e ≡ Some p) × IsTrue (is_in xs p r)
-  of_numbered e r i =
-      let w = of_map (numbered_pair links) xs (record { event = e; residue = r }) i in
-      let x = w.0 in
-      let number : (housed x w.1).0 ≡ e = sym (numbers_it x w.1) ∙ ap (λ (p : Pair). p.event) w.2 in
-      (x.place, ap (place_of links.events) (sym number) ∙ (housed x w.1).1, subst (λ s. IsTrue (is_in xs x.place s)) (ap (λ (p : Pair). p.residue) w.2) (found_in xs x w.1))
+  -- the number of an end that is at the event stands among these
+  among : (side : Side) (a : Activity) → Contains J.activities a → own side a ≡ e → Contains (tails ++ heads) (number_of side a)
+  among Tail a is at =
+      Contains-append_left tails heads _
+      (in_map (number_of Tail) (filter (λ b. b.from == e) J.activities) a (in_filter (λ (b : Activity). b.from == e) J.activities a is (eq-eqb a.from e at)))
+  among Head a is at =
+      Contains-append_right tails heads _
+      (in_map (number_of Head) (filter (λ b. b.to == e) J.activities) a (in_filter (λ (b : Activity). b.to == e) J.activities a is (eq-eqb a.to e at)))
 
-  -- and the other way round
-  in_numbered : (e p r : ℕ) → place_of links.events e ≡ Some p → IsTrue (is_in xs p r) → In (map (numbered_pair links) xs) e r
-  in_numbered e p r at i =
-      subst (λ f. In (map (numbered_pair links) xs) f r) (ap (λ o. unwrap_or o 0) ((events.paired e p).0 at))
-      (in_map (numbered_pair links) xs (record { place = p; residue = r }) (stands_in xs p r i))
+  -- and there are as many of these as the degree
+  many : length (tails ++ heads) ≡ degree J e
+  many =
+      let all = length-append tails heads in
+      let tail_count = length-map (filter (λ (a : Activity). a.from == e) J.activities) (number_of Tail) in
+      let head_count = length-map (filter (λ (a : Activity). a.to == e) J.activities) (number_of Head) in
+      let from_count = length-filter (λ (a : Activity). a.from == e) J.activities in
+      let to_count = length-filter (λ (a : Activity). a.to == e) J.activities in
+      omega (arith, all, tail_count, head_count, from_count, to_count)
+
+-- the ends at an event's place are no more than its degree
+pub ends_le_degree : (J : Network) (links : Links) → StandFor J links → (e p : ℕ) → place_of links.events e ≡ Some p → length (ends_of links.lists p) ≤ degree J e
+ends_le_degree J links stand e p at =
+    let few = no_more_within (ends_of links.lists p) (tails J links e ++ heads J links e) (stand.shared.once p)
+    (λ k is.
+    let w = stand.only p k is in
+    let event : own w.side w.activity ≡ e =
+    same_value (number_at links.events p) (own w.side w.activity) e ((stand.events.paired (own w.side w.activity) p).0 w.is_end.at) ((stand.events.paired e p).0 at)
+    in
+    let number : number_of J links e w.side w.activity ≡ k = ap (λ o. end_number w.side (unwrap_or o 0)) w.is_end.numbered ∙ sym w.number in
+    subst (Contains (tails J links e ++ heads J links e)) number (among J links e w.side w.activity w.there event))
+    in
+    omega (arith, few, many J links e)
+
+-- ---- the bound
 
 -- the ends at the places of pairs, and the pairs themselves, are within the weight
 ends_within : (I J : Network) (links : Links) → StandFor J links → (xs : List Placed) → AreOfEvents links xs → ends_at links xs + length xs ≤ weight_of I J (map (numbered_pair links) xs)
@@ -86,8 +111,6 @@ ends_within I J links stand (x ∷ xs) housed =
     let larger = le-max_right (degree I (numbered_pair links x).event) (degree J (numbered_pair links x).event) in
     rw (sum_by-cons (λ (y : Placed). length (ends_of links.lists y.place)) x xs, sum_by-cons (λ (p : Pair). max (degree I p.event) (degree J p.event) + 1) (numbered_pair links x) (map (numbered_pair links) xs))
     (omega (arith, rest, few, larger))
-
--- ---- the bound
 
 -- what is counted by ends is within what is counted by weights
 within_bound : (T B E D V W P : ℕ) → 2 ≤ T → E + B ≤ V → D ≤ W → P ≤ 8 * T + 2 * T * E + T * B + T * D → P ≤ 4 * T * T + 2 * T * (V + W)
@@ -104,9 +127,12 @@ within_bound T B E D V W P low first second few =
 
 -- ---- the law
 
-module _ (I J : Network) (edit : Edit) (links0 links1 : Links) (s0 s1 : Supports) (back : List Placed) (made : edited I edit ≡ Ok J) (before : AreSettled I [] links0 s0) (after : AreSettled J [] links1 s1) (worked : IsWorked links1 s0 s1 back) (reached : AreReached I edit links1 back) (kept : KeepPlaces J links0 links1 s1.trail) (stayed : (p r : ℕ) → IsTrue (is_in s1.trail p r) → (e : ℕ) × (place_of links0.events e ≡ Some p) × IsTrue (has_event J e)) where
+module _ (I J : Network) (edit : Edit) (links0 links1 : Links) (s0 s1 : Supports) (back : List Placed) (made : edited I edit ≡ Ok J) (before : AreSettled I [] links0 s0) (after : AreSettled J [] links1 s1) (worked : IsWorked links1 s0 s1 back) (reached : AreReached I edit links1 back) (kept : KeepPlaces J links0 links1 s1.trail) where
   abbrev stand : StandFor J links1
   stand = after.fits.stand
+
+  stayed : (p r : ℕ) → IsTrue (is_in s1.trail p r) → (e : ℕ) × (place_of links0.events e ≡ Some p) × IsTrue (has_event J e)
+  stayed p r i = let w = kept.placed p r i in (w.0, w.1, sym (stand.of_events w.0) ∙ ap is_some w.2)
 
   abbrev restored : List Pair
   restored = map (numbered_pair links1) back
@@ -182,20 +208,15 @@ module _ (I J : Network) (edit : Edit) (links0 links1 : Links) (s0 s1 : Supports
       within_bound I.period (length back) (ends_at links1 back) (ends_at links1 s1.trail) (weight_of I J restored) (weight_of I J removed) s1.probes before.network.period_low first second
       (subst (λ t. s1.probes ≤ 8 * t + 2 * t * ends_at links1 back + t * length back + t * ends_at links1 s1.trail) before.fits.period few)
 
--- what was counted by place, by number
-pub work_is : (I J : Network) (edit : Edit) (links0 links1 : Links) (s0 s1 : Supports) (back : List Placed) → edited I edit ≡ Ok J → AreSettled I [] links0 s0 → AreSettled J [] links1 s1 → s0.probes ≡ 0 → IsWorked links1 s0 s1 back → AreReached I edit links1 back → KeepPlaces J links0 links1 s1.trail
-    → (work : Work) → work.restored ≡ length back → work.removed ≡ length s1.trail → work.probes ≡ s1.probes → IsWork I edit (map (numbered_pair links1) back) work
-work_is I J edit links0 links1 s0 s1 back made before after none worked reached kept work restores removes probes =
-    let stayed : (p r : ℕ) → IsTrue (is_in s1.trail p r) → (e : ℕ) × (place_of links0.events e ≡ Some p) × IsTrue (has_event J e) =
-    λ p r i. let w = kept.placed p r i in (w.0, w.1, sym (after.fits.stand.of_events w.0) ∙ ap is_some w.2)
-    in
-    record {
-      removed = map (numbered_pair links1) s1.trail;
-      are = removed_told I J edit links0 links1 s0 s1 back made before after worked reached kept stayed;
-      restores = restores ∙ sym (length-map back (numbered_pair links1));
-      removes = removes ∙ sym (length-map s1.trail (numbered_pair links1));
-      probes =
-          subst (λ (K : Network). work.probes ≤ probe_bound I K (map (numbered_pair links1) back) (map (numbered_pair links1) s1.trail)) (effect_is I J edit made)
-          (subst (λ n. n ≤ probe_bound I J (map (numbered_pair links1) back) (map (numbered_pair links1) s1.trail)) (sym probes)
-          (probes_within I J edit links0 links1 s0 s1 back made before after worked reached kept stayed none));
-    }
+  -- what was counted by place, by number
+  pub work_is : (work : Work) → s0.probes ≡ 0 → work.restored ≡ length back → work.removed ≡ length s1.trail → work.probes ≡ s1.probes → IsWork I edit restored work
+  work_is work none restores removes probes =
+      record {
+        removed = removed;
+        are = removed_told;
+        restores = restores ∙ sym (length-map back (numbered_pair links1));
+        removes = removes ∙ sym (length-map s1.trail (numbered_pair links1));
+        probes =
+            subst (λ (K : Network). work.probes ≤ probe_bound I K restored removed) (effect_is I J edit made)
+            (subst (λ n. n ≤ probe_bound I J restored removed) (sym probes) (probes_within none));
+      }

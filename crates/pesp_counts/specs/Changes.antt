@@ -1,5 +1,5 @@
 -- What an edit asks of rows and counts, and what the keeper makes of it.
-use Rattle.std.specs.Prelude.{◌≡◌, ◌≢◌, ℕ, ◌<◌, ◌*◌, false, IsTrue, List, [], ◌∷◌, length, All, AllPairs, Option, Some, None, option_map, Ok}
+use Rattle.std.specs.Prelude.{◌≡◌, ◌≢◌, ℕ, ◌<◌, ◌*◌, false, IsTrue, List, [], length, All, AllPairs, Option, Some, None, option_map, Ok}
 use Rattle.std.specs.List.{Contains}
 use Rattle.pesp_base.specs.declared.activity.Activity.{Activity}
 use Rattle.pesp_instance.specs.declared.edit.Edit.{Edit}
@@ -21,6 +21,7 @@ use Rattle.pesp_counts.specs.declared.keeper.change.Change.{Change}
 use Rattle.pesp_counts.specs.declared.keeper.change.PlacedEvent.{PlacedEvent}
 use Rattle.pesp_counts.specs.declared.keeper.change.Starts.{Starts}
 use Rattle.pesp_counts.specs.declared.keeper.change.Starts.TheVariants.{Nowhere, At, AtBoth}
+use Rattle.pesp_counts.specs.declared.keeper.counted.Counted.{Counted}
 use Rattle.pesp_counts.specs.Keeping.{AreFor, AreSettled}
 use Rattle.pesp_counts.specs.Reached.{Reached, is_edited, starts}
 use Rattle.pesp_counts.specs.Works.{IsWorked, KeepPlaces}
@@ -29,8 +30,8 @@ use Rattle.pesp_counts.specs.Works.{IsWorked, KeepPlaces}
 
 abbrev pub places : Starts → List ℕ
 places Nowhere = []
-places (At p) = p ∷ []
-places (AtBoth p q) = p ∷ q ∷ []
+places (At ps) = ps
+places (AtBoth ps) = ps
 
 abbrev pub event_at : ℕ → ℕ → PlacedEvent
 event_at e p = record { event = e; place = p }
@@ -88,6 +89,12 @@ pub record AreSpared (I J : Network) (edit : Edit) (links : Links) (spared : Opt
   pub stays : (a : Activity) → Contains I.activities a → is_edited edit a ≡ false → Contains J.activities a
   pub apart : (side : Side) (a : Activity) (q : ℕ) → Contains I.activities a → is_edited edit a ≡ false → place_of links.activities a.id ≡ Some q → is_spared spared (end_number side q) ≡ false
   pub was : (side : Side) (a : Activity) (q : ℕ) → Contains J.activities a → place_of links.activities a.id ≡ Some q → is_spared spared (end_number side q) ≡ false → Contains I.activities a × (is_edited edit a ≡ false)
+
+-- the links stand for the edited instance, no end is listed anew, and where pairs may come back the activities but the edited one are as before
+pub record HaveFollowed (I J : Network) (edit : Edit) (before after : Links) : Type 0 where
+  pub relinked : IsRelinked J edit before after (recounted_by before edit)
+  pub known : (p k : ℕ) → Contains (ends_of after.lists p) k → (q : ℕ) × Contains (ends_of before.lists q) k
+  pub spared : (e : ℕ) → Contains (starts I edit) e → AreSpared I J edit after (recounted_by before edit)
 
 -- ---- pairs come and go
 
@@ -149,3 +156,15 @@ pub record IsFollowed (I J : Network) (edit : Edit) (before after : Links) (s n 
   pub reached : AreReached I edit after back
   pub worked : IsWorked after s n back
   pub places : KeepPlaces J before after n.trail
+
+-- what is counted is that of the instance before the edit
+abbrev pub IsBefore : Network → Network → Edit → Counted → Type 0
+IsBefore I J edit before = WereSettled I J edit before.links before.supports
+
+-- from there, places, rows and counts followed it
+abbrev pub Follows : Network → Network → Edit → Counted → Counted → Type 0
+Follows I J edit before after = IsBefore I J edit before → IsFollowed I J edit before.links after.links before.supports after.supports after.back.items
+
+-- the rows are still the domains before the edit
+abbrev pub Stays : Network → Network → Edit → Counted → Counted → Type 0
+Stays I J edit before after = IsBefore I J edit before → AreSettled I [] after.links after.supports

@@ -1,5 +1,5 @@
 -- What a keeper by counts keeps.
-use Rattle.std.specs.Prelude.{◌≡◌, ◌≢◌, ℕ, ◌<◌, ◌≤◌, Bool, true, false, ◌||◌, List, Some, length, slice_index_or, take, drop}
+use Rattle.std.specs.Prelude.{◌≡◌, ◌≢◌, ℕ, ◌<◌, ◌≤◌, Bool, true, false, ◌||◌, List, [], ◌∷◌, ◌++◌, Some, length, map, drop, vec_capacity}
 use Rattle.std.specs.List.{Contains}
 use Rattle.pesp_instance.specs.declared.edit.Edit.{Edit}
 use Rattle.pesp_instance.specs.declared.edit.Edit.TheVariants.{AddEvent, DropEvent, Fix, SetWindow, Unfix, AddActivity, DropActivity, SetSpan, SetWeight, SetEnds}
@@ -14,6 +14,8 @@ use Rattle.pesp_counts_arcs.specs.Links.{Links, StandFor}
 use Rattle.pesp_counts_arcs.specs.Places.{numbered, place_of}
 use Rattle.pesp_counts_supports.specs.Resting.{AreAtRest, HaveRoom}
 use Rattle.pesp_counts_supports.specs.Supports.{Fit, Supports, is_in}
+use Rattle.pesp_counts.specs.declared.keeper.Pushed.{Pushed}
+use Rattle.pesp_counts.specs.declared.keeper.counted.Counted.{Counted}
 
 -- the ends stand for the instance, and there are rows and counts for them
 pub record AreFor (I : Network) (links : Links) (s : Supports) : Type 0 where
@@ -21,7 +23,6 @@ pub record AreFor (I : Network) (links : Links) (s : Supports) : Type 0 where
   pub stand : StandFor I links
   pub fit : Fit links s
   pub housed : (e p : ℕ) → place_of links.events e ≡ Some p → p < length s.rows
-  pub counted : (e p : ℕ) → place_of links.events e ≡ Some p → p < length s.counted
   pub even : length s.counted ≡ length s.rows
 
 -- the rows, by number
@@ -62,22 +63,27 @@ pub record IsHousedAt (before after : Links) (event p : ℕ) : Type 0 where
   pub ends : after.ends ≡ before.ends
   pub lists : (q : ℕ) → ends_of after.lists q ≡ ends_of before.lists q
 
+-- the pairs of what was pushed
+abbrev pub pairs_of : List Pushed → List Pair
+pairs_of = map (λ x. x.pair)
+
+-- where there was room for what an edit puts back there still is
+abbrev pub KeepsRoom : Counted → Counted → Type 0
+KeepsRoom before after = HaveRoom before.supports (vec_capacity before.back) (vec_capacity before.restored) → HaveRoom after.supports (vec_capacity after.back) (vec_capacity after.restored)
+
 -- the pairs of the rows, and those of a list
 abbrev pub with_pairs : Supports → List Placed → Pairs
 with_pairs s pairs p r = has_at s.rows p r || is_in pairs p r
 
--- where the trail stood before each push: what was taken out since then makes the rows those before the push
-pub record AreMarks (I : Network) (pushes : List Pair) (links : Links) (s : Supports) (marks : List ℕ) : Type 0 where
-  pub long : length marks ≡ length pushes
-  pub within : (i d : ℕ) → i < length marks → slice_index_or marks i d ≤ length s.trail
-  pub rising : (i j d : ℕ) → i ≤ j → j < length marks → slice_index_or marks i d ≤ slice_index_or marks j d
-  pub domains : (i d : ℕ) → i < length marks → AreDomains I (take i pushes) (numbered links.events (with_pairs s (drop (slice_index_or marks i d) s.trail)))
+-- where the trail of so many pairs stood before each push: what was taken out since then makes the rows those before the push
+pub data AreMarked (I : Network) (links : Links) (s : Supports) : ℕ → List Pushed → Type 0 where
+  bottom : (top : ℕ) → AreMarked I links s top []
+  above : (top : ℕ) (before : List Pushed) (x : Pushed) → x.mark ≤ top → AreDomains I (pairs_of before) (numbered links.events (with_pairs s (drop x.mark s.trail))) → AreMarked I links s x.mark before → AreMarked I links s top (before ++ x ∷ [])
 
--- the rows are the domains, each push can be undone, and there is room for a push and a mark for each event, and for what an edit puts back
-pub record IsKeeping (I : Network) (pushes : List Pair) (marks : List ℕ) (links : Links) (s : Supports) (for_pushed for_marks for_back for_restored : ℕ) : Type 0 where
-  pub settled : AreSettled I pushes links s
-  pub pushed : ArePushed I pushes
-  pub marked : AreMarks I pushes links s marks
+-- the rows are the domains, each push can be undone, and there is room for a push for each event, and for what an edit puts back
+pub record IsKeeping (I : Network) (stack : List Pushed) (links : Links) (s : Supports) (for_pushed for_back for_restored : ℕ) : Type 0 where
+  pub settled : AreSettled I (pairs_of stack) links s
+  pub pushed : ArePushed I (pairs_of stack)
+  pub marked : AreMarked I links s (length s.trail) stack
   pub room_pushed : length I.events ≤ for_pushed
-  pub room_marks : length I.events ≤ for_marks
   pub room_back : HaveRoom s for_back for_restored

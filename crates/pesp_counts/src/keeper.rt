@@ -11,32 +11,32 @@ ghost use Rattle.pesp_counts.specs.Works.{IsWork};
 
 mod change;
 mod counted;
-mod filled;
 mod following;
-mod grown;
 mod limits;
-mod numbering;
 mod propagating;
-mod remake;
 mod told;
 
 use crate::work::Work;
 use change::Change;
-use counted::Counted;
-use filled::house;
-use following::follow;
-use grown::{add_activity, add_event, take_back};
+use counted::{Counted, house, remake};
+use following::{add_activity, add_event, follow, take_back};
 use limits::limit_event;
-use numbering::number_pairs;
 use pesp_base::{ActivityId, EventId, Refusal};
 use pesp_counts_arcs::Links;
-use pesp_counts_supports::{Back, Supports};
+use pesp_counts_supports::Supports;
 use pesp_domains::{Keeper, NoRoom, Pair, Row, Side};
 use pesp_instance::{Edit, Instance};
-use remake::remake;
 use std::alloc::Global;
 use std::marker::Model;
-use told::work_of;
+use told::number_pairs;
+
+/// A pair that was pushed.
+#[derive(Clone, Copy)]
+pub struct Pushed {
+    pub pair: Pair,
+    /// Where the trail stood before.
+    pub mark: usize,
+}
 
 /// Keeps the domains by counts: for each residue at an end of an activity, how many residues of the other event go with it.
 ///
@@ -48,9 +48,7 @@ pub struct CountKeeper {
     // That of which the rows are the domains.
     instance: Instance,
     // Each of another event; there is room for as many as there are events.
-    pushed: Vec<Pair>,
-    // Where the trail stood before each push.
-    marks: Vec<usize>,
+    pushed: Vec<Pushed>,
     // By place, and what the last accepted edit put back.
     counted: Counted,
     // That of the last edit that was accepted.
@@ -62,20 +60,19 @@ pub struct CountKeeper {
 impl Model for CountKeeper {
     ghost use Rattle.std.specs.Prelude.{vec_capacity};
     ghost use Rattle.pesp_counts.specs.Restores.{Seen};
-    ghost use Rattle.pesp_counts.specs.Keeping.{IsKeeping};
+    ghost use Rattle.pesp_counts.specs.Keeping.{IsKeeping, pairs_of};
 
     ghost Value = { Seen };
 
     ghost view = { λ k. record {
       network = k.instance;
-      pushes = k.pushed.items;
+      pushes = pairs_of k.pushed.items;
       restored = k.counted.restored.items;
       work = k.work;
     } };
 
-    ghost invariant = { λ k. IsKeeping k.instance k.pushed.items k.marks.items k.counted.links
-        k.counted.supports (vec_capacity k.pushed) (vec_capacity k.marks) k.counted.back.room
-        (vec_capacity k.counted.restored) };
+    ghost invariant = { λ k. IsKeeping k.instance k.pushed.items k.counted.links k.counted.supports
+        (vec_capacity k.pushed) (vec_capacity k.counted.back) (vec_capacity k.counted.restored) };
 }
 
 impl CountKeeper {
@@ -112,25 +109,19 @@ impl Keeper for CountKeeper {
         ensures back { IfErr result (λ no_room. no_room.instance ≡ instance) }
     {
         let mut pushed = Vec::new(alloc);
-        let mut marks = Vec::new(alloc);
-        let links = Links::new(alloc);
-        let supports = Supports::new(alloc, instance.period());
-        let back = Back::new(alloc);
-        let restored = Vec::new(alloc);
         let mut counted = Counted {
-            links,
-            supports,
-            back,
-            restored,
+            links: Links::new(alloc),
+            supports: Supports::new(alloc, instance.period()),
+            back: Vec::new(alloc),
+            restored: Vec::new(alloc),
         };
-        if house(alloc, &instance, &mut pushed, &mut marks, &mut counted).is_err() {
+        if house(alloc, &instance, &mut pushed, &mut counted).is_err() {
             return Err(NoRoom { instance });
         }
         remake(&instance, &counted.links, &mut counted.supports);
         Ok(CountKeeper {
             instance,
             pushed,
-            marks,
             counted,
             work: Work::none(),
             alloc,
@@ -170,24 +161,16 @@ impl Keeper for CountKeeper {
     {
         let change = Change::of(&self.instance, &self.counted.links, edit);
         self.instance.apply(edit)?;
-        self.counted.supports.forget();
-        self.counted.back.clear();
+        let counted = &mut self.counted;
+        counted.supports.forget();
+        counted.back.clear();
         let followed = match *edit {
-            Edit::AddEvent(event) => add_event(
-                self.alloc,
-                &self.instance,
-                &mut self.pushed,
-                &mut self.marks,
-                &mut self.counted,
-                event,
-            ),
-            Edit::AddActivity(activity) => add_activity(
-                &self.instance,
-                &mut self.counted,
-                &activity,
-            ),
+            Edit::AddEvent(event) => {
+                add_event(self.alloc, &self.instance, &mut self.pushed, counted, event)
+            }
+            Edit::AddActivity(activity) => add_activity(&self.instance, counted, &activity),
             _ => {
-                follow(&self.instance, &mut self.counted, edit, &change);
+                follow(&self.instance, counted, edit, &change);
                 Ok(())
             }
         };
@@ -195,12 +178,13 @@ impl Keeper for CountKeeper {
             take_back(&mut self.instance, edit);
             return Err(Refusal::Memory);
         }
-        number_pairs(
-            &self.counted.links,
-            self.counted.back.pairs(),
-            &mut self.counted.restored,
-        );
-        self.work = work_of(&self.counted.back, &self.counted.supports);
+        let counted = &mut self.counted;
+        number_pairs(&counted.links, &counted.back, &mut counted.restored);
+        self.work = Work {
+            restored: counted.back.len() as u64,
+            removed: counted.supports.mark() as u64,
+            probes: counted.supports.probes(),
+        };
         Ok(())
     }
 
@@ -215,14 +199,12 @@ impl Keeper for CountKeeper {
         ensures work { (self.new).work ≡ (self.old).work }
     {
         let mark = self.counted.supports.mark();
-        self.pushed.push_reserved(Pair { event, residue });
-        self.marks.push_reserved(mark);
-        limit_event(
-            &self.counted.links,
-            &mut self.counted.supports,
-            event,
-            residue,
-        );
+        self.pushed.push_reserved(Pushed {
+            pair: Pair { event, residue },
+            mark,
+        });
+        let counted = &mut self.counted;
+        limit_event(&counted.links, &mut counted.supports, event, residue);
     }
 
     fn pop_fix(&mut self)
@@ -232,9 +214,9 @@ impl Keeper for CountKeeper {
         ensures restored { (self.new).restored ≡ (self.old).restored }
         ensures work { (self.new).work ≡ (self.old).work }
     {
-        self.pushed.pop();
-        if let Some(mark) = self.marks.pop() {
-            self.counted.supports.put_back(&self.counted.links, mark);
+        if let Some(last) = self.pushed.pop() {
+            let counted = &mut self.counted;
+            counted.supports.put_back(&counted.links, last.mark);
         }
     }
 }

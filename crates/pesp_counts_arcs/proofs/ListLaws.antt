@@ -1,10 +1,10 @@
 -- An item in front of a list, and the others as they were.
-use Rattle.std.proofs.Common.{◌≡◌, ◌≢◌, ℕ, zero, suc, ◌+◌, ◌-◌, ◌<◌, ◌≤◌, eqb, List, [], ◌∷◌, ◌++◌, AllPairs, drop, length, get_or, replicate, set, take, refl, sym, ap, subst, ◌∙◌, inl, inr, ◌⊎◌, arith}
+use Rattle.std.proofs.Common.{◌≡◌, ◌≢◌, ℕ, zero, suc, ◌-◌, ◌<◌, ◌≤◌, eqb, List, [], ◌∷◌, ◌++◌, AllPairs, drop, length, get_or, replicate, set, take, refl, sym, ap, subst, ◌∙◌, inl, inr, ◌⊎◌, arith}
 use Rattle.std.specs.List.{Contains, list_any, range_with_len}
 use Rattle.std.specs.Cmp.{nat_eq_equiv}
-use Rattle.std.proofs.lemmas.Bool.{cases_Bool, cases_eq, cases_lt, ne_eqb}
+use Rattle.std.proofs.lemmas.Bool.{cases_Bool, cases_eq, ne_eqb}
 use Rattle.std.proofs.lemmas.Grind.{common_steps}
-use Rattle.std.proofs.lemmas.List.{get_or-map, get_or-set_other, get_or-set_same, get_or_past, length-map, map-set, same_lists}
+use Rattle.std.proofs.lemmas.List.{get_or-map, get_or-set_other, get_or-set_same, length-map, length-set, map-set, same_lists}
 use Rattle.std.proofs.lemmas.List.Elements.{Contains-get_or}
 use Rattle.std.proofs.lemmas.List.FromFn.{length-range_with_len}
 use Rattle.std.proofs.lemmas.Map.Keys.{IsDistinct-from_apart}
@@ -34,44 +34,37 @@ steps_same next item n k v out =
     steps_same_to next item n k v
     (λ i l same. out (subst (Contains (steps next item n)) same (Contains-get_or (steps next item n) i 0 (omega (arith, l, length-steps next item n)))))
 
--- the list of a head
-pub items_of : (next : List ℕ) (heads : List Head) (p : ℕ) (d : Head) → p < length heads → items_at (lists_of next heads) p ≡ steps next (get_or heads p d).first (get_or heads p d).count
-items_of next heads p d within = get_or-map (λ h. steps next h.first h.count) heads p d [] within
+-- the items at any place, also where there is no list
+pub items_any : (next : List ℕ) (heads : List Head) (p : ℕ) → items_at (lists_of next heads) p ≡ steps next (get_or heads p no_head).first (get_or heads p no_head).count
+items_any next heads p = let within = get_or-map (λ (h : Head). steps next h.first h.count) heads p no_head [] in grind (arith, common_steps, within)
 
--- all lists stay where what changes stands at no item, or at the last of a list
-pub lists_same_to : (next : List ℕ) (heads : List Head) (k v : ℕ) → ((p i : ℕ) → suc i < length (items_at (lists_of next heads) p) → get_or (items_at (lists_of next heads) p) i 0 ≢ k) → lists_of (set next k v) heads ≡ lists_of next heads
-lists_same_to next heads k v out =
-    same_lists (lists_of (set next k v) heads) (lists_of next heads)
-    (length-map heads (λ h. steps (set next k v) h.first h.count) ∙ sym (length-map heads (λ h. steps next h.first h.count)))
-    (λ p d l.
-    let within : p < length heads = omega (arith, l, length-map heads (λ (h : Head). steps (set next k v) h.first h.count)) in
-    let h : Head = get_or heads p no_head in
-    let at = items_of next heads p no_head within in
-    get_or-map (λ h. steps (set next k v) h.first h.count) heads p no_head d within
-    ∙ steps_same_to next h.first h.count k v
-    (λ i m. subst (λ xs. get_or xs i 0 ≢ k) at (out p i (omega (arith, m, ap length at, length-steps next h.first h.count))))
-    ∙ sym (get_or-map (λ h. steps next h.first h.count) heads p no_head d within))
+-- lists change at one place alone where the others are walked as before
+pub lists_but : (next after : List ℕ) (heads : List Head) (p : ℕ) (head : Head) → ((q : ℕ) → q ≢ p → steps after (get_or heads q no_head).first (get_or heads q no_head).count ≡ steps next (get_or heads q no_head).first (get_or heads q no_head).count)
+    → lists_of after (set heads p head) ≡ set (lists_of next heads) p (steps after head.first head.count)
+lists_but next after heads p head others =
+    let walk : List ℕ → Head → List ℕ = λ store h. steps store h.first h.count in
+    let y : List ℕ = walk after head in
+    let many : length (lists_of after heads) ≡ length heads = length-map heads (walk after) in
+    let many' : length (lists_of next heads) ≡ length heads = length-map heads (walk next) in
+    map-set (walk after) heads p head
+    ∙ same_lists (set (lists_of after heads) p y) (set (lists_of next heads) p y)
+    (length-set (lists_of after heads) p y ∙ many ∙ sym many' ∙ sym (length-set (lists_of next heads) p y))
+    (λ q d l.
+    let within : q < length heads = (let long = length-set (lists_of after heads) p y in omega (arith, l, long, many)) in
+    elim (cases_eq q p) [
+      | inl same ↦ grind (arith, common_steps, same, within, many, many')
+      | inr apart ↦
+          let was = others q apart in
+          let old = get_or-map (walk next) heads q no_head d within in
+          let new = get_or-map (walk after) heads q no_head d within in
+          grind (arith, common_steps, apart, was, old, new)
+    ])
 
-pub lists_same : (next : List ℕ) (heads : List Head) (k v : ℕ) → ((p : ℕ) → Contains (items_at (lists_of next heads) p) k → ⊥) → lists_of (set next k v) heads ≡ lists_of next heads
-lists_same next heads k v out =
-    lists_same_to next heads k v
-    (λ p i l same. out p (subst (Contains (items_at (lists_of next heads) p)) same (Contains-get_or (items_at (lists_of next heads) p) i 0 (omega (arith, l)))))
-
--- the lists with an item in front of one of them, where it leads to what is walked as the list was
-pub lists_added : (next : List ℕ) (heads : List Head) (p k first : ℕ) (head : Head) → p < length heads → k < length next → ((d : Head) → head ≡ get_or heads p d) → steps next first head.count ≡ steps next head.first head.count
-    → ((q : ℕ) → Contains (items_at (lists_of next heads) q) k → ⊥) → lists_of (set next k first) (set heads p (record { first = k; count = head.count + 1 })) ≡ set (lists_of next heads) p (k ∷ items_at (lists_of next heads) p)
-lists_added next heads p k first head within item is leads out =
-    let after : List ℕ = set next k first in
-    let fresh : Head = record { first = k; count = head.count + 1 } in
-    let at : items_at (lists_of next heads) p ≡ steps next first head.count = items_of next heads p no_head within ∙ ap (λ (h : Head). steps next h.first h.count) (sym (is no_head)) ∙ sym leads in
-    let read : get_or after k 0 ≡ first = get_or-set_same next k first 0 item in
-    let count : head.count + 1 ≡ suc head.count = omega arith in
-    let begun : steps after k (head.count + 1) ≡ k ∷ steps next first head.count =
-    ap (steps after k) count ∙ ap (λ j. k ∷ steps after j head.count) read ∙ ap (λ xs. k ∷ xs) (steps_same next first head.count k first (λ i. out p (subst (λ xs. Contains xs k) (sym at) i)))
-    in
-    map-set (λ (h : Head). steps after h.first h.count) heads p fresh
-    ∙ ap (λ xs. set xs p (steps after k (head.count + 1))) (lists_same next heads k first out)
-    ∙ ap (set (lists_of next heads) p) (begun ∙ ap (λ xs. k ∷ xs) (sym at))
+pub once_more : (x : ℕ) (xs : List ℕ) → (Contains xs x → ⊥) → AllPairs (λ a b. a ≢ b) xs → AllPairs (λ a b. a ≢ b) (x ∷ xs)
+once_more x xs out h zero zero d l m = absurd (omega (arith, l))
+once_more x xs out h (suc i) zero d l m = absurd (omega (arith, l))
+once_more x xs out h zero (suc j) d l m = λ same. out (subst (Contains xs) (sym same) (Contains-get_or xs j d (omega (arith, m))))
+once_more x xs out h (suc i) (suc j) d l m = h i j d (omega (arith, l)) (omega (arith, m))
 
 -- ---- what stays true of the lists
 
@@ -119,7 +112,7 @@ module _ (lists : List (List ℕ)) (p k : ℕ) (within : p < length lists) where
         once = λ q.
             elim (cases_eq q p) [
               | inr apart ↦ subst (AllPairs (λ a b. a ≢ b)) (sym (elsewhere q apart)) (h.once q)
-              | inl same ↦ subst (AllPairs (λ a b. a ≢ b)) (sym (ap (items_at more) same ∙ at_list)) (front (items_at lists p) (out p) (h.once p))
+              | inl same ↦ subst (AllPairs (λ a b. a ≢ b)) (sym (ap (items_at more) same ∙ at_list)) (once_more k (items_at lists p) (out p) (h.once p))
             ];
         apart = λ q q' j i i'.
             elim (was_or_new q j i) [
@@ -135,12 +128,6 @@ module _ (lists : List (List ℕ)) (p k : ℕ) (within : p < length lists) where
                   ]
             ];
       }
-    where
-      front : (xs : List ℕ) → (Contains xs k → ⊥) → AllPairs (λ a b. a ≢ b) xs → AllPairs (λ a b. a ≢ b) (k ∷ xs)
-      front xs out h zero zero d l m = absurd (omega (arith, l))
-      front xs out h (suc i) zero d l m = absurd (omega (arith, l))
-      front xs out h zero (suc j) d l m = λ same. out (subst (Contains xs) (sym same) (Contains-get_or xs j d (omega (arith, m))))
-      front xs out h (suc i) (suc j) d l m = h i j d (omega (arith, l)) (omega (arith, m))
 
 -- a list is no longer than there are items
 pub short : (items : ℕ) (xs : List ℕ) → ((j : ℕ) → Contains xs j → j < items) → AllPairs (λ a b. a ≢ b) xs → length xs ≤ items
@@ -189,17 +176,6 @@ lists_read next after same heads =
     get_or-map (λ h. steps after h.first h.count) heads p no_head d within
     ∙ steps_read next after same _ _
     ∙ sym (get_or-map (λ h. steps next h.first h.count) heads p no_head d within))
-
--- the items at any place, also where there is no list
-items_any : (next : List ℕ) (heads : List Head) (p : ℕ) → items_at (lists_of next heads) p ≡ steps next (get_or heads p no_head).first (get_or heads p no_head).count
-items_any next heads p =
-    elim (cases_lt p (length heads)) [
-      | inl within ↦ items_of next heads p no_head within
-      | inr beyond ↦
-          let many = length-map heads (λ (h : Head). steps next h.first h.count) in
-          let empty : get_or heads p no_head ≡ no_head = get_or_past heads p no_head beyond in
-          get_or_past (lists_of next heads) p [] (omega (arith, beyond, many)) ∙ sym (ap (λ (h : Head). steps next h.first h.count) empty)
-    ]
 
 -- lists that come are empty
 pub items_of_more : (next : List ℕ) (heads : List Head) (n long p : ℕ) → long ≡ length heads → long < n → items_at (lists_of next (take n heads ++ replicate (n - long) no_head)) p ≡ items_at (lists_of next heads) p

@@ -1,12 +1,13 @@
 -- Items that lead around their lists, to the one after and to the one before.
-use Rattle.std.proofs.Common.{◌≡◌, ◌≢◌, ℕ, zero, suc, ◌+◌, ◌<◌, ◌≤◌, List, ◌∷◌, AllPairs, length, get_or, set, refl, sym, ap, subst, ◌∙◌, inl, inr, ◌⊎◌, arith}
+use Rattle.std.proofs.Common.{◌≡◌, ◌≢◌, ℕ, zero, suc, ◌-◌, ◌<◌, ◌≤◌, List, ◌∷◌, AllPairs, length, get_or, set, refl, sym, ap, subst, ◌∙◌, inl, inr, ◌⊎◌, arith}
 use Rattle.std.specs.List.{Contains}
 use Rattle.std.proofs.lemmas.Bool.{cases_eq}
+use Rattle.std.proofs.lemmas.Grind.{common_steps}
 use Rattle.std.proofs.lemmas.List.{get_or-set_other, get_or-set_same, length-set}
-use Rattle.std.proofs.lemmas.List.Elements.{Contains-get_or}
+use Rattle.pesp_domains.proofs.Families.{not_in_none}
 use Rattle.pesp_counts_arcs.specs.Lists.{AreShared, LeadRound, items_at, steps}
-use Rattle.pesp_counts_arcs.proofs.ListLaws.{comes_there, length-steps, stays_there, was_or_new}
-use Rattle.pesp_counts_arcs.proofs.StandLists.{IsBefore, all_but, is_gone, is_left, list_there, step_next, was_there}
+use Rattle.pesp_counts_arcs.proofs.ListLaws.{comes_there, length-steps, stays_there, steps_same, steps_same_to, was_or_new}
+use Rattle.pesp_counts_arcs.proofs.StandLists.{all_but, is_gone, is_left, list_there, step_next, was_there, without_first, without_later}
 
 -- ---- along one list
 
@@ -22,20 +23,33 @@ last_alone next first n last i once leads l same =
     once zero (suc i) 0 (omega arith) (omega (arith, l, long))
     (first_at next first n (omega (arith, l)) ∙ sym (second ∙ ap (λ j. get_or next j 0) same ∙ leads))
 
--- an item but the first is led back to the one just before it
-pub led_before : (next back : List ℕ) (first n item j : ℕ) → ((k : ℕ) → Contains (steps next first n) k → get_or back (get_or next k 0) 0 ≡ k) → first ≢ item → j < n → get_or (steps next first n) j 0 ≡ item → IsBefore (steps next first n) (get_or back item 0) item
-led_before next back first n item zero returns apart l at = absurd (apart (sym (first_at next first n l) ∙ at))
-led_before next back first n item (suc j) returns apart l at =
-    let xs : List ℕ = steps next first n in
-    let long = length-steps next first n in
-    let leads : get_or next (get_or xs j 0) 0 ≡ item = sym (step_next next first n j l) ∙ at in
-    let one : j + 1 ≡ suc j = omega arith in
-    record {
-      at = j;
-      within = omega (arith, l, long);
-      first = sym (returns (get_or xs j 0) (Contains-get_or xs j 0 (omega (arith, l, long)))) ∙ ap (λ k. get_or back k 0) leads;
-      second = ap (λ k. get_or xs k 0) one ∙ at;
-    }
+-- the walk without one of its items, begun at the next one where it was the first
+pub walk_less : (A B : List ℕ) (first n item begun : ℕ) → AllPairs (λ a b. a ≢ b) (steps A first n) → Contains (steps A first n) item → ((k : ℕ) → Contains (steps A first n) k → get_or B (get_or A k 0) 0 ≡ k)
+    → get_or B item 0 < length A → get_or A (get_or B item 0) 0 ≡ item → ((first ≡ item) × (begun ≡ get_or A item 0)) ⊎ ((first ≢ item) × (begun ≡ first)) → steps (set A (get_or B item 0) (get_or A item 0)) begun (n - 1) ≡ all_but item (steps A first n)
+walk_less A B first zero item begun once i returns low leads front = absurd (not_in_none item i)
+walk_less A B first (suc n) item begun once i returns low leads front =
+    let before : ℕ = get_or B item 0 in
+    let next : List ℕ = set A before (get_or A item 0) in
+    let fewer : suc n - 1 ≡ n = omega arith in
+    ap (steps next begun) fewer
+    ∙ elim front [
+      | inl at ↦
+          ap (λ j. steps next j n) (at.1 ∙ ap (λ j. get_or A j 0) (sym at.0))
+          ∙ steps_same_to A (get_or A first 0) n before (get_or A item 0) (λ j l. last_alone A first (suc n) before (suc j) once (leads ∙ sym at.0) (omega (arith, l)))
+          ∙ without_first A first n once
+          ∙ ap (λ j. all_but j (steps A first (suc n))) at.0
+      | inr at ↦ ap (λ j. steps next j n) at.1 ∙ without_later A B item first n low leads returns once i at.0
+    ]
+
+-- the walk with an item in front of it, to which the last one leads
+pub walk_more : (A : List ℕ) (first n last item : ℕ) → item < length A → (Contains (steps A first n) item → ⊥) → ((i : ℕ) → suc i < n → get_or (steps A first n) i 0 ≢ last)
+    → steps (set (set A last item) item first) item (suc n) ≡ item ∷ steps A first n
+walk_more A first n last item low out end =
+    let next : List ℕ = set A last item in
+    let walk : steps next first n ≡ steps A first n = steps_same_to A first n last item end in
+    let read : get_or (set next item first) item 0 ≡ first = get_or-set_same next item first 0 (omega (arith, low, length-set A last item)) in
+    ap (λ xs. item ∷ xs)
+    (ap (λ j. steps (set next item first) j n) read ∙ steps_same next first n item first (λ i. out (subst (λ xs. Contains xs item) walk i)) ∙ walk)
 
 -- ---- lists that are the same
 
@@ -88,15 +102,9 @@ module _ (A B : List ℕ) (lists : List (List ℕ)) (p item items : ℕ) (there_
                   (is_left lists p item within q (get_or A k 0) (round.stays q k old) far)
             ];
         returns = λ q k i.
-            let old = was_there lists p item within q k i in
-            elim (cases_eq k b) [
-              | inl same ↦ ap (λ j. get_or (set B a b) j 0) (read k same) ∙ get_or-set_same B a b 0 a_low ∙ sym same
-              | inr apart ↦
-                  let far : get_or A k 0 ≢ a = λ is. other q k i (sym (round.returns q k old) ∙ ap (λ j. get_or B j 0) is ∙ led) in
-                  ap (λ j. get_or (set B a b) j 0) (get_or-set_other A b k a 0 apart)
-                  ∙ get_or-set_other B a (get_or A k 0) b 0 far
-                  ∙ round.returns q k old
-            ];
+            let returned = round.returns q k (was_there lists p item within q k i) in
+            let far = other q k i in
+            grind (arith, common_steps, returned, far, led, a_low, b_low);
       }
 
 -- ---- an item comes between the last item and the first one
@@ -118,13 +126,7 @@ leads_in A last item first low low' =
 pub led_in : (B : List ℕ) (last item first : ℕ) → (first ≡ item → last ≡ item) → first < length B → item < length B → LeadIn B (set (set B item last) first item) first item last
 led_in B last item first alone low low' =
     record {
-      new = elim (cases_eq item first) [
-        | inl same ↦
-            ap (λ j. get_or (set (set B item last) first item) j 0) same
-            ∙ get_or-set_same (set B item last) first item 0 (omega (arith, low, length-set B item last))
-            ∙ sym (alone (sym same))
-        | inr apart ↦ get_or-set_other (set B item last) first item item 0 apart ∙ get_or-set_same B item last 0 low'
-      ];
+      new = grind (arith, common_steps, alone, low, low');
       end = λ apart. get_or-set_same (set B item last) first item 0 (omega (arith, low, length-set B item last));
       rest = λ k other apart. get_or-set_other (set B item last) first k item 0 apart ∙ get_or-set_other B item k last 0 other;
     }
@@ -193,14 +195,10 @@ module _ (A B A' B' : List ℕ) (lists : List (List ℕ)) (p item first last ite
             ];
         returns = λ q k i.
             elim (was_or_new lists p item within q k i) [
-              | inl new ↦ ap (λ j. get_or B' j 0) (ap (λ j. get_or A' j 0) new.1 ∙ there.new) ∙ from_first ∙ sym new.1
+              | inl new ↦ grind (arith, new.1, there.new, from_first)
               | inr old ↦
-                  elim (cases_eq k last) [
-                    | inl same ↦ ap (λ j. get_or B' j 0) (read q k old same) ∙ back.new ∙ sym same
-                    | inr apart ↦
-                        ap (λ j. get_or B' j 0) (there.rest k (other q k old) apart)
-                        ∙ back.rest (get_or A k 0) (other q (get_or A k 0) (round.stays q k old)) (not_first q k old apart)
-                        ∙ round.returns q k old
-                  ]
+                  let rest = there.rest k (other q k old) in
+                  let led = back.rest (get_or A k 0) (other q (get_or A k 0) (round.stays q k old)) in
+                  grind (arith, read q k old, back.new, rest, led, not_first q k old, round.returns q k old)
             ];
       }

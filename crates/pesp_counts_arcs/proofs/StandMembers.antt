@@ -1,5 +1,5 @@
 -- Which members a list with numbers has after a change.
-use Rattle.std.proofs.Common.{◌≡◌, ◌≢◌, ◌⊎◌, ℕ, ◌<◌, ◌==◌, not, nat_lt, if◌then◌else◌, List, [], ◌∷◌, map, filter, refl, sym, ap, subst, ◌∙◌, inl, inr, arith, T, ltb→lt}
+use Rattle.std.proofs.Common.{◌≡◌, ◌≢◌, ◌⊎◌, ℕ, ◌<◌, ◌==◌, not, nat_lt, if◌then◌else◌, List, [], ◌∷◌, map, filter, refl, sym, ap, subst, ◌∙◌, inl, inr, arith}
 use Rattle.std.specs.List.{Contains}
 use Rattle.std.proofs.lemmas.Bool.{cases_eq, cases_lt, eq-eqb, false≢true, lt-ltb, ne_eqb}
 use Rattle.std.proofs.lemmas.List.Elements.{Contains-append_cases, Contains-append_left, Contains-append_right}
@@ -24,6 +24,12 @@ module _ {X Y : Type 0} (f : X → Y) where
       ]
 
 module _ {X : Type 0} (number : X → ℕ) where
+  abbrev low : X → List X → List X
+  low v xs = filter (λ y. nat_lt (number y) (number v)) xs
+
+  abbrev high : X → List X → List X
+  high v xs = filter (λ y. nat_lt (number v) (number y)) xs
+
   pub in_take_out : (n : ℕ) (xs : List X) (x : X) → Contains xs x → number x ≢ n → Contains (take_out number n xs) x
   in_take_out n xs x i apart = in_filter (λ y. not (number y == n)) xs x i (ap not (ne_eqb (number x) n apart))
 
@@ -34,37 +40,25 @@ module _ {X : Type 0} (number : X → ℕ) where
 
   pub in_put_in : (v : X) (xs : List X) (x : X) → Contains xs x → number x ≢ number v → Contains (put_in number v xs) x
   in_put_in v xs x i apart =
-      let low : List X = filter (λ y. nat_lt (number y) (number v)) xs in
-      let high : List X = filter (λ y. nat_lt (number v) (number y)) xs in
       elim (cases_lt (number x) (number v)) [
-        | inl below ↦ Contains-append_left low (v ∷ high) x (in_filter (λ y. nat_lt (number y) (number v)) xs x i (lt-ltb (number x) (number v) below))
+        | inl below ↦ Contains-append_left (low v xs) (v ∷ high v xs) x (in_filter (λ y. nat_lt (number y) (number v)) xs x i (lt-ltb (number x) (number v) below))
         | inr above ↦
             let over : number v < number x = omega (arith, above, apart) in
-            Contains-append_right low (v ∷ high) x (there x v high (in_filter (λ y. nat_lt (number v) (number y)) xs x i (lt-ltb (number v) (number x) over)))
+            Contains-append_right (low v xs) (v ∷ high v xs) x (there x v (high v xs) (in_filter (λ y. nat_lt (number v) (number y)) xs x i (lt-ltb (number v) (number x) over)))
       ]
 
   pub new_put_in : (v : X) (xs : List X) → Contains (put_in number v xs) v
   new_put_in v xs =
-      let low : List X = filter (λ y. nat_lt (number y) (number v)) xs in
-      let high : List X = filter (λ y. nat_lt (number v) (number y)) xs in
-      Contains-append_right low (v ∷ high) v (here v high)
+      Contains-append_right (low v xs) (v ∷ high v xs) v (here v (high v xs))
 
   pub of_put_in : (v : X) (xs : List X) (x : X) → Contains (put_in number v xs) x → (v ≡ x) ⊎ (Contains xs x × (number x ≢ number v))
   of_put_in v xs x i =
-      let low : List X = filter (λ y. nat_lt (number y) (number v)) xs in
-      let high : List X = filter (λ y. nat_lt (number v) (number y)) xs in
-      elim (Contains-append_cases low (v ∷ high) x i) [
-        | inl below ↦
-            let w = of_filter (λ y. nat_lt (number y) (number v)) xs x below in
-            let less : number x < number v = ltb→lt (number x) (number v) (subst T (sym w.1) tt) in
-            inr (w.0, λ same. absurd (omega (arith, less, same)))
+      elim (Contains-append_cases (low v xs) (v ∷ high v xs) x i) [
+        | inl below ↦ let w = of_filter (λ y. nat_lt (number y) (number v)) xs x below in inr (w.0, λ same. grind (arith, w.1, same))
         | inr rest ↦
-            elim (here_or_there x v high rest) [
+            elim (here_or_there x v (high v xs) rest) [
               | inl new ↦ inl new
-              | inr above ↦
-                  let w = of_filter (λ y. nat_lt (number v) (number y)) xs x above in
-                  let less : number v < number x = ltb→lt (number v) (number x) (subst T (sym w.1) tt) in
-                  inr (w.0, λ same. absurd (omega (arith, less, same)))
+              | inr above ↦ let w = of_filter (λ y. nat_lt (number v) (number y)) xs x above in inr (w.0, λ same. grind (arith, w.1, same))
             ]
       ]
 

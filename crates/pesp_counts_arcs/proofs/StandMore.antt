@@ -1,26 +1,39 @@
 -- An activity comes, with its two ends.
-use Rattle.std.proofs.Common.{◌≡◌, ◌≢◌, ℕ, ◌+◌, ◌*◌, ◌<◌, ◌≤◌, ◌==◌, true, if◌then◌else◌, List, length, Some, None, Ok, refl, sym, ap, subst, ◌∙◌, inl, inr, arith}
+use Rattle.std.proofs.Common.{◌≡◌, ◌≢◌, ◌⊎◌, ℕ, ◌+◌, ◌*◌, ◌<◌, ◌≤◌, ◌==◌, true, if◌then◌else◌, List, length, Some, None, Ok, refl, sym, ap, subst, ◌∙◌, inl, inr, arith}
 use Rattle.std.specs.List.{Contains}
-use Rattle.std.proofs.lemmas.Bool.{cases_eq}
 use Rattle.pesp_base.specs.declared.activity.Activity.{Activity}
 use Rattle.pesp_base.specs.Numbered.{put_in}
 use Rattle.pesp_instance.specs.declared.edit.Edit.TheVariants as edits
 use Rattle.pesp_instance.specs.Edited.{edited, effect}
 use Rattle.pesp_instance.specs.Network.{Network}
 use Rattle.pesp_instance.proofs.Numbers.{activity_number as id_of}
-use Rattle.pesp_domains.proofs.Edits.{effect_is}
 use Rattle.pesp_domains.specs.declared.side.Side.{Side}
 use Rattle.pesp_domains.specs.declared.side.Side.TheVariants.{Tail, Head}
+use Rattle.pesp_domains.specs.Domains.{own}
 use Rattle.pesp_counts_arcs.specs.declared.end.End.{End}
 use Rattle.pesp_counts_arcs.specs.Ends.{end_at, ends_of}
-use Rattle.pesp_counts_arcs.specs.Links.{AreHoused, AreListedAt, IsChangedAt, IsEndFor, IsEndOf, IsEndOfPlace, Links, LookAt, StandFor}
+use Rattle.pesp_counts_arcs.specs.Links.{AreHoused, AreListedAt, IsEndFor, IsEndOf, IsEndOfPlace, Links, LookAt, StandFor, end_number}
 use Rattle.pesp_counts_arcs.specs.Lists.{AreShared}
 use Rattle.pesp_counts_arcs.specs.Places.{ArePlaces, Places, number_at, place_of}
 use Rattle.pesp_counts_arcs.specs.Shared.{Shared}
-use Rattle.pesp_counts_arcs.proofs.StandAround.{place_of_end, stands_around}
+use Rattle.pesp_counts_arcs.proofs.StandAround.{looks_at, looks_by, made_joins, mate_by, stands_around}
 use Rattle.pesp_counts_arcs.proofs.StandEdits.{came_here, came_other, came_some, none_some}
-use Rattle.pesp_counts_arcs.proofs.StandLaws.{has_put, some_same}
+use Rattle.pesp_counts_arcs.proofs.StandLaws.{by_side, has_put, stands_for}
 use Rattle.pesp_counts_arcs.proofs.StandMembers.{in_put_in, new_put_in, of_put_in}
+
+-- the one end of a pair that came, or an end that was there
+pub listed_by : (before after : List (List ℕ)) (q : ℕ) (at : Side → ℕ) → AreListedAt before after q (at Tail) (at Head) → (side : Side) → Contains (ends_of after (at side)) (end_number side q)
+listed_by before after q at listed = by_side (λ s. Contains (ends_of after (at s)) (end_number s q)) listed.tail listed.head
+
+pub new_or_old : (before after : List (List ℕ)) (q a b p k : ℕ) → AreListedAt before after q a b → Contains (ends_of after p) k → IsEndOfPlace q k ⊎ Contains (ends_of before p) k
+new_or_old before after q a b p k listed i =
+    elim (listed.was p k i) [
+      | inl new ↦ inl (elim new [ inl tail ↦ inl tail.1 | inr head ↦ inr head.1 ])
+      | inr old ↦ inr old
+    ]
+
+pub was_listed : (before after : List (List ℕ)) (q a b p k : ℕ) → AreListedAt before after q a b → Contains (ends_of after p) k → (IsEndOfPlace q k → ⊥) → Contains (ends_of before p) k
+was_listed before after q a b p k listed i out = elim (new_or_old before after q a b p k listed i) [ inl new ↦ absurd (out new) | inr old ↦ old ]
 
 -- a place that no number has
 no_place : (places : Places) (n q : ℕ) → ArePlaces places → number_at places q ≡ None → place_of places n ≡ Some q → ⊥
@@ -30,13 +43,8 @@ no_place places n q paired free at = none_some (number_at places q) n free ((pai
 pub unlisted_yet : (events activities : Places) (ends : List End) (at : Shared) (q : ℕ) → AreHoused events activities ends at → number_at activities q ≡ None → (p k : ℕ) → Contains (ends_of at.lists p) k → IsEndOfPlace q k → ⊥
 unlisted_yet events activities ends at q h free p k i end =
     let w = h.owned p k i in
-    no_place activities w.0 q h.are_activities free (w.2 ∙ ap (λ r. Some r) (one_place w.1 w.3 end))
-  where
-    one_place : (r : ℕ) → IsEndOfPlace r k → IsEndOfPlace q k → r ≡ q
-    one_place r (inl is) (inl same) = omega (arith, is, same)
-    one_place r (inl is) (inr same) = absurd (omega (arith, is, same))
-    one_place r (inr is) (inl same) = absurd (omega (arith, is, same))
-    one_place r (inr is) (inr same) = omega (arith, is, same)
+    let one : w.1 ≡ q = grind (arith, w.3, end) in
+    no_place activities w.0 q h.are_activities free (w.2 ∙ ap (λ r. Some r) one)
 
 -- more room for ends, and places of activities that are looked up as before
 pub housed_room : (events activities activities' : Places) (ends : List End) (at at' : Shared) → AreHoused events activities ends at → ArePlaces activities' → ((n : ℕ) → place_of activities' n ≡ place_of activities n) → length ends ≤ at'.items → at'.lists ≡ at.lists → AreShared at'.items at'.lists → AreHoused events activities' ends at'
@@ -64,17 +72,12 @@ housed_more events activities activities' ends ends' at at' n q a b h absent pai
       items = items;
       event_room = λ e p is. let low = h.event_room e p is in omega (arith, low, listed.many);
       activity_room = λ m r is.
-          elim (cases_eq m n) [
-            | inl same ↦
-                let its : q ≡ r = some_same q r (sym (came_here activities activities' n q came) ∙ sym (ap (place_of activities') same) ∙ is) in
-                omega (arith, its, room)
-            | inr apart ↦
-                let low = h.activity_room m r (sym (came_other activities activities' n q came m apart) ∙ is) in
-                omega (arith, low, more)
-          ];
+          let at = came m in
+          let low = h.activity_room m r in
+          grind (arith, at, low, is, more, room);
       owned = λ p k i.
-          elim (listed.was p k i) [
-            | inl new ↦ (n, q, came_here activities activities' n q came, elim new [ inl tail ↦ inl tail.1 | inr head ↦ inr head.1 ])
+          elim (new_or_old at.lists at'.lists q a b p k listed i) [
+            | inl new ↦ (n, q, came_here activities activities' n q came, new)
             | inr old ↦
                 let w = h.owned p k old in
                 let apart : w.0 ≢ n = λ same. none_some (place_of activities w.0) w.1 (ap (place_of activities) same ∙ absent) w.2 in
@@ -82,56 +85,30 @@ housed_more events activities activities' ends ends' at at' n q a b h absent pai
           ];
     }
 
-module _ (I : Network) (before : Links) (activities' : Places) (ends' : List End) (lists' : List (List ℕ)) (a : Activity) (q tail_at head_at : ℕ)
+module _ (I : Network) (before : Links) (activities' : Places) (ends' : List End) (lists' : List (List ℕ)) (a : Activity) (q : ℕ) (at : Side → ℕ)
     (absent : place_of before.activities a.id ≡ None)
     (came : (m : ℕ) → place_of activities' m ≡ (if m == a.id then Some q else place_of before.activities m))
     (paired : ArePlaces activities')
     (free : number_at before.activities q ≡ None)
-    (from : place_of before.events a.from ≡ Some tail_at)
-    (to : place_of before.events a.to ≡ Some head_at)
+    (events : (side : Side) → place_of before.events (own side a) ≡ Some (at side))
     (others : (k : ℕ) → (IsEndOfPlace q k → ⊥) → end_at ends' k ≡ end_at before.ends k)
-    (tail : IsEndFor I.period a.span Tail (end_at ends' (2 * q)))
-    (head : IsEndFor I.period a.span Head (end_at ends' (2 * q + 1)))
-    (look : LookAt ends' q tail_at head_at)
-    (listed : AreListedAt before.lists lists' q tail_at head_at)
+    (made : (side : Side) → IsEndFor I.period a.span side (end_at ends' (end_number side q)))
+    (look : LookAt ends' q (at Tail) (at Head))
+    (listed : AreListedAt before.lists lists' q (at Tail) (at Head))
     (shared : AreShared (length ends') lists')
     (stand : StandFor I before) where
-  new_tail : IsEndOf I.period (record before { activities = activities'; ends = ends'; lists = lists' }) Tail a tail_at q
-  new_tail = record {
+  new_end : (side : Side) → IsEndOf I.period (record before { activities = activities'; ends = ends'; lists = lists' }) side a (at side) q
+  new_end side = record {
     numbered = came_here before.activities activities' a.id q came;
-    at = from;
-    listed = listed.tail;
-    looks = to ∙ ap (λ k. Some k) (sym look.tail_looks);
-    mate = look.tail_mate;
-    first = tail.first;
-    some = tail.some;
-    width = tail.width;
-    joins = λ r s rl sl. tail.joins r s;
+    at = events side;
+    listed = listed_by before.lists lists' q at listed side;
+    looks = looks_at before.events a at (end_at ends' (end_number side q)) events side (looks_by ends' q at look side);
+    mate = mate_by ends' q _ _ look side;
+    first = (made side).first;
+    some = (made side).some;
+    width = (made side).width;
+    joins = λ r s rl sl. made_joins I.period side a _ (made side) r s;
   }
-
-  new_head : IsEndOf I.period (record before { activities = activities'; ends = ends'; lists = lists' }) Head a head_at q
-  new_head = record {
-    numbered = came_here before.activities activities' a.id q came;
-    at = to;
-    listed = listed.head;
-    looks = from ∙ ap (λ k. Some k) (sym look.head_looks);
-    mate = look.head_mate;
-    first = head.first;
-    some = head.some;
-    width = head.width;
-    joins = λ r s rl sl. head.joins r s;
-  }
-
-  new_end : (side : Side) (b : Activity) → a ≡ b → (p : ℕ) × (r : ℕ) × IsEndOf I.period (record before { activities = activities'; ends = ends'; lists = lists' }) side b p r
-  new_end Tail b same = (tail_at, q, subst (λ c. IsEndOf I.period (record before { activities = activities'; ends = ends'; lists = lists' }) Tail c tail_at q) same new_tail)
-  new_end Head b same = (head_at, q, subst (λ c. IsEndOf I.period (record before { activities = activities'; ends = ends'; lists = lists' }) Head c head_at q) same new_head)
-
-  -- a place that no activity had
-  not_before : (p k : ℕ) → Contains (ends_of before.lists p) k → IsEndOfPlace q k → ⊥
-  not_before p k i is =
-      let w = stand.only p k i in
-      let place : w.place ≡ q = place_of_end w.side q w.place (subst (IsEndOfPlace q) w.number is) in
-      no_place before.activities w.activity.id q stand.activities free (w.is_end.numbered ∙ ap (λ r. Some r) place)
 
   pub put_stands : StandFor (effect I (edits.AddActivity a)) (record before { activities = activities'; ends = ends'; lists = lists' })
   put_stands =
@@ -144,50 +121,11 @@ module _ (I : Network) (before : Links) (activities' : Places) (ends' : List End
       (λ r is. absurd (none_some (place_of before.activities a.id) r absent is))
       shared others
       (λ p k i out. listed.stays p k i)
-      (λ p k i out.
-      elim (listed.was p k i) [
-        | inl new ↦ absurd (out (elim new [ inl tail ↦ inl tail.1 | inr head ↦ inr head.1 ]))
-        | inr old ↦ old
-      ])
+      (λ p k i out. was_listed before.lists lists' q _ _ p k listed i out)
       (λ b there_is. elim (of_put_in id_of a I.activities b there_is) [ inl same ↦ inr same | inr old ↦ inl old ])
       (λ b there_is apart. in_put_in id_of a I.activities b there_is apart)
-      new_end
-      (λ p k i is.
-      elim (listed.was p k i) [
-        | inl new ↦
-            elim new [
-              | inl at ↦ record {
-                side = Tail;
-                activity = a;
-                place = q;
-                there = new_put_in id_of a I.activities;
-                number = at.1;
-                is_end = subst (λ r. IsEndOf I.period (record before { activities = activities'; ends = ends'; lists = lists' }) Tail a r q) (sym at.0) new_tail;
-              }
-              | inr at ↦ record {
-                side = Head;
-                activity = a;
-                place = q;
-                there = new_put_in id_of a I.activities;
-                number = at.1;
-                is_end = subst (λ r. IsEndOf I.period (record before { activities = activities'; ends = ends'; lists = lists' }) Head a r q) (sym at.0) new_head;
-              }
-            ]
-        | inr old ↦ absurd (not_before p k old is)
-      ])
+      (λ side b same. (at side, subst (λ c. IsEndOf I.period (record before { activities = activities'; ends = ends'; lists = lists' }) side c (at side) q) same (new_end side)))
+      (λ p k i is. (a, new_put_in id_of a I.activities, refl))
 
   pub activity_added : (J : Network) → edited I (edits.AddActivity a) ≡ Ok J → StandFor J (record before { activities = activities'; ends = ends'; lists = lists' })
-  activity_added J ok = subst (λ K. StandFor K (record before { activities = activities'; ends = ends'; lists = lists' })) (sym (effect_is I J (edits.AddActivity a) ok)) put_stands
-
-pub changed_more : (before : Links) (activities' : Places) (ends' : List End) (lists' : List (List ℕ)) (q tail_at head_at : ℕ) → AreListedAt before.lists lists' q tail_at head_at → ((k : ℕ) → (IsEndOfPlace q k → ⊥) → end_at ends' k ≡ end_at before.ends k)
-    → IsChangedAt before (record before { activities = activities'; ends = ends'; lists = lists' }) q
-changed_more before activities' ends' lists' q tail_at head_at listed others =
-    record {
-      events = λ e. refl;
-      listed = λ p k i out.
-          elim (listed.was p k i) [
-            | inl new ↦ absurd (out (elim new [ inl tail ↦ inl tail.1 | inr head ↦ inr head.1 ]))
-            | inr old ↦ old
-          ];
-      ends = others;
-    }
+  activity_added J ok = stands_for I J (edits.AddActivity a) (record before { activities = activities'; ends = ends'; lists = lists' }) ok put_stands

@@ -1,69 +1,62 @@
 -- The two ends of an activity come to the lists, and go from them.
-use Rattle.std.proofs.Common.{◌≡◌, ◌⊎◌, ℕ, ◌+◌, ◌*◌, ◌<◌, ◌∷◌, List, length, set, sym, ap, subst, ◌∙◌, inl, inr, arith}
+use Rattle.std.proofs.Common.{ℕ, ◌+◌, ◌*◌, ◌<◌, ◌∷◌, List, length, set, refl, subst, ◌∙◌, inl, inr, arith}
 use Rattle.std.specs.List.{Contains}
 use Rattle.std.proofs.lemmas.List.{length-set}
-use Rattle.pesp_counts_arcs.specs.Links.{AreListedAt, AreUnlisted}
+use Rattle.pesp_counts_arcs.specs.Links.{AreListedAt, AreUnlisted, IsEndOfPlace}
 use Rattle.pesp_counts_arcs.specs.Lists.{AreShared, items_at}
 use Rattle.pesp_counts_arcs.proofs.ListLaws.{comes_there, stays_there, was_or_new}
-use Rattle.pesp_counts_arcs.proofs.StandLists.{all_but, is_gone, is_left, list_there, was_there}
+use Rattle.pesp_counts_arcs.proofs.StandLists.{all_but, is_gone, is_left, list_there, shared_less, was_there}
 
 -- ---- they come
 
-module _ (lists middle : List (List ℕ)) (q a : ℕ) (within : a < length lists) (first : middle ≡ set lists a ((2 * q) ∷ items_at lists a)) where
-  -- what stood or the first end
-  pub was_first : (p k : ℕ) → Contains (items_at middle p) k → ((p ≡ a) × (k ≡ 2 * q)) ⊎ Contains (items_at lists p) k
-  was_first p k i = was_or_new lists a (2 * q) within p k (subst (λ xs. Contains (items_at xs p) k) first i)
+module _ (lists : List (List ℕ)) (q a : ℕ) (within : a < length lists) where
+  abbrev middle : List (List ℕ)
+  middle = set lists a ((2 * q) ∷ items_at lists a)
 
-module _ (lists middle after : List (List ℕ)) (q a b : ℕ) (within : a < length lists) (first : middle ≡ set lists a ((2 * q) ∷ items_at lists a)) (within' : b < length middle) (second : after ≡ set middle b ((2 * q + 1) ∷ items_at middle b)) where
-  pub listed_at : AreListedAt lists after q a b
-  listed_at =
+  -- the second end is in no list yet once the first one came
+  pub head_free : ((p k : ℕ) → Contains (items_at lists p) k → IsEndOfPlace q k → ⊥) → (p : ℕ) → Contains (items_at middle p) (2 * q + 1) → ⊥
+  head_free free p i =
+      elim (was_or_new lists a (2 * q) within p (2 * q + 1) i) [
+        | inl new ↦ (let same = new.1 in absurd (omega (arith, same)))
+        | inr old ↦ free p (2 * q + 1) old (inr refl)
+      ]
+
+  pub listed_at : (b : ℕ) → b < length lists → AreListedAt lists (set middle b ((2 * q + 1) ∷ items_at middle b)) q a b
+  listed_at b within' =
+      let low : b < length middle = omega (arith, within', length-set lists a ((2 * q) ∷ items_at lists a)) in
       record {
-        many = ap length second ∙ length-set middle b ((2 * q + 1) ∷ items_at middle b) ∙ ap length first ∙ length-set lists a ((2 * q) ∷ items_at lists a);
-        tail = up a (2 * q) (subst (λ xs. Contains (items_at xs a) (2 * q)) (sym first) (comes_there lists a (2 * q) within));
-        head = subst (λ xs. Contains (items_at xs b) (2 * q + 1)) (sym second) (comes_there middle b (2 * q + 1) within');
-        stays = λ p k i. up p k (subst (λ xs. Contains (items_at xs p) k) (sym first) (stays_there lists a (2 * q) within p k i));
+        many = length-set middle b ((2 * q + 1) ∷ items_at middle b) ∙ length-set lists a ((2 * q) ∷ items_at lists a);
+        tail = stays_there middle b (2 * q + 1) low a (2 * q) (comes_there lists a (2 * q) within);
+        head = comes_there middle b (2 * q + 1) low;
+        stays = λ p k i. stays_there middle b (2 * q + 1) low p k (stays_there lists a (2 * q) within p k i);
         was = λ p k i.
-            elim (was_or_new middle b (2 * q + 1) within' p k (subst (λ xs. Contains (items_at xs p) k) second i)) [
+            elim (was_or_new middle b (2 * q + 1) low p k i) [
               | inl new ↦ inl (inr new)
-              | inr old ↦ elim (was_first lists middle q a within first p k old) [ inl new ↦ inl (inl new) | inr older ↦ inr older ]
+              | inr old ↦ elim (was_or_new lists a (2 * q) within p k old) [ inl new ↦ inl (inl new) | inr older ↦ inr older ]
             ];
       }
-    where
-      up : (p k : ℕ) → Contains (items_at middle p) k → Contains (items_at after p) k
-      up p k i = subst (λ xs. Contains (items_at xs p) k) (sym second) (stays_there middle b (2 * q + 1) within' p k i)
 
 -- ---- they go
 
--- the second end is still where it was once the first one went
-pub still_there : (lists middle : List (List ℕ)) (q a b : ℕ) → Contains (items_at lists a) (2 * q) → Contains (items_at lists b) (2 * q + 1) → middle ≡ set lists a (all_but (2 * q) (items_at lists a)) → Contains (items_at middle b) (2 * q + 1)
-still_there lists middle q a b tail head first =
-    subst (λ xs. Contains (items_at xs b) (2 * q + 1)) (sym first)
-    (is_left lists a (2 * q) (list_there lists a (2 * q) tail) b (2 * q + 1) head (λ same. absurd (omega (arith, same))))
+module _ (lists : List (List ℕ)) (items q a b : ℕ) (shared : AreShared items lists) (tail : Contains (items_at lists a) (2 * q)) (head : Contains (items_at lists b) (2 * q + 1)) where
+  abbrev left : List (List ℕ)
+  left = set lists a (all_but (2 * q) (items_at lists a))
 
-module _ (lists middle after : List (List ℕ)) (items items' q a b : ℕ) (shared : AreShared items lists) (shared' : AreShared items' middle) (tail : Contains (items_at lists a) (2 * q)) (head : Contains (items_at lists b) (2 * q + 1)) (first : middle ≡ set lists a (all_but (2 * q) (items_at lists a))) where
-  pub unlisted : after ≡ set middle b (all_but (2 * q + 1) (items_at middle b)) → AreUnlisted lists after q
-  unlisted second =
+  -- the second end is still where it was once the first one went
+  pub still_there : Contains (items_at left b) (2 * q + 1)
+  still_there = is_left lists a (2 * q) (list_there lists a (2 * q) tail) b (2 * q + 1) head (λ same. absurd (omega (arith, same)))
+
+  pub unlisted : AreUnlisted lists (set left b (all_but (2 * q + 1) (items_at left b))) q
+  unlisted =
       let low = list_there lists a (2 * q) tail in
-      let there_is = still_there lists middle q a b tail head first in
-      let low' = list_there middle b (2 * q + 1) there_is in
-      let back : (p k : ℕ) → Contains (items_at after p) k → Contains (items_at middle p) k =
-      λ p k i. was_there middle b (2 * q + 1) low' p k (subst (λ xs. Contains (items_at xs p) k) second i)
-      in
+      let low' = list_there left b (2 * q + 1) still_there in
       record {
-        many = ap length second ∙ length-set middle b (all_but (2 * q + 1) (items_at middle b)) ∙ ap length first ∙ length-set lists a (all_but (2 * q) (items_at lists a));
-        gone = λ p k i.
-            λ end. elim end [
-              | inl same ↦
-                  is_gone lists a (2 * q) low items tail shared p
-                  (subst (λ xs. Contains (items_at xs p) (2 * q)) first (subst (Contains (items_at middle p)) same (back p k i)))
-              | inr same ↦
-                  is_gone middle b (2 * q + 1) low' items' there_is shared' p
-                  (subst (λ xs. Contains (items_at xs p) (2 * q + 1)) second (subst (Contains (items_at after p)) same i))
+        many = length-set left b (all_but (2 * q + 1) (items_at left b)) ∙ length-set lists a (all_but (2 * q) (items_at lists a));
+        gone = λ p k i end.
+            elim end [
+              | inl same ↦ is_gone lists a (2 * q) low items tail shared p (subst (Contains (items_at left p)) same (was_there left b (2 * q + 1) low' p k i))
+              | inr same ↦ is_gone left b (2 * q + 1) low' items still_there (shared_less lists a (2 * q) low items tail shared) p (subst (Contains (items_at (set left b (all_but (2 * q + 1) (items_at left b))) p)) same i)
             ];
-        stays = λ p k i out.
-            subst (λ xs. Contains (items_at xs p) k) (sym second)
-            (is_left middle b (2 * q + 1) low' p k
-            (subst (λ xs. Contains (items_at xs p) k) (sym first) (is_left lists a (2 * q) low p k i (λ same. out (inl same))))
-            (λ same. out (inr same)));
-        was = λ p k i. was_there lists a (2 * q) low p k (subst (λ xs. Contains (items_at xs p) k) first (back p k i));
+        stays = λ p k i out. is_left left b (2 * q + 1) low' p k (is_left lists a (2 * q) low p k i (λ same. out (inl same))) (λ same. out (inr same));
+        was = λ p k i. was_there lists a (2 * q) low p k (was_there left b (2 * q + 1) low' p k i);
       }

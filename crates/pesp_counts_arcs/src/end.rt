@@ -9,7 +9,7 @@ use pesp_base::{Period, Span};
 
 /// An end of an activity. With a residue of its own event go those residues of the other event that
 /// stand from `first` above it on, `width` of them, around the period.
-#[derive(Clone, Copy, Debug, PartialEq, Eq)]
+#[derive(Clone, Copy, Debug, Default, PartialEq, Eq)]
 pub struct End {
     /// The place of the event at the other end.
     pub looks_at: usize,
@@ -109,18 +109,12 @@ impl End {
     {
         let sum = residue + self.first;
         let start = if sum < period { sum } else { sum - period };
-        if self.width <= period - start {
-            Ranges {
-                start,
-                end: start + self.width,
-                wrapped: 0,
-            }
-        } else {
-            Ranges {
-                start,
-                end: period,
-                wrapped: self.width - (period - start),
-            }
+        let beyond = start + self.width;
+        let end = beyond.min(period);
+        Ranges {
+            start,
+            end,
+            wrapped: beyond - end,
         }
     }
 }

@@ -151,15 +151,11 @@ impl Links {
         }
         let tail_at = self.events.place(activity.from.get()).unwrap();
         let head_at = self.events.place(activity.to.get()).unwrap();
-        write_ends(
-            &mut self.ends,
-            period,
-            activity.span,
-            place,
-            tail_at,
-            head_at,
-        );
-        list_ends(&mut self.at, place, tail_at, head_at);
+        let tail = 2 * place;
+        self.ends[tail] = End::tail(period, activity.span, head_at, tail + 1);
+        self.ends[tail + 1] = End::head(period, activity.span, tail_at, tail);
+        self.at.add(tail_at, tail);
+        self.at.add(head_at, tail + 1);
         Ok(place)
     }
 
@@ -176,9 +172,11 @@ impl Links {
         ensures lists { length (self.new).lists ≡ length (self.old).lists }
         ensures ends { length (self.new).ends ≡ length (self.old).ends }
     {
-        if let Some(place) = self.activities.place(id.get()) {
-            let (tail_at, head_at) = events_at(&self.ends, place);
-            unlist_ends(&mut self.at, place, tail_at, head_at);
+        if let Some(place) = self.activity(id) {
+            let tail = self.tail_at(place);
+            let (from_at, to_at) = self.events_of(place);
+            self.at.remove(from_at, tail);
+            self.at.remove(to_at, tail + 1);
             self.activities.remove(id.get());
         }
     }
@@ -194,9 +192,11 @@ impl Links {
         ensures lists { (self.new).lists ≡ (self.old).lists }
         ensures ends { length (self.new).ends ≡ length (self.old).ends }
     {
-        if let Some(place) = self.activities.place(id.get()) {
-            let (tail_at, head_at) = events_at(&self.ends, place);
-            write_ends(&mut self.ends, period, span, place, tail_at, head_at);
+        if let Some(place) = self.activity(id) {
+            let tail = self.tail_at(place);
+            let (tail_at, head_at) = self.events_of(place);
+            self.ends[tail] = End::tail(period, span, head_at, tail + 1);
+            self.ends[tail + 1] = End::head(period, span, tail_at, tail);
         }
     }
 
@@ -216,13 +216,17 @@ impl Links {
         ensures lists { length (self.new).lists ≡ length (self.old).lists }
         ensures ends { length (self.new).ends ≡ length (self.old).ends }
     {
-        if let Some(place) = self.activities.place(id.get()) {
-            let (tail_at, head_at) = events_at(&self.ends, place);
-            let from_at = self.events.place(from.get()).unwrap();
-            let to_at = self.events.place(to.get()).unwrap();
-            unlist_ends(&mut self.at, place, tail_at, head_at);
-            turn_ends(&mut self.ends, place, from_at, to_at);
-            list_ends(&mut self.at, place, from_at, to_at);
+        if let Some(place) = self.activity(id) {
+            let tail = self.tail_at(place);
+            let (tail_at, head_at) = self.events_of(place);
+            let from_at = self.event(from).unwrap();
+            let to_at = self.event(to).unwrap();
+            self.at.remove(tail_at, tail);
+            self.at.remove(head_at, tail + 1);
+            self.ends[tail].looks_at = to_at;
+            self.ends[tail + 1].looks_at = from_at;
+            self.at.add(from_at, tail);
+            self.at.add(to_at, tail + 1);
         }
     }
 }
@@ -243,89 +247,7 @@ fn make_ends(ends: &mut Vec<End>, at: &mut Lists, place: usize) -> Result<(), Al
     let count = place.saturating_mul(2).saturating_add(2);
     at.grow_items(count)?;
     if ends.len() < count {
-        let none = End {
-            looks_at: 0,
-            mate: 0,
-            first: 0,
-            width: 0,
-        };
-        ends.resize(count, none)?;
+        ends.resize(count, End::default())?;
     }
     Ok(())
-}
-
-/// The places of the events that the activity at a place leads from and to.
-fn events_at(ends: &[End], place: usize) -> (usize, usize)
-    requires { 2 * place + 1 < length ends.now }
-    ensures tail { result.0 ≡ (end_at ends.now (2 * place + 1)).looks_at }
-    ensures head { result.1 ≡ (end_at ends.now (2 * place)).looks_at }
-{
-    let tail = 2 * place;
-    (ends[tail + 1].looks_at, ends[tail].looks_at)
-}
-
-/// Makes the two ends of the activity at a place anew.
-fn write_ends(
-    ends: &mut [End],
-    period: Period,
-    span: Span,
-    place: usize,
-    tail_at: usize,
-    head_at: usize,
-)
-    requires { 2 * place + 1 < length ends.old }
-    ensures tail { IsEndFor period span side.Tail (end_at ends.new (2 * place)) }
-    ensures head { IsEndFor period span side.Head (end_at ends.new (2 * place + 1)) }
-    ensures look { LookAt ends.new place tail_at head_at }
-    ensures others { KeepOthers ends.old ends.new place }
-{
-    let tail = 2 * place;
-    let head = tail + 1;
-    ends[tail] = End::tail(period, span, head_at, head);
-    ends[head] = End::head(period, span, tail_at, tail);
-}
-
-/// Lets the two ends of the activity at a place look at other events.
-fn turn_ends(ends: &mut [End], place: usize, tail_at: usize, head_at: usize)
-    requires { 2 * place + 1 < length ends.old }
-    ensures tail { end_at ends.new (2 * place)
-        ≡ record (end_at ends.old (2 * place)) { looks_at = head_at } }
-    ensures head { end_at ends.new (2 * place + 1)
-        ≡ record (end_at ends.old (2 * place + 1)) { looks_at = tail_at } }
-    ensures others { KeepOthers ends.old ends.new place }
-{
-    let tail = 2 * place;
-    ends[tail].looks_at = head_at;
-    ends[tail + 1].looks_at = tail_at;
-}
-
-/// Lists the two ends of the activity at a place at its events.
-fn list_ends(at: &mut Lists, place: usize, tail_at: usize, head_at: usize)
-    requires tail { tail_at < length (at.old).lists }
-    requires head { head_at < length (at.old).lists }
-    requires items { 2 * place + 1 < (at.old).items }
-    requires small { 2 * place + 1 < 2 ^ 64 }
-    requires free { (p k : ℕ) → Contains (ends_of (at.old).lists p) k → IsEndOfPlace place k → ⊥ }
-    ensures items { (at.new).items ≡ (at.old).items }
-    ensures shared { AreShared (at.new).items (at.new).lists }
-    ensures listed { AreListedAt (at.old).lists (at.new).lists place tail_at head_at }
-{
-    let tail = 2 * place;
-    at.add(tail_at, tail);
-    at.add(head_at, tail + 1);
-}
-
-/// Takes the two ends of the activity at a place out of the lists at its events.
-fn unlist_ends(at: &mut Lists, place: usize, tail_at: usize, head_at: usize)
-    requires shared { AreShared (at.old).items (at.old).lists }
-    requires small { 2 * place + 1 < 2 ^ 64 }
-    requires tail { Contains (ends_of (at.old).lists tail_at) (2 * place) }
-    requires head { Contains (ends_of (at.old).lists head_at) (2 * place + 1) }
-    ensures items { (at.new).items ≡ (at.old).items }
-    ensures shared { AreShared (at.new).items (at.new).lists }
-    ensures unlisted { AreUnlisted (at.old).lists (at.new).lists place }
-{
-    let tail = 2 * place;
-    at.remove(tail_at, tail);
-    at.remove(head_at, tail + 1);
 }

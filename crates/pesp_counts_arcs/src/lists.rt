@@ -10,7 +10,7 @@ use std::alloc::{AllocError, Global};
 use std::marker::Model;
 
 /// The first item of a list, and how many it has. The first of an empty list says nothing.
-#[derive(Clone, Copy)]
+#[derive(Clone, Copy, Default)]
 pub struct Head {
     pub first: u32,
     pub count: u32,
@@ -18,7 +18,7 @@ pub struct Head {
 
 /// The items before and after one in its list, around it: after the last item comes the first.
 /// Those of an item in no list say nothing.
-#[derive(Clone, Copy)]
+#[derive(Clone, Copy, Default)]
 pub struct Neighbours {
     pub before: u32,
     pub after: u32,
@@ -116,14 +116,11 @@ impl Lists {
     pub fn at(&self, list: usize) -> Walk<'_>
         ensures { result ≡ items_at (self.now).lists list }
     {
-        let (item, left) = match self.heads.get(list) {
-            Some(head) => (head.first, head.count),
-            None => (0, 0),
-        };
+        let head = self.heads.get(list).copied().unwrap_or_default();
         Walk {
             items: &self.items,
-            item,
-            left,
+            item: head.first,
+            left: head.count,
         }
     }
 
@@ -143,11 +140,7 @@ impl Lists {
         if items > u32::MAX as usize {
             return Err(AllocError);
         }
-        let none = Neighbours {
-            before: 0,
-            after: 0,
-        };
-        self.items.resize(items, none)?;
+        self.items.resize(items, Neighbours::default())?;
         Ok(())
     }
 
@@ -180,7 +173,10 @@ impl Lists {
     {
         let head = self.heads[list];
         let item = item as u32;
-        put_in_front(&mut self.items, head, item);
+        let items: &mut [Neighbours] = &mut self.items;
+        let (last, first) = ring_ends(items, head, item);
+        join(items, last, item);
+        join(items, item, first);
         self.heads[list] = Head {
             first: item,
             count: head.count + 1,
@@ -198,34 +194,17 @@ impl Lists {
     {
         let head = self.heads[list];
         let around = self.items[item];
-        join(&mut self.items, around.before, around.after);
         let first = if head.first as usize == item {
             around.after
         } else {
             head.first
         };
+        join(&mut self.items, around.before, around.after);
         self.heads[list] = Head {
             first,
             count: head.count - 1,
         };
     }
-}
-
-/// Lets an item stand between the last and the first one of a list, or alone in an empty one.
-fn put_in_front(items: &mut [Neighbours], head: Head, item: u32)
-    requires item { item < length items.old }
-    requires first { first_of head item < length items.old }
-    requires last { last_of (befores items.old) head item < length items.old }
-    ensures afters { let last = last_of (befores items.old) head item in
-        let first = first_of head item in
-        afters items.new ≡ slice_set (slice_set (afters items.old) last item) item first }
-    ensures befores { let last = last_of (befores items.old) head item in
-        let first = first_of head item in
-        befores items.new ≡ slice_set (slice_set (befores items.old) item last) first item }
-{
-    let (last, first) = ring_ends(items, head, item);
-    join(items, last, item);
-    join(items, item, first);
 }
 
 /// The last and the first item of a list. In an empty one the item that comes is both.

@@ -43,10 +43,7 @@ impl Places {
     pub fn place(&self, number: u32) -> Option<usize>
         ensures { result ≡ place_of self.now number }
     {
-        match self.places.get(&number) {
-            Some(place) => Some(*place),
-            None => None,
-        }
+        self.places.get(&number).copied()
     }
 
     /// The number that has a place, if there is one.

@@ -1,27 +1,23 @@
 -- Rows that come are empty, and rows that are opened are full.
-use Rattle.std.proofs.Common.{◌≡◌, ℕ, zero, suc, ◌*◌, ◌<◌, ◌≤◌, ◌&&◌, Bool, true, false, List, [], ◌∷◌, ◌++◌, All, length, max, get_or, set, refl, sym, ap, ◌∙◌, inl, inr, arith}
+use Rattle.std.proofs.Common.{◌≡◌, ℕ, zero, suc, ◌*◌, ◌<◌, ◌≤◌, Bool, true, false, List, [], ◌∷◌, ◌++◌, All, length, max, get_or, set, refl, ap, ◌∙◌, inl, inr, arith}
 use Rattle.std.proofs.Math.Nat.{mul-le-mul_right}
-use Rattle.std.proofs.lemmas.Bool.{cases_eq, cases_lt}
+use Rattle.std.proofs.lemmas.Bool.{cases_lt}
 use Rattle.std.proofs.lemmas.List.{get_or_append_left, get_or_past, get_or_push, length_push}
 use Rattle.std.proofs.lemmas.List.Elements.{All-from_get_or, All-get_or, All-push, All-set}
 use Rattle.std.proofs.lemmas.List.Sums.{sum_by-le, sum_by_push}
 use Rattle.pesp_domains.specs.Domains.{holds}
 use Rattle.pesp_counts_supports.specs.Counts.{has_at, held_in, supporters}
 use Rattle.pesp_counts_supports.specs.Supports.{ArePadded, held}
-use Rattle.pesp_counts_supports.proofs.Supporters.{one, one_le}
 
 -- ---- how many
 
 -- there are no more than there are residues
 pub supporters_le : (n : ℕ) (S f : ℕ → Bool) → supporters n S f ≤ n
 supporters_le zero S f = omega arith
-supporters_le (suc n) S f =
-    let few = supporters_le n S f in
-    let at_most : one (S n && f n) ≤ 1 = one_le (S n && f n) in
-    omega (arith, few, at_most)
+supporters_le (suc n) S f = let few = supporters_le n S f in grind (arith, few)
 
 -- an empty set has none
-supporters_empty : (n : ℕ) (S f : ℕ → Bool) → ((s : ℕ) → S s ≡ false) → supporters n S f ≡ 0
+pub supporters_empty : (n : ℕ) (S f : ℕ → Bool) → ((s : ℕ) → S s ≡ false) → supporters n S f ≡ 0
 supporters_empty zero S f none = refl
 supporters_empty (suc n) S f none = let rest = supporters_empty n S f none in rw (none n) (omega (arith, rest))
 
@@ -52,17 +48,9 @@ room_for rows old places period room few fits more =
 module _ (rows : List (List Bool)) (row : List Bool) (empty : (r : ℕ) → holds row r ≡ false) where
   pub has_added : (p r : ℕ) → has_at (rows ++ row ∷ []) p r ≡ has_at rows p r
   has_added p r =
-      elim (cases_lt p (length rows)) [
-        | inl old ↦ ap (λ xs. holds xs r) (get_or_append_left rows (row ∷ []) [] p old)
-        | inr above ↦
-            let none : has_at rows p r ≡ false = ap (λ xs. holds xs r) (get_or_past rows p [] above) in
-            elim (cases_eq (length rows) p) [
-              | inl new ↦ ap (λ xs. holds xs r) (get_or_push rows row [] p new) ∙ empty r ∙ sym none
-              | inr apart ↦
-                  let long = length_push rows row in
-                  ap (λ xs. holds xs r) (get_or_past (rows ++ row ∷ []) p [] (omega (arith, above, apart, long))) ∙ sym none
-            ]
-      ]
+      let old = get_or_append_left rows (row ∷ []) [] p in
+      let new = get_or_push rows row [] p in
+      grind (arith, old, new, get_or_past rows p [], get_or_past (rows ++ row ∷ []) p [], length_push rows row, empty r)
 
   pub held_added : held (rows ++ row ∷ []) ≡ held rows
   held_added =
@@ -74,11 +62,6 @@ module _ (rows : List (List Bool)) (row : List Bool) (empty : (r : ℕ) → hold
 pub long_set : (period place : ℕ) (rows : List (List Bool)) (row item : List Bool) → place < length rows → All (λ r. length r ≡ period) rows → item ≡ get_or rows place item → length row ≡ length item → All (λ r. length r ≡ period) (set rows place row)
 long_set period place rows row item within long read same =
     All-set (λ r. length r ≡ period) rows place row (same ∙ ap length read ∙ All-get_or (λ r. length r ≡ period) rows place item within long) long
-
--- rows that are as long as others
-pub long_as : (period : ℕ) (rows after : List (List Bool)) → All (λ r. length r ≡ period) rows → length after ≡ length rows → ((p : ℕ) → length (get_or after p []) ≡ length (get_or rows p [])) → All (λ r. length r ≡ period) after
-long_as period rows after long many same =
-    All-from_get_or (λ r. length r ≡ period) after [] (λ i l. same i ∙ All-get_or (λ r. length r ≡ period) rows i [] (omega (arith, l, many)) long)
 
 -- one empty row more
 pub padded_one : (period : ℕ) (rows : List (List Bool)) (row : List Bool) → All (λ r. length r ≡ period) rows → length row ≡ period → ((r : ℕ) → holds row r ≡ false) → ArePadded period rows (rows ++ row ∷ [])

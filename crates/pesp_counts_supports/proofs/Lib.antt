@@ -1,4 +1,5 @@
 mod Cases
+pub mod Along
 pub mod AlongEnds
 pub mod Blocked
 pub mod Brought
@@ -6,22 +7,19 @@ pub mod Coming
 pub mod Grown
 pub mod Parted
 pub mod Known
-pub mod Looked
 pub mod Marks
+pub mod OneSum
 pub mod Meeting
-pub mod Moving
+pub mod Moved
 pub mod PutBack
 pub mod Raised
-pub mod Ranges
-pub mod Reached
 pub mod Returned
 pub mod Rows
 pub mod Settled
+pub mod Sifted
 pub mod Sparing
 pub mod Spent
-pub mod Spread
-pub mod Sums
+pub mod SumLaws
 pub mod Supporters
 pub mod Taken
-pub mod Waiting
 pub mod Partners

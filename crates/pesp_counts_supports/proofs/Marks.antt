@@ -1,10 +1,8 @@
 -- The trail, and what the marks of pushes say of it.
-use Rattle.std.proofs.Common.{◌≡◌, ℕ, ◌+◌, ◌-◌, ◌<◌, ◌==◌, ◌&&◌, Bool, true, List, length, get_or, All, refl, sym, ap, subst, ◌∙◌, inl, inr, arith, IsTrue}
-use Rattle.std.proofs.Math.Bool.{or-true}
+use Rattle.std.proofs.Common.{◌≡◌, ℕ, ◌<◌, ◌==◌, ◌&&◌, Bool, List, length, get_or, All, sym, ap, subst, ◌∙◌, arith, IsTrue, ◌||◌, ◌++◌}
 use Rattle.std.specs.List.{Contains}
-use Rattle.std.proofs.lemmas.Bool.{cases_Bool, false≢true}
+use Rattle.std.proofs.lemmas.Bool.{false≢true}
 use Rattle.std.proofs.lemmas.List.Elements.{All-append, Contains-get_or}
-use Rattle.std.proofs.lemmas.List.{get_or-append_right, length-append}
 use Rattle.std.proofs.lemmas.List.Folds.{list_any-append}
 use Rattle.pesp_domains.specs.Sweeps.{Of, Pairs, narrowed_to}
 use Rattle.pesp_counts_supports.specs.declared.trail.Placed.{Placed}
@@ -12,8 +10,7 @@ use Rattle.pesp_counts_supports.specs.Counts.{ArePending, KeepsClosed, has_at}
 use Rattle.pesp_counts_supports.specs.Resting.{AreAtRest, AreLive, IsNarrowed}
 use Rattle.pesp_counts_arcs.specs.Links.{Links}
 use Rattle.pesp_counts_supports.specs.Supports.{AreExact, AreLevel, AreOut, HaveSameShape, IsTaken, Keeps, Supports, is_in}
-use Rattle.pesp_base.proofs.Tests.{or_second}
-use Rattle.pesp_counts_supports.proofs.Taken.{found_in, kept_shape, level_after, once_then, shape_then, stands_in, taken_fewer, taken_then}
+use Rattle.pesp_counts_supports.proofs.Taken.{found_in, kept_shape, level_after, once_then, shape_then, taken_fewer, taken_then, gone_at}
 use Rattle.pesp_counts_supports.proofs.Rows.{within_rows}
 
 all_members : (P : Placed → Type 0) (xs : List Placed) → ((x : Placed) → Contains xs x → P x) → All P xs
@@ -22,20 +19,11 @@ all_members P xs each k d l = each (get_or xs k d) (Contains-get_or xs k d l)
 -- taking pairs out keeps what is true of the trail
 pub out_more : (before after : Supports) → AreOut before before.trail → ((p r : ℕ) → Of (has_at before.rows) p r → r < before.period) → HaveSameShape before after → IsTaken before after → AreOut after after.trail
 out_more before after h below shape taken =
-    let was : (x : Placed) → Contains taken.more x → IsTrue (has_at before.rows x.place x.residue) = λ x i. taken.parted x.place x.residue ∙ rw (found_in taken.more x i) (or-true (has_at after.rows x.place x.residue)) in
+    let was : (x : Placed) → Contains taken.more x → IsTrue (has_at before.rows x.place x.residue) = λ x i. grind (arith, taken.parted x.place x.residue, found_in taken.more x i) in
+    let both : (p r : ℕ) → is_in (before.trail ++ taken.more) p r ≡ (is_in before.trail p r || is_in taken.more p r) = λ p r. list_any-append (λ (x : Placed). x.place == p && x.residue == r) before.trail taken.more in
     rw taken.trail
     (record {
-      out = λ p r i.
-          elim (cases_Bool (has_at after.rows p r)) [
-            | inr none ↦ none
-            | inl there ↦
-                elim (cases_Bool (is_in before.trail p r)) [
-                  | inl early ↦ absurd (false≢true (sym (h.out p r early) ∙ taken_fewer before after taken p r there))
-                  | inr late ↦
-                      let now : is_in taken.more p r ≡ true = sym (rw late refl) ∙ sym (list_any-append (λ (x : Placed). x.place == p && x.residue == r) before.trail taken.more) ∙ i in
-                      taken.out p r now
-                ]
-          ];
+      out = λ p r i. grind (arith, both p r, h.out p r, taken.out p r, taken.parted p r);
       within = All-append (λ x. x.place < length after.rows) before.trail taken.more
           (λ i d l. let w = h.within i d l in omega (arith, w, shape.rows))
           (all_members (λ x. x.place < length after.rows) taken.more (λ x i. let w = within_rows before.rows x.place x.residue (was x i) in omega (arith, w, shape.rows)));
@@ -54,23 +42,8 @@ pending_from links s m exact level live taken keeps =
       exact = λ p k is. rw (keeps.period, keeps.counts, keeps.counted) (exact p k is);
       live = live;
       within = λ p r here. ap (λ rows. has_at rows p r) keeps.counted ∙ level p r ∙ taken_fewer s m taken p r here;
-      waiting = λ p r here gone.
-          let was : IsTrue (has_at s.rows p r) = sym (level p r) ∙ ap (λ rows. has_at rows p r) (sym keeps.counted) ∙ here in
-          let i = stands_in taken.more p r (or_second (has_at m.rows p r) (is_in taken.more p r) (sym (taken.parted p r) ∙ was) gone) in
-          let long = length-append s.trail taken.more in
-          let trail = ap length taken.trail in (
-            length s.trail + i.0,
-            omega arith,
-            omega (arith, i.1, long, trail),
-            ap (λ xs. get_or xs (length s.trail + i.0) (record { place = p; residue = r })) taken.trail
-                ∙ get_or-append_right s.trail taken.more (length s.trail) (length s.trail + i.0) (record { place = p; residue = r }) refl (omega arith)
-                ∙ ap (λ n. get_or taken.more n (record { place = p; residue = r })) (less (length s.trail) i.0)
-                ∙ i.2,
-          );
+      waiting = λ p r here gone. gone_at s m taken p r (sym (level p r) ∙ ap (λ rows. has_at rows p r) (sym keeps.counted) ∙ here) gone;
     }
-  where
-    less : (a b : ℕ) → a + b - a ≡ b
-    less a b = omega arith
 
 -- and so does what was taken out of rows at rest
 pub rest_pending : (links : Links) (s m : Supports) → AreAtRest links s → IsTaken s m → Keeps s m → ArePending m.period links.ends links.lists m.counts (has_at m.counted) (has_at m.rows) m.trail (length s.trail)

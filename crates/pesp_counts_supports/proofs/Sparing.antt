@@ -1,7 +1,8 @@
 -- The ends but the spared ones are linked as all are, so a pair is counted in at them as at all.
-use Rattle.std.proofs.Common.{◌≡◌, ◌≢◌, ℕ, ◌+◌, ◌*◌, ◌==◌, not, Bool, true, false, Option, Some, None, List, [], ◌∷◌, AllPairs, map, filter, refl, sym, ap, subst, ◌∙◌, inl, inr, arith}
+use Rattle.std.proofs.Common.{◌≡◌, ◌≢◌, ℕ, ◌==◌, not, Bool, true, false, Option, Some, None, List, [], ◌∷◌, AllPairs, map, filter, refl, sym, ap, subst, ◌∙◌, arith}
+use Rattle.std.proofs.lemmas.Bool.Decides.{nat_tests}
 use Rattle.std.proofs.Math.ListN.{get_or-map}
-use Rattle.std.proofs.lemmas.Bool.{cases_eq, eq-eqb, ne_eqb, not_from_false, not-true}
+use Rattle.std.proofs.lemmas.Bool.{not_from_false, not-true}
 use Rattle.std.proofs.lemmas.List.Kept.{AllPairs-filter}
 use Rattle.std.specs.List.{Contains}
 use Rattle.pesp_instance.specs.Network.{Network}
@@ -66,16 +67,8 @@ keep_none spared m rest out = rw out refl
 
 -- an end is spared by the place of its activity
 spared_at : (side : Side) (q t : ℕ) → is_spared (Some t) (end_number side q) ≡ (q == t)
-spared_at Tail q t =
-    elim (cases_eq q t) [
-      | inl same ↦ rw (same, eq-eqb (2 * t) (2 * t) refl, eq-eqb t t refl) refl
-      | inr apart ↦ rw (ne_eqb (2 * q) (2 * t) (λ e. apart (omega (arith, e))), ne_eqb (2 * q) (2 * t + 1) (λ e. absurd (omega (arith, e))), ne_eqb q t apart) refl
-    ]
-spared_at Head q t =
-    elim (cases_eq q t) [
-      | inl same ↦ rw (same, ne_eqb (2 * t + 1) (2 * t) (λ e. absurd (omega (arith, e))), eq-eqb (2 * t + 1) (2 * t + 1) refl, eq-eqb t t refl) refl
-      | inr apart ↦ rw (ne_eqb (2 * q + 1) (2 * t) (λ e. absurd (omega (arith, e))), ne_eqb (2 * q + 1) (2 * t + 1) (λ e. apart (omega (arith, e))), ne_eqb q t apart) refl
-    ]
+spared_at Tail q t = grind (arith, nat_tests)
+spared_at Head q t = grind (arith, nat_tests)
 
 -- both ends of an activity are spared together
 pub stand_together : (I : Network) (links : Links) (spared : Option ℕ) → StandFor I links → AreSparedTogether links spared

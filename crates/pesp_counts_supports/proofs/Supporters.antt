@@ -1,19 +1,14 @@
 -- How many residues of a set pass a test, and how that changes as one goes.
-use Rattle.std.proofs.Common.{◌≡◌, ℕ, ◌+◌, ◌<◌, ◌≤◌, ◌==◌, Bool, true, false, ◌&&◌, not, cond, zero, suc, refl, ◌∙◌, ap, inl, inr, arith, IsTrue}
-use Rattle.std.proofs.Math.Bool.{and-false, and-true}
-use Rattle.std.proofs.lemmas.Bool.{cases_eq, cases_Bool, and_parts, and_from, eq-eqb, ne_eqb}
+use Rattle.std.proofs.Common.{◌≡◌, ℕ, ◌+◌, ◌<◌, ◌≤◌, ◌==◌, Bool, ◌&&◌, not, cond, zero, suc, refl, ◌∙◌, ap, inl, inr, arith, IsTrue}
+use Rattle.std.proofs.lemmas.Bool.Decides.{nat_tests}
+use Rattle.std.proofs.lemmas.Bool.{cases_eq, cases_Bool, and_parts, and_from}
 use Rattle.pesp_counts_supports.specs.Counts.{supporters}
 
 abbrev pub one : Bool → ℕ
 one b = cond b 1 0
 
 pub one_le : (b : Bool) → one b ≤ 1
-one_le true = omega arith
-one_le false = omega arith
-
-pub one_none : (b : Bool) → one (b && false) ≡ 0
-one_none true = refl
-one_none false = refl
+one_le b = grind arith
 
 -- sets that agree below n have the same
 pub supporters_same : (n : ℕ) (S S' f g : ℕ → Bool) → ((s : ℕ) → s < n → S' s ≡ S s) → ((s : ℕ) → s < n → g s ≡ f s) → supporters n S' g ≡ supporters n S f
@@ -28,17 +23,11 @@ supporters_without zero S S' f r goes l here = absurd (omega (arith, l))
 supporters_without (suc n) S S' f r goes l here =
     elim (cases_eq n r) [
       | inl same ↦
-          let gone : S' n ≡ false = goes n ∙ rw (eq-eqb n r same) (and-false (S n)) in
-          let was : S n ≡ true = ap S same ∙ here in
-          let rest = supporters_same n S S' f f (λ s m. goes s ∙ rw (ne_eqb s r (omega (arith, same, m))) (and-true (S s))) (λ s m. refl) in
-          let value : Bool → ℕ = λ b. cond b 1 0 in
-          let before : value (S n && f n) ≡ value (f r) = rw was (ap (λ q. value (f q)) same) in
-          let after : value (S' n && f n) ≡ 0 = rw gone refl in
-          omega (arith, before, after, rest)
+          let rest = supporters_same n S S' f f (λ s m. grind (arith, nat_tests, goes s, same, m)) (λ s m. refl) in
+          grind (arith, nat_tests, rest, goes n, same, here)
       | inr apart ↦
           let rest = supporters_without n S S' f r goes (omega (arith, l, apart)) here in
-          let stays : S' n ≡ S n = goes n ∙ rw (ne_eqb n r apart) (and-true (S n)) in
-          rw stays (omega (arith, rest))
+          grind (arith, nat_tests, rest, goes n, apart)
     ]
 
 -- a count that is not 0 has a partner, and one that is 0 has none

@@ -1,29 +1,25 @@
 -- What taking pairs out does, one pair after another.
-use Rattle.std.proofs.Common.{◌≡◌, ◌≢◌, ℕ, ◌+◌, ◌-◌, ◌<◌, ◌≤◌, ◌==◌, ◌&&◌, ◌||◌, not, Bool, true, false, List, [], ◌∷◌, ◌++◌, length, get_or, refl, sym, ap, subst, ◌∙◌, inl, inr, arith, IsTrue, AllPairs, append_assoc}
-use Rattle.std.proofs.Math.Bool.{or-false as or_none, or-true as or_true}
+use Rattle.std.proofs.Common.{◌≡◌, ◌≢◌, ℕ, ◌+◌, ◌-◌, ◌<◌, ◌≤◌, ◌==◌, ◌&&◌, ◌||◌, true, false, List, [], ◌∷◌, ◌++◌, length, get_or, refl, sym, ap, subst, ◌∙◌, inl, inr, arith, IsTrue, AllPairs, append_assoc}
+use Rattle.std.proofs.lemmas.Bool.Decides.{nat_tests}
+use Rattle.std.proofs.Math.Bool.{or-false as or_none}
 use Rattle.std.specs.List.{Contains}
-use Rattle.std.proofs.lemmas.Bool.{cases_Bool, cases_eq, cases_lt, eq-eqb, ne_eqb, false≢true, eqb-true as eqb_is}
+use Rattle.std.proofs.lemmas.Bool.{cases_Bool, cases_lt, false≢true}
 use Rattle.std.proofs.lemmas.List.{append-nil, get_or_append_left, get_or-append-add, get_or-append_right, length-append}
 use Rattle.std.proofs.lemmas.List.Elements.{Contains-get_or}
-use Rattle.std.proofs.lemmas.List.Folds.{list_any-append}
+use Rattle.std.proofs.lemmas.List.Folds.{list_any-append, list_any_at}
 use Rattle.pesp_domains.specs.Removals.{without}
 use Rattle.pesp_domains.specs.Sweeps.{Of, Pairs}
-use Rattle.pesp_domains.proofs.Families.{and_left, and_right, none_passes, passing}
+use Rattle.pesp_domains.proofs.Families.{passing}
 use Rattle.pesp_counts_arcs.specs.declared.end.End.{End}
 use Rattle.pesp_counts_supports.specs.declared.trail.Placed.{Placed}
 use Rattle.pesp_counts_supports.specs.Counts.{ArePending, KeepsClosed, has_at}
 use Rattle.pesp_counts_arcs.specs.Links.{Links}
 use Rattle.pesp_counts_supports.specs.Supports.{Fit, HaveSameShape, IsTaken, Keeps, Supports, is_in}
-use Rattle.pesp_base.proofs.Tests.{or_turned as turned}
-use Rattle.pesp_counts_supports.proofs.Ranges.{no_and}
 
 -- ---- members of a trail
 
 is_placed : (x : Placed) (p r : ℕ) → (x.place == p && x.residue == r) ≡ true → x ≡ record { place = p; residue = r }
-is_placed x p r e =
-    let a = eqb_is x.place p (and_left (x.place == p) (x.residue == r) e) in
-    let b = eqb_is x.residue r (and_right (x.place == p) (x.residue == r) e) in
-    ap (λ (q : ℕ). record { place = q; residue = x.residue }) a ∙ ap (λ (q : ℕ). record { place = p; residue = q }) b
+is_placed x p r e = grind (arith, nat_tests)
 
 -- a pair that is in the list by the test stands in it
 pub stands_in : (xs : List Placed) (p r : ℕ) → IsTrue (is_in xs p r) → Contains xs (record { place = p; residue = r })
@@ -33,11 +29,7 @@ stands_in xs p r h =
 
 -- and the other way round
 pub found_in : (xs : List Placed) (x : Placed) → Contains xs x → IsTrue (is_in xs x.place x.residue)
-found_in xs x i =
-    elim (cases_Bool (is_in xs x.place x.residue)) [
-      | inl found ↦ found
-      | inr none ↦ absurd (none_passes (λ (y : Placed). y.place == x.place && y.residue == x.residue) xs none x i (rw (eq-eqb x.place x.place refl, eq-eqb x.residue x.residue refl) refl))
-    ]
+found_in xs x (k, l, e) = list_any_at (λ (y : Placed). y.place == x.place && y.residue == x.residue) xs k x l (grind (arith, nat_tests, e))
 
 -- two lists of pairs of which none is in both
 pub once_then : (xs ys : List Placed) → AllPairs (λ x y. x ≢ y) xs → AllPairs (λ x y. x ≢ y) ys → ((x : Placed) → Contains xs x → Contains ys x → ⊥) → AllPairs (λ x y. x ≢ y) (xs ++ ys)
@@ -81,50 +73,10 @@ taken_one before after place residue here trail rows =
     record {
       more = record { place = place; residue = residue } ∷ [];
       trail = trail;
-      parted = λ p r.
-          elim (cases_eq p place) [
-            | inr apart ↦
-                let a : (place == p) ≡ false = ne_eqb place p (λ e. apart (sym e)) in
-                rw (rows p r, ne_eqb p place apart, a) (sym (kept (has_at before.rows p r)))
-            | inl same ↦
-                elim (cases_eq r residue) [
-                  | inr apart ↦
-                      let a : (residue == r) ≡ false = ne_eqb residue r (λ e. apart (sym e)) in
-                      rw (rows p r, ne_eqb r residue apart, a, no_and (p == place), no_and (place == p)) (sym (kept (has_at before.rows p r)))
-                  | inl also ↦
-                      rw (same, also) (here ∙ rw (eq-eqb place place refl, eq-eqb residue residue refl) (sym (last (has_at after.rows place residue))))
-                ]
-          ];
-      out = gone;
+      parted = λ p r. grind (arith, nat_tests, rows p r);
+      out = λ p r h. grind (arith, nat_tests, rows p r);
       once = λ i j d lt within. absurd (omega (arith, lt, within));
     }
-  where
-    kept : (b : Bool) → ((b && not false) || (false || false)) ≡ b
-    kept true = refl
-    kept false = refl
-
-    last : (b : Bool) → (b || ((true && true) || false)) ≡ true
-    last true = refl
-    last false = refl
-
-    none : (b : Bool) → (b && not (true && true)) ≡ false
-    none true = refl
-    none false = refl
-
-    gone : (p r : ℕ) → IsTrue (is_in (record { place = place; residue = residue } ∷ []) p r) → has_at after.rows p r ≡ false
-    gone p r h =
-        elim (cases_eq p place) [
-          | inr apart ↦
-              let a : (place == p) ≡ false = ne_eqb place p (λ e. apart (sym e)) in
-              absurd (false≢true (rw a at h))
-          | inl same ↦
-              elim (cases_eq r residue) [
-                | inr apart ↦
-                    let a : (residue == r) ≡ false = ne_eqb residue r (λ e. apart (sym e)) in
-                    absurd (false≢true (rw (a, no_and (place == p)) at h))
-                | inl also ↦ rows p r ∙ rw (eq-eqb p place same, eq-eqb r residue also) (none (has_at before.rows p r))
-              ]
-        ]
 
 -- a pair that is in the rows after was in them before
 pub taken_fewer : (before after : Supports) → IsTaken before after → (p r : ℕ) → Of (has_at after.rows) p r → Of (has_at before.rows) p r
@@ -148,34 +100,15 @@ still_at before after taken i x within at =
 -- pairs are taken, and then others
 pub taken_then : (first second third : Supports) → IsTaken first second → IsTaken second third → IsTaken first third
 taken_then first second third h k =
+    let both : (p r : ℕ) → is_in (h.more ++ k.more) p r ≡ (is_in h.more p r || is_in k.more p r) = λ p r. list_any-append (λ (x : Placed). x.place == p && x.residue == r) h.more k.more in
     record {
       more = h.more ++ k.more;
       trail = k.trail ∙ ap (λ xs. xs ++ k.more) h.trail ∙ append_assoc first.trail h.more k.more;
-      parted = λ p r.
-          h.parted p r
-          ∙ ap (λ b. b || is_in h.more p r) (k.parted p r)
-          ∙ turned (has_at third.rows p r) (is_in k.more p r) (is_in h.more p r)
-          ∙ ap (λ b. has_at third.rows p r || b) (sym (both p r));
-      out = λ p r i.
-          elim (cases_Bool (has_at third.rows p r)) [
-            | inr none ↦ none
-            | inl there ↦
-                elim (cases_Bool (is_in h.more p r)) [
-                  | inl early ↦ absurd (false≢true (sym (h.out p r early) ∙ taken_fewer second third k p r there))
-                  | inr late ↦
-                      let now : is_in k.more p r ≡ true = sym (rw late refl) ∙ sym (both p r) ∙ i in
-                      k.out p r now
-                ]
-          ];
+      parted = λ p r. grind (arith, h.parted p r, k.parted p r, both p r);
+      out = λ p r i. grind (arith, h.out p r, k.out p r, k.parted p r, both p r);
       once = once_then h.more k.more h.once k.once
-          (λ x i j.
-          let a = h.out x.place x.residue (found_in h.more x i) in
-          let b : has_at second.rows x.place x.residue ≡ true = k.parted x.place x.residue ∙ rw (found_in k.more x j) (or_true (has_at third.rows x.place x.residue)) in
-          false≢true (sym a ∙ b));
+          (λ x i j. grind (arith, h.out x.place x.residue (found_in h.more x i), k.parted x.place x.residue, found_in k.more x j));
     }
-  where
-    both : (p r : ℕ) → is_in (h.more ++ k.more) p r ≡ (is_in h.more p r || is_in k.more p r)
-    both p r = list_any-append (λ (x : Placed). x.place == p && x.residue == r) h.more k.more
 
 -- ---- what else stays
 
@@ -202,10 +135,15 @@ shape_then first second third h k =
       room = k.room ∙ h.room;
     }
 
+-- sums alone
+pub resummed : (now one : Supports) → one ≡ record now { sums = one.sums } → HaveSameShape now one
+resummed now one same = subst (HaveSameShape now) (sym same) (record { period = refl; counts = refl; counted = refl; rows = refl; room = refl })
+
 -- what fits still does
 pub fit_then : (links : Links) (first second : Supports) → HaveSameShape first second → Fit links first → Fit links second
 fit_then links first second h fit =
     record {
+      linked = rw h.period fit.linked;
       rows = λ p k is. rw h.rows (fit.rows p k is);
       counted = λ p k is. rw h.counted (fit.counted p k is);
       counts = λ p k is. rw (h.counts, h.period) (fit.counts p k is);
@@ -234,11 +172,7 @@ kept_shape first second h =
 -- the counts have seen the rows
 pub level_after : (period : ℕ) (ends : List End) (lists : List (List ℕ)) (counts : List ℕ) (counted rows : Pairs) (trail : List Placed) (next : ℕ) → length trail ≤ next → ArePending period ends lists counts counted rows trail next → (p r : ℕ) → counted p r ≡ rows p r
 level_after period ends lists counts counted rows trail next done pending p r =
-    elim (cases_Bool (rows p r)) [
-      | inl there ↦ pending.within p r there ∙ sym there
-      | inr out ↦
-          elim (cases_Bool (counted p r)) [
-            | inr none ↦ none ∙ sym out
-            | inl seen ↦ let w = pending.waiting p r seen out in absurd (omega (arith, done, w.1, w.2))
-          ]
+    elim (cases_Bool (counted p r)) [
+      | inr none ↦ grind (arith, pending.within p r)
+      | inl seen ↦ grind (arith, pending.within p r, pending.waiting p r seen)
     ]

@@ -1,7 +1,6 @@
 -- Blocks: all residues of one event that wait to be counted, and how many of them the windows hold.
-use Rattle.std.specs.Prelude.{◌≡◌, ℕ, zero, suc, ◌+◌, ◌*◌, ◌%◌, ◌<◌, ◌≤◌, ◌==◌, nat_lt, Bool, ◌&&◌, ◌||◌, not, cond, List, Option, length, slice_index_or}
+use Rattle.std.specs.Prelude.{◌≡◌, ℕ, zero, suc, ◌+◌, ◌*◌, ◌%◌, ◌<◌, ◌≤◌, ◌==◌, nat_lt, Bool, true, ◌&&◌, ◌||◌, not, cond, List, Option, Some, None, length, slice_index_or}
 use Rattle.std.specs.List.{list_any}
-use Rattle.pesp_base.specs.Windows.{Interval, is_held}
 use Rattle.pesp_instance.specs.Network.{Network}
 use Rattle.pesp_domains.specs.Domains.{holds}
 use Rattle.pesp_domains.specs.Sweeps.{Pairs}
@@ -23,9 +22,10 @@ pub record AreSums (period : ℕ) (D : ℕ → Bool) (sums : List ℕ) : Type 0 
   pub long : 3 * period < length sums
   pub each : (i : ℕ) → i ≤ 3 * period → slice_index_or sums i 0 ≡ sum_below period D i
 
--- the residues that the one row holds and the other lacks
-abbrev pub is_beyond : List Bool → List Bool → ℕ → Bool
-is_beyond row other r = holds row r && not (holds other r)
+-- the residues that the one row holds and the other, where there is one, lacks
+abbrev pub is_beyond : List Bool → Option (List Bool) → ℕ → Bool
+is_beyond row None r = holds row r
+is_beyond row (Some other) r = holds row r && not (holds other r)
 
 -- the residues that the counts have seen at a place and that the rows do not hold
 abbrev pub gone_at : Supports → ℕ → ℕ → Bool
@@ -43,19 +43,16 @@ joined_block S place D p r = S p r || (place == p && D r)
 
 -- whether the window of a residue at an end holds some of the block with these sums
 abbrev pub is_met : List ℕ → End → ℕ → Bool
-is_met sums end r = nat_lt (slice_index_or sums (end.first + r) 0) (slice_index_or sums (end.first + end.width + r) 0)
+is_met sums end r = nat_lt (slice_index_or sums (end.first + r) 0) (slice_index_or sums (end.first + r + end.width) 0)
 
--- whether the residue is in the block with these sums
-abbrev pub is_moved : List ℕ → ℕ → Bool
-is_moved sums r = nat_lt (slice_index_or sums r 0) (slice_index_or sums (r + 1) 0)
+-- whether it does, where an end is given
+abbrev pub is_met_by : List ℕ → Option End → ℕ → Bool
+is_met_by sums None r = true
+is_met_by sums (Some end) r = is_met sums end r
 
 -- those of these pairs that the block meets
-abbrev pub of_met : List ℕ → End → Pairs → Pairs
-of_met sums end may p r = may p r && is_met sums end r
-
--- those of a place in a window
-abbrev pub of_window : ℕ → ℕ → Interval → Pairs
-of_window period place window p r = p == place && is_held period window r
+abbrev pub of_met : List ℕ → Option End → Pairs → Pairs
+of_met sums met may p r = may p r && is_met_by sums met r
 
 -- the admitted ones of a place that go with some residue of a block, as the end there sees it
 abbrev pub of_block : ℕ → Network → Links → (ℕ → Bool) → End → ℕ → Pairs

@@ -1,9 +1,7 @@
 pub mod Blocks
 pub mod Counted
 pub mod Counts
-pub mod Leaving
-pub mod Put
-pub mod Ranges
+pub mod Moves
 pub mod Resting
 pub mod Restored
 pub mod Restoring

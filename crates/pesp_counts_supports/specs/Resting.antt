@@ -1,16 +1,31 @@
 -- Rows at rest, with nothing waiting to be counted out, and rows of which some pairs wait.
-use Rattle.std.specs.Prelude.{◌≡◌, ℕ, ◌*◌, ◌<◌, ◌≤◌, Bool, false, IsTrue, List, length}
+use Rattle.std.specs.Prelude.{◌≡◌, ℕ, ◌*◌, ◌<◌, ◌≤◌, ◌⊎◌, Bool, false, IsTrue, List, length}
 use Rattle.std.specs.List.{Contains}
 use Rattle.pesp_domains.specs.Sweeps.{Of, narrowed_to}
 use Rattle.pesp_counts_supports.specs.declared.trail.Placed.{Placed}
-use Rattle.pesp_counts_arcs.specs.Ends.{ends_of}
+use Rattle.pesp_counts_supports.specs.declared.moving.Moved.{Moved}
+use Rattle.pesp_counts_arcs.specs.Ends.{end_at, ends_of}
 use Rattle.pesp_counts_arcs.specs.Links.{Links}
-use Rattle.pesp_counts_supports.specs.Counts.{IsLiveAt, KeepsClosed, has_at}
+use Rattle.pesp_counts_supports.specs.Counts.{ArePending, IsLiveAt, KeepsClosed, count_at, has_at}
+use Rattle.pesp_counts_supports.specs.Moves.{is_touched}
 use Rattle.pesp_counts_supports.specs.Supports.{AreExact, AreLevel, AreOut, HaveSameShape, IsTaken, Supports, is_in, without_those}
+
+-- the pairs of the trail from one on wait to be counted out
+abbrev pub AreWaiting : ℕ → Links → Supports → ℕ → Type 0
+AreWaiting period links s next = ArePending period links.ends links.lists s.counts (has_at s.counted) (has_at s.rows) s.trail next
+
+-- pairs of the rows go, and none of a closed set within them
+abbrev pub KeepsAllClosed : Links → Supports → Supports → Type 0
+KeepsAllClosed links before after = KeepsClosed before.period links.ends links.lists (has_at before.rows) (has_at after.rows)
 
 -- each pair of the rows has a count above 0 at each end at its place
 abbrev pub AreLive : Links → Supports → Type 0
 AreLive links s = (p k : ℕ) → Contains (ends_of links.lists p) k → IsLiveAt s.period s.counts (has_at s.rows) p k
+
+-- each pair of the rows has a count above 0 at each end at its place, but perhaps at the mates of some ends, where it goes with what left
+abbrev pub AreLiveBut : Links → Supports → Moved → List ℕ → Type 0
+AreLiveBut links s left ends =
+    (p k r : ℕ) → Contains (ends_of links.lists p) k → r < s.period → Of (has_at s.rows) p r → (0 < count_at s.period s.counts k r) ⊎ ((m : ℕ) × Contains ends m × ((end_at links.ends m).mate ≡ k) × IsTrue (is_touched s.period left (end_at links.ends m) r))
 
 -- nothing waits to be counted out, and what was taken out stands in the trail
 pub record AreAtRest (links : Links) (s : Supports) : Type 0 where

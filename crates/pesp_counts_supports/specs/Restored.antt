@@ -1,20 +1,17 @@
 -- The steps of a pass that puts pairs back.
-use Rattle.std.specs.Prelude.{◌≡◌, ◌≢◌, ℕ, ◌+◌, ◌*◌, ◌≤◌, Bool, true, false, ◌==◌, ◌&&◌, ◌||◌, not, List, ◌++◌, Option, length, AllPairs}
+use Rattle.std.specs.Prelude.{◌≡◌, ◌≢◌, ℕ, ◌+◌, ◌-◌, ◌*◌, ◌<◌, ◌≤◌, Bool, false, ◌==◌, ◌&&◌, ◌||◌, not, List, ◌++◌, Option, Some, length, vec_capacity, AllPairs}
 use Rattle.std.specs.List.{Contains, list_any}
-use Rattle.pesp_base.specs.Windows.{is_held}
 use Rattle.pesp_instance.specs.Network.{Network}
 use Rattle.pesp_domains.specs.Sweeps.{Pairs}
-use Rattle.pesp_counts_supports.specs.declared.bringing.Admitted.{Admitted}
-use Rattle.pesp_counts_supports.specs.declared.bringing.Admitted.TheVariants.{Nothing, Within, Any}
 use Rattle.pesp_counts_arcs.specs.declared.end.End.{End}
 use Rattle.pesp_counts_arcs.specs.declared.end.Ranges.{Ranges}
 use Rattle.pesp_counts_supports.specs.declared.trail.Placed.{Placed}
-use Rattle.pesp_counts_arcs.specs.Ends.{end_at, ends_of, is_from_to, passes}
+use Rattle.pesp_counts_arcs.specs.Ends.{end_at, ends_of, is_from_to}
 use Rattle.pesp_counts_supports.specs.Counts.{IsExactAt, has_at}
 use Rattle.pesp_counts_arcs.specs.Links.{Links}
-use Rattle.pesp_counts_supports.specs.Put.{Back}
+use Rattle.std.specs.Global.{Vec}
 use Rattle.pesp_counts_supports.specs.Restoring.{admits_at, is_spared}
-use Rattle.pesp_counts_supports.specs.Supports.{HaveSameShape, Supports, held, is_in}
+use Rattle.pesp_counts_supports.specs.Supports.{Supports, held, is_in}
 
 -- ---- which pairs a step may bring
 
@@ -22,11 +19,15 @@ use Rattle.pesp_counts_supports.specs.Supports.{HaveSameShape, Supports, held, i
 abbrev pub in_ranges : Ranges → ℕ → Bool
 in_ranges w r = is_from_to w.start w.end r || is_from_to 0 w.wrapped r
 
--- whether the residue is among those that an event's window leaves
-abbrev pub admitted_by : ℕ → Admitted → ℕ → Bool
-admitted_by period Nothing r = false
-admitted_by period (Within window) r = is_held period window r
-admitted_by period Any r = true
+-- they lie below the period, and apart
+pub record AreRanges (period : ℕ) (w : Ranges) : Type 0 where
+  pub order : w.start ≤ w.end
+  pub below : w.end ≤ period
+  pub wrapped : w.wrapped ≤ w.start
+
+-- how many residues they have
+abbrev pub size_of : Ranges → ℕ
+size_of w = w.end - w.start + w.wrapped
 
 -- one pair
 abbrev pub of_pair : ℕ → ℕ → Pairs
@@ -36,21 +37,9 @@ of_pair place residue p r = p == place && r == residue
 abbrev pub of_range : ℕ → ℕ → ℕ → Pairs
 of_range place low high p r = p == place && is_from_to low high r
 
--- those of a place in the ranges of an end that the event's window leaves
-abbrev pub of_ranges : ℕ → ℕ → Ranges → Admitted → Pairs
-of_ranges period place w admitted p r = p == place && (in_ranges w r && admitted_by period admitted r)
-
--- those of a place in a window that are admitted there
-abbrev pub of_admitted : Network → Links → ℕ → Ranges → Pairs
-of_admitted I links place w p r = p == place && (in_ranges w r && admits_at I links place r)
-
--- the admitted ones that go with a residue along an activity
-abbrev pub of_end : ℕ → Network → Links → ℕ → End → Pairs
-of_end period I links residue end p r = p == end.looks_at && (passes period end residue r && admits_at I links end.looks_at r)
-
--- those that one of these ends joins to the residue, but for the spared ones
-abbrev pub of_ends : ℕ → Network → Links → Option ℕ → ℕ → List ℕ → Pairs
-of_ends period I links spared residue ends p r = list_any (λ k. not (is_spared spared k) && of_end period I links residue (end_at links.ends k) p r) ends
+-- those of a place in two ranges
+abbrev pub of_ranges : ℕ → Ranges → Pairs
+of_ranges place w p r = p == place && in_ranges w r
 
 -- the admitted ones of a place
 abbrev pub of_start : Network → Links → ℕ → Pairs
@@ -73,18 +62,30 @@ AreSparedTogether links spared = (p k : ℕ) → Contains (ends_of links.lists p
 -- ---- a step
 
 -- the list has room for each pair that the rows do not hold
-abbrev pub HasRoom : Supports → Back → Type 0
-HasRoom s back = length back.pairs + length s.rows * s.period ≤ back.room + held s.rows
+abbrev pub HasRoom : Supports → Vec Placed → Type 0
+HasRoom s back = length back.items + length s.rows * s.period ≤ vec_capacity back + held s.rows
 
--- those of these pairs that the rows did not hold came to the rows and to the end of the list, each once, and nothing else but counts changed
-pub record IsBrought (may : Pairs) (before after : Supports) (back now : Back) : Type 0 where
+-- an end that is given begins below the period and is no wider
+abbrev pub IsMeeting : ℕ → Option End → Type 0
+IsMeeting period met = (end : End) → met ≡ Some end → (end.first < period) × (end.width ≤ period)
+
+-- no more was looked at than this, beside each pair that came
+abbrev pub LooksAt : ℕ → Supports → Supports → Vec Placed → Vec Placed → Type 0
+LooksAt most before after back now = after.probes + length back.items ≤ before.probes + length now.items + most
+
+-- those of these pairs that the rows did not hold came to the rows and to the end of the list, each once, and nothing else but probes changed
+pub record IsBrought (may : Pairs) (before after : Supports) (back now : Vec Placed) : Type 0 where
   pub more : List Placed
-  pub listed : now.pairs ≡ back.pairs ++ more
+  pub listed : now.items ≡ back.items ++ more
   pub rows : (p r : ℕ) → has_at after.rows p r ≡ (has_at before.rows p r || may p r)
   pub just : (p r : ℕ) → is_in more p r ≡ (may p r && not (has_at before.rows p r))
   pub once : AllPairs (λ x y. x ≢ y) more
+  pub period : after.period ≡ before.period
+  pub counts : after.counts ≡ before.counts
   pub counted : after.counted ≡ before.counted
+  pub many : length after.rows ≡ length before.rows
   pub trail : after.trail ≡ before.trail
-  pub shape : HaveSameShape before after
-  pub room : now.room ≡ back.room
-  pub held : length now.pairs + held before.rows ≡ length back.pairs + held after.rows
+  pub for_all : after.room ≡ before.room
+  pub sums : after.sums ≡ before.sums
+  pub room : vec_capacity now ≡ vec_capacity back
+  pub held : length now.items + held before.rows ≡ length back.items + held after.rows

@@ -5,7 +5,7 @@ use Rattle.std.specs.List.{Contains}
 use Rattle.pesp_domains.specs.Sweeps.{Pairs}
 use Rattle.pesp_counts_arcs.specs.declared.end.End.{End}
 use Rattle.pesp_counts_supports.specs.declared.trail.Placed.{Placed}
-use Rattle.pesp_counts_arcs.specs.Ends.{end_at, ends_of}
+use Rattle.pesp_counts_arcs.specs.Ends.{AreLinked, end_at, ends_of}
 use Rattle.pesp_counts_supports.specs.Counts.{IsExactAt, count_at, has_at, held_in}
 use Rattle.pesp_counts_arcs.specs.Links.{Links}
 
@@ -40,8 +40,9 @@ pub record AreSupports (s : Supports) (most : ℕ) : Type 0 where
   pub sums : 0 < length s.rows → 3 * s.period < length s.sums
   pub fits : s.period ≤ most
 
--- there are rows where ends are listed, and counts for each listed end
+-- the ends are linked, there are rows where ends are listed, and counts for each listed end
 pub record Fit (links : Links) (s : Supports) : Type 0 where
+  pub linked : AreLinked s.period links.ends links.lists
   pub rows : (p k : ℕ) → Contains (ends_of links.lists p) k → p < length s.rows
   pub counted : (p k : ℕ) → Contains (ends_of links.lists p) k → p < length s.counted
   pub counts : (p k : ℕ) → Contains (ends_of links.lists p) k → k * s.period + s.period ≤ length s.counts

@@ -1,251 +1,267 @@
 //! Pairs come to the rows, and into a list.
 
-ghost use Rattle.std.specs.Prelude.{◌≡◌, ◌<◌, ◌≤◌, ◌+◌, ◌-◌, ◌*◌, ◌%◌, ℕ, [], false, IsTrue, length, option_map};
-ghost use Rattle.pesp_base.specs.Windows.{Interval, is_held};
-ghost use Rattle.pesp_counts_supports.specs.declared.bringing.Admitted.TheVariants as leaves;
+ghost use Rattle.std.specs.Prelude.{◌≡◌, ◌<◌, ◌≤◌, ◌+◌, ◌-◌, ◌*◌, ℕ, Bool, Some, None, [], false, cond, IsTrue, IfSome, All, length};
+ghost use Rattle.std.specs.List.{Contains};
+ghost use Rattle.pesp_base.specs.Windows.{is_held};
+ghost use Rattle.pesp_domains.specs.Domains.{holds};
+ghost use Rattle.pesp_counts_arcs.specs.declared.end.End.{End};
+ghost use Rattle.pesp_counts_arcs.specs.Ends.{end_at, ends_of, is_from_to};
+ghost use Rattle.pesp_counts_supports.specs.Blocks.{is_met_by, of_block, of_blocks, of_met};
 ghost use Rattle.pesp_counts_supports.specs.Counts.{has_at};
-ghost use Rattle.pesp_counts_supports.specs.Restored.{HasRoom, IsBrought, admitted_by, in_ranges, of_admitted, of_pair, of_range, of_start, of_ranges};
+ghost use Rattle.pesp_counts_supports.specs.Moves.{IsMoved, partners};
+ghost use Rattle.pesp_counts_supports.specs.Restored.{AreRanges, HasRoom, IsBrought, IsMeeting, LooksAt, in_ranges, of_pair, of_range, of_ranges, of_start, of_starts, size_of};
 ghost use Rattle.pesp_counts_supports.specs.Restoring.{admits_at};
-ghost use Rattle.pesp_counts_supports.specs.Spent.{looked};
+ghost use Rattle.pesp_counts_supports.specs.Spent.{unmet, unmet_in};
+ghost use Rattle.pesp_counts_supports.specs.Supports.{Fit};
 
-use crate::Placed;
-use crate::back::Back;
+use crate::moving::{Moved, is_spared_end, touched};
 use crate::supports::Supports;
+use crate::{Back, Placed, probes};
 use pesp_base::{EventId, Period, Window};
-use pesp_counts_arcs::{Links, Ranges};
+use pesp_counts_arcs::{End, Links, Ranges};
+use pesp_domains::Row;
 use pesp_instance::Instance;
 use std::ops::Range;
 
-/// What the window of an event leaves of its residues: some but not all of them, or all.
-#[derive(Clone, Copy)]
-pub(crate) enum Admitted {
-    Nothing,
-    Within(Window),
-    Any,
+/// The residues of a window.
+fn ranges_of(window: Window, period: Period) -> Ranges
+    requires first { window.first < period }
+    requires length { window.length < period }
+    ensures ranges { AreRanges period result }
+    ensures few { size_of result < period }
+    ensures held { (r : ℕ) → r < period → in_ranges result r ≡ is_held period window r }
+{
+    let end = End {
+        looks_at: 0,
+        mate: 0,
+        first: window.first(),
+        width: window.length(),
+    };
+    end.ranges(period.get(), 0)
 }
 
-/// What is admitted at a place. Where no event has the place, nothing is.
-pub(crate) fn admitted_at(instance: &Instance, links: &Links, place: usize) -> Admitted
-    ensures admitted { (r : ℕ) → r < (instance.now).period
-        → admitted_by (instance.now).period result r ≡ admits_at instance.now links.now place r }
-    ensures within { (window : Interval) → result ≡ leaves.Within window
-        → (window.first < (instance.now).period) × (window.length < (instance.now).period) }
-    ensures period { 2 ≤ (instance.now).period }
+/// The residues that the window of the event at a place leaves, where there are some that it does not. Where no event has the place,
+/// none is left.
+fn admitted_at(instance: &Instance, links: &Links, place: usize) -> Option<Ranges>
+    ensures some { IfSome result (λ w. AreRanges (instance.now).period w
+        × (size_of w < (instance.now).period) × ((r : ℕ) → r < (instance.now).period
+        → in_ranges w r ≡ admits_at instance.now links.now place r)) }
+    ensures none { result ≡ None → (r : ℕ) → r < (instance.now).period
+        → IsTrue (admits_at instance.now links.now place r) }
 {
     let period = instance.period();
     let Some(number) = links.event_at(place) else {
-        return Admitted::Nothing;
+        return Some(Ranges {
+            start: 0,
+            end: 0,
+            wrapped: 0,
+        });
     };
-    let Some(event) = EventId::new(number) else {
-        return Admitted::Any;
-    };
-    let Some(window) = instance.window(event) else {
-        return Admitted::Any;
-    };
+    let window = instance.window(EventId::new(number)?)?;
     if window.length() < period.get() {
-        Admitted::Within(window)
+        Some(ranges_of(window, period))
     } else {
-        Admitted::Any
+        None
     }
 }
 
-/// The residue so many steps up from the first one of an event's window.
-pub(crate) fn residue_after(period: Period, window: Window, step: u16) -> u16
-    requires { (window.first < period) × (step < period) }
-    ensures value { result ≡ (window.first + step) % period }
-    ensures below { result < period }
+/// Whether the row lacks a residue of the ranges.
+fn lacks_some(row: &Row, ranges: Ranges) -> bool
+    requires { ranges.start ≤ ranges.end }
+    ensures full { result ≡ false → (r : ℕ) → IsTrue (in_ranges ranges r) → IsTrue (holds row.now r) }
 {
-    (window.first() + step) % period.get()
+    lacks_between(row, ranges.start, ranges.end) || lacks_between(row, 0, ranges.wrapped)
 }
 
-/// Whether the residue is in one of the ranges.
-fn is_in_ranges(ranges: Ranges, residue: u16) -> bool
-    ensures { result ≡ in_ranges ranges residue }
+/// Whether the row lacks a residue of a range.
+fn lacks_between(row: &Row, low: u16, high: u16) -> bool
+    ensures full { result ≡ false → (r : ℕ) → IsTrue (is_from_to low high r)
+        → IsTrue (holds row.now r) }
 {
-    (ranges.start <= residue && residue < ranges.end) || residue < ranges.wrapped
+    for residue in low..high {
+        if !row.holds(residue) {
+            return true;
+        }
+    }
+    false
+}
+
+/// Whether the window of a residue at an end, if one is asked for, holds some of what moves, of which these are the sums.
+fn is_met(sums: &[u16], met: Option<End>, residue: u16) -> bool
+    requires { (end : End) → met ≡ Some end → end.first + end.width + residue < length sums.now }
+    ensures { result ≡ is_met_by sums.now met residue }
+{
+    match met {
+        Some(end) => {
+            let low = end.first as usize + residue as usize;
+            sums[low] < sums[low + end.width as usize]
+        }
+        None => true,
+    }
 }
 
 impl Supports {
-    /// Puts a pair that the rows do not hold into them, and at the end of the list.
-    pub(crate) fn bring(&mut self, place: usize, residue: u16, back: &mut Back)
+    /// Brings a residue at a place that the rows lack there: to the end of the list, too. Where an end is given, what moved must meet it.
+    fn bring(&mut self, place: usize, met: Option<End>, residue: u16, back: &mut Back)
         requires place { place < length (self.old).rows }
+        requires met { IsMeeting (self.old).period met }
         requires residue { residue < (self.old).period }
         requires trail { (self.old).trail ≡ [] }
         requires room { HasRoom self.old back.old }
-        ensures counts { (self.new).counts ≡ (self.old).counts }
-        ensures sums { (self.new).sums ≡ (self.old).sums }
-        ensures brought { IsBrought (of_pair place residue) self.old self.new back.old back.new }
-        ensures probes { (self.new).probes ≡ (self.old).probes }
+        ensures brought { IsBrought (of_met (self.old).sums met (of_pair place residue))
+            self.old self.new back.old back.new }
+        ensures probes { LooksAt (cond (is_met_by (self.old).sums met residue) 0 1)
+            self.old self.new back.old back.new }
     {
-        if !self.holds(place, residue) {
+        if self.holds(place, residue) {
+            return;
+        }
+        let residue = probes::at(&mut self.probes, residue);
+        if is_met(&self.sums, met, residue) {
             self.rows[place].put_in(residue);
-            back.push(Placed {
+            back.push_reserved(Placed {
                 place: place as u32,
                 residue,
             });
         }
     }
 
-    /// Brings the residues of a range at a place.
-    fn bring_range(&mut self, place: usize, residues: Range<u16>, back: &mut Back)
+    /// Brings those of a range of residues at a place that the rows lack, and that what moved meets.
+    fn bring_range(&mut self, place: usize, met: Option<End>, residues: Range<u16>, back: &mut Back)
         requires place { place < length (self.old).rows }
+        requires met { IsMeeting (self.old).period met }
         requires order { residues.start ≤ residues.end }
         requires high { residues.end ≤ (self.old).period }
         requires trail { (self.old).trail ≡ [] }
         requires room { HasRoom self.old back.old }
-        ensures counts { (self.new).counts ≡ (self.old).counts }
-        ensures brought { IsBrought (of_range place residues.start residues.end) self.old self.new
-            back.old back.new }
-        ensures probes { (self.new).probes ≡ (self.old).probes }
+        ensures brought { IsBrought (of_met (self.old).sums met
+            (of_range place residues.start residues.end)) self.old self.new back.old back.new }
+        ensures probes { LooksAt
+            (unmet (self.old).sums met residues.start (residues.end - residues.start))
+            self.old self.new back.old back.new }
     {
         for residue in residues {
-            self.bring(place, residue, back);
+            self.bring(place, met, residue, back);
         }
     }
 
-    /// Brings the residues of a range at a place, which are looked at along an activity.
-    fn bring_along(&mut self, place: usize, low: u16, high: u16, back: &mut Back)
+    /// Brings those of two ranges of residues.
+    fn bring_ranges(&mut self, place: usize, met: Option<End>, ranges: Ranges, back: &mut Back)
         requires place { place < length (self.old).rows }
-        requires order { low ≤ high }
-        requires high { high ≤ (self.old).period }
+        requires met { IsMeeting (self.old).period met }
+        requires ranges { AreRanges (self.old).period ranges }
         requires trail { (self.old).trail ≡ [] }
         requires room { HasRoom self.old back.old }
-        ensures counts { (self.new).counts ≡ (self.old).counts }
-        ensures brought { IsBrought (of_range place low high) self.old self.new back.old back.new }
-        ensures probes { (self.new).probes + low ≤ (self.old).probes + high }
+        ensures brought { IsBrought (of_met (self.old).sums met (of_ranges place ranges))
+            self.old self.new back.old back.new }
+        ensures probes { LooksAt (unmet_in (self.old).sums met ranges)
+            self.old self.new back.old back.new }
     {
-        let residues = self.probes.over(low, high);
-        self.bring_range(place, residues, back);
+        self.bring_range(place, met, ranges.start..ranges.end, back);
+        self.bring_range(place, met, 0..ranges.wrapped, back);
     }
 
-    /// Brings of the residues of an event's window those that are in the ranges of an end.
-    fn bring_within(
-        &mut self,
-        place: usize,
-        ranges: Ranges,
-        window: Window,
-        steps: Range<u16>,
-        back: &mut Back,
-    )
-        requires place { place < length (self.old).rows }
-        requires first { window.first < (self.old).period }
-        requires length { window.length ≤ (self.old).period }
-        requires steps { steps ≡ record { start = 0; end = window.length } }
-        requires trail { (self.old).trail ≡ [] }
-        requires room { HasRoom self.old back.old }
-        ensures counts { (self.new).counts ≡ (self.old).counts }
-        ensures brought { IsBrought (of_ranges (self.old).period place ranges
-            (leaves.Within window)) self.old self.new back.old back.new }
-        ensures probes { (self.new).probes ≡ (self.old).probes }
-    {
-        let period = self.period;
-        for step in steps {
-            let residue = residue_after(period, window, step);
-            if is_in_ranges(ranges, residue) {
-                self.bring(place, residue, back);
-            }
-        }
-    }
-
-    /// Brings of the residues of an event's window those that are in the ranges of an end, which are looked at along an activity.
-    fn bring_within_along(&mut self, place: usize, ranges: Ranges, window: Window, back: &mut Back)
-        requires place { place < length (self.old).rows }
-        requires first { window.first < (self.old).period }
-        requires length { window.length ≤ (self.old).period }
-        requires trail { (self.old).trail ≡ [] }
-        requires room { HasRoom self.old back.old }
-        ensures counts { (self.new).counts ≡ (self.old).counts }
-        ensures brought { IsBrought (of_ranges (self.old).period place ranges
-            (leaves.Within window)) self.old self.new back.old back.new }
-        ensures probes { (self.new).probes ≤ (self.old).probes + window.length }
-    {
-        let steps = self.probes.over(0, window.length());
-        self.bring_within(place, ranges, window, steps, back);
-    }
-
-    /// Brings what an event's window leaves of the ranges of an end at a place, along an activity.
-    fn bring_ranges(&mut self, place: usize, ranges: Ranges, admitted: Admitted, back: &mut Back)
-        requires place { place < length (self.old).rows }
-        requires order { ranges.start ≤ ranges.end }
-        requires end { ranges.end ≤ (self.old).period }
-        requires wrapped { ranges.wrapped ≤ ranges.start }
-        requires within { (window : Interval) → admitted ≡ leaves.Within window
-            → (window.first < (self.old).period) × (window.length < (self.old).period) }
-        requires trail { (self.old).trail ≡ [] }
-        requires room { HasRoom self.old back.old }
-        ensures counts { (self.new).counts ≡ (self.old).counts }
-        ensures brought { IsBrought (of_ranges (self.old).period place ranges admitted) self.old
-            self.new back.old back.new }
-        ensures probes { (self.new).probes ≤ (self.old).probes + looked admitted ranges }
-    {
-        match admitted {
-            Admitted::Nothing => {}
-            Admitted::Within(window) => self.bring_within_along(place, ranges, window, back),
-            Admitted::Any => {
-                self.bring_along(place, ranges.start, ranges.end, back);
-                self.bring_along(place, 0, ranges.wrapped, back);
-            }
-        }
-    }
-
-    /// Brings what is admitted of the ranges of an end at a place of which the rows lack some residue, along an activity. Where all
-    /// residues are looked at for it, some pair comes.
-    pub(crate) fn bring_admitted(
+    /// Brings what goes along an activity with what moved at the place of an end.
+    fn bring_along(
         &mut self,
         instance: &Instance,
         links: &Links,
-        place: usize,
-        ranges: Ranges,
+        number: usize,
+        came: Moved,
         back: &mut Back,
     )
-        requires place { place < length (self.old).rows }
+        requires fit { Fit links.now self.old }
         requires period { (self.old).period ≡ (instance.now).period }
-        requires order { ranges.start ≤ ranges.end }
-        requires end { ranges.end ≤ (self.old).period }
-        requires wrapped { ranges.wrapped ≤ ranges.start }
-        requires lacks { (r : ℕ) × IsTrue (in_ranges ranges r)
-            × (has_at (self.old).rows place r ≡ false) }
+        requires listed { (p : ℕ) × Contains (ends_of (links.now).lists p) number }
+        requires some { (comes : ℕ → Bool) × IsMoved (self.old).period came (self.old).sums comes
+            × ((r : ℕ) × (r < (self.old).period)
+            × (0 < partners (self.old).period (links.now).ends number comes r)) }
         requires trail { (self.old).trail ≡ [] }
         requires room { HasRoom self.old back.old }
-        ensures counts { (self.new).counts ≡ (self.old).counts }
-        ensures brought { IsBrought (of_admitted instance.now links.now place ranges) self.old
-            self.new back.old back.new }
-        ensures probes { (self.new).probes + (self.old).period * length back.old.pairs
-            ≤ (self.old).probes + ((self.old).period - 1) + (self.old).period
-            * length back.new.pairs }
+        ensures brought { (comes : ℕ → Bool)
+            → IsMoved (self.old).period came (self.old).sums comes
+            → IsBrought (of_block (self.old).period instance.now links.now comes
+            (end_at (links.now).ends (end_at (links.now).ends number).mate)
+            (end_at (links.now).ends number).looks_at) self.old self.new back.old back.new }
+        ensures probes { LooksAt ((self.old).period - 1) self.old self.new back.old back.new }
     {
-        let admitted = admitted_at(instance, links, place);
-        self.bring_ranges(place, ranges, admitted, back);
+        let near = links.end(number);
+        let far = links.end(near.mate);
+        let place = near.looks_at;
+        let ranges = touched(came, near, self.period.get());
+        if lacks_some(&self.rows[place], ranges) {
+            let ranges = admitted_at(instance, links, place).unwrap_or(ranges);
+            self.bring_ranges(place, Some(far), ranges, back);
+        }
+    }
+
+    /// Brings what goes with what moved at a place, along all activities there but the spared one.
+    pub(crate) fn bring_around(
+        &mut self,
+        instance: &Instance,
+        links: &Links,
+        spared: Option<usize>,
+        place: usize,
+        came: Moved,
+        back: &mut Back,
+    )
+        requires fit { Fit links.now self.old }
+        requires period { (self.old).period ≡ (instance.now).period }
+        requires some { (comes : ℕ → Bool) × IsMoved (self.old).period came (self.old).sums comes
+            × ((r : ℕ) × (r < (self.old).period) × IsTrue (comes r)) }
+        requires trail { (self.old).trail ≡ [] }
+        requires room { HasRoom self.old back.old }
+        ensures brought { (comes : ℕ → Bool)
+            → IsMoved (self.old).period came (self.old).sums comes
+            → IsBrought (of_blocks (self.old).period instance.now links.now spared comes
+            (ends_of (links.now).lists place)) self.old self.new back.old back.new }
+        ensures probes { LooksAt (((self.old).period - 1) * length (ends_of (links.now).lists place))
+            self.old self.new back.old back.new }
+    {
+        for number in links.at(place) {
+            if !is_spared_end(spared, number) {
+                self.bring_along(instance, links, number, came, back);
+            }
+        }
     }
 
     /// Brings all that is admitted at a place.
-    pub(crate) fn bring_start(
-        &mut self,
-        instance: &Instance,
-        links: &Links,
-        place: usize,
-        back: &mut Back,
-    )
+    fn bring_start(&mut self, instance: &Instance, links: &Links, place: usize, back: &mut Back)
         requires place { place < length (self.old).rows }
         requires period { (self.old).period ≡ (instance.now).period }
         requires trail { (self.old).trail ≡ [] }
         requires room { HasRoom self.old back.old }
-        ensures counts { (self.new).counts ≡ (self.old).counts }
         ensures brought { IsBrought (of_start instance.now links.now place) self.old self.new
             back.old back.new }
-        ensures probes { (self.new).probes ≡ (self.old).probes }
+        ensures probes { LooksAt 0 self.old self.new back.old back.new }
     {
-        match admitted_at(instance, links, place) {
-            Admitted::Nothing => {}
-            Admitted::Within(window) => {
-                let all = Ranges {
-                    start: 0,
-                    end: self.period.get(),
-                    wrapped: 0,
-                };
-                self.bring_within(place, all, window, 0..window.length(), back);
-            }
-            Admitted::Any => self.bring_range(place, 0..self.period.get(), back),
+        let all = Ranges {
+            start: 0,
+            end: self.period.get(),
+            wrapped: 0,
+        };
+        let ranges = admitted_at(instance, links, place).unwrap_or(all);
+        self.bring_ranges(place, None, ranges, back);
+    }
+
+    /// Brings all that is admitted at these places.
+    pub(crate) fn bring_starts(
+        &mut self,
+        instance: &Instance,
+        links: &Links,
+        starts: &[usize],
+        back: &mut Back,
+    )
+        requires starts { All (λ p. p < length (self.old).rows) starts.now }
+        requires period { (self.old).period ≡ (instance.now).period }
+        requires trail { (self.old).trail ≡ [] }
+        requires room { HasRoom self.old back.old }
+        ensures brought { IsBrought (of_starts instance.now links.now starts.now) self.old self.new
+            back.old back.new }
+        ensures probes { LooksAt 0 self.old self.new back.old back.new }
+    {
+        for place in starts {
+            self.bring_start(instance, links, *place, back);
         }
     }
 }

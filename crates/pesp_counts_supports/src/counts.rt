@@ -1,12 +1,9 @@
 //! How many partners each residue has at each end of an activity.
 
-ghost use Rattle.std.specs.Prelude.{◌≡◌, ◌↔◌, ◌+◌, ◌*◌, ◌-◌, ◌<◌, ◌≤◌, ◌⊎◌, ℕ, [], cond, IsTrue, length, slice_index_or, slice_set, OnOk, OnErr};
-ghost use Rattle.pesp_counts_arcs.specs.Ends.{is_from_to};
+ghost use Rattle.std.specs.Prelude.{◌≡◌, ◌+◌, ◌*◌, ◌<◌, ◌≤◌, ◌⊎◌, ℕ, [], length, slice_index_or, OnOk, OnErr};
+ghost use Rattle.pesp_counts_supports.specs.Counted.{AreShifted, CanShift};
 
-use crate::widths::{
-    fill_bytes, fill_words, lower_bytes_by, lower_words_by, raise_bytes, raise_bytes_by,
-    raise_words, raise_words_by,
-};
+use crate::widths::{shift_bytes, shift_words};
 use pesp_base::Period;
 use std::alloc::{AllocError, Global};
 use std::marker::Model;
@@ -70,106 +67,22 @@ impl Counts {
         ensures base { result ≡ end * period }
         ensures small { result + period < 18446744073709551616 }
     {
+        // That this is a number is known by the invariant: there are so many counts.
         let _values = &self.values;
         end * period as usize
     }
 
-    /// Makes a count one less, and tells whether none is left.
-    pub(crate) fn lower(&mut self, at: usize) -> bool
-        requires within { at < length (self.old).values }
-        requires some { 0 < slice_index_or (self.old).values at 0 }
+    /// Moves each count from one on by the difference of two sums: down by the one, and up by the other.
+    pub(crate) fn shift(&mut self, from: usize, down: &[u16], up: &[u16])
+        requires within { from + length down.now ≤ length (self.old).values }
+        requires even { length up.now ≡ length down.now }
+        requires can { CanShift (self.old).most from down.now up.now (self.old).values }
         ensures most { (self.new).most ≡ (self.old).most }
-        ensures count { (self.new).values
-            ≡ slice_set (self.old).values at (slice_index_or (self.old).values at 0 - 1) }
-        ensures none { IsTrue result ↔ (slice_index_or (self.old).values at 0 ≡ 1) }
+        ensures shifted { AreShifted from down.now up.now (self.old).values (self.new).values }
     {
         match &mut self.values {
-            Values::Narrow(bytes) => {
-                let left = bytes[at] - 1;
-                bytes[at] = left;
-                left == 0
-            }
-            Values::Wide(words) => {
-                let left = words[at] - 1;
-                words[at] = left;
-                left == 0
-            }
-        }
-    }
-
-    /// Makes each count of a range one more.
-    pub(crate) fn raise_range(&mut self, from: usize, to: usize)
-        requires order { from ≤ to }
-        requires within { to ≤ length (self.old).values }
-        requires low { (i : ℕ) → from ≤ i → i < to
-            → slice_index_or (self.old).values i 0 < (self.old).most }
-        ensures most { (self.new).most ≡ (self.old).most }
-        ensures long { length (self.new).values ≡ length (self.old).values }
-        ensures counts { (i : ℕ) → slice_index_or (self.new).values i 0
-            ≡ slice_index_or (self.old).values i 0 + cond (is_from_to from to i) 1 0 }
-    {
-        match &mut self.values {
-            Values::Narrow(bytes) => raise_bytes(bytes, from, to),
-            Values::Wide(words) => raise_words(words, from, to),
-        }
-    }
-
-    /// Makes each count of a block, which begins at `base`, less by the difference of two sums.
-    pub(crate) fn lower_block(&mut self, base: usize, low: &[u16], high: &[u16])
-        requires within { base + length low.now ≤ length (self.old).values }
-        requires even { length high.now ≡ length low.now }
-        requires order { (i : ℕ) → i < length low.now
-            → slice_index_or low.now i 0 ≤ slice_index_or high.now i 0 }
-        requires some { (i : ℕ) → i < length low.now
-            → slice_index_or high.now i 0
-            ≤ slice_index_or low.now i 0 + slice_index_or (self.old).values (base + i) 0 }
-        ensures most { (self.new).most ≡ (self.old).most }
-        ensures long { length (self.new).values ≡ length (self.old).values }
-        ensures here { (i : ℕ) → i < length low.now
-            → slice_index_or (self.new).values (base + i) 0 + slice_index_or high.now i 0
-            ≡ slice_index_or (self.old).values (base + i) 0 + slice_index_or low.now i 0 }
-        ensures elsewhere { (i : ℕ) → i < base ⊎ base + length low.now ≤ i
-            → slice_index_or (self.new).values i 0 ≡ slice_index_or (self.old).values i 0 }
-    {
-        match &mut self.values {
-            Values::Narrow(bytes) => lower_bytes_by(bytes, base, low, high),
-            Values::Wide(words) => lower_words_by(words, base, low, high),
-        }
-    }
-
-    /// Makes each count of a block, which begins at `base`, more by the difference of two sums.
-    pub(crate) fn raise_block(&mut self, base: usize, low: &[u16], high: &[u16])
-        requires within { base + length low.now ≤ length (self.old).values }
-        requires even { length high.now ≡ length low.now }
-        requires order { (i : ℕ) → i < length low.now
-            → slice_index_or low.now i 0 ≤ slice_index_or high.now i 0 }
-        requires low { (i : ℕ) → i < length low.now
-            → slice_index_or (self.old).values (base + i) 0 + slice_index_or high.now i 0
-            ≤ slice_index_or low.now i 0 + (self.old).most }
-        ensures most { (self.new).most ≡ (self.old).most }
-        ensures long { length (self.new).values ≡ length (self.old).values }
-        ensures here { (i : ℕ) → i < length low.now
-            → slice_index_or (self.new).values (base + i) 0 + slice_index_or low.now i 0
-            ≡ slice_index_or (self.old).values (base + i) 0 + slice_index_or high.now i 0 }
-        ensures elsewhere { (i : ℕ) → i < base ⊎ base + length low.now ≤ i
-            → slice_index_or (self.new).values i 0 ≡ slice_index_or (self.old).values i 0 }
-    {
-        match &mut self.values {
-            Values::Narrow(bytes) => raise_bytes_by(bytes, base, low, high),
-            Values::Wide(words) => raise_words_by(words, base, low, high),
-        }
-    }
-
-    /// Puts a count in its place.
-    pub(crate) fn set(&mut self, at: usize, count: u16)
-        requires within { at < length (self.old).values }
-        requires low { count ≤ (self.old).most }
-        ensures most { (self.new).most ≡ (self.old).most }
-        ensures count { (self.new).values ≡ slice_set (self.old).values at count }
-    {
-        match &mut self.values {
-            Values::Narrow(bytes) => bytes[at] = count as u8,
-            Values::Wide(words) => words[at] = count,
+            Values::Narrow(bytes) => shift_bytes(bytes, from, down, up),
+            Values::Wide(words) => shift_words(words, from, down, up),
         }
     }
 
@@ -185,8 +98,8 @@ impl Counts {
             → slice_index_or (self.new).values i 0 ≡ slice_index_or (self.old).values i 0 }
     {
         match &mut self.values {
-            Values::Narrow(bytes) => fill_bytes(bytes, from, to, count as u8),
-            Values::Wide(words) => fill_words(words, from, to, count),
+            Values::Narrow(bytes) => bytes[from..to].fill(count as u8),
+            Values::Wide(words) => words[from..to].fill(count),
         }
     }
 

@@ -6,7 +6,7 @@ ghost use Rattle.pesp_counts_supports.specs.Counts.{has_at};
 ghost use Rattle.pesp_counts_supports.specs.Resting.{HaveRoom};
 ghost use Rattle.pesp_counts_supports.specs.Supports.{ArePadded, HaveSameShape, IsRoomier};
 
-use crate::back::Back;
+use crate::Back;
 use crate::supports::Supports;
 use pesp_base::Period;
 use pesp_domains::{Pair, Row};
@@ -76,18 +76,6 @@ fn add_rows(
     Ok(())
 }
 
-/// Makes sure of sums for three periods. Without the memory for them, nothing changes.
-fn make_sums(sums: &mut Vec<u16>, period: Period) -> Result<(), AllocError>
-    ensures ok { OnOk result (3 * period < length sums.new.items) }
-    ensures more { length sums.old.items ≤ length sums.new.items }
-{
-    let long = 3 * period.get() as usize + 1;
-    if sums.len() < long {
-        sums.resize(long, 0)?;
-    }
-    Ok(())
-}
-
 impl Supports {
     /// Makes sure of rows for so many places, and of room for each pair of them, in the trail and in the lists of what is put back.
     /// Rows that come are empty, so nothing is seen of them; nor is of those that came before memory was wanting. For more places
@@ -103,9 +91,9 @@ impl Supports {
             × (places ≤ length (self.new).counted)) }
         ensures grown { IsRoomier self.old self.new }
         ensures even { length (self.new).counted ≡ length (self.new).rows }
-        ensures room { HaveRoom self.old back.old.room (vec_capacity restored.old)
-            → HaveRoom self.new back.new.room (vec_capacity restored.new) }
-        ensures back { back.new.pairs ≡ back.old.pairs }
+        ensures room { HaveRoom self.old (vec_capacity back.old) (vec_capacity restored.old)
+            → HaveRoom self.new (vec_capacity back.new) (vec_capacity restored.new) }
+        ensures back { back.new.items ≡ back.old.items }
         ensures restored { restored.new.items ≡ restored.old.items }
     {
         let period = self.period.get() as usize;
@@ -116,7 +104,7 @@ impl Supports {
         self.trail.reserve(room)?;
         back.reserve(room)?;
         restored.reserve(room)?;
-        make_sums(&mut self.sums, self.period)?;
+        self.sums.resize(3 * period + 1, 0)?;
         add_rows(
             alloc,
             self.period,
@@ -139,7 +127,7 @@ impl Supports {
         self.counts.grow(long)
     }
 
-    /// Puts every residue into the rows of a place at which no end is listed or looks.
+    /// Puts every residue into the rows of a place. The counts stay as they are.
     pub fn open(&mut self, place: usize)
         requires rows { place < length (self.old).rows }
         requires counted { place < length (self.old).counted }

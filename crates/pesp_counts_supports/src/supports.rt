@@ -8,7 +8,6 @@ ghost use Rattle.pesp_counts_supports.specs.Supports.{AreExact, AreLevel, AreOut
 
 use crate::Placed;
 use crate::counts::Counts;
-use crate::probes::Probes;
 use pesp_base::Period;
 use pesp_counts_arcs::{End, Links};
 use pesp_domains::Row;
@@ -35,7 +34,7 @@ pub struct Supports {
     // periods, and one more.
     pub(crate) sums: Vec<u16>,
     // Those made since the trail was forgotten.
-    pub(crate) probes: Probes,
+    pub(crate) probes: u64,
 }
 
 impl Model for Supports {
@@ -70,7 +69,7 @@ impl Supports {
             rows: Vec::new(alloc),
             trail: Vec::new(alloc),
             sums: Vec::new(alloc),
-            probes: Probes::none(),
+            probes: 0,
         }
     }
 
@@ -111,6 +110,6 @@ impl Supports {
     pub fn probes(&self) -> u64
         ensures { result ≡ (self.now).probes }
     {
-        self.probes.count()
+        self.probes
     }
 }

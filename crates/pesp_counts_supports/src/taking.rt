@@ -5,33 +5,27 @@ ghost use Rattle.std.specs.List.{Contains};
 ghost use Rattle.pesp_base.specs.Windows.{is_held};
 ghost use Rattle.pesp_domains.specs.Sweeps.{Of, limited, narrowed_to};
 ghost use Rattle.pesp_domains.specs.Removals.{without};
-ghost use Rattle.pesp_counts_arcs.specs.Ends.{AreLinked, end_at, ends_of, is_from_to, passes};
-ghost use Rattle.pesp_counts_supports.specs.Counts.{ArePending, IsLiveAt, KeepsClosed, count_at, has_at};
-ghost use Rattle.pesp_counts_supports.specs.Ranges.{Fall, Thins};
-ghost use Rattle.pesp_counts_supports.specs.Leaving.{owed};
-ghost use Rattle.pesp_counts_supports.specs.Resting.{AreAtRest, ArePendingBut};
+ghost use Rattle.pesp_counts_arcs.specs.Ends.{end_at, ends_of, is_from_to};
+ghost use Rattle.pesp_counts_supports.specs.Counts.{count_at, has_at};
+ghost use Rattle.pesp_counts_supports.specs.Moves.{IsOne, is_touched, owed};
+ghost use Rattle.pesp_counts_supports.specs.Resting.{AreAtRest, AreLive, AreLiveBut, ArePendingBut, AreWaiting, KeepsAllClosed};
 ghost use Rattle.pesp_counts_supports.specs.Supports.{AreExact, Fit, HaveSameShape, IsTaken, Keeps, is_in, lacks_partner};
 ghost use Rattle.pesp_counts_supports.specs.Spent.{ends_at};
 
-use crate::Placed;
-use crate::probes::Probes;
+use crate::moving::{BLOCK, Moved, Way, begins_run, touched};
 use crate::supports::Supports;
+use crate::{Placed, probes};
 use pesp_base::Window;
-use pesp_counts_arcs::{End, Links};
+use pesp_counts_arcs::Links;
+use std::ops::Range;
 
 impl Supports {
     /// Counts each pair of the trail from `next` on out, and takes the pairs out that are left without a partner.
     pub fn settle(&mut self, links: &Links, next: usize)
-        requires linked { AreLinked (self.old).period (links.now).ends (links.now).lists }
         requires fit { Fit links.now self.old }
-        requires pending { ArePending (self.old).period (links.now).ends (links.now).lists
-            (self.old).counts (has_at (self.old).counted) (has_at (self.old).rows) (self.old).trail
-            next }
-        ensures pending { ArePending (self.old).period (links.now).ends (links.now).lists
-            (self.new).counts (has_at (self.new).counted) (has_at (self.new).rows) (self.new).trail
-            (length (self.new).trail) }
-        ensures keeps { KeepsClosed (self.old).period (links.now).ends (links.now).lists
-            (has_at (self.old).rows) (has_at (self.new).rows) }
+        requires pending { AreWaiting (self.old).period links.now self.old next }
+        ensures pending { AreWaiting (self.old).period links.now self.new (length (self.new).trail) }
+        ensures keeps { KeepsAllClosed links.now self.old self.new }
         ensures taken { IsTaken self.old self.new }
         ensures shape { HaveSameShape self.old self.new }
         ensures probes { (self.new).probes
@@ -47,17 +41,11 @@ impl Supports {
 
     /// Counts one pair of the trail out, if it still counts, alone or with others of its place that wait.
     fn settle_one(&mut self, links: &Links, next: usize)
-        requires linked { AreLinked (self.old).period (links.now).ends (links.now).lists }
         requires fit { Fit links.now self.old }
-        requires pending { ArePending (self.old).period (links.now).ends (links.now).lists
-            (self.old).counts (has_at (self.old).counted) (has_at (self.old).rows) (self.old).trail
-            next }
+        requires pending { AreWaiting (self.old).period links.now self.old next }
         requires next { next < length (self.old).trail }
-        ensures pending { ArePending (self.old).period (links.now).ends (links.now).lists
-            (self.new).counts (has_at (self.new).counted) (has_at (self.new).rows) (self.new).trail
-            (next + 1) }
-        ensures keeps { KeepsClosed (self.old).period (links.now).ends (links.now).lists
-            (has_at (self.old).rows) (has_at (self.new).rows) }
+        ensures pending { AreWaiting (self.old).period links.now self.new (next + 1) }
+        ensures keeps { KeepsAllClosed links.now self.old self.new }
         ensures taken { IsTaken self.old self.new }
         ensures shape { HaveSameShape self.old self.new }
         ensures probes { let before = owed links.now (has_at (self.old).counted)
@@ -70,10 +58,11 @@ impl Supports {
         let pair = self.trail[next];
         let place = pair.place as usize;
         if self.has_counted(place, pair.residue) && !self.holds(place, pair.residue) {
-            let in_run = self.begins_run(next, pair.place);
-            let leaving = self.leaving_with(pair, in_run);
-            self.count_out_around(links, place, leaving);
-            self.uncount(place, leaving);
+            let in_run = begins_run(&self.trail[next..], BLOCK);
+            let leaving = self.moving_with(pair, Way::Out, in_run);
+            self.move_around(links, None, place, leaving, Way::Out);
+            self.level(place, leaving);
+            self.sift_around(links, place, leaving);
         }
     }
 
@@ -84,57 +73,62 @@ impl Supports {
         place < self.counted.len() && self.counted[place].holds(residue)
     }
 
-    /// Counts a residue out along an activity, at whose near end it stood, and takes the pairs at the far one out that have no
-    /// partner left.
-    pub(crate) fn count_one_out(&mut self, end: End, residue: u16)
-        requires residue { residue < (self.old).period }
-        requires first { end.first < (self.old).period }
-        requires width { end.width ≤ (self.old).period }
-        requires block { end.mate * (self.old).period + (self.old).period
-            ≤ length (self.old).counts }
-        requires some { (r : ℕ) → r < (self.old).period
-            → IsTrue (passes (self.old).period end residue r)
-            → 0 < count_at (self.old).period (self.old).counts end.mate r }
-        ensures counts { (k r : ℕ) → r < (self.old).period
-            → count_at (self.old).period (self.new).counts k r
-            + cond (k == end.mate && passes (self.old).period end residue r) 1 0
-            ≡ count_at (self.old).period (self.old).counts k r }
-        ensures rows { (p r : ℕ) → r < (self.old).period
-            → has_at (self.new).rows p r
-            ≡ (has_at (self.old).rows p r
-            && not (p == end.looks_at && passes (self.old).period end residue r
-            && (count_at (self.old).period (self.new).counts end.mate r == 0))) }
-        ensures counted { (self.new).counted ≡ (self.old).counted }
+    /// Takes the pairs out that are left without a partner at the ends that look at a place, of which residues left.
+    fn sift_around(&mut self, links: &Links, place: usize, left: Moved)
+        requires fit { Fit links.now self.old }
+        requires one { IsOne (self.old).period left }
+        requires below { (p r : ℕ) → Of (has_at (self.old).rows) p r → r < (self.old).period }
+        requires within { (p r : ℕ) → Of (has_at (self.old).rows) p r
+            → Of (has_at (self.old).counted) p r }
+        requires exact { AreExact links.now self.old (has_at (self.old).counted) }
+        requires live { AreLiveBut links.now self.old left (ends_of (links.now).lists place) }
+        ensures live { AreLive links.now self.new }
+        ensures closed { KeepsAllClosed links.now self.old self.new }
         ensures taken { IsTaken self.old self.new }
-        ensures shape { HaveSameShape self.old self.new }
-        ensures probes { (self.new).probes ≤ (self.old).probes + (self.old).period }
+        ensures keeps { Keeps self.old self.new }
+        ensures probes { (self.new).probes ≡ (self.old).probes }
     {
-        let ranges = end.ranges(self.period.get(), residue);
-        let place = end.looks_at;
-        let mate = end.mate;
-        self.count_range_out(place, mate, ranges.start, ranges.end);
-        self.count_range_out(place, mate, 0, ranges.wrapped);
+        for number in links.at(place) {
+            self.sift_along(links, number, left);
+        }
     }
 
-    /// Counts one partner out for each residue of a range at an end of the place, and takes those out that have none left.
-    fn count_range_out(&mut self, place: usize, end: usize, low: u16, high: u16)
-        requires order { low ≤ high }
-        requires high { high ≤ (self.old).period }
-        requires block { end * (self.old).period + (self.old).period ≤ length (self.old).counts }
-        requires some { (r : ℕ) → IsTrue (is_from_to low high r)
-            → 0 < count_at (self.old).period (self.old).counts end r }
-        ensures counts { Fall (self.old).period end low high (self.old).counts (self.new).counts }
-        ensures rows { Thins (self.old).period place end low high (self.old).counts (self.old).rows
-            (self.new).rows }
-        ensures counted { (self.new).counted ≡ (self.old).counted }
+    /// Takes the pairs at the far place of an activity out that are left without a partner, of which residues left the near one.
+    fn sift_along(&mut self, links: &Links, number: usize, left: Moved)
+        requires fit { Fit links.now self.old }
+        requires one { IsOne (self.old).period left }
+        requires listed { (p : ℕ) × Contains (ends_of (links.now).lists p) number }
+        ensures rows { let end = end_at (links.now).ends number in
+            (p r : ℕ) → r < (self.old).period → has_at (self.new).rows p r
+            ≡ (has_at (self.old).rows p r && not (p == end.looks_at
+            && is_touched (self.old).period left end r
+            && (count_at (self.old).period (self.old).counts end.mate r == 0))) }
         ensures taken { IsTaken self.old self.new }
-        ensures shape { HaveSameShape self.old self.new }
-        ensures probes { (self.new).probes + low ≤ (self.old).probes + high }
+        ensures keeps { Keeps self.old self.new }
+        ensures probes { (self.new).probes ≡ (self.old).probes }
     {
-        let base = self.counts.base(end, self.period.get());
-        for residue in self.probes.over(low, high) {
-            let none_left = self.counts.lower(base + residue as usize);
-            if none_left && self.holds(place, residue) {
+        let end = links.end(number);
+        let ranges = touched(left, end, self.period.get());
+        self.sift_range(end.looks_at, end.mate, ranges.start..ranges.end);
+        self.sift_range(end.looks_at, end.mate, 0..ranges.wrapped);
+    }
+
+    /// Takes those of a range of residues at a place out that have no partner at an end.
+    fn sift_range(&mut self, place: usize, end: usize, residues: Range<u16>)
+        requires place { place < length (self.old).rows }
+        requires end { end * (self.old).period + (self.old).period ≤ length (self.old).counts }
+        requires order { residues.start ≤ residues.end }
+        requires high { residues.end ≤ (self.old).period }
+        ensures rows { (p r : ℕ) → has_at (self.new).rows p r
+            ≡ (has_at (self.old).rows p r && not (p == place
+            && is_from_to residues.start residues.end r
+            && (count_at (self.old).period (self.old).counts end r == 0))) }
+        ensures taken { IsTaken self.old self.new }
+        ensures keeps { Keeps self.old self.new }
+        ensures probes { (self.new).probes ≡ (self.old).probes }
+    {
+        for residue in residues {
+            if self.row(place).holds(residue) && self.count(end, residue) == 0 {
                 self.take_out(place, residue);
             }
         }
@@ -184,21 +178,16 @@ impl Supports {
         ensures keeps { Keeps self.old self.new }
         ensures probes { (self.new).probes ≤ (self.old).probes + (self.old).period }
     {
-        for residue in self.probes.over(0, self.period.get()) {
-            if self.row(place).holds(residue) && self.count(end, residue) == 0 {
-                self.take_out(place, residue);
-            }
-        }
+        let residues = probes::over(&mut self.probes, 0, self.period.get());
+        self.sift_range(place, end, residues);
     }
 
     /// Takes the pairs of a list out that are left without a partner, and of the other pairs those that are then.
     pub fn settle_back(&mut self, links: &Links, back: &[Placed])
-        requires linked { AreLinked (self.old).period (links.now).ends (links.now).lists }
         requires fit { Fit links.now self.old }
         requires pending { ArePendingBut links.now self.old back.now }
         ensures rest { AreAtRest links.now self.new }
-        ensures keeps { KeepsClosed (self.old).period (links.now).ends (links.now).lists
-            (has_at (self.old).rows) (has_at (self.new).rows) }
+        ensures keeps { KeepsAllClosed links.now self.old self.new }
         ensures taken { IsTaken self.old self.new }
         ensures shape { HaveSameShape self.old self.new }
         ensures probes { (self.new).probes
@@ -238,7 +227,7 @@ impl Supports {
             ≤ (self.old).probes + length (ends_of (links.now).lists pair.place) }
     {
         for end in links.at(pair.place as usize) {
-            let residue = self.probes.at(pair.residue);
+            let residue = probes::at(&mut self.probes, pair.residue);
             if self.count(end, residue) == 0 {
                 return true;
             }
@@ -247,7 +236,7 @@ impl Supports {
     }
 
     /// Takes a pair out of the rows. It then stands at the end of the trail.
-    // Few of the counts that fall take a pair out. In line in the loop of `count_range_out`, packing the pair costs each of them an instruction.
+    // Few of the counts that are looked at take a pair out. In line in the loop of `sift_range`, packing the pair costs each of them an instruction.
     #[cold]
     #[inline(never)]
     fn take_out(&mut self, place: usize, residue: u16)
@@ -275,6 +264,6 @@ impl Supports {
         ensures probes { (self.new).probes ≡ 0 }
     {
         self.trail.clear();
-        self.probes = Probes::none();
+        self.probes = 0;
     }
 }

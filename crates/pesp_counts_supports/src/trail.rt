@@ -6,3 +6,6 @@ pub struct Placed {
     pub place: u32,
     pub residue: u16,
 }
+
+/// Pairs that came back, in the order in which they came.
+pub type Back = Vec<Placed>;

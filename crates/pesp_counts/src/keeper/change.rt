@@ -1,16 +1,16 @@
 //! What an edit asks of rows and counts, found once.
 
-ghost use Rattle.std.specs.Prelude.{◌≡◌, ◌+◌, ◌*◌, ◌<◌, if◌then◌else◌, ℕ, None, Some, Ok, length};
+ghost use Rattle.std.specs.Prelude.{◌≡◌, ◌+◌, ◌*◌, ◌<◌, if◌then◌else◌, ℕ, [], ◌∷◌, None, Some, Ok, length};
 ghost use Rattle.pesp_instance.specs.Edited.{edited};
 ghost use Rattle.pesp_instance.specs.Network.{Network};
-ghost use Rattle.pesp_domains.specs.Loosening.{admits_more, is_looser};
+ghost use Rattle.pesp_domains.specs.Loosening.{is_looser};
 ghost use Rattle.pesp_counts_arcs.specs.Ends.{end_at};
 ghost use Rattle.pesp_counts_arcs.specs.Links.{StandFor};
 ghost use Rattle.pesp_counts_arcs.specs.Places.{place_of};
-ghost use Rattle.pesp_counts.specs.Changes.{IsChange, event_at};
+ghost use Rattle.pesp_counts.specs.Changes.{IsChange, event_at, places};
 ghost use Rattle.pesp_counts.specs.declared.keeper.change.Starts.TheVariants as starts;
 
-use pesp_base::{ActivityId, EventId, Period, Span};
+use pesp_base::{ActivityId, EventId, Span};
 use pesp_counts_arcs::{End, Links};
 use pesp_domains::{is_limited, window_admits_anew};
 use pesp_instance::{Edit, Instance};
@@ -19,8 +19,21 @@ use pesp_instance::{Edit, Instance};
 #[derive(Drop)]
 pub enum Starts {
     Nowhere,
-    At(usize),
-    AtBoth(usize, usize),
+    At([usize; 1]),
+    AtBoth([usize; 2]),
+}
+
+impl Starts {
+    /// One after another.
+    pub fn places(&self) -> &[usize]
+        ensures { result.now ≡ places self.now }
+    {
+        match self {
+            Starts::Nowhere => &[],
+            Starts::At(place) => place,
+            Starts::AtBoth(both) => both,
+        }
+    }
 }
 
 /// An event with its place.
@@ -64,18 +77,19 @@ impl Change {
                 Change::of_window(links, event, window_admits_anew(instance, event, time, 1))
             }
             Edit::SetWindow(event, first, length) => {
-                Change::of_window(
-                    links,
-                    event,
-                    window_admits_anew(instance, event, first, length),
-                )
+                let anew = window_admits_anew(instance, event, first, length);
+                Change::of_window(links, event, anew)
             }
             Edit::Unfix(event) => Change::of_window(links, event, is_limited(instance, event)),
             Edit::SetSpan(id, span) => {
                 Change::of_activity(links, id, is_looser(instance, id, span))
             }
             Edit::SetEnds(id, _, _) => Change::of_activity(links, id, true),
-            Edit::DropActivity(id) => Change::of_drop(links, id),
+            Edit::DropActivity(id) => {
+                let mut change = Change::of_activity(links, id, true);
+                change.recounted = None;
+                change
+            }
             _ => Change::none(),
         }
     }
@@ -83,7 +97,7 @@ impl Change {
     /// That of a window, of which is known whether it admits residues anew.
     fn of_window(links: &Links, event: EventId, loosens: bool) -> Change
         ensures { (p : ℕ) → place_of (links.now).events event ≡ Some p → result ≡ record {
-          loosened = if loosens then starts.At p else starts.Nowhere;
+          loosened = if loosens then starts.At (p ∷ []) else starts.Nowhere;
           limited = Some (event_at event p);
           recounted = None;
         } }
@@ -91,7 +105,7 @@ impl Change {
         match links.event(event) {
             Some(place) => Change {
                 loosened: if loosens {
-                    Starts::At(place)
+                    Starts::At([place])
                 } else {
                     Starts::Nowhere
                 },
@@ -107,8 +121,8 @@ impl Change {
         requires { (I : Network) × StandFor I links.now }
         ensures { (q : ℕ) → place_of (links.now).activities id ≡ Some q → result ≡ record {
           loosened = if loosens
-              then starts.AtBoth (end_at (links.now).ends (2 * q + 1)).looks_at
-              (end_at (links.now).ends (2 * q)).looks_at
+              then starts.AtBoth ((end_at (links.now).ends (2 * q + 1)).looks_at
+              ∷ (end_at (links.now).ends (2 * q)).looks_at ∷ [])
               else starts.Nowhere;
           limited = None;
           recounted = Some q;
@@ -117,7 +131,8 @@ impl Change {
         match links.activity(id) {
             Some(place) => Change {
                 loosened: if loosens {
-                    at_both(links, place)
+                    let (from, to) = links.events_of(place);
+                    Starts::AtBoth([from, to])
                 } else {
                     Starts::Nowhere
                 },
@@ -127,44 +142,6 @@ impl Change {
             None => Change::none(),
         }
     }
-
-    /// That of an activity that goes.
-    fn of_drop(links: &Links, id: ActivityId) -> Change
-        requires { (I : Network) × StandFor I links.now }
-        ensures { (q : ℕ) → place_of (links.now).activities id ≡ Some q → result ≡ record {
-          loosened = starts.AtBoth (end_at (links.now).ends (2 * q + 1)).looks_at
-              (end_at (links.now).ends (2 * q)).looks_at;
-          limited = None;
-          recounted = None;
-        } }
-    {
-        match links.activity(id) {
-            Some(place) => Change {
-                loosened: at_both(links, place),
-                limited: None,
-                recounted: None,
-            },
-            None => Change::none(),
-        }
-    }
-}
-
-/// The places of both events of the activity at a place.
-fn at_both(links: &Links, place: usize) -> Starts
-    requires { 2 * place + 1 < length (links.now).ends }
-    ensures { result ≡ starts.AtBoth (end_at (links.now).ends (2 * place + 1)).looks_at
-        (end_at (links.now).ends (2 * place)).looks_at }
-{
-    let (from, to) = links.events_of(place);
-    Starts::AtBoth(from, to)
-}
-
-/// Whether the second span admits a pair of residues that the first one does not.
-fn admits_more(period: Period, old: Span, new: Span) -> bool
-    ensures { result ≡ admits_more period old new }
-{
-    let (old, new) = (End::tail(period, old, 0, 0), End::tail(period, new, 0, 0));
-    new.passes_more(period.get(), old)
 }
 
 /// Whether the span admits a pair of residues that the activity's own does not.
@@ -172,7 +149,12 @@ fn is_looser(instance: &Instance, id: ActivityId, span: Span) -> bool
     ensures { result ≡ is_looser instance.now id span }
 {
     match instance.activity(id) {
-        Some(activity) => admits_more(instance.period(), activity.span, span),
+        Some(activity) => {
+            let period = instance.period();
+            let old = End::tail(period, activity.span, 0, 0);
+            let new = End::tail(period, span, 0, 0);
+            new.passes_more(period.get(), old)
+        }
         None => false,
     }
 }

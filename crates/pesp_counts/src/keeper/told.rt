@@ -1,24 +1,39 @@
 //! What the last accepted edit did.
 
-ghost use Rattle.std.specs.Prelude.{◌≡◌, length};
+ghost use Rattle.std.specs.Prelude.{◌≡◌, ◌≤◌, Some, length, map, All, vec_capacity};
+ghost use Rattle.pesp_counts.specs.Restores.{IsEventPlace, numbered_pair};
 
 use super::CountKeeper;
 use crate::work::Work;
-use pesp_counts_supports::{Back, Supports};
+use pesp_base::EventId;
+use pesp_counts_arcs::Links;
+use pesp_counts_supports::Placed;
 use pesp_domains::Pair;
 
-/// What an edit took: what came is in the list, and what went in the trail.
-pub fn work_of(back: &Back, supports: &Supports) -> Work
-    ensures { result ≡ record {
-      restored = length (back.now).pairs;
-      removed = length (supports.now).trail;
-      probes = (supports.now).probes;
-    } }
+/// A pair by the number of its event.
+fn numbered(links: &Links, placed: Placed) -> Option<Pair>
+    requires { IsEventPlace links.now placed.place }
+    ensures { result ≡ Some (numbered_pair links.now placed) }
 {
-    Work {
-        restored: back.len() as u64,
-        removed: supports.mark() as u64,
-        probes: supports.probes(),
+    let event = EventId::new(links.event_at(placed.place as usize)?)?;
+    Some(Pair {
+        event,
+        residue: placed.residue,
+    })
+}
+
+/// Lists pairs by the numbers of their events, in place of what was listed before. There is room for them.
+pub fn number_pairs(links: &Links, back: &[Placed], restored: &mut Vec<Pair>)
+    requires places { All (λ x. IsEventPlace links.now x.place) back.now }
+    requires room { length back.now ≤ vec_capacity restored.old }
+    ensures pairs { restored.new.items ≡ map (numbered_pair links.now) back.now }
+    ensures capacity { vec_capacity restored.new ≡ vec_capacity restored.old }
+{
+    restored.clear();
+    for placed in back {
+        if let Some(pair) = numbered(links, *placed) {
+            restored.push_reserved(pair);
+        }
     }
 }
 

@@ -4,7 +4,7 @@ ghost use Rattle.std.specs.Prelude.{◌≡◌, ◌*◌, ◌+◌, ◌<◌, ℕ, S
 ghost use Rattle.pesp_counts_arcs.specs.Ends.{end_at};
 ghost use Rattle.pesp_counts_arcs.specs.Places.{number_at, place_of};
 
-use super::{Links, events_at};
+use super::Links;
 use pesp_base::ActivityId;
 
 impl Links {
@@ -35,7 +35,8 @@ impl Links {
         ensures from { result.0 ≡ (end_at (self.now).ends (2 * place + 1)).looks_at }
         ensures to { result.1 ≡ (end_at (self.now).ends (2 * place)).looks_at }
     {
-        events_at(&self.ends, place)
+        let tail = self.tail_at(place);
+        (self.ends[tail + 1].looks_at, self.ends[tail].looks_at)
     }
 
     /// The number of the end at the tail of the activity at a place.

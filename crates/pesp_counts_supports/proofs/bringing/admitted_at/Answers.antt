@@ -1,23 +1,24 @@
--- An event beyond the limit is none of the instance, and so has no window; a window as long as the period leaves each residue.
-use Rattle.std.proofs.Common.{◌≡◌, ◌<◌, nat_lt, true, arith, refl, sym, subst}
+-- An event beyond the limit is none of the instance, and so has no window; a window of the instance is one of its period.
+use Rattle.std.proofs.Common.{◌≡◌, ◌<◌, nat_lt, true, arith, inl, inr, refl, sym}
+use Rattle.std.proofs.lemmas.Bool.{cases_lt}
 use Rattle.pesp_base.specs.Limits.{greatest_number}
-use Rattle.pesp_base.specs.Windows.{Interval}
 use Rattle.pesp_counts_supports.proofs.Brought.{unwindowed_beyond, window_within}
 use Rattle.pesp_counts_supports.proofs.bringing.admitted_at.Goals as goal
 
-pub returns-in_default-new-clause-admitted : goal.returns-in_default-new-clause-admitted
-returns-in_default-new-clause-admitted c r rl =
+pub returns-in_err-new-clause-none : goal.returns-in_err-new-clause-none
+returns-in_err-new-clause-none c is r rl =
     let I = c.args.instance.now in
     let n = c.in-Some.number in
-    let beyond : greatest_number < n = omega (arith, c.in_default-new.ensures) in
+    let beyond : greatest_number < n =
+    elim (cases_lt greatest_number n) [
+      | inl more ↦ more
+      | inr few ↦ absurd (c.in_err-new.ensures few)
+    ] in
     let below : nat_lt r I.period ≡ true = grind (arith, rl) in
     rw (← c.in-Some.ensures) (rw (below, unwindowed_beyond I n c.period-period.ensures.network beyond) refl)
 
-pub returns-then-length-get-clause-within : goal.returns-then-length-get-clause-within
-returns-then-length-get-clause-within c window is =
+pub ranges_of-requires-clause-first : goal.ranges_of-requires-clause-first
+ranges_of-requires-clause-first c =
     let I = c.args.instance.now in
-    let v = c.in-Some-window.window in
-    let same : v ≡ window = cc in
-    let w = window_within I c.in-Some-new.event v c.period-period.ensures.network (sym c.in-Some-window.ensures.value) in
-    let short : v.length < I.period = omega (arith, c.if-length-get.true, c.length.ensures, c.get.ensures.value, c.period-period.ensures.value) in
-    subst (λ (u : Interval). (u.first < I.period) × (u.length < I.period)) same (w.first, short)
+    let w = window_within I c.in_ok-new.field-0 c.in_ok-window.window c.period-period.ensures.network (sym c.in_ok-window.ensures.value) in
+    omega (arith, w.first, c.period-period.ensures.value)

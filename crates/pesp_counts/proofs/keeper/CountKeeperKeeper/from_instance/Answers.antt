@@ -12,12 +12,11 @@ remake-requires c = on_ok c.house.result c.if-is_err.ensures.value c.house.ensur
 
 pub invariant_of-result : goal.invariant_of-result
 invariant_of-result c =
-    let none : length c.new-supports.result.rows * c.new-supports.result.period ≡ 0 = ap (λ (s : Supports). length s.rows * s.period) c.new-supports.ensures ∙ nothing c.period.result in
-    let start : HaveRoom c.new-supports.result c.new-back.result.room (vec_capacity c.new-restored.result) = record { back = omega (arith, none); restored = omega (arith, none) } in
-    let room = room_same c.house.new.counted.supports c.remake.new.supports c.house.new.counted.back.room (vec_capacity c.house.new.counted.restored) c.remake.ensures.shape (c.house.ensures.room start) in
-    let (pushes, marks) = on_ok c.house.result c.if-is_err.ensures.value c.house.ensures.many in
-    keeping_none c.args.instance c.house.new.pushed.items c.house.new.marks.items c.house.new.counted.links c.remake.new.supports (vec_capacity c.house.new.pushed) (vec_capacity c.house.new.marks) c.house.new.counted.back.room (vec_capacity c.house.new.counted.restored)
-    c.house.ensures.pushed c.house.ensures.marks c.remake.ensures.settled pushes marks room
+    let none : length c.new-2.result.rows * c.new-2.result.period ≡ 0 = ap (λ (s : Supports). length s.rows * s.period) c.new-2.ensures ∙ nothing c.period.result in
+    let start : HaveRoom c.new-2.result (vec_capacity c.new-3.result) (vec_capacity c.new-4.result) = record { back = omega (arith, none); restored = omega (arith, none) } in
+    let room = room_same c.house.new.counted.supports c.remake.new.supports (vec_capacity c.house.new.counted.back) (vec_capacity c.house.new.counted.restored) c.remake.ensures.shape (c.house.ensures.room start) in
+    let many = on_ok c.house.result c.if-is_err.ensures.value c.house.ensures.many in
+    keeping_none c.args.instance c.house.new.pushed.items c.house.new.counted.links c.remake.new.supports (vec_capacity c.house.new.pushed) (vec_capacity c.house.new.counted.back) (vec_capacity c.house.new.counted.restored) c.house.ensures.pushed c.remake.ensures.settled many room
   where
     nothing : (n : ℕ) → 0 * n ≡ 0
     nothing n = omega arith

@@ -4,7 +4,7 @@ use Rattle.std.proofs.lemmas.Bool.{false≢true}
 use Rattle.pesp_domains.specs.Domains.{InDomains}
 use Rattle.pesp_counts.specs.Restores.{Seen}
 use Rattle.pesp_counts_supports.specs.Counts.{has_at}
-use Rattle.pesp_counts.specs.Keeping.{rows_of}
+use Rattle.pesp_counts.specs.Keeping.{pairs_of, rows_of}
 use Rattle.pesp_counts.proofs.Bridge.{numbered_at}
 use Rattle.pesp_counts.proofs.Keeping.{none_at}
 use Rattle.pesp_counts.proofs.keeper.CountKeeperKeeper.holds.Goals as goal
@@ -22,5 +22,5 @@ pub returns-in-None : goal.returns-in-None
 returns-in-None c =
     let i = c.self.inside in (
       λ h. absurd (false≢true h),
-      λ h. absurd (none_at i.instance i.pushed.items i.counted.links i.counted.supports c.args.event c.args.residue c.self.invariant.settled (sym c.event.ensures ∙ c.in-None.is) (subst (λ (k : Seen). InDomains k.network k.pushes c.args.event c.args.residue) (sym c.self.view_is) h)),
+      λ h. absurd (none_at i.instance (pairs_of i.pushed.items) i.counted.links i.counted.supports c.args.event c.args.residue c.self.invariant.settled (sym c.event.ensures ∙ c.in-None.is) (subst (λ (k : Seen). InDomains k.network k.pushes c.args.event c.args.residue) (sym c.self.view_is) h)),
     )

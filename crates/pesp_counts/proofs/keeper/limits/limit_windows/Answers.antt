@@ -8,7 +8,7 @@ use Rattle.pesp_domains.proofs.Opened.{event_found}
 use Rattle.pesp_counts_supports.specs.Counts.{has_at}
 use Rattle.pesp_counts.specs.Keeping.{rows_of}
 use Rattle.pesp_counts.proofs.Bridge.{place_is}
-use Rattle.pesp_counts.proofs.Remade.{agrees_window, done_first, done_more, to_come_first, to_come_more}
+use Rattle.pesp_counts.proofs.Remade.{agrees_window, state_first, state_more}
 use Rattle.pesp_counts_supports.proofs.Taken.{kept_none, kept_then, taken_none, taken_then}
 use Rattle.pesp_counts.proofs.keeper.limits.limit_windows.Goals as goal
 
@@ -21,8 +21,7 @@ loop-event-init c =
       is_finite = tt;
       among = rw all (All-contains_itself I.events);
       rises = rw all (Rises-from_increasing (λ (x : Event). x.id) I.events c.events-event-items.ensures.network.events_rise);
-      to_come = rw all (to_come_first I c.args.links.now c.args.supports.now c.requires.fits c.requires.full);
-      done = rw all (done_first I c.args.links.now c.args.supports.now c.requires.fits);
+      state = rw all (state_first I c.args.links.now c.args.supports.now c.requires.fits c.requires.full);
       taken = taken_none c.args.supports.now;
       keeps = kept_none c.args.supports.now;
     }
@@ -36,19 +35,17 @@ loop-event-preserved-in-Some-event c =
     let rest = c.next.new.self in
     let among = rw c.in-Some.ensures.steps at c.loop-event.invariant.among in
     let rises = rw c.in-Some.ensures.steps at c.loop-event.invariant.rises in
-    let to_come = rw c.in-Some.ensures.steps at c.loop-event.invariant.to_come in
-    let done = rw c.in-Some.ensures.steps at c.loop-event.invariant.done in
+    let state = rw c.in-Some.ensures.steps at c.loop-event.invariant.state in
     let is : Contains I.events x = All-head (Contains I.events) x rest among in
-    let agrees = agrees_window I links x c.in-Some-event.place (has_at c.loop-event.supports.rows) (has_at c.limit_at.new.supports.rows) network is c.requires.fits.stand (sym c.event.ensures ∙ c.in-Some-event.is) c.limit_at.ensures.rows in
+    let agrees = agrees_window I links x c.in-Some-event.place (has_at c.loop-event.supports.rows) (has_at c.limit.new.supports.rows) network is c.requires.fits.stand (sym c.event.ensures ∙ c.in-Some-event.is) c.limit.ensures.rows in
     record {
       can_next = tt;
       is_finite = tt;
       among = All-tail (Contains I.events) x rest among;
       rises = rises.1;
-      to_come = to_come_more I network x rest (rows_of links c.loop-event.supports) (rows_of links c.limit_at.new.supports) is rises agrees to_come;
-      done = done_more I network x rest (rows_of links c.loop-event.supports) (rows_of links c.limit_at.new.supports) is rises agrees to_come done;
-      taken = taken_then c.args.supports.now c.loop-event.supports c.limit_at.new.supports c.loop-event.invariant.taken c.limit_at.ensures.taken;
-      keeps = kept_then c.args.supports.now c.loop-event.supports c.limit_at.new.supports c.loop-event.invariant.keeps c.limit_at.ensures.keeps;
+      state = state_more I network x rest (rows_of links c.loop-event.supports) (rows_of links c.limit.new.supports) is rises agrees state;
+      taken = taken_then c.args.supports.now c.loop-event.supports c.limit.new.supports c.loop-event.invariant.taken c.limit.ensures.taken;
+      keeps = kept_then c.args.supports.now c.loop-event.supports c.limit.new.supports c.loop-event.invariant.keeps c.limit.ensures.keeps;
     }
 
 pub loop-event-preserved : goal.loop-event-preserved

@@ -1,5 +1,5 @@
 -- Of the events that were reached, each one has the residues of its window alone.
-use Rattle.std.proofs.Common.{◌≡◌, ℕ, All, IsTrue, nat_lt, None, is_some}
+use Rattle.std.proofs.Common.{◌≡◌, ℕ, All, if◌then◌else◌, nat_lt, is_some}
 use Rattle.std.specs.List.{Contains}
 use Rattle.pesp_base.specs.Numbered.{with_number}
 use Rattle.pesp_domains.proofs.Opened.{opened}
@@ -15,8 +15,7 @@ invariant-loop-event l = record {
   is_finite : (goal.iterator-loop-event).is_finite l.event-iterator;
   among : All (Contains l.instance.events) l.event-iterator;
   rises : Rises (λ (x : Event). x.id) l.event-iterator;
-  to_come : (e r : ℕ) → IsTrue (is_some (with_number (λ x. x.id) e l.event-iterator)) → rows_of l.links l.supports e r ≡ nat_lt r l.instance.period;
-  done : (e r : ℕ) → with_number (λ x. x.id) e l.event-iterator ≡ None → rows_of l.links l.supports e r ≡ opened l.instance e r;
+  state : (e r : ℕ) → rows_of l.links l.supports e r ≡ (if is_some (with_number (λ x. x.id) e l.event-iterator) then nat_lt r l.instance.period else opened l.instance e r);
   taken : IsTaken l.initial.supports l.supports;
   keeps : Keeps l.initial.supports l.supports;
 }

@@ -1,107 +1,114 @@
 -- The ends go from where their mates look, and come to the events.
-use Rattle.std.proofs.Common.{◌≡◌, ◌+◌, ◌*◌, ℕ, IfSome, List, Some, refl, sym, ap, subst, ◌∙◌, inl, inr}
+use Rattle.std.proofs.Common.{◌≡◌, ◌+◌, ◌*◌, List, refl, slice_set, sym, ap, subst, ◌∙◌, inl, inr, arith}
 use Rattle.std.specs.List.{Contains}
+use Rattle.std.proofs.lemmas.Grind.{common_steps}
 use Rattle.pesp_counts_arcs.specs.declared.end.End.{End}
 use Rattle.pesp_counts_arcs.specs.Ends.{end_at, ends_of}
-use Rattle.pesp_counts_arcs.specs.Links.{AreHoused, IsChangedAt, KeepOthers, Links, StandFor}
-use Rattle.pesp_counts_arcs.specs.Places.{place_of}
-use Rattle.pesp_base.proofs.Tests.{for_some}
-use Rattle.pesp_counts_arcs.proofs.ListLaws.{items_written}
-use Rattle.pesp_counts_arcs.proofs.StandAround.{head_listed, tail_listed, written}
+use Rattle.pesp_counts_arcs.specs.Links.{AreListedAt, AreUnlisted, KeepOthers, Links}
+use Rattle.pesp_counts_arcs.proofs.StandAround.{head_listed, mate_listed, side_of, tail_listed, two_written}
 use Rattle.pesp_counts_arcs.proofs.StandEdits.{shared_ends}
+use Rattle.pesp_counts_arcs.proofs.StandMore.{new_or_old, was_listed}
 use Rattle.pesp_counts_arcs.proofs.StandMoved.{ends_moved, housed_moved}
+use Rattle.pesp_counts_arcs.proofs.StandPairs.{head_free, listed_at, still_there, unlisted}
 use Rattle.pesp_counts_arcs.proofs.links.Links.set_ends.Goals as goal
+use Rattle.pesp_counts_arcs.proofs.links.Links.set_ends.Goals.{After-add-in-Some, After-remove-in-Some}
 
-pub unlist_ends-requires-clause-tail : goal.unlist_ends-requires-clause-tail
-unlist_ends-requires-clause-tail c =
-    let inside = c.self.inside in
-    let q : ℕ = c.in-Some.place in
-    let before : Links = record { events = inside.events; activities = inside.activities; ends = inside.ends.items; lists = inside.at.lists } in
-    let at : place_of inside.activities c.args.id ≡ Some q = ap (place_of inside.activities) (sym c.get.ensures.value) ∙ sym c.place.ensures ∙ c.in-Some.is in
-    let tail_at = c.events_at-tail_at.ensures.tail ∙ ap (λ xs. (end_at xs (2 * q + 1)).looks_at) c.deref.ensures.value in
-    subst (λ p. Contains (ends_of inside.at.lists p) (2 * q)) (sym tail_at)
-    (tail_listed c.requires.stood.0 before c.args.id q at (subst (StandFor c.requires.stood.0) (sym c.self.view_is) c.requires.stood.1))
+-- the ends as they were written
+abbrev turned : After-add-in-Some → List End
+turned c =
+    slice_set (slice_set c.self.inside.ends.items c.tail_at-tail.result (record c.index_mut.result.now { looks_at = c.unwrap-to_at.result }))
+    (c.tail_at-tail.result + 1) (record c.index_mut-in-Some.result.now { looks_at = c.unwrap-from_at.result })
 
-pub unlist_ends-requires-clause-head : goal.unlist_ends-requires-clause-head
-unlist_ends-requires-clause-head c =
-    let inside = c.self.inside in
-    let q : ℕ = c.in-Some.place in
-    let before : Links = record { events = inside.events; activities = inside.activities; ends = inside.ends.items; lists = inside.at.lists } in
-    let at : place_of inside.activities c.args.id ≡ Some q = ap (place_of inside.activities) (sym c.get.ensures.value) ∙ sym c.place.ensures ∙ c.in-Some.is in
-    let head_at = c.events_at-tail_at.ensures.head ∙ ap (λ xs. (end_at xs (2 * q)).looks_at) c.deref.ensures.value in
-    subst (λ p. Contains (ends_of inside.at.lists p) (2 * q + 1)) (sym head_at)
-    (head_listed c.requires.stood.0 before c.args.id q at (subst (StandFor c.requires.stood.0) (sym c.self.view_is) c.requires.stood.1))
+wrote : (c : After-add-in-Some) → let ends = c.self.inside.ends.items in let q = c.in-Some.place in
+    KeepOthers ends (turned c) q × (end_at (turned c) (2 * q) ≡ record (end_at ends (2 * q)) { looks_at = c.unwrap-to_at.result }) × (end_at (turned c) (2 * q + 1) ≡ record (end_at ends (2 * q + 1)) { looks_at = c.unwrap-from_at.result })
+wrote c =
+    let low = c.self.invariant.activity_room c.args.id c.in-Some.place (rw (sym c.self.view_is) at (sym c.activity.ensures ∙ c.in-Some.is)) in
+    let was : c.index_mut.result.now ≡ end_at c.self.inside.ends.items (2 * c.in-Some.place) = grind (arith, common_steps, low, c.tail_at-tail.ensures, c.index_mut.ensures.value) in
+    let was' : c.index_mut-in-Some.result.now ≡ end_at c.self.inside.ends.items (2 * c.in-Some.place + 1) = grind (arith, common_steps, low, c.tail_at-tail.ensures, c.index_mut-in-Some.ensures.value) in
+    let w = two_written c.self.inside.ends.items c.in-Some.place _ _ _ c.tail_at-tail.ensures low in
+    (w.0, w.1 ∙ ap (λ (e : End). record e { looks_at = c.unwrap-to_at.result }) was, w.2 ∙ ap (λ (e : End). record e { looks_at = c.unwrap-from_at.result }) was')
+
+pub remove-requires : goal.remove-requires
+remove-requires c =
+    let listed = tail_listed c.requires.stood.0 _ c.args.id c.in-Some.place (sym c.activity.ensures ∙ c.in-Some.is) c.requires.stood.1 in
+    rw (c.tail_at-tail.ensures, c.events_of-tail_at.ensures.from, sym c.self.view_is) (rw (sym c.self.view_is) at listed)
+
+pub remove-requires-in-Some : goal.remove-requires-in-Some
+remove-requires-in-Some c =
+    let at = sym c.activity.ensures ∙ c.in-Some.is in
+    let tail = rw (sym c.self.view_is) at (tail_listed c.requires.stood.0 _ c.args.id c.in-Some.place at c.requires.stood.1) in
+    let head = rw (sym c.self.view_is) at (head_listed c.requires.stood.0 _ c.args.id c.in-Some.place at c.requires.stood.1) in
+    rw (c.remove.ensures.lists, c.tail_at-tail.ensures, c.events_of-tail_at.ensures.from, c.events_of-tail_at.ensures.to, sym c.self.view_is)
+    (still_there c.self.inside.at.lists c.self.inside.at.items c.in-Some.place _ _ c.self.invariant.listed_in tail head)
+
+gone : (c : After-remove-in-Some) → AreUnlisted c.self.inside.at.lists c.remove-in-Some.new.self.lists c.in-Some.place
+gone c =
+    let at = sym c.activity.ensures ∙ c.in-Some.is in
+    let tail = rw (sym c.self.view_is) at (tail_listed c.requires.stood.0 _ c.args.id c.in-Some.place at c.requires.stood.1) in
+    let head = rw (sym c.self.view_is) at (head_listed c.requires.stood.0 _ c.args.id c.in-Some.place at c.requires.stood.1) in
+    rw (c.remove-in-Some.ensures.lists, c.remove.ensures.lists, c.tail_at-tail.ensures, c.events_of-tail_at.ensures.from, c.events_of-tail_at.ensures.to, sym c.self.view_is)
+    (unlisted c.self.inside.at.lists c.self.inside.at.items c.in-Some.place _ _ c.self.invariant.listed_in tail head)
+
+pub add-requires-clause-free : goal.add-requires-clause-free
+add-requires-clause-free c p i = (gone (goal.at.add-requires-clause-free c).After-remove-in-Some).gone p _ i (inl c.tail_at-tail.ensures)
+
+pub add-requires-in-Some-clause-free : goal.add-requires-in-Some-clause-free
+add-requires-in-Some-clause-free c p i =
+    let less = gone (goal.at.add-requires-in-Some-clause-free c).After-remove-in-Some in
+    let many = less.many in
+    let low = c.self.invariant.event_room _ _ (rw (sym c.self.view_is) at (sym c.event.ensures ∙ c.unwrap-from_at.ensures)) in
+    head_free c.remove-in-Some.new.self.lists c.in-Some.place c.unwrap-from_at.result (omega (arith, low, many)) less.gone p
+    (rw (c.add.ensures.lists, c.tail_at-tail.ensures) at i)
+
+listed : (c : After-add-in-Some) → AreUnlisted c.self.inside.at.lists c.remove-in-Some.new.self.lists c.in-Some.place → AreListedAt c.remove-in-Some.new.self.lists c.add-in-Some.new.self.lists c.in-Some.place c.unwrap-from_at.result c.unwrap-to_at.result
+listed c less =
+    let many = less.many in
+    let from = c.self.invariant.event_room _ _ (rw (sym c.self.view_is) at (sym c.event.ensures ∙ c.unwrap-from_at.ensures)) in
+    let to = c.self.invariant.event_room _ _ (rw (sym c.self.view_is) at (sym c.event-in-Some.ensures ∙ c.unwrap-to_at.ensures)) in
+    rw (c.add-in-Some.ensures.lists, c.add.ensures.lists, c.tail_at-tail.ensures)
+    (listed_at c.remove-in-Some.new.self.lists c.in-Some.place c.unwrap-from_at.result (omega (arith, from, many)) c.unwrap-to_at.result (omega (arith, to, many)))
 
 pub invariant_of-self : goal.invariant_of-self
 invariant_of-self c =
+    let less = gone (goal.at.invariant_of-self c).After-remove-in-Some in
     let inside = c.self.inside in
-    let q : ℕ = c.in-Some.place in
-    let ws : List End = c.turn_ends.new.ends in
-    let at : place_of inside.activities c.args.id ≡ Some q = ap (place_of inside.activities) (sym c.get.ensures.value) ∙ sym c.place.ensures ∙ c.in-Some.is in
-    let keep : KeepOthers inside.ends.items ws q = subst (λ xs. KeepOthers xs ws q) c.deref_mut.ensures.value c.turn_ends.ensures.others in
-    subst (λ xs. AreHoused inside.events inside.activities xs c.list_ends.new.at) (sym (items_written ws inside.ends.items inside.ends.len inside.ends.ok.0 keep.many))
-    (housed_moved inside.events inside.activities inside.ends.items ws inside.at c.unlist_ends.new.at.lists c.list_ends.new.at c.args.id q c.unwrap-from_at.result c.unwrap-to_at.result c.self.invariant at keep.many
-    (c.list_ends.ensures.items ∙ c.unlist_ends.ensures.items) c.unlist_ends.ensures.unlisted c.list_ends.ensures.listed c.list_ends.ensures.shared)
+    let put = (goal.at.invariant_of-self c).After-add-in-Some in
+    let at = rw (sym c.self.view_is) at (sym c.activity.ensures ∙ c.in-Some.is) in
+    housed_moved inside.events inside.activities inside.ends.items (turned put) inside.at c.remove-in-Some.new.self.lists c.add-in-Some.new.self c.args.id c.in-Some.place _ _ c.self.invariant at (wrote put).0.many
+    (c.add-in-Some.ensures.items ∙ c.add.ensures.items ∙ c.remove-in-Some.ensures.items ∙ c.remove.ensures.items) less (listed put less) c.add-in-Some.ensures.shared
 
 pub returns-in-Some-clause-stand : goal.returns-in-Some-clause-stand
 returns-in-Some-clause-stand c I J ok stand =
+    let less = gone (goal.at.returns-in-Some-clause-stand c).After-remove-in-Some in
     let inside = c.self.inside in
-    let q : ℕ = c.in-Some.place in
-    let ws : List End = c.turn_ends.new.ends in
-    let before : Links = record { events = inside.events; activities = inside.activities; ends = inside.ends.items; lists = inside.at.lists } in
-    let at : place_of inside.activities c.args.id ≡ Some q = ap (place_of inside.activities) (sym c.get.ensures.value) ∙ sym c.place.ensures ∙ c.in-Some.is in
-    let from_is : place_of inside.events c.args.from ≡ Some c.unwrap-from_at.result = ap (place_of inside.events) (sym c.get-in-Some.ensures.value) ∙ sym c.place-in-Some.ensures ∙ c.unwrap-from_at.ensures in
-    let to_is : place_of inside.events c.args.to ≡ Some c.unwrap-to_at.result = ap (place_of inside.events) (sym c.get-in-Some-2.ensures.value) ∙ sym c.place-in-Some-2.ensures ∙ c.unwrap-to_at.ensures in
-    let keep : KeepOthers inside.ends.items ws q = subst (λ xs. KeepOthers xs ws q) c.deref_mut.ensures.value c.turn_ends.ensures.others in
-    let tail : end_at ws (2 * q) ≡ record (end_at inside.ends.items (2 * q)) { looks_at = c.unwrap-to_at.result } =
-    c.turn_ends.ensures.tail ∙ ap (λ xs. record (end_at xs (2 * q)) { looks_at = c.unwrap-to_at.result }) c.deref_mut.ensures.value
-    in
-    let head : end_at ws (2 * q + 1) ≡ record (end_at inside.ends.items (2 * q + 1)) { looks_at = c.unwrap-from_at.result } =
-    c.turn_ends.ensures.head ∙ ap (λ xs. record (end_at xs (2 * q + 1)) { looks_at = c.unwrap-from_at.result }) c.deref_mut.ensures.value
-    in
-    let write = items_written ws inside.ends.items inside.ends.len inside.ends.ok.0 keep.many in
-    let housed : AreHoused inside.events inside.activities ws c.list_ends.new.at = subst (λ xs. AreHoused inside.events inside.activities xs c.list_ends.new.at) write (invariant_of-self c) in
-    subst (λ xs. StandFor J (record { events = inside.events; activities = inside.activities; ends = xs; lists = c.list_ends.new.at.lists })) (sym write)
-    (ends_moved I before ws c.unlist_ends.new.at.lists c.list_ends.new.at.lists c.args.id c.args.from c.args.to q c.unwrap-from_at.result c.unwrap-to_at.result at from_is to_is tail head keep
-    c.unlist_ends.ensures.unlisted c.list_ends.ensures.listed (shared_ends inside.events inside.activities ws c.list_ends.new.at housed) (subst (StandFor I) (sym c.self.view_is) stand) J ok)
+    let put = (goal.at.returns-in-Some-clause-stand c).After-add-in-Some in
+    let at = rw (sym c.self.view_is) at (sym c.activity.ensures ∙ c.in-Some.is) in
+    let from = rw (sym c.self.view_is) at (sym c.event.ensures ∙ c.unwrap-from_at.ensures) in
+    let to = rw (sym c.self.view_is) at (sym c.event-in-Some.ensures ∙ c.unwrap-to_at.ensures) in
+    let (keep, tail, head) = wrote put in
+    let shared = shared_ends inside.events inside.activities (turned put) c.add-in-Some.new.self (invariant_of-self c) in
+    ends_moved I _ (turned put) c.remove-in-Some.new.self.lists c.add-in-Some.new.self.lists c.args.id c.args.from c.args.to c.in-Some.place _ _ at from to tail head keep
+    less (listed put less) shared (rw (sym c.self.view_is) at stand) J ok
 
 pub returns-in-Some-clause-listed : goal.returns-in-Some-clause-listed
 returns-in-Some-clause-listed c p k is =
-    let inside = c.self.inside in
-    let q : ℕ = c.in-Some.place in
-    let before : Links = record { events = inside.events; activities = inside.activities; ends = inside.ends.items; lists = inside.at.lists } in
-    let at : place_of inside.activities c.args.id ≡ Some q = ap (place_of inside.activities) (sym c.get.ensures.value) ∙ sym c.place.ensures ∙ c.in-Some.is in
-    let stand = subst (StandFor c.requires.stood.0) (sym c.self.view_is) c.requires.stood.1 in
-    let was : (x : ℕ) × Contains (ends_of inside.at.lists x) k =
-    elim (c.list_ends.ensures.listed.was p k is) [
-      | inr old ↦ (p, c.unlist_ends.ensures.unlisted.was p k old)
-      | inl new ↦ elim new [
-        | inl tail ↦ (_, subst (Contains (ends_of inside.at.lists _)) (sym tail.1) (tail_listed c.requires.stood.0 before c.args.id q at stand))
-        | inr head ↦ (_, subst (Contains (ends_of inside.at.lists _)) (sym head.1) (head_listed c.requires.stood.0 before c.args.id q at stand))
-      ]
+    let less = gone (goal.at.returns-in-Some-clause-listed c).After-remove-in-Some in
+    elim (new_or_old _ _ c.in-Some.place _ _ p k (listed (goal.at.returns-in-Some-clause-listed c).After-add-in-Some less) is) [
+      | inl end ↦
+          let side = side_of c.in-Some.place k end in
+          let listed = mate_listed c.requires.stood.0 _ c.args.id c.in-Some.place (sym c.activity.ensures ∙ c.in-Some.is) c.requires.stood.1 side.0 in
+          (_, subst (Contains (ends_of c.args.self.now.lists _)) (sym side.1) listed)
+      | inr old ↦ (p, subst (λ (L : Links). Contains (ends_of L.lists p) k) c.self.view_is (less.was p k old))
     ]
-    in
-    subst (λ (L : Links). (x : ℕ) × Contains (ends_of L.lists x) k) c.self.view_is was
 
 pub returns-in-Some-clause-changed : goal.returns-in-Some-clause-changed
 returns-in-Some-clause-changed c =
-    let inside = c.self.inside in
-    let q : ℕ = c.in-Some.place in
-    let ws : List End = c.turn_ends.new.ends in
-    let before : Links = record { events = inside.events; activities = inside.activities; ends = inside.ends.items; lists = inside.at.lists } in
-    let after : Links = record before { ends = ws; lists = c.list_ends.new.at.lists } in
-    let at : place_of inside.activities c.args.id ≡ Some q = ap (place_of inside.activities) (sym c.get.ensures.value) ∙ sym c.place.ensures ∙ c.in-Some.is in
-    let keep : KeepOthers inside.ends.items ws q = subst (λ xs. KeepOthers xs ws q) c.deref_mut.ensures.value c.turn_ends.ensures.others in
-    let write = items_written ws inside.ends.items inside.ends.len inside.ends.ok.0 keep.many in
-    let changed : IsChangedAt before after q = record {
+    let less = gone (goal.at.returns-in-Some-clause-changed c).After-remove-in-Some in
+    let put = (goal.at.returns-in-Some-clause-changed c).After-add-in-Some in
+    let (keep, tail, head) = wrote put in
+    rw (sym c.activity.ensures ∙ c.in-Some.is, sym c.self.view_is)
+    (record {
       events = λ e. refl;
-      listed = λ p k is apart.
-          elim (c.list_ends.ensures.listed.was p k is) [
-            | inr old ↦ c.unlist_ends.ensures.unlisted.was p k old
-            | inl new ↦ absurd (apart (elim new [ inl tail ↦ inl tail.1 | inr head ↦ inr head.1 ]))
-          ];
+      listed = λ p k i out. less.was p k (was_listed _ _ c.in-Some.place _ _ p k (listed put less) i out);
       ends = keep.others;
-    } in
-    subst (λ (L : Links). IfSome (place_of L.activities c.args.id) (λ x. IsChangedAt L (record before { ends = written inside.ends.items inside.ends.len ws; lists = c.list_ends.new.at.lists }) x)) c.self.view_is
-    (for_some (λ x. IsChangedAt before (record before { ends = written inside.ends.items inside.ends.len ws; lists = c.list_ends.new.at.lists }) x) (place_of inside.activities c.args.id) q at
-    (subst (λ xs. IsChangedAt before (record before { ends = xs; lists = c.list_ends.new.at.lists }) q) (sym write) changed))
+    })

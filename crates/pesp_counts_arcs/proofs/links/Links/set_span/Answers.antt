@@ -1,38 +1,44 @@
 -- The ends of the activity pass what the new span joins.
-use Rattle.std.proofs.Common.{◌≡◌, ◌+◌, ◌*◌, ℕ, List, Some, sym, ap, subst, ◌∙◌}
+use Rattle.std.proofs.Common.{◌+◌, ◌*◌, List, refl, slice_set, sym, ◌∙◌}
 use Rattle.pesp_domains.specs.declared.side.Side.TheVariants.{Tail, Head}
+use Rattle.pesp_instance.specs.declared.edit.Edit.TheVariants as edits
 use Rattle.pesp_counts_arcs.specs.declared.end.End.{End}
 use Rattle.pesp_counts_arcs.specs.Ends.{end_at}
-use Rattle.pesp_counts_arcs.specs.Links.{IsChangedAt, IsEndFor, KeepOthers, Links, LookAt, StandFor}
-use Rattle.pesp_counts_arcs.specs.Places.{place_of}
-use Rattle.pesp_counts_arcs.proofs.StandAround.{changed_span, if_some, span_written, written}
+use Rattle.pesp_counts_arcs.specs.Links.{IsEndFor, KeepOthers, LookAt}
+use Rattle.pesp_counts_arcs.proofs.StandAround.{span_set, two_made}
+use Rattle.pesp_counts_arcs.proofs.StandLaws.{stands_for}
 use Rattle.pesp_counts_arcs.proofs.links.Links.set_span.Goals as goal
+use Rattle.pesp_counts_arcs.proofs.links.Links.set_span.Goals.{After-index_mut-in-Some}
+
+-- the ends as they were written
+abbrev remade : After-index_mut-in-Some → List End
+remade c = slice_set (slice_set c.self.inside.ends.items c.tail_at-tail.result c.tail.result) (c.tail_at-tail.result + 1) c.head.result
+
+wrote : (c : After-index_mut-in-Some) → let q = c.in-Some.place in
+    KeepOthers c.self.inside.ends.items (remade c) q × IsEndFor c.args.period c.args.span Tail (end_at (remade c) (2 * q)) × IsEndFor c.args.period c.args.span Head (end_at (remade c) (2 * q + 1))
+    × LookAt (remade c) q c.events_of-tail_at.result.0 c.events_of-tail_at.result.1
+wrote c =
+    two_made c.args.period c.args.span c.self.inside.ends.items c.in-Some.place c.tail_at-tail.result _ _ c.tail.result c.head.result c.tail_at-tail.ensures
+    (c.self.invariant.activity_room c.args.id c.in-Some.place (rw (sym c.self.view_is) at (sym c.activity.ensures ∙ c.in-Some.is)))
+    (record { first = c.tail.ensures.first; some = c.tail.ensures.some; width = c.tail.ensures.width; joins = c.tail.ensures.joins })
+    (record { first = c.head.ensures.first; some = c.head.ensures.some; width = c.head.ensures.width; joins = c.head.ensures.joins })
+    (c.tail.ensures.looks, c.tail.ensures.mate) (c.head.ensures.looks, c.head.ensures.mate)
 
 pub returns-in-Some-clause-stand : goal.returns-in-Some-clause-stand
 returns-in-Some-clause-stand c I J period ok stand =
-    let inside = c.self.inside in
-    let q : ℕ = c.in-Some.place in
-    let before : Links = record { events = inside.events; activities = inside.activities; ends = inside.ends.items; lists = inside.at.lists } in
-    let ends : List End = c.write_ends.new.ends in
-    let at : place_of inside.activities c.args.id ≡ Some q = ap (place_of inside.activities) (sym c.get.ensures.value) ∙ sym c.place.ensures ∙ c.in-Some.is in
-    let keep : KeepOthers inside.ends.items ends q = subst (λ xs. KeepOthers xs ends q) c.deref_mut.ensures.value c.write_ends.ensures.others in
-    let tail : IsEndFor I.period c.args.span Tail (end_at ends (2 * q)) = subst (λ t. IsEndFor t c.args.span Tail (end_at ends (2 * q))) (sym period) c.write_ends.ensures.tail in
-    let head : IsEndFor I.period c.args.span Head (end_at ends (2 * q + 1)) = subst (λ t. IsEndFor t c.args.span Head (end_at ends (2 * q + 1))) (sym period) c.write_ends.ensures.head in
-    let tail_at = c.events_at-tail_at.ensures.tail ∙ ap (λ xs. (end_at xs (2 * q + 1)).looks_at) c.deref.ensures.value in
-    let head_at = c.events_at-tail_at.ensures.head ∙ ap (λ xs. (end_at xs (2 * q)).looks_at) c.deref.ensures.value in
-    let look : LookAt ends q (end_at inside.ends.items (2 * q + 1)).looks_at (end_at inside.ends.items (2 * q)).looks_at =
-    subst (λ k. LookAt ends q k (end_at inside.ends.items (2 * q)).looks_at) tail_at (subst (LookAt ends q c.events_at-tail_at.result.0) head_at c.write_ends.ensures.look)
-    in
-    span_written I J before ends inside.ends.len c.args.id q c.args.span ok inside.ends.ok.0 at keep tail head look (subst (StandFor I) (sym c.self.view_is) stand)
+    let put = (goal.at.returns-in-Some-clause-stand c).After-index_mut-in-Some in
+    let at = rw (sym c.self.view_is) at (sym c.activity.ensures ∙ c.in-Some.is) in
+    let (keep, tail, head, look) = wrote put in
+    let looks = rw (c.events_of-tail_at.ensures.from, c.events_of-tail_at.ensures.to, sym c.self.view_is) at look in
+    stands_for I J (edits.SetSpan c.args.id c.args.span) _ ok
+    (span_set I _ (remade put) c.args.id c.in-Some.place c.args.span at keep (rw (sym period) at tail) (rw (sym period) at head) looks (rw (sym c.self.view_is) at stand))
 
 pub returns-in-Some-clause-changed : goal.returns-in-Some-clause-changed
 returns-in-Some-clause-changed c =
-    let inside = c.self.inside in
-    let q : ℕ = c.in-Some.place in
-    let before : Links = record { events = inside.events; activities = inside.activities; ends = inside.ends.items; lists = inside.at.lists } in
-    let ends : List End = c.write_ends.new.ends in
-    let at : place_of inside.activities c.args.id ≡ Some q = ap (place_of inside.activities) (sym c.get.ensures.value) ∙ sym c.place.ensures ∙ c.in-Some.is in
-    let keep : KeepOthers inside.ends.items ends q = subst (λ xs. KeepOthers xs ends q) c.deref_mut.ensures.value c.write_ends.ensures.others in
-    let after : Links = record before { ends = written inside.ends.items inside.ends.len ends } in
-    if_some _ q (λ r. IsChangedAt c.args.self.now after r) (ap (λ (l : Links). place_of l.activities c.args.id) (sym c.self.view_is) ∙ at)
-    (subst (λ l. IsChangedAt l after q) c.self.view_is (changed_span before ends inside.ends.len q inside.ends.ok.0 keep))
+    let (keep, tail, head, look) = wrote (goal.at.returns-in-Some-clause-changed c).After-index_mut-in-Some in
+    rw (sym c.activity.ensures ∙ c.in-Some.is, sym c.self.view_is)
+    (record {
+      events = λ e. refl;
+      listed = λ p k i out. i;
+      ends = keep.others;
+    })

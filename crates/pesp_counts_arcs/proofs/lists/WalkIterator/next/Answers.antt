@@ -1,11 +1,11 @@
 -- The first item goes, and the one that stands after it is the next.
 use Rattle.std.proofs.Common.{◌≡◌, ℕ, ◌-◌, ◌<◌, ◌∷◌, List, length, slice_index_or, subst, sym, ap, ◌∙◌, arith}
 use Rattle.std.specs.List.{Contains}
-use Rattle.std.proofs.lemmas.List.{get_or-map}
 use Rattle.pesp_domains.proofs.Families.{here, there}
 use Rattle.pesp_counts_arcs.specs.declared.lists.Neighbours.{Neighbours}
 use Rattle.pesp_counts_arcs.specs.Lists.{afters, steps}
 use Rattle.pesp_counts_arcs.proofs.ListLaws.{steps_more}
+use Rattle.pesp_counts_arcs.proofs.RingStores.{field_read}
 use Rattle.pesp_counts_arcs.proofs.lists.WalkIterator.next.Goals as goal
 
 -- what is left begins with the item, which has a place
@@ -13,9 +13,6 @@ begun : (items : List Neighbours) (item left : ℕ) → ((k : ℕ) → Contains 
 begun items item left within some =
     let next = afters items in
     within item (subst (λ xs. Contains xs item) (sym (steps_more next item left some)) (here item (steps next (slice_index_or next item 0) (left - 1))))
-
-after_is : (items : List Neighbours) (item : ℕ) (found : Neighbours) → item < length items → found ≡ slice_index_or items item found → found.after ≡ slice_index_or (afters items) item 0
-after_is items item found below is = ap (λ (n : Neighbours). n.after) is ∙ sym (get_or-map (λ (n : Neighbours). n.after) items item found 0 below)
 
 pub index-requires : goal.index-requires
 index-requires c =
@@ -27,7 +24,7 @@ invariant_of-self c k i =
     let items = c.self.inside.items.now.items in
     let next = afters items in
     let below = begun items c.self.inside.item c.self.inside.left c.self.invariant c.if-self-eq0.false in
-    let same = after_is items c.self.inside.item c.index.result.now below c.index.ensures in
+    let same = field_read (λ n. n.after) items c.self.inside.item c.index.result.now below c.index.ensures in
     c.self.invariant k
     (subst (λ xs. Contains xs k) (sym (steps_more next c.self.inside.item c.self.inside.left c.if-self-eq0.false))
     (there k c.self.inside.item (steps next (slice_index_or next c.self.inside.item 0) (c.self.inside.left - 1))
@@ -38,7 +35,7 @@ returns-clause-steps c =
     let items = c.self.inside.items.now.items in
     let next = afters items in
     let below = begun items c.self.inside.item c.self.inside.left c.self.invariant c.if-self-eq0.false in
-    let same = after_is items c.self.inside.item c.index.result.now below c.index.ensures in
+    let same = field_read (λ n. n.after) items c.self.inside.item c.index.result.now below c.index.ensures in
     sym c.self.view_is ∙ steps_more next c.self.inside.item c.self.inside.left c.if-self-eq0.false
     ∙ ap (λ j. c.self.inside.item ∷ steps next j (c.self.inside.left - 1)) (sym same)
 

@@ -1,11 +1,15 @@
 -- The row has one residue more, and so the list has room for it.
-use Rattle.std.proofs.Common.{◌≡◌, ◌+◌, ◌*◌, ◌<◌, ℕ, false, All, length, slice_set, sym, ap, subst, ◌∙◌, refl, arith}
+use Rattle.std.proofs.Common.{◌≡◌, [], ◌∷◌, ◌++◌, ◌==◌, ◌||◌, ◌+◌, ◌*◌, ◌<◌, ℕ, false, true, All, length, slice_set, sym, ap, subst, ◌∙◌, refl, arith}
 use Rattle.std.proofs.lemmas.List.{length-set}
 use Rattle.std.proofs.lemmas.List.Elements.{All-get_or}
+use Rattle.pesp_domains.specs.Domains.{holds}
+use Rattle.pesp_counts_supports.specs.Blocks.{is_met_by, of_met}
 use Rattle.pesp_counts_supports.specs.Counts.{has_at}
+use Rattle.pesp_counts_supports.specs.Restored.{of_pair}
 use Rattle.pesp_counts_supports.specs.Supports.{Supports, held, joined}
-use Rattle.pesp_counts_supports.proofs.Brought.{brought_one}
+use Rattle.pesp_counts_supports.proofs.Brought.{brought_as, brought_one}
 use Rattle.pesp_counts_supports.proofs.Grown.{held_le, long_set}
+use Rattle.pesp_counts_supports.proofs.Meeting.{met_one}
 use Rattle.pesp_counts_supports.proofs.Raised.{has_put, held_put}
 use Rattle.pesp_counts_supports.proofs.supports.Supports.bring.Goals as goal
 use Rattle.pesp_counts_supports.proofs.supports.Supports.bring.Goals.{After-put_in}
@@ -23,18 +27,19 @@ facts c =
     let here = subst (λ (s : Supports). place < length s.rows) (sym c.self.view_is) c.requires.place in
     let long = ap length c.index_mut.ensures.value ∙ All-get_or (λ xs. length xs ≡ n) rows place item here v.rows in
     let below : c.args.residue < length item = omega (arith, long, ap (λ (s : Supports). s.period) c.self.view_is, c.requires.residue) in
-    let absent = ap (λ (s : Supports). has_at s.rows place c.args.residue) c.self.view_is ∙ sym c.holds.ensures ∙ c.if-not-holds.true in (
+    let absent = ap (λ (s : Supports). has_at s.rows place c.args.residue) c.self.view_is ∙ sym c.holds.ensures ∙ c.if-holds.false in
+    let put : (r : ℕ) → holds row r ≡ (holds item r || r == c.args.residue) = λ r. c.put_in.ensures.holds r ∙ ap (λ q. holds item r || r == q) c.at-residue.ensures.same in (
       long_set n place rows row item here v.rows c.index_mut.ensures.value c.put_in.ensures.long,
       absent,
-      held_put rows place c.args.residue row item here c.index_mut.ensures.value c.put_in.ensures.holds c.put_in.ensures.long below absent,
-      has_put rows place c.args.residue row item here c.index_mut.ensures.value c.put_in.ensures.holds,
+      held_put rows place c.args.residue row item here c.index_mut.ensures.value put c.put_in.ensures.long below absent,
+      has_put rows place c.args.residue row item here c.index_mut.ensures.value put,
     )
 
-pub push-requires : goal.push-requires
-push-requires c =
+pub push_reserved-requires : goal.push_reserved-requires
+push_reserved-requires c =
     let n = c.self.inside.period in
     let rows = c.self.inside.rows.items in
-    let (long, absent, more, put) = facts (goal.at.push-requires c).After-put_in in
+    let (long, absent, more, put) = facts (goal.at.push_reserved-requires c).After-put_in in
     let few = held_le n (slice_set rows c.args.place c.put_in.new.self) long in
     let area = ap (λ m. m * n) (length-set rows c.args.place c.put_in.new.self) in
     omega (arith, more, few, area, ap (λ (s : Supports). length s.rows * s.period) c.self.view_is, ap (λ (s : Supports). held s.rows) c.self.view_is, c.requires.room)
@@ -61,10 +66,18 @@ invariant_of-self c =
       fits = v.fits;
     }
 
-pub returns-then-not-holds-clause-brought : goal.returns-then-not-holds-clause-brought
-returns-then-not-holds-clause-brought c =
+pub returns-then-is_met-clause-brought : goal.returns-then-is_met-clause-brought
+returns-then-is_met-clause-brought c =
     let rows = c.self.inside.rows.items in
-    let (long, absent, more, put) = facts (goal.at.returns-then-not-holds-clause-brought c).After-put_in in
+    let place = c.args.place in
+    let q = c.args.residue in
+    let (long, absent, more, put) = facts (goal.at.returns-then-is_met-clause-brought c).After-put_in in
+    let sums = c.self.inside.sums.items in
+    let meets : is_met_by sums c.args.met q ≡ true =
+    ap (is_met_by sums c.args.met) (sym c.at-residue.ensures.same) ∙ ap (λ xs. is_met_by xs c.args.met c.at-residue.result) (sym c.deref.ensures.value) ∙ sym c.is_met.ensures ∙ c.if-is_met.true
+    in
+    let pushed = c.push_reserved.ensures.items ∙ ap (λ n. c.args.back.now.items ++ record { place = place; residue = n } ∷ []) c.at-residue.ensures.same in
     rw (← c.self.view_is)
-    (brought_one _ _ c.args.back.now c.push.new.self c.args.place c.args.residue absent c.push.ensures put refl refl
-    (record { period = refl; counts = refl; counted = refl; rows = length-set rows c.args.place c.put_in.new.self; room = refl }) more)
+    (brought_as (of_pair place q) (of_met sums c.args.met (of_pair place q)) _ _ c.args.back.now c.push_reserved.new.self (met_one sums c.args.met place q meets)
+    (brought_one _ _ c.args.back.now c.push_reserved.new.self place q absent pushed c.push_reserved.ensures.capacity put
+    (record { period = refl; counts = refl; counted = refl; many = length-set rows place c.put_in.new.self; room = refl; sums = refl }) refl more))

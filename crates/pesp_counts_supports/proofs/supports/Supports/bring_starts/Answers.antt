@@ -1,5 +1,5 @@
 -- One place more is open.
-use Rattle.std.proofs.Common.{◌+◌, ◌||◌, get_or, take, ◌∙◌}
+use Rattle.std.proofs.Common.{◌+◌, ◌||◌, get_or, take, arith}
 use Rattle.pesp_counts_supports.specs.Restored.{of_start, of_starts}
 use Rattle.pesp_counts_supports.proofs.AlongEnds.{starts_one}
 use Rattle.pesp_counts_supports.proofs.Brought.{brought_as, brought_then}
@@ -15,9 +15,8 @@ loop-place-preserved c =
     let new = of_start I links (get_or starts i 0) in
     let inv = c.loop-place.invariant in
     record {
-      counts = c.bring_start.ensures.counts ∙ inv.counts;
       brought = brought_as (λ p r. may p r || new p r) (of_starts I links (take (i + 1) starts)) c.args.self.now c.bring_start.new.self c.args.back.now c.bring_start.new.back
           (starts_one I links starts i c.loop-place-test.true)
           (brought_then may new c.args.self.now c.loop-place.self c.bring_start.new.self c.args.back.now c.loop-place.back c.bring_start.new.back inv.brought c.bring_start.ensures.brought);
-      probes = c.bring_start.ensures.probes ∙ inv.probes;
+      probes = omega (arith, c.bring_start.ensures.probes, inv.probes);
     }

@@ -31,13 +31,13 @@ loop-end-preserved c =
     c.count.ensures ∙ ap (λ n. count_at inside.period inside.counts.values m n) c.at-residue.ensures.same ∙ ap (λ (t : Supports). count_at t.period t.counts m r) same
     in
     let some : (count_at s.period s.counts m r == 0) ≡ false = ne_eqb _ 0 (λ none. c.if-count-eq0.false (count ∙ none)) in
-    let few : c.at-residue.new.self ≤ inside.probes + 1 = at_most inside.probes 1 most_probes c.at-residue.new.self c.at-residue.ensures.counted in
+    let few : c.at-residue.new.probes ≤ inside.probes + 1 = at_most inside.probes 1 most_probes c.at-residue.new.probes c.at-residue.ensures.counted in
     let probes : inside.probes ≡ c.loop-end.self.probes = ap (λ (t : Supports). t.probes) c.self.view_is in
     record {
       can = tt;
       finite = tt;
       listed = λ k i. inv.listed k (subst (λ xs. Contains xs k) (sym c.in-Some.ensures.steps) (there k m rest i));
       lacks = inv.lacks ∙ ap (list_any (λ k. count_at s.period s.counts k r == 0)) c.in-Some.ensures.steps ∙ rw some refl;
-      same = ap (λ (t : Supports). record { period = t.period; counts = t.counts; counted = t.counted; rows = t.rows; trail = t.trail; room = t.room; sums = t.sums; probes = c.at-residue.new.self }) same;
+      same = ap (λ (t : Supports). record { period = t.period; counts = t.counts; counted = t.counted; rows = t.rows; trail = t.trail; room = t.room; sums = t.sums; probes = c.at-residue.new.probes }) same;
       probes = omega (arith, few, probes, inv.probes, ap length c.in-Some.ensures.steps);
     }

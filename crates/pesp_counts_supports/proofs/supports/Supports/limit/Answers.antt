@@ -1,8 +1,8 @@
 -- Another residue goes, if it is there.
-use Rattle.std.proofs.Common.{◌≡◌, ◌==◌, ◌&&◌, not, ℕ, Bool, true, false, refl, sym, ◌∙◌}
+use Rattle.std.proofs.Common.{arith, ◌≡◌, ◌==◌, ◌&&◌, not, ℕ, Bool, true, false, refl, sym, ◌∙◌}
 use Rattle.std.proofs.lemmas.Bool.{eq-eqb, ne_eqb}
 use Rattle.pesp_counts_supports.specs.Counts.{has_at}
-use Rattle.pesp_counts_supports.proofs.Ranges.{no_and}
+use Rattle.std.proofs.Math.Bool.{and-false as no_and}
 use Rattle.pesp_counts_supports.proofs.Rows.{clears_passed, clears_taken}
 use Rattle.pesp_counts_supports.proofs.Taken.{kept_then, taken_then}
 use Rattle.pesp_counts_supports.proofs.supports.Supports.limit.Goals as goal
@@ -21,7 +21,7 @@ loop-other-preserved c =
           let goes : f other ≡ true = rw (ne_eqb other c.args.residue w.if-other-residue.true) refl in
           rw w.self-is
           (record {
-            rows = clears_taken c.args.place f start.rows other now.rows after.rows goes w.take_out.ensures.rows inv.rows;
+            rows = clears_taken c.args.place f 0 start.rows other now.rows after.rows (omega arith) goes w.take_out.ensures.rows inv.rows;
             taken = taken_then start now after inv.taken w.take_out.ensures.taken;
             keeps = kept_then start now after inv.keeps w.take_out.ensures.keeps;
             probes = w.take_out.ensures.probes ∙ inv.probes;
@@ -38,7 +38,7 @@ loop-other-preserved c =
           in
           rw w.self-is
           (record {
-            rows = clears_passed c.args.place f start.rows other now.rows stays inv.rows;
+            rows = clears_passed c.args.place f 0 start.rows other now.rows stays inv.rows;
             taken = inv.taken;
             keeps = inv.keeps;
             probes = inv.probes;

@@ -6,7 +6,7 @@ use Rattle.pesp_counts_supports.proofs.supports.Supports.limit.Given as goal
 
 abbrev pub invariant-loop-other : goal.invariant-loop-other
 invariant-loop-other l = record {
-  rows : Clears l.place (λ r. not (r == l.residue)) l.other l.fn.self.rows l.self.rows;
+  rows : Clears l.place (λ r. not (r == l.residue)) 0 l.other l.fn.self.rows l.self.rows;
   taken : IsTaken l.fn.self l.self;
   keeps : Keeps l.fn.self l.self;
   probes : l.self.probes ≡ l.fn.self.probes;

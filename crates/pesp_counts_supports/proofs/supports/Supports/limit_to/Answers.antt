@@ -1,9 +1,9 @@
 -- A residue that is not of the window goes, if it is there.
-use Rattle.std.proofs.Common.{◌≡◌, ◌&&◌, not, ℕ, Bool, true, false, refl, ap, sym, ◌∙◌}
+use Rattle.std.proofs.Common.{arith, ◌≡◌, ◌&&◌, not, ℕ, Bool, true, false, refl, ap, sym, ◌∙◌}
 use Rattle.pesp_base.specs.Windows.{is_held}
 use Rattle.pesp_counts_supports.specs.Counts.{has_at}
 use Rattle.pesp_counts_supports.specs.Supports.{Supports}
-use Rattle.pesp_counts_supports.proofs.Ranges.{no_and}
+use Rattle.std.proofs.Math.Bool.{and-false as no_and}
 use Rattle.pesp_counts_supports.proofs.Rows.{clears_passed, clears_taken}
 use Rattle.pesp_counts_supports.proofs.Taken.{kept_then, taken_then}
 use Rattle.pesp_counts_supports.proofs.supports.Supports.limit_to.Goals as goal
@@ -24,7 +24,7 @@ loop-other-preserved c =
           let goes : f other ≡ true = ap not (held ∙ w.if-not-holds.true) in
           rw w.self-is
           (record {
-            rows = clears_taken c.args.place f start.rows other now.rows after.rows goes w.take_out.ensures.rows inv.rows;
+            rows = clears_taken c.args.place f 0 start.rows other now.rows after.rows (omega arith) goes w.take_out.ensures.rows inv.rows;
             taken = taken_then start now after inv.taken w.take_out.ensures.taken;
             keeps = kept_then start now after inv.keeps w.take_out.ensures.keeps;
             probes = w.take_out.ensures.probes ∙ inv.probes;
@@ -42,7 +42,7 @@ loop-other-preserved c =
           in
           rw w.self-is
           (record {
-            rows = clears_passed c.args.place f start.rows other now.rows stays inv.rows;
+            rows = clears_passed c.args.place f 0 start.rows other now.rows stays inv.rows;
             taken = inv.taken;
             keeps = inv.keeps;
             probes = inv.probes;

@@ -1,14 +1,14 @@
 -- The rows hold one pair more, and the counts are those of the rows with it.
-use Rattle.std.proofs.Common.{◌≡◌, ◌+◌, ◌*◌, ◌<◌, ◌≤◌, ◌++◌, ◌∷◌, [], length, slice_set, vec_capacity, subst, sym, ap, ◌∙◌, refl, false, arith}
+use Rattle.std.proofs.Common.{◌≡◌, ◌*◌, ◌<◌, ◌≤◌, ◌++◌, ◌∷◌, [], length, subst, sym, ap, ◌∙◌, refl, false, arith, get_or, drop}
 use Rattle.std.proofs.lemmas.List.{length-set, length_push}
 use Rattle.std.proofs.lemmas.List.Elements.{All-get_or}
 use Rattle.pesp_counts_supports.specs.Counts.{has_at}
-use Rattle.pesp_counts_supports.specs.Returning.{AreReturning}
-use Rattle.pesp_counts_supports.specs.Supports.{HaveSameShape, Supports, joined}
+use Rattle.pesp_counts_supports.specs.Supports.{Supports, joined}
 use Rattle.pesp_counts_supports.proofs.Grown.{long_set}
 use Rattle.pesp_counts_supports.proofs.Raised.{has_put, held_put}
-use Rattle.pesp_counts_supports.proofs.Returned.{last_below, last_out, last_row, returning_last}
-use Rattle.pesp_counts_supports.proofs.Taken.{shape_then}
+use Rattle.pesp_counts_supports.proofs.Parted.{stands_from}
+use Rattle.std.proofs.Math.Seq.{get_or-append_seam}
+use Rattle.pesp_counts_supports.proofs.Returned.{known_of, returning_last}
 use Rattle.pesp_counts_supports.proofs.supports.Supports.put_last.Goals as goal
 use Rattle.pesp_counts_supports.proofs.supports.Supports.put_last.Goals.{After-take_last-pair}
 
@@ -21,9 +21,10 @@ facts c =
     let x = c.take_last-pair.result in
     let is = subst (λ (s : Supports). s.trail ≡ rest ++ x ∷ []) c.self.view_is c.take_last-pair.ensures.items in
     let more : c.args.mark ≤ length rest = omega (arith, c.requires.more, ap length c.count_last.ensures.trail, ap length is, length_push rest x) in
-    let out = c.count_last.ensures.returning.out in
+    let at = ap (λ xs. get_or xs (length rest) x) is ∙ get_or-append_seam rest x [] x in
+    let stands = stands_from mid.trail c.args.mark (length rest) x more (omega (arith, ap length is, length_push rest x)) at in
     subst (λ (s : Supports). (x.place < length s.rows) × (x.residue < s.period) × (has_at s.rows x.place x.residue ≡ false)) (sym c.self.view_is)
-    (last_row c.args.mark mid out rest x is more, last_below c.args.mark mid out rest x is more, last_out c.args.mark mid out rest x is more)
+    (known_of mid (drop c.args.mark mid.trail) x c.count_last.ensures.returning.out stands)
 
 pub index_mut-requires : goal.index_mut-requires
 index_mut-requires c = let (here, below, out) = facts (goal.at.index_mut-requires c).After-take_last-pair in omega (arith, here, c.self.invariant.even)
@@ -75,54 +76,35 @@ invariant_of-self c =
       fits = v.fits;
     }
 
-pub returns : goal.returns
-returns c =
-    let start = c.args.self.now in
-    let links = c.args.links.now in
+pub returns-clause-returning : goal.returns-clause-returning
+returns-clause-returning c =
     let mid = c.count_last.new.self in
+    let view = c.self.view_is in
     let x = c.take_last-pair.result in
-    let place = x.place in
     let rest = c.take_last-pair.new.self.items in
     let rows = c.self.inside.rows.items in
     let counted = c.self.inside.counted.items in
     let does = c.count_last.ensures in
-    let (here, inside, out) = facts (goal.at.returns c).After-take_last-pair in
-    let there : place < length counted = omega (arith, here, c.self.invariant.even) in
-    let trail_is = ap (λ (s : Supports). s.trail) c.self.view_is in
-    let is = sym trail_is ∙ c.take_last-pair.ensures.items in
+    let (here, inside, out) = facts (goal.at.returns-clause-returning c).After-take_last-pair in
+    let is = subst (λ (s : Supports). s.trail ≡ rest ++ x ∷ []) view c.take_last-pair.ensures.items in
     let more : c.args.mark ≤ length rest = omega (arith, c.requires.more, ap length does.trail, ap length is, length_push rest x) in
-    let before = subst (λ (s : Supports). AreReturning links s c.args.mark) (sym c.self.view_is) does.returning in
-    let none : has_at counted place x.residue ≡ false = ap (λ (s : Supports). has_at s.counted place x.residue) c.self.view_is ∙ does.last rest x (sym does.trail ∙ is) in
-    let put = has_put rows place x.residue c.put_in-2.new.self c.index_mut-2.result.now here c.index_mut-2.ensures.value c.put_in-2.ensures.holds in
-    let then : Supports = record {
-      period = c.self.inside.period;
-      counts = c.self.inside.counts.values;
-      counted = counted;
-      rows = rows;
-      trail = c.self.inside.trail.items;
-      room = vec_capacity c.self.inside.trail;
-      sums = c.self.inside.sums.items;
-      probes = c.self.inside.probes;
-    }
-    in
-    let after : Supports = record then {
-      counted = slice_set counted place c.put_in.new.self;
-      rows = slice_set rows place c.put_in-2.new.self;
-      trail = rest;
-      room = vec_capacity c.take_last-pair.new.self;
-    }
-    in
-    let shape : HaveSameShape then after = record {
-      period = refl;
-      counts = refl;
-      counted = length-set counted place c.put_in.new.self;
-      rows = length-set rows place c.put_in-2.new.self;
-      room = c.take_last-pair.ensures.capacity;
-    }
-    in
-    record {
-      returning = returning_last c.args.mark then before.out rest x c.take_last-pair.ensures.items more links after before none put
-          (has_put counted place x.residue c.put_in.new.self c.index_mut.result.now there c.index_mut.ensures.value c.put_in.ensures.holds) refl refl shape;
-      last = (x, sym does.trail ∙ is, λ p r. put p r ∙ ap (λ xs. joined (has_at xs) place x.residue p r) (ap (λ (s : Supports). s.rows) c.self.view_is ∙ does.rows));
-      shape = shape_then start mid after does.shape (subst (λ (s : Supports). HaveSameShape s after) c.self.view_is shape);
-    }
+    returning_last c.args.mark mid does.returning.out rest x is more c.args.links.now _ does.returning (does.last rest x (sym does.trail ∙ is))
+    (λ p r. has_put rows x.place x.residue c.put_in-2.new.self c.index_mut-2.result.now here c.index_mut-2.ensures.value c.put_in-2.ensures.holds p r ∙ ap (λ (s : Supports). joined (has_at s.rows) x.place x.residue p r) view)
+    (λ p r. has_put counted x.place x.residue c.put_in.new.self c.index_mut.result.now (omega (arith, here, c.self.invariant.even)) c.index_mut.ensures.value c.put_in.ensures.holds p r ∙ ap (λ (s : Supports). joined (has_at s.counted) x.place x.residue p r) view)
+    refl (ap (λ (s : Supports). s.counts) view)
+    (record {
+      period = ap (λ (s : Supports). s.period) view;
+      counts = ap (λ (s : Supports). length s.counts) view;
+      counted = length-set counted x.place c.put_in.new.self ∙ ap (λ (s : Supports). length s.counted) view;
+      rows = length-set rows x.place c.put_in-2.new.self ∙ ap (λ (s : Supports). length s.rows) view;
+      room = c.take_last-pair.ensures.capacity ∙ ap (λ (s : Supports). s.room) view;
+    })
+
+pub returns-clause-last : goal.returns-clause-last
+returns-clause-last c =
+    let x = c.take_last-pair.result in
+    let rows = c.self.inside.rows.items in
+    let does = c.count_last.ensures in
+    let (here, inside, out) = facts (goal.at.returns-clause-last c).After-take_last-pair in
+    let put = has_put rows x.place x.residue c.put_in-2.new.self c.index_mut-2.result.now here c.index_mut-2.ensures.value c.put_in-2.ensures.holds in
+    (x, sym does.trail ∙ sym (ap (λ (s : Supports). s.trail) c.self.view_is) ∙ c.take_last-pair.ensures.items, λ p r. put p r ∙ ap (λ xs. joined (has_at xs) x.place x.residue p r) (ap (λ (s : Supports). s.rows) c.self.view_is ∙ does.rows))

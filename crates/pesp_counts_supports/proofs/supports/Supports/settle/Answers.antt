@@ -2,7 +2,7 @@
 use Rattle.std.proofs.Common.{◌≡◌, ℕ, ◌+◌, ◌*◌, ◌<◌, ◌≤◌, length, drop, ap, subst, arith, rules}
 use Rattle.std.proofs.Math.Nat.{mul-le-mul_left}
 use Rattle.pesp_counts_supports.specs.Counts.{ArePending, KeepsClosed, has_at}
-use Rattle.pesp_counts_supports.specs.Leaving.{owed}
+use Rattle.pesp_counts_supports.specs.Moves.{owed}
 use Rattle.pesp_counts_supports.specs.Spent.{ends_at}
 use Rattle.pesp_counts_supports.specs.Supports.{Supports}
 use Rattle.pesp_counts_supports.proofs.Parted.{owed_most}

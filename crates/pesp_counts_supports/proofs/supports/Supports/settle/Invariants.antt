@@ -1,7 +1,7 @@
 -- The pairs of the trail before the next one are counted out, and what the others owe is kept.
 use Rattle.std.proofs.Common.{◌+◌, ◌-◌, ◌*◌, ◌≤◌, drop}
 use Rattle.pesp_counts_supports.specs.Counts.{ArePending, KeepsClosed, has_at}
-use Rattle.pesp_counts_supports.specs.Leaving.{owed}
+use Rattle.pesp_counts_supports.specs.Moves.{owed}
 use Rattle.pesp_counts_supports.specs.Supports.{HaveSameShape, IsTaken}
 use Rattle.pesp_counts_supports.specs.Spent.{ends_at}
 use Rattle.pesp_counts_supports.proofs.supports.Supports.settle.Given as goal

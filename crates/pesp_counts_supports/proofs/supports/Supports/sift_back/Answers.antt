@@ -9,7 +9,7 @@ use Rattle.pesp_counts_arcs.specs.Ends.{ends_of}
 use Rattle.pesp_counts_supports.specs.Counts.{count_at, has_at}
 use Rattle.pesp_counts_supports.specs.Supports.{Supports, lacks_partner}
 use Rattle.pesp_counts_supports.proofs.PutBack.{Sifts, sifts_passed, sifts_taken}
-use Rattle.pesp_counts_supports.proofs.Ranges.{no_and}
+use Rattle.std.proofs.Math.Bool.{and-false as no_and}
 use Rattle.pesp_counts_supports.proofs.Spent.{looked_keeps, looked_taken}
 use Rattle.pesp_counts_supports.proofs.Taken.{kept_shape, kept_then, taken_then, fit_then}
 use Rattle.pesp_counts_supports.proofs.supports.Supports.sift_back.Goals as goal

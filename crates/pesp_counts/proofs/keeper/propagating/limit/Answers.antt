@@ -1,1 +1,0 @@
--- The window leaves what it admits, and with none all is left.

@@ -1,0 +1,104 @@
+-- Sums of a row and another one by other names, sums of one residue alone, and the residues of a window.
+use Rattle.std.proofs.Common.{◌≡◌, ◌≢◌, ◌==◌, cond, ℕ, zero, suc, ◌+◌, ◌-◌, ◌*◌, ◌%◌, ◌<◌, ◌≤◌, pos, ◌-ℤ◌, ◌⊎◌, ◌&&◌, nat_lt, Bool, IsTrue, true, false, List, Option, ◌++◌, drop, take, length, get_or, refl, sym, ap, subst, ◌∙◌, inl, inr, arith}
+use Rattle.std.proofs.lemmas.Bool.Decides.{nat_tests}
+use Rattle.std.proofs.Math.Nat.{add-mod_left}
+use Rattle.std.proofs.lemmas.Bool.{cases_lt, lt-ltb}
+use Rattle.std.proofs.lemmas.Grind.{common_steps}
+use Rattle.pesp_counts_arcs.proofs.EndRanges.{far_above, far_below, mod_below}
+use Rattle.pesp_base.specs.Tensions.{residue}
+use Rattle.pesp_base.specs.Windows.{Interval, is_held}
+use Rattle.pesp_base.proofs.WindowLaws.{steps}
+use Rattle.pesp_counts_arcs.specs.declared.end.End.{End}
+use Rattle.pesp_counts_arcs.specs.declared.end.Ranges.{Ranges}
+use Rattle.pesp_counts_arcs.specs.Ends.{is_from_to, passes}
+use Rattle.pesp_counts_supports.specs.declared.moving.Way.TheVariants.{In}
+use Rattle.pesp_counts_supports.specs.Blocks.{AreSums, is_beyond, sum_below}
+use Rattle.pesp_counts_supports.specs.Counts.{count_at, supporters}
+use Rattle.pesp_counts_supports.specs.Moves.{CanShift, IsShifted}
+use Rattle.pesp_counts_supports.specs.Restored.{AreRanges, in_ranges, size_of}
+use Rattle.pesp_counts_supports.proofs.Partners.{around_le, not_below, supporters_around}
+use Rattle.pesp_counts_supports.proofs.Raised.{block_out}
+use Rattle.pesp_counts_supports.proofs.Supporters.{one}
+
+-- the same sums by other names of the period and the rows
+pub sums_as : (T T' : ℕ) (row row' : List Bool) (other other' : Option (List Bool)) (sums : List ℕ) → T ≡ T' → row ≡ row' → other ≡ other' → AreSums T (is_beyond row other) sums → AreSums T' (is_beyond row' other') sums
+sums_as T T' row row' other other' sums is one two are =
+    subst (λ n. AreSums n (is_beyond row' other') sums) is
+    (subst (λ xs. AreSums T (is_beyond xs other') sums) one
+    (subst (λ xs. AreSums T (is_beyond row xs) sums) two are))
+
+-- what a slice of a vector becomes, the vector holds
+pub sums_written : (ws xs : List ℕ) (len : ℕ) → len ≡ length xs → length ws ≡ length xs → take len (ws ++ drop (length ws) xs) ≡ ws
+sums_written ws xs len is same = grind (arith, common_steps)
+
+-- below one residue there is none of it, and one after it
+pub lone_below : (T q i : ℕ) → i ≤ T → sum_below T (λ r. r == q) i ≡ one (nat_lt q i)
+lone_below T q zero le = grind (arith, nat_tests)
+lone_below T q (suc i) le =
+    let rest = lone_below T q i (omega (arith, le)) in
+    let here : i % T ≡ i = mod_below T i (omega (arith, le)) in
+    grind (arith, nat_tests, rest, here)
+
+-- of all residues of a period one is that one
+pub lone_all : (T q : ℕ) → q < T → 1 ≡ sum_below T (λ r. r == q) T
+lone_all T q low = grind (arith, nat_tests, lone_below T q T)
+
+-- ---- the counts of an end anew
+
+-- they are 0 first, and then move in
+module _ (T high number base : ℕ) (before zeros after : List ℕ) (high_is : high ≡ T) (base_is : base ≡ number * T) where
+  pub counted_anew : (r many : ℕ) → r < T → ((i : ℕ) → base ≤ i → i < base + high → get_or zeros i 0 ≡ 0) → IsShifted In (cond (number == number && is_from_to 0 high r) many 0) (count_at T zeros number r) (count_at T after number r) → count_at T after number r ≡ many
+  counted_anew r many rl none moved =
+      let was : count_at T zeros number r ≡ 0 = none (number * T + r) (omega (arith, base_is)) (omega (arith, base_is, rl, high_is)) in
+      grind (arith, nat_tests, rl, high_is, was, moved)
+
+  pub count_elsewhere : (k r many : ℕ) → r < T → k ≢ number → ((i : ℕ) → (i < base) ⊎ (base + high ≤ i) → get_or zeros i 0 ≡ get_or before i 0) → IsShifted In (cond (k == number && is_from_to 0 high r) many 0) (count_at T zeros k r) (count_at T after k r) → count_at T after k r ≡ count_at T before k r
+  count_elsewhere k r many rl apart out moved =
+      let far = block_out T k number r apart rl in
+      let was : count_at T zeros k r ≡ count_at T before k r = out (k * T + r) (grind (arith, far, base_is, high_is)) in
+      grind (arith, nat_tests, moved, was)
+
+-- no more are in a window than it is wide, so that a count of 0 has room for them
+pub can_come : (T : ℕ) (D : ℕ → Bool) (end : End) (r count : ℕ) → 0 < T → end.width ≤ T → count ≡ 0 → CanShift T In (supporters T D (passes T end r)) count
+can_come T D end r count some width none =
+    let is = supporters_around T D end r some width in
+    let few = around_le T D (r + end.first) end.width in
+    omega (arith, is, few, none, width)
+
+-- what is in a range is below its end, and from its start on
+pub from_to_below : (low high r : ℕ) → IsTrue (is_from_to low high r) → r < high
+from_to_below low high r h = grind (arith, nat_tests)
+
+-- ---- the residues of a window
+
+-- what goes with residue 0 at an end is what the window of the end holds
+pub passes_held : (T : ℕ) (window : Interval) (end : End) (r : ℕ) → end.first ≡ window.first → end.width ≡ window.length → window.first < T → r < T → passes T end 0 r ≡ is_held T window r
+passes_held T window end r first_is width_is first rl =
+    let k : ℕ = r + (T - window.first) in
+    let turned : window.first + k ≡ T + r = omega (arith, first) in
+    let around : (window.first + k) % T ≡ r = rw turned (add-mod_left T r ∙ mod_below T r rl) in
+    let far : residue T (pos r -ℤ pos window.first) ≡ k % T = ap (λ s. residue T (pos s -ℤ pos window.first)) (sym around) ∙ steps T window.first k (omega (arith, rl)) in
+    let from : (0 + end.first) % T ≡ window.first = rw first_is (ap (λ n. n % T) (omega arith) ∙ mod_below T window.first first) in
+    let below : nat_lt r T ≡ true = lt-ltb r T rl in
+    rw (from, width_is, below, far) refl
+
+-- not all residues are in a window that is shorter than the period
+some_out : (T : ℕ) (end : End) → end.first < T → end.width < T → (r : ℕ) × (r < T) × (passes T end 0 r ≡ false)
+some_out T end first width =
+    let from : (0 + end.first) % T ≡ end.first = ap (λ n. n % T) (omega arith) ∙ mod_below T end.first first in
+    elim (cases_lt (end.first + end.width) T) [
+      | inl low ↦
+          let r : ℕ = end.first + end.width in
+          let far : (r + (T - end.first)) % T ≡ end.width = far_above T end.first r first low (omega arith) ∙ omega arith in
+          (r, low, rw (from, far) (not_below end.width))
+      | inr high ↦
+          let r : ℕ = end.first + end.width - T in
+          let far : (r + (T - end.first)) % T ≡ end.width = far_below T end.first r first (omega (arith, first, width, high)) ∙ omega (arith, first, width, high) in
+          (r, omega (arith, first, width, high), rw (from, far) (not_below end.width))
+    ]
+
+-- so they are fewer where a window shorter than the period has them
+pub window_few : (T : ℕ) (end : End) (w : Ranges) → AreRanges T w → end.first < T → end.width < T → ((s : ℕ) → s < T → passes T end 0 s ≡ in_ranges w s) → size_of w < T
+window_few T end w are first width passed =
+    let (r, rl, out) = some_out T end first width in
+    grind (arith, nat_tests, are.order, are.below, are.wrapped, rl, passed r rl, out)

@@ -1,7 +1,0 @@
--- Found by search, and named so that a wrong body is refused here at once.
-use Rattle.std.proofs.Common.{arith}
-use Rattle.std.proofs.lemmas.Grind.{common_steps}
-use Rattle.pesp_counts_supports.proofs.supports.Supports.count_pair.Goals as goal
-
-pub returns-clause-counted : goal.returns-clause-counted
-returns-clause-counted c = grind (arith, common_steps)

@@ -1,0 +1,115 @@
+//! Sums of the residues that move: how many of them a window holds is the difference of two.
+
+ghost use Rattle.std.specs.Prelude.{◌≡◌, ◌<◌, ◌≤◌, ◌*◌, ◌+◌, ◌==◌, ℕ, length, option_map, slice_index_or};
+ghost use Rattle.pesp_base.specs.Limits.{greatest_period};
+ghost use Rattle.pesp_counts_supports.specs.Blocks.{AreSums, is_beyond, sum_below};
+ghost use Rattle.pesp_counts_supports.specs.Moves.{waiting_at};
+
+use crate::moving::Way;
+use crate::supports::Supports;
+use pesp_domains::Row;
+
+/// Whether the one row holds the residue and the other, where there is one, lacks it.
+fn holds_beyond(row: &Row, other: Option<&Row>, residue: u16) -> bool
+    ensures { result ≡ is_beyond row.now (option_map (λ o. o.now) other.entry) residue }
+{
+    match other {
+        Some(other) => row.holds(residue) && !other.holds(residue),
+        None => row.holds(residue),
+    }
+}
+
+/// Makes the sums of one period, and tells how many residues they are of.
+fn sum_once(row: &Row, other: Option<&Row>, period: u16, sums: &mut [u16]) -> u16
+    requires period { period ≤ greatest_period }
+    requires long { 3 * period < length sums.old }
+    ensures long { length sums.new ≡ length sums.old }
+    ensures sums { (i : ℕ) → i < period
+        → slice_index_or sums.new i 0 ≡ sum_below period (is_beyond row.now (option_map (λ o. o.now) other.entry)) i }
+    ensures many { result ≡ sum_below period (is_beyond row.now (option_map (λ o. o.now) other.entry)) period }
+    ensures few { result ≤ period }
+{
+    let mut many = 0;
+    for residue in 0..period {
+        sums[residue as usize] = many;
+        many += u16::from(holds_beyond(row, other, residue));
+    }
+    many
+}
+
+/// Makes the sums of one period for one residue alone.
+fn sum_one_once(residue: u16, period: u16, sums: &mut [u16])
+    requires period { period ≤ greatest_period }
+    requires long { 3 * period < length sums.old }
+    ensures long { length sums.new ≡ length sums.old }
+    ensures sums { (i : ℕ) → i < period
+        → slice_index_or sums.new i 0 ≡ sum_below period (λ r. r == residue) i }
+{
+    for at in 0..period {
+        sums[at as usize] = u16::from(residue < at);
+    }
+}
+
+/// Goes on with the sums of one period through two more, in each of which as many residues are.
+fn sum_on(sums: &mut [u16], period: u16, many: u16)
+    requires period { period ≤ greatest_period }
+    requires some { 0 < period }
+    requires long { 3 * period < length sums.old }
+    requires low { (i : ℕ) → i < period → slice_index_or sums.old i 0 ≤ many }
+    requires few { many ≤ period }
+    ensures long { length sums.new ≡ length sums.old }
+    ensures once { (i : ℕ) → i < period
+        → slice_index_or sums.new i 0 ≡ slice_index_or sums.old i 0 }
+    ensures on { (i : ℕ) → i ≤ 2 * period
+        → slice_index_or sums.new (period + i) 0 ≡ slice_index_or sums.new i 0 + many }
+{
+    let once = period as usize;
+    for at in 0..2 * once + 1 {
+        sums[once + at] = sums[at] + many;
+    }
+}
+
+/// Makes the sums of the residues that the one row holds and the other, where there is one, lacks, and tells how many they are.
+pub(crate) fn sum_beyond(row: &Row, other: Option<&Row>, period: u16, sums: &mut [u16]) -> u16
+    requires period { period ≤ greatest_period }
+    requires some { 0 < period }
+    requires long { 3 * period < length sums.old }
+    ensures long { length sums.new ≡ length sums.old }
+    ensures sums { AreSums period (is_beyond row.now (option_map (λ o. o.now) other.entry)) sums.new }
+    ensures many { result ≡ sum_below period (is_beyond row.now (option_map (λ o. o.now) other.entry)) period }
+{
+    let many = sum_once(row, other, period, sums);
+    sum_on(sums, period, many);
+    many
+}
+
+/// Makes the sums of one residue alone.
+pub(crate) fn sum_one(residue: u16, period: u16, sums: &mut [u16])
+    requires period { period ≤ greatest_period }
+    requires residue { residue < period }
+    requires long { 3 * period < length sums.old }
+    ensures long { length sums.new ≡ length sums.old }
+    ensures sums { AreSums period (λ r. r == residue) sums.new }
+{
+    sum_one_once(residue, period, sums);
+    sum_on(sums, period, 1);
+}
+
+impl Supports {
+    /// Makes the sums of the residues at a place that wait to leave the counts or to come to them, and tells how many they are.
+    pub(crate) fn sum_waiting(&mut self, place: usize, way: Way) -> u16
+        requires place { place < length (self.old).rows }
+        ensures sums { AreSums (self.old).period (waiting_at way self.old place) (self.new).sums }
+        ensures many { result ≡ sum_below (self.old).period (waiting_at way self.old place)
+            (self.old).period }
+        ensures same { self.new ≡ record self.old { sums = (self.new).sums } }
+    {
+        let period = self.period.get();
+        let row = &self.rows[place];
+        let counted = &self.counted[place];
+        match way {
+            Way::Out => sum_beyond(counted, Some(row), period, &mut self.sums),
+            Way::In => sum_beyond(row, Some(counted), period, &mut self.sums),
+        }
+    }
+}
