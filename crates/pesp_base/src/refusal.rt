@@ -24,8 +24,8 @@ pub enum Refusal {
     TooManyEvents,
     /// There are as many activities as there may be.
     TooManyActivities,
-    /// The event has no window.
-    NoWindow(EventId),
+    /// The event has no window, so it is not fixed.
+    NotFixed(EventId),
     /// The allocator refused.
     Memory,
     /// The event has no time.
@@ -50,7 +50,7 @@ impl Refusal {
             Refusal::NoActivity(_) => 6,
             Refusal::TooManyEvents => 7,
             Refusal::TooManyActivities => 8,
-            Refusal::NoWindow(_) => 9,
+            Refusal::NotFixed(_) => 9,
             Refusal::Memory => 10,
             Refusal::MissingTime(_) => 11,
             Refusal::Infeasible => 12,

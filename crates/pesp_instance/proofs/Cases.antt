@@ -30,7 +30,7 @@ event_in_use = refl
 event_exists : edited two (do_.AddEvent 1) ≡ Err (no.EventExists 1)
 event_exists = refl
 
-not_fixed : edited two (do_.Unfix 1) ≡ Err (no.NoWindow 1)
+not_fixed : edited two (do_.Unfix 1) ≡ Err (no.NotFixed 1)
 not_fixed = refl
 
 -- the first time that is out of range is the period

@@ -32,7 +32,7 @@ refusals I (Fix e t) = no_event I e ∷ when (nat_le I.period t) (no.TimeOutOfRa
 refusals I (SetWindow e first length) =
     no_event I e ∷ when (nat_le I.period first) (no.TimeOutOfRange first)
     ∷ when (length == 0 || nat_lt I.period length) (no.LengthOutOfRange length) ∷ []
-refusals I (Unfix e) = no_event I e ∷ when (is_none (window_of I e)) (no.NoWindow e) ∷ []
+refusals I (Unfix e) = no_event I e ∷ when (is_none (window_of I e)) (no.NotFixed e) ∷ []
 refusals I (AddActivity a) =
     when (is_some (activity_of I a.id)) (no.ActivityExists a.id) ∷ no_event I a.from ∷ no_event I a.to
     ∷ when (nat_le (max_activities I.period) (length I.activities)) no.TooManyActivities ∷ []

@@ -129,7 +129,7 @@ impl Instance {
             return Err(Refusal::NoEvent(event));
         };
         if self.vertices.at(slot).event.window.is_none() {
-            return Err(Refusal::NoWindow(event));
+            return Err(Refusal::NotFixed(event));
         }
         self.vertices.rewindow(slot, None);
         Ok(())

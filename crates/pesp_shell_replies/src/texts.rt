@@ -116,7 +116,7 @@ pub fn put_refusal(text: &mut Vec<u8>, refusal: Refusal) -> Result<(), AllocErro
         }
         Refusal::TooManyEvents => put(text, b"refused 7 too many events\n"),
         Refusal::TooManyActivities => put(text, b"refused 8 too many activities\n"),
-        Refusal::NoWindow(event) => put_event(text, b"refused 9 event ", event, b" is not fixed\n"),
+        Refusal::NotFixed(event) => put_event(text, b"refused 9 event ", event, b" is not fixed\n"),
         Refusal::Memory => Err(AllocError),
         Refusal::MissingTime(event) => {
             put_event(text, b"refused 11 event ", event, b" has no time\n")

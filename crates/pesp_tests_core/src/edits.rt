@@ -30,7 +30,7 @@ enum Answer {
     /// The event is used by the activity.
     EventInUse(u32, u32),
     EventExists(u32),
-    NoWindow(u32),
+    NotFixed(u32),
 }
 
 fn answer_of(rt: &impl Abort, answer: Answer) -> Result<(), Refusal> {
@@ -38,7 +38,7 @@ fn answer_of(rt: &impl Abort, answer: Answer) -> Result<(), Refusal> {
         Answer::Accepted => Ok(()),
         Answer::EventInUse(number, by) => Err(Refusal::EventInUse(event(rt, number), id(rt, by))),
         Answer::EventExists(number) => Err(Refusal::EventExists(event(rt, number))),
-        Answer::NoWindow(number) => Err(Refusal::NoWindow(event(rt, number))),
+        Answer::NotFixed(number) => Err(Refusal::NotFixed(event(rt, number))),
     }
 }
 
@@ -99,7 +99,7 @@ const REFUSALS: Edits<'_> = &[
     ),
     (
         Change::Unfix(1),
-        Answer::NoWindow(1),
+        Answer::NotFixed(1),
         "event 1 is not fixed",
     ),
 ];
