@@ -30,6 +30,7 @@ impl Supports {
         ensures trail { (self.new).trail ≡ (self.old).trail }
         ensures shape { HaveSameShape self.old self.new }
         ensures probes { (self.new).probes ≤ (self.old).probes + 3 * (self.old).period }
+        ensures counts_on { (self.old).probes ≤ (self.new).probes }
     {
         let period = self.period.get();
         let base = self.counts.base(number, period);

@@ -113,6 +113,7 @@ impl Supports {
         ensures long { length (self.new).counts ≡ length (self.old).counts }
         ensures same { OnlyCounts self.old self.new }
         ensures probes { (self.new).probes + low ≤ (self.old).probes + high }
+        ensures counts_on { (self.old).probes ≤ (self.new).probes }
     {
         let base = self.counts.base(number, self.period.get());
         probes::over(&mut self.probes, low, high);
@@ -140,6 +141,7 @@ impl Supports {
         ensures long { length (self.new).counts ≡ length (self.old).counts }
         ensures same { OnlyCounts self.old self.new }
         ensures probes { (self.new).probes ≤ (self.old).probes + (self.old).period }
+        ensures counts_on { (self.old).probes ≤ (self.new).probes }
     {
         let near = links.end(number);
         let far = links.end(near.mate);
@@ -168,6 +170,7 @@ impl Supports {
         ensures same { OnlyCounts self.old self.new }
         ensures probes { (self.new).probes ≤ (self.old).probes
             + (self.old).period * length (ends_of (links.now).lists place) }
+        ensures counts_on { (self.old).probes ≤ (self.new).probes }
     {
         for number in links.at(place) {
             if !is_spared_end(spared, number) {

@@ -31,6 +31,7 @@ impl Supports {
         ensures probes { (self.new).probes
             ≤ (self.old).probes + (self.old).period
             * ends_at links.now (drop next (self.new).trail) }
+        ensures counts_on { (self.old).probes ≤ (self.new).probes }
     {
         let mut next = next;
         while next < self.trail.len() {
@@ -54,6 +55,7 @@ impl Supports {
             let came = ends_at links.now (drop (length (self.old).trail) (self.new).trail) in
             (self.new).probes + (self.old).period * after
             ≤ (self.old).probes + (self.old).period * (before + came) }
+        ensures counts_on { (self.old).probes ≤ (self.new).probes }
     {
         let pair = self.trail[next];
         let place = pair.place as usize;
@@ -177,6 +179,7 @@ impl Supports {
         ensures taken { IsTaken self.old self.new }
         ensures keeps { Keeps self.old self.new }
         ensures probes { (self.new).probes ≤ (self.old).probes + (self.old).period }
+        ensures counts_on { (self.old).probes ≤ (self.new).probes }
     {
         let residues = probes::over(&mut self.probes, 0, self.period.get());
         self.sift_range(place, end, residues);
@@ -193,6 +196,7 @@ impl Supports {
         ensures probes { (self.new).probes
             ≤ (self.old).probes + ends_at links.now back.now + (self.old).period
             * ends_at links.now (self.new).trail }
+        ensures counts_on { (self.old).probes ≤ (self.new).probes }
     {
         self.sift_back(links, back);
         self.settle(links, 0);
@@ -208,6 +212,7 @@ impl Supports {
         ensures taken { IsTaken self.old self.new }
         ensures keeps { Keeps self.old self.new }
         ensures probes { (self.new).probes ≤ (self.old).probes + ends_at links.now back.now }
+        ensures counts_on { (self.old).probes ≤ (self.new).probes }
     {
         for pair in back {
             let place = pair.place as usize;
@@ -225,6 +230,7 @@ impl Supports {
         ensures same { self.new ≡ record self.old { probes = (self.new).probes } }
         ensures probes { (self.new).probes
             ≤ (self.old).probes + length (ends_of (links.now).lists pair.place) }
+        ensures counts_on { (self.old).probes ≤ (self.new).probes }
     {
         for end in links.at(pair.place as usize) {
             let residue = probes::at(&mut self.probes, pair.residue);

@@ -39,5 +39,6 @@ loop-end-preserved c =
       listed = λ k i. inv.listed k (subst (λ xs. Contains xs k) (sym c.in-Some.ensures.steps) (there k m rest i));
       lacks = inv.lacks ∙ ap (list_any (λ k. count_at s.period s.counts k r == 0)) c.in-Some.ensures.steps ∙ rw some refl;
       same = ap (λ (t : Supports). record { period = t.period; counts = t.counts; counted = t.counted; rows = t.rows; trail = t.trail; room = t.room; sums = t.sums; probes = c.at-residue.new.probes }) same;
+      counts_on = omega (arith, probes, inv.counts_on, c.at-residue.ensures.counted);
       probes = omega (arith, few, probes, inv.probes, ap length c.in-Some.ensures.steps);
     }

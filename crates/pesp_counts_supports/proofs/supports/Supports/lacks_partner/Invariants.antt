@@ -14,5 +14,6 @@ invariant-loop-end l =
       listed : (k : ℕ) → Contains l.end-iterator k → Contains (ends_of l.fn.links.lists l.fn.pair.place) k;
       lacks : lacks_partner l.fn.links l.fn.self l.fn.pair.place l.fn.pair.residue ≡ list_any (λ k. count_at l.fn.self.period l.fn.self.counts k l.fn.pair.residue == 0) l.end-iterator;
       same : l.self ≡ record l.fn.self { probes = l.self.probes };
+      counts_on : l.fn.self.probes ≤ l.self.probes;
       probes : l.self.probes + length l.end-iterator ≤ l.fn.self.probes + length (ends_of l.fn.links.lists l.fn.pair.place);
     }

@@ -27,6 +27,7 @@ loop-number-init c =
           (but_start start.period links.ends links.lists c.args.spared c.requires.fit.linked c.requires.mates c.args.way from c.args.place D to w.goes start.counts w.exact);
       long = refl;
       same = refl;
+      counts_on = omega arith;
       probes = let long = ap (λ xs. start.period * length xs) all in omega (arith, long);
     }
 
@@ -78,6 +79,7 @@ loop-number-preserved-then-not-is_spared_end c =
           but_moved start.period links.ends links.lists c.args.spared c.requires.fit.linked c.requires.mates c.args.way from c.args.place D to w.goes now.counts m rest listed free so_far after.counts (next_once m rest once) moved;
       long = c.move_along.ensures.long ∙ i.long;
       same = c.move_along.ensures.same ∙ ap (λ (s : Supports). record s { counts = after.counts; probes = after.probes }) i.same;
+      counts_on = omega (arith, c.move_along.ensures.counts_on, i.counts_on);
       probes = let more = one_end start.period c.loop-number.number-iterator rest m steps in omega (arith, c.move_along.ensures.probes, period, more, i.probes);
     }
 
@@ -99,6 +101,7 @@ loop-number-preserved c =
       moving = λ from to D w. but_passed start.period links.ends links.lists c.args.spared from to now.counts m rest out (subst (AreMovingBut start.period links.ends links.lists c.args.spared from to now.counts) steps (i.moving from to D w));
       long = i.long;
       same = i.same;
+      counts_on = i.counts_on;
       probes = let more = one_end start.period c.loop-number.number-iterator rest m steps in omega (arith, more, i.probes);
     }
 

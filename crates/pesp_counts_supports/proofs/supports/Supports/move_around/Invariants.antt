@@ -16,5 +16,6 @@ invariant-loop-number l = record {
   moving : (from to : Pairs) (moves : ℕ → Bool) → Moves l.links l.spared l.fn.self l.place l.moved l.way from moves to → AreMovingBut l.fn.self.period l.links.ends l.links.lists l.spared from to l.self.counts l.number-iterator;
   long : length l.self.counts ≡ length l.fn.self.counts;
   same : l.self ≡ record l.fn.self { counts = l.self.counts; probes = l.self.probes };
+  counts_on : l.fn.self.probes ≤ l.self.probes;
   probes : l.self.probes + l.fn.self.period * length l.number-iterator ≤ l.fn.self.probes + l.fn.self.period * length (ends_of l.links.lists l.place);
 }

@@ -27,6 +27,7 @@ loop-next-init c =
       taken = taken_none s;
       shape = shape_none s;
       onward = omega arith;
+      counts_on = omega arith;
       probes = omega (arith, mul-le-mul_left s.period (owed_most links (has_at s.counted) (drop c.args.next s.trail)));
     }
 
@@ -48,6 +49,7 @@ loop-next-preserved c =
       taken = taken_then start now after inv.taken c.settle_one.ensures.taken;
       shape = shape_then start now after inv.shape c.settle_one.ensures.shape;
       onward = omega (arith, inv.onward);
+      counts_on = omega (arith, inv.counts_on, c.settle_one.ensures.counts_on);
       probes = step start.period start.probes now.probes after.probes _ _ _ _ _ (ends_after links now after c.args.next c.settle_one.ensures.taken (omega (arith, inv.onward, within))) inv.probes paid;
     }
 

@@ -13,6 +13,7 @@ invariant-loop-next l = record {
   taken : IsTaken l.fn.self l.self;
   shape : HaveSameShape l.fn.self l.self;
   onward : l.fn.next ≤ l.next;
+  counts_on : l.fn.self.probes ≤ l.self.probes;
   probes : l.self.probes + l.fn.self.period * owed l.links (has_at l.self.counted) (drop l.next l.self.trail) ≤ l.fn.self.probes + l.fn.self.period * ends_at l.links (drop l.fn.next l.self.trail);
 }
 

@@ -41,6 +41,7 @@ loop-pair-preserved c =
             rows = subst (λ xs. Sifts links start xs after.rows) (sym more) (sifts_taken links start (take i back) x now.rows inv.rows after.rows (sym same ∙ sym w.lacks_partner.ensures.lacks ∙ w.if-lacks_partner.true) takes);
             taken = taken_then start now after inv.taken (taken_then now mid after (looked_taken now mid is) w.take_out.ensures.taken);
             keeps = kept_then start now after inv.keeps (kept_then now mid after (looked_keeps now mid is) w.take_out.ensures.keeps);
+            counts_on = omega (arith, inv.counts_on, w.lacks_partner.ensures.counts_on, w.take_out.ensures.probes);
             probes = omega (arith, spends, w.lacks_partner.ensures.probes, w.take_out.ensures.probes, inv.probes);
           })
       | else-holds w ↦
@@ -55,6 +56,7 @@ loop-pair-preserved c =
                   rows = subst (λ xs. Sifts links start xs mid.rows) (sym more) (sifts_passed links start (take i back) x mid.rows (subst (λ (s : Supports). Sifts links start (take i back) s.rows) (sym is) inv.rows) (subst (λ (s : Supports). (has_at s.rows x.place x.residue && lacks_partner links start x.place x.residue) ≡ false) (sym is) stays));
                   taken = taken_then start now mid inv.taken (looked_taken now mid is);
                   keeps = kept_then start now mid inv.keeps (looked_keeps now mid is);
+                  counts_on = omega (arith, inv.counts_on, v.lacks_partner.ensures.counts_on);
                   probes = omega (arith, spends, v.lacks_partner.ensures.probes, inv.probes);
                 })
             | else-holds-via-else-holds v ↦
@@ -65,6 +67,7 @@ loop-pair-preserved c =
                   rows = subst (λ xs. Sifts links start xs now.rows) (sym more) (sifts_passed links start (take i back) x now.rows inv.rows stays);
                   taken = inv.taken;
                   keeps = inv.keeps;
+                  counts_on = inv.counts_on;
                   probes = omega (arith, spends, inv.probes);
                 })
           ]

@@ -11,5 +11,6 @@ invariant-loop-pair l =
       rows : Sifts l.fn.links l.fn.self (take l.pair-index l.fn.back) l.self.rows;
       taken : IsTaken l.fn.self l.self;
       keeps : Keeps l.fn.self l.self;
+      counts_on : l.fn.self.probes ≤ l.self.probes;
       probes : l.self.probes + ends_at l.fn.links (drop l.pair-index l.fn.back) ≤ l.fn.self.probes + ends_at l.fn.links l.fn.back;
     }
