@@ -10,7 +10,7 @@
 // where they are left out. `output` is the replies, as a Uint8Array. `ending` is how the run ended, as embedded/pespbench.h
 // lists it: { status, place, reason, field }; its status is 0 where all lines are answered. `fault` is then '', and else the
 // program's own text for it, without its name. After an instance that was trapped, as by a stack that is too short, `answer`
-// throws, and `start` makes a new one.
+// throws, and `start` makes a new one, or `startNow`.
 const makePespModule = () => {
   const FILES = ['activities', 'fixed', 'times'];
   const ENDINGS = {
@@ -48,11 +48,16 @@ const makePespModule = () => {
   // The bytes after a text in base64, compiled: this can be sent to a Worker, which starts it sooner.
   const compile = base64 => WebAssembly.compile(Uint8Array.from(atob(base64), letter => letter.charCodeAt(0)));
 
+  const started = instance => ({ calls: instance.exports, room: LEAST_ROOM });
+
   // The module asks for nothing from outside.
   const start = async program => {
     const made = await WebAssembly.instantiate(program, {});
-    return { calls: (made.instance || made).exports, room: LEAST_ROOM };
+    return started(made.instance || made);
   };
+
+  // The same at once, of what was compiled.
+  const startNow = program => started(new WebAssembly.Instance(program, {}));
 
   // The most bytes of memory that runs may take from now on; where one wants more, its answer says so.
   const limit = (module, bytes) => module.calls.pesp_limit(BigInt(bytes));
@@ -105,7 +110,7 @@ const makePespModule = () => {
     return { output: came.output, ending: came.ending, fault: faultOf(came.ending) };
   };
 
-  return { compile, start, limit, answer, faultOf };
+  return { compile, start, startNow, limit, answer, faultOf };
 };
 
 const PespModule = makePespModule();

@@ -2,6 +2,10 @@
 
 // A folder in one file: archives of the kind zip, written without compression, and read with or without it.
 (() => {
+  // A file has no more bytes than the program reads of one, and all files of an archive together have four times as many.
+  Page.MOST_BYTES = 67108864;
+  const MOST_UNPACKED = 4 * Page.MOST_BYTES;
+
   const TABLE = Uint32Array.from({ length: 256 }, (_, byte) => {
     let value = byte;
     for (let bit = 0; bit < 8; bit += 1) value = value & 1 ? 0xedb88320 ^ (value >>> 1) : value >>> 1;
@@ -37,27 +41,48 @@
     return new Blob([...parts, ...listed, end], { type: 'application/zip' });
   };
 
+  // What was packed, or null where that is longer than a file may be: no more than that is ever unpacked.
   const inflated = async bytes => {
-    const stream = new Blob([bytes]).stream().pipeThrough(new DecompressionStream('deflate-raw'));
-    return new Uint8Array(await new Response(stream).arrayBuffer());
+    const reader = new Blob([bytes]).stream().pipeThrough(new DecompressionStream('deflate-raw')).getReader(), parts = [];
+    for (let length = 0, part = await reader.read(); !part.done; part = await reader.read()) {
+      parts.push(part.value);
+      length += part.value.length;
+      if (length > Page.MOST_BYTES) {
+        await reader.cancel();
+        return null;
+      }
+    }
+    return new Uint8Array(await new Blob(parts).arrayBuffer());
   };
 
-  // The files of an archive: each a name with its bytes. Raises Error where it is none, or one of another kind.
-  Page.unzip = async buffer => {
-    const view = new DataView(buffer), files = [];
+  // Where each file of an archive stands in it, and how it is packed. Raises Error where it is no archive of the kind zip.
+  const entriesOf = buffer => {
+    const view = new DataView(buffer), entries = [];
     let end = buffer.byteLength - 22;
     while (end >= 0 && view.getUint32(end, true) !== 0x06054b50) end -= 1;
     if (end < 0) throw new Error('it is no archive of the kind zip');
     let place = view.getUint32(end + 16, true);
     for (let count = view.getUint16(end + 10, true); count > 0; count -= 1) {
       const [method, named, extra, comment] = [10, 28, 30, 32].map(at => view.getUint16(place + at, true));
-      const size = view.getUint32(place + 20, true);
       const start = view.getUint32(place + 42, true), name = new TextDecoder().decode(new Uint8Array(buffer, place + 46, named));
       const begin = start + 30 + view.getUint16(start + 26, true) + view.getUint16(start + 28, true);
-      const bytes = new Uint8Array(buffer, begin, size);
-      if (method !== 0 && method !== 8) throw new Error(`${name} is packed in a way that is not known here`);
-      if (!name.endsWith('/')) files.push([name, method ? await inflated(bytes) : bytes]);
+      if (!name.endsWith('/')) entries.push({ name, method, bytes: new Uint8Array(buffer, begin, view.getUint32(place + 20, true)) });
       place += 46 + named + extra + comment;
+    }
+    return entries;
+  };
+
+  // The files of an archive: each a name with its bytes, or with null where they are more than a file may have. Raises Error
+  // where it is none, or one of another kind, and where its files together are too long.
+  Page.unzip = async buffer => {
+    const files = [];
+    let left = MOST_UNPACKED;
+    for (const { name, method, bytes } of entriesOf(buffer)) {
+      if (method !== 0 && method !== 8) throw new Error(`${name} is packed in a way that is not known here`);
+      const unpacked = method ? await inflated(bytes) : bytes;
+      left -= unpacked ? unpacked.length : Page.MOST_BYTES;
+      if (left < 0) throw new Error(`its files have more than ${MOST_UNPACKED.toLocaleString('en')} bytes together`);
+      files.push([name, unpacked]);
     }
     return files;
   };

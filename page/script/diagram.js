@@ -5,7 +5,7 @@
 (() => {
   const { drawing } = Page;
   const WIDTH = 880, LEFT = 110, RIGHT = 16, TOP = 34, BOTTOM = 26, LEAST_HEIGHT = 190, TRACK = 48, TURN = 13;
-  const TURNS = ['', 'turn', 'turnaround'];
+  const TURNS = ['', 'turn', 'turnaround'], MOST_TURNS = 200;
 
   // The least minutes of a run between each two neighbours, and 1 where it may take none.
   Page.lengthsOf = (lines, network) => {
@@ -35,15 +35,21 @@
     return { period, heights, bottom: TOP + height, x: minute => LEFT + (WIDTH - LEFT - RIGHT) * minute / period };
   };
 
-  // The whole diagram of a line. Where times are missing, trains are not drawn, and what is still possible is.
-  Page.diagramOf = (view, line, chosen = null) => {
+  // The diagram of a line, and what it says of what is left out. Where times are missing, trains are not drawn, and what is still
+  // possible is.
+  Page.diagramOf = (view, whole, chosen = null) => {
+    const { line, told } = Page.stretchOf(whole, chosen), waiting = turnsOf(view, line), drawn = diagramOf(view, line, chosen, waiting);
+    return { drawn, told: [told, Page.elided(waiting.length, MOST_TURNS, 'turns')].filter(Boolean).join(' ') };
+  };
+
+  const diagramOf = (view, line, chosen, waiting) => {
     const frame = Page.frameOf(line, view.network), size = [WIDTH, frame.bottom + BOTTOM];
     const clip = drawing('svg', { x: LEFT, y: TOP - TURN - 4, width: WIDTH - LEFT - RIGHT, height: frame.bottom - TOP + 2 * TURN + 8 });
     clip.setAttribute('viewBox', `${LEFT} ${TOP - TURN - 4} ${WIDTH - LEFT - RIGHT} ${frame.bottom - TOP + 2 * TURN + 8}`);
     const page = drawing('svg', { viewBox: `0 0 ${size.join(' ')}`, role: 'img', 'aria-label': `Distance-time diagram of ${line.name}` });
     page.append(...grid(frame), clip);
-    clip.append(...possible(view, frame, line, chosen), ...view.lines.filter(each => each !== line).flatMap(each => others(view, frame, line, each)));
-    clip.append(...turns(view, frame, line));
+    clip.append(...possible(view, frame, line, chosen), ...view.lines.filter(each => each.name !== line.name).flatMap(each => others(view, frame, line, each)));
+    clip.append(...waiting.slice(0, MOST_TURNS).flatMap(each => turn(view, frame, line, each)));
     for (const train of line.trains) {
       const minutes = Page.minutesOf(view, train);
       if (minutes) clip.append(...ways(frame, minutes.map((minute, place) => [minute, heightOf(frame, train.events[place])]), line.color, 2.6));
@@ -105,14 +111,17 @@
   });
 
   // Trains that wait between two ways, as dashes beyond the station.
-  const turns = (view, frame, line) => [...view.network.activities.values()].flatMap(each => {
+  const turnsOf = (view, line) => !view.tensions ? [] : [...view.network.activities.values()].filter(each => {
     const [from, to] = [Page.labelOf(each.first), Page.labelOf(each.last)];
     const isTurn = from.line === line.name && to.line === line.name && from.station === to.station && from.to !== to.to;
-    if (!isTurn || !view.tensions || !TURNS.includes(Page.labels.kinds.get(each.number) || '')) return [];
-    const y = frame.heights.get(from.station), start = view.times.get(each.first), end = start + view.tensions.get(each.number).tension;
+    return isTurn && line.stations.includes(from.station) && TURNS.includes(Page.labels.kinds.get(each.number) || '');
+  });
+
+  const turn = (view, frame, line, each) => {
+    const y = frame.heights.get(Page.labelOf(each.first).station), start = view.times.get(each.first), end = start + view.tensions.get(each.number).tension;
     const beyond = y + (y > (TOP + frame.bottom) / 2 ? TURN : -TURN);
     return ways(frame, [[start, y], [start, beyond], [end, beyond], [end, y]], line.color, 1.3, '3 3');
-  });
+  };
 
   // The minutes at which a train begins and ends, beside the ends of its way.
   const ends = (view, frame, line, train) => [[train.events[0], true], [train.events[train.events.length - 1], false]].map(([event, isFirst]) => {
@@ -126,7 +135,7 @@
 
   const chosenMark = (view, frame, line, event) => {
     const time = view.times.get(event);
-    if (time === undefined || Page.labelOf(event).line !== line.name) return [];
+    if (time === undefined || Page.labelOf(event).line !== line.name || heightOf(frame, event) === undefined) return [];
     return [drawing('circle', { class: 'mark', cx: frame.x(time), cy: heightOf(frame, event), r: 6 })];
   };
 
@@ -144,8 +153,9 @@
     }
     const select = Page.find('line-of-diagram');
     if (select.value !== line.name) select.value = line.name;
-    Page.setText(Page.find('diagram-note'), view.tensions ? NOTE : `${NOTE} No train is drawn, since ${view.missing}.`);
-    holder.replaceChildren(Page.diagramOf(view, line, Page.chosen));
+    const { drawn, told } = Page.diagramOf(view, line, Page.chosen), missing = view.tensions ? '' : `No train is drawn, since ${view.missing}.`;
+    Page.setText(Page.find('diagram-note'), [told, NOTE, missing].filter(Boolean).join(' '));
+    holder.replaceChildren(drawn);
   };
 
   const build = view => {

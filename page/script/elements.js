@@ -25,6 +25,10 @@
     if (node.textContent !== text) node.textContent = text;
   };
 
+  // What a list says that shows just the first of many; '' where it shows all.
+  Page.elided = (count, most, what) => count <= most ? ''
+    : `Elided: of ${count.toLocaleString('en')} ${what} the first ${most.toLocaleString('en')} are shown.`;
+
   Page.setAttribute = (node, name, value) => {
     if (value === null) {
       if (node.hasAttribute(name)) node.removeAttribute(name);
@@ -37,4 +41,7 @@
     line.textContent = text;
     line.classList.toggle('alarm', isAlarm);
   };
+
+  // Says something more than what is said.
+  Page.sayMore = text => Page.say([Page.find('said').textContent, text].filter(Boolean).join(' — '));
 })();

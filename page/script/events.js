@@ -2,6 +2,7 @@
 
 // The events by train, with hands: what is dragged, clicked and typed on their strips.
 (() => {
+  const ROWS_OF_A_BLOCK = 40;
   const rows = new Map();
   let order = [];
 
@@ -24,14 +25,20 @@
     const groups = groupsOf(view);
     order = groups.flatMap(group => group.events);
     for (const event of order) rows.set(event, Page.makeRow(event));
-    const nodes = groups.map(group => {
-      const made = Page.element('section', { class: 'train' }, headOf(group), ...group.events.map(event => rows.get(event).node));
-      made.style.containIntrinsicSize = `auto ${2 + 1.375 * group.events.length}rem`;
-      return made;
-    });
-    Page.find('rows').replaceChildren(...nodes);
+    Page.find('rows').replaceChildren(...groups.map(group => Page.element('section', { class: 'train' }, headOf(group), ...blocks(group.events))));
     Page.find('axis').replaceChildren(...axis(view.network.period));
     if (!rows.has(Page.chosen)) Page.chosen = order.length ? order[0] : null;
+  };
+
+  // Rows in blocks, of which a browser lays out those that are seen.
+  const blocks = events => {
+    const made = [];
+    for (let place = 0; place < events.length; place += ROWS_OF_A_BLOCK) {
+      const block = Page.element('div', { class: 'block' }, ...events.slice(place, place + ROWS_OF_A_BLOCK).map(event => rows.get(event).node));
+      block.style.containIntrinsicSize = `auto ${1.375 * block.childElementCount}rem`;
+      made.push(block);
+    }
+    return made;
   };
 
   Page.stepOf = period => [1, 2, 5, 10, 15, 30, 60, 120, 240].find(step => period / step <= (period > 60 ? 7 : 12)) || 360;
@@ -84,18 +91,23 @@
     return minute => `fix ${event} ${Math.min(period - 1, Math.max(0, minute))}`;
   };
 
+  // An end of a frame lies between two minutes, and is taken hold of beside them: by how much a pointer is off the later one.
+  const edgeShift = ({ strip }, { dataset }, x, period) => {
+    const { left, width } = strip.getBoundingClientRect();
+    return left + width * (Number(dataset.at) + 0.5) / period - x;
+  };
+
   const begin = event => {
     const row = rowOf(event.target);
     if (!row || event.button !== 0) return;
     Page.choose(row.event);
     if (!row.strip.contains(event.target)) return row.strip.focus({ preventScroll: true });
     const { period } = Page.view.network, handle = event.target.closest('[data-grip]') || row.strip;
-    const minuteAt = (x, isEdge) => Page.unitAt(row.strip, x + (isEdge ? row.strip.clientWidth / period / 2 : 0), 0, period);
-    const isEdge = handle.dataset.grip === 'first' || handle.dataset.grip === 'last';
-    const line = lineOf(row, handle, minuteAt(event.clientX, isEdge));
+    const shift = handle.dataset.at === undefined ? 0 : edgeShift(row, handle, event.clientX, period);
+    const minuteAt = x => Page.unitAt(row.strip, x + shift, 0, period), line = lineOf(row, handle, minuteAt(event.clientX));
     handle.focus({ preventScroll: true });
     event.preventDefault();
-    Page.beginDrag(event, x => line(minuteAt(x, isEdge)));
+    Page.beginDrag(event, x => line(minuteAt(x)));
   };
 
   // What holds an event, moved by a key on its strip.

@@ -4,9 +4,9 @@
 (() => {
   const { element } = Page;
 
-  const number = (id, least, most) => element('input', { id, type: 'number', min: least, max: most, step: 1, required: true });
+  const minutes = id => Page.minutesField({ id, required: true });
 
-  const valueOf = id => Page.find(id).value;
+  const valueOf = id => Page.minutesTyped(Page.find(id).value);
 
   const form = (submit, ...children) => element('form', {
     class: 'fact',
@@ -17,14 +17,13 @@
   }, ...children);
 
   // The fields stay where they are, so that what is typed there is not lost when something else is drawn.
-  const build = view => {
-    const most = view.network.period - 1;
+  const build = () => {
     const hold = form(event => Page.step([`window ${event} ${valueOf('hold-first')} ${valueOf('hold-length')}`]),
-      element('label', { for: 'hold-first' }, 'held from'), number('hold-first', 0, most),
-      element('label', { for: 'hold-length' }, 'for'), number('hold-length', 1, most + 1), 'minutes ',
+      element('label', { for: 'hold-first' }, 'held from'), minutes('hold-first'),
+      element('label', { for: 'hold-length' }, 'for'), minutes('hold-length'), 'minutes ',
       element('button', {}, 'Hold'), element('button', { type: 'button', id: 'let-go', onclick: () => Page.letGo(Page.chosen, false) }, 'Let go'));
     const time = form(event => Page.step([`time ${event} ${valueOf('time-at')}`]),
-      element('label', { for: 'time-at' }, 'time'), number('time-at', 0, most),
+      element('label', { for: 'time-at' }, 'time'), minutes('time-at'),
       element('button', {}, 'Set'), element('button', { type: 'button', id: 'no-time', onclick: () => Page.letGo(Page.chosen, true) }, 'Take away'));
     Page.find('facts').replaceChildren(hold, time);
   };
@@ -42,9 +41,9 @@
     Page.setText(Page.find('chosen-name'), Page.eventName(event));
     Page.setText(Page.find('chosen-number'), Page.labelOf(event).station ? `event ${event}` : '');
     Page.setText(Page.find('chosen-domain'), `Can be at ${Page.domainText(minutes, view.network.period)}.`);
-    setValue('hold-first', window ? window.first : time === undefined ? minutes[0] || 0 : time);
+    setValue('hold-first', Page.minuteField(window ? window.first : time === undefined ? minutes[0] || 0 : time));
     setValue('hold-length', window ? window.length : 1);
-    setValue('time-at', time === undefined ? '' : time);
+    setValue('time-at', time === undefined ? '' : Page.minuteField(time));
     Page.find('let-go').disabled = !window;
     Page.find('no-time').disabled = time === undefined;
   };

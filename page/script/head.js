@@ -38,16 +38,21 @@
 
   Page.panel({ update });
 
-  const KEYS = { z: () => Page.undo(), y: () => Page.redo(), Z: () => Page.redo(), o: () => Page.showOpening(), s: () => Page.showSaving() };
+  const KEYS = new Map([
+    ['z', event => event.shiftKey ? Page.redo() : Page.undo()], ['y', () => Page.redo()],
+    ['o', () => Page.showOpening()], ['s', () => Page.showSaving()],
+  ]);
+  // A field takes back what is typed there by the same keys.
+  const OF_FIELDS = ['z', 'y'], FIELDS = 'input:not([type=checkbox])';
 
   Page.startHead = () => {
     for (const [name, act] of [['undo', Page.undo], ['redo', Page.redo]]) Page.find(name).addEventListener('click', act);
     Page.find('print').addEventListener('click', () => window.print());
     window.addEventListener('keydown', event => {
-      const isTyping = event.target.matches('input, select, textarea') || document.querySelector('dialog[open]');
-      if (!(event.ctrlKey || event.metaKey) || event.altKey || isTyping || !(event.key in KEYS)) return;
+      const key = event.key.toLowerCase(), isOfField = OF_FIELDS.includes(key) && event.target.matches(FIELDS);
+      if (!(event.ctrlKey || event.metaKey) || event.altKey || !KEYS.has(key) || isOfField) return;
       event.preventDefault();
-      KEYS[event.key]();
+      if (!document.querySelector('dialog[open]')) KEYS.get(key)(event);
     });
   };
 

@@ -7,7 +7,7 @@
 //   activity; kind
 //   11; run
 (() => {
-  const WIDTHS = { event: 5, activity: 2 };
+  const WIDTHS = new Map([['event', 5], ['activity', 2]]);
 
   Page.noLabels = () => ({ events: new Map(), kinds: new Map() });
 
@@ -16,7 +16,7 @@
     const labels = Page.noLabels();
     let part = '';
     for (const { number, fields } of Page.recordsOf(text)) {
-      if (fields[0] in WIDTHS) part = fields[0];
+      if (WIDTHS.has(fields[0])) part = fields[0];
       else takeRow(labels, part, number, fields);
     }
     return labels;
@@ -25,10 +25,9 @@
   const takeRow = (labels, part, record, fields) => {
     const fail = what => { throw new Page.FileFault('labels', record, what); };
     if (!part) fail('there is no header `event; line; to; station; kind` or `activity; kind` above it');
-    if (!/^[+-]?[0-9]+$/.test(fields[0])) fail('field 1 is not a number');
-    const number = Number(fields[0]), taken = part === 'event' ? labels.events : labels.kinds;
+    const number = Page.numberIn('labels', record, 1, fields[0], Page.EVENTS), taken = part === 'event' ? labels.events : labels.kinds;
     if (taken.has(number)) fail(`${part} is repeated`);
-    if (fields.slice(WIDTHS[part]).some(field => field)) fail('wrong number of fields');
+    if (fields.slice(WIDTHS.get(part)).some(field => field)) fail('wrong number of fields');
     const [, first = '', to = '', station = '', kind = ''] = fields;
     taken.set(number, part === 'event' ? { line: first, to, station, kind } : first);
   };
@@ -44,15 +43,22 @@
     return rows.map(row => row.map(quoted).join(';') + '\n').join('');
   };
 
+  const MEASURE = /^[+-]?([0-9]+[.]?[0-9]*|[.][0-9]+)([eE][+-]?[0-9]+)?$/;
+
   // Where stations lie: `station; x; y`, x to the east and y to the north. Raises FileFault.
   Page.readPlaces = text => {
     const places = new Map();
     for (const { number, fields } of Page.recordsOf(text)) {
-      if (fields[1] === 'x' && fields[2] === 'y') continue;
-      const [station, x, y] = [fields[0], Number(fields[1]), Number(fields[2])];
-      if (fields.length !== 3 || !Number.isFinite(x) || !Number.isFinite(y)) throw new Page.FileFault('places', number, 'wanted station; x; y');
-      places.set(station, [x, y]);
+      const [station, ...place] = fields;
+      if (place.length === 2 && place[0] === 'x' && place[1] === 'y') continue;
+      const isPlace = place.length === 2 && place.every(each => MEASURE.test(each) && Number.isFinite(Number(each)));
+      if (!isPlace) throw new Page.FileFault('places', number, 'wanted station; x; y');
+      places.set(station, place.map(Number));
     }
     return places;
   };
+
+  // The file that reads as these places.
+  Page.placesText = places => ['station; x; y', ...[...places].map(([station, [x, y]]) => `${quoted(station)}; ${x}; ${y}`)]
+    .map(row => `${row}\n`).join('');
 })();

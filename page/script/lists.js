@@ -3,14 +3,18 @@
 // Two lists: what the working timetable violates, and the lines that made the state shown.
 (() => {
   const { element } = Page;
+  const MOST_VIOLATED = 500;
 
   const updateViolated = view => {
     if (Page.tab !== 'violated') return;
     const { violations, network } = view, items = [];
     if (!violations) items.push(element('p', { class: 'quiet' }, `Not known: ${view.missing}.`));
     else {
-      for (const number of violations.activities) items.push(violatedActivity(network.activities.get(number), view));
-      for (const event of violations.events) items.push(violatedEvent(event, view));
+      const listed = [...[...violations.activities].map(number => () => violatedActivity(network.activities.get(number), view)),
+        ...[...violations.events].map(event => () => violatedEvent(event, view))];
+      const told = Page.elided(listed.length, MOST_VIOLATED, 'that are violated');
+      if (told) items.push(element('p', { class: 'quiet' }, told));
+      items.push(...listed.slice(0, MOST_VIOLATED).map(make => make()));
       if (!items.length) items.push(element('p', { class: 'quiet' }, 'The working timetable meets everything.'));
     }
     Page.find('view-violated').replaceChildren(...items);
@@ -54,8 +58,12 @@
       if (Page.step([line])) input.value = '';
       return;
     }
-    const [reply] = Page.ask([line]);
-    Page.find('replied').textContent = `> ${line}\n${reply.join('\n')}`;
+    try {
+      const [reply] = Page.ask([line]);
+      Page.find('replied').textContent = `> ${line}\n${reply.join('\n')}`;
+    } catch (fault) {
+      Page.say(fault.message, true);
+    }
   };
 
   Page.startLines = () => Page.find('typed').addEventListener('submit', typed);

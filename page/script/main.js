@@ -5,8 +5,8 @@
   try {
     await Page.startProgram(await PespModule.compile(PESPBENCH_MODULE));
   } catch (fault) {
-    Page.find('cannot').hidden = false;
     Page.find('cannot-why').textContent = String(fault);
+    Page.find('cannot').show();
     return;
   }
   const views = [Page.startHead, Page.startTabs, Page.startEvents, Page.startDiagram, Page.startLines];

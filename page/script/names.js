@@ -3,8 +3,8 @@
 // Events and activities in a planner's words: by stations and lines where there are labels, else by numbers.
 (() => {
   const NONE = { line: '', to: '', station: '', kind: '' };
-  const DONE = { departure: 'leaves', arrival: 'arrives at' };
-  const SHORT = { departure: 'dep.', arrival: 'arr.' };
+  const DONE = new Map([['departure', 'leaves'], ['arrival', 'arrives at']]);
+  const SHORT = new Map([['departure', 'dep.'], ['arrival', 'arr.']]);
 
   Page.labelOf = event => Page.labels.events.get(event) || NONE;
 
@@ -13,14 +13,14 @@
   Page.eventName = event => {
     const label = Page.labelOf(event);
     if (!label.station) return `event ${event}`;
-    if (label.kind in DONE) return `${Page.trainName(label)} ${DONE[label.kind]} ${label.station}`;
+    if (DONE.has(label.kind)) return `${Page.trainName(label)} ${DONE.get(label.kind)} ${label.station}`;
     return [Page.trainName(label), label.kind, 'at', label.station].filter(Boolean).join(' ');
   };
 
   // An event within its train.
   Page.eventShort = event => {
     const { station, kind } = Page.labelOf(event);
-    return station ? { place: station, kind: SHORT[kind] || kind } : { place: `event ${event}`, kind: '' };
+    return station ? { place: station, kind: SHORT.get(kind) || kind } : { place: `event ${event}`, kind: '' };
   };
 
   Page.activityName = ({ number, first, last }) => {
@@ -46,6 +46,9 @@
 
   // A minute of the period, as `:07`, or `23:41`.
   Page.clock = minute => isOfHours() ? `${Math.floor(minute / 60)}:${twoDigits(minute % 60)}` : `:${twoDigits(minute)}`;
+
+  // The same in a field: minutes that are not told with the hour stand there as a number.
+  Page.minuteField = minute => isOfHours() ? Page.clock(minute) : String(minute);
 
   // The same in a table of minutes, as `07`.
   Page.bareClock = minute => Page.clock(minute).replace(/^:/, '');

@@ -10,13 +10,13 @@
   let graph = null, numbers = new Map();
 
   const layOut = view => {
-    const { lines, network } = view, tracks = Page.tracksOf(lines), stations = [...new Set(lines.flatMap(line => line.stations))];
+    const { lines, network } = view, { stations, tracks, told } = Page.nearby(lines, Page.labelOf(Page.chosen).station);
     const radius = new Map(stations.map(station => [station, radiusOf(station, tracks)]));
     const known = stations.every(station => Page.places.has(station)) ? Page.places : Page.layOut(stations, Page.lengthsOf(lines, network));
     const chosen = new Map(stations.map(station => [station, [known.get(station)[0], -known.get(station)[1]]]));
     const wanted = tracks.map(track => ({ ...track, along: ROOM + 2 * NUMBER * Page.mostNumbers(track.lanes), beside: halfWidth(track) }));
     const share = Math.min(1, Math.sqrt(stations.length / STATIONS_OF_A_PAGE));
-    return { tracks, radius, places: Page.spread(chosen, wanted, radius, [(WIDTH - 2 * MARGIN) * share, (HEIGHT - 2 * MARGIN) * share]) };
+    return { tracks, radius, told, places: Page.spread(chosen, wanted, radius, [(WIDTH - 2 * MARGIN) * share, (HEIGHT - 2 * MARGIN) * share]) };
   };
 
   const radiusOf = (station, tracks) => {
@@ -155,7 +155,9 @@
     if (Page.tab !== 'netgraph') return;
     Page.find('no-netgraph').hidden = view.lines.length > 0;
     if (!view.lines.length) return;
-    if (!graph) Page.find('netgraph').replaceChildren(draw(view));
+    const isBeyond = graph && graph.told && !graph.places.has(Page.labelOf(Page.chosen).station);
+    if (!graph || isBeyond) Page.find('netgraph').replaceChildren(draw(view));
+    Page.setText(Page.find('netgraph-elided'), graph.told);
     for (const [event, number] of numbers) drawNumber(view, event, number);
   };
 
@@ -172,6 +174,7 @@
   const build = () => {
     graph = null;
     Page.find('netgraph').replaceChildren();
+    Page.setText(Page.find('netgraph-elided'), '');
   };
 
   Page.panel({ build, update });

@@ -12,18 +12,20 @@
     return new Map(level(places).map((place, station) => [stations[station], place]));
   };
 
-  // The lengths of shortest ways; parts that nothing joins are half as far again apart as the longest way.
+  // The lengths of shortest ways over tracks between these stations; parts that nothing joins are half as far again apart as the longest way.
   const distances = (stations, lengths) => {
     const apart = stations.map((_, one) => stations.map((__, other) => one === other ? 0 : Infinity));
+    const places = new Map(stations.map((station, place) => [station, place]));
     for (const [track, length] of lengths) {
-      const [one, other] = JSON.parse(track).map(station => stations.indexOf(station));
+      const [one, other] = JSON.parse(track).map(station => places.get(station));
+      if (one === undefined || other === undefined) continue;
       apart[one][other] = apart[other][one] = Math.min(apart[one][other], length);
     }
     apart.forEach((reached, middle) => apart.forEach(row => {
       const reach = row[middle];
       if (reach < Infinity) reached.forEach((length, last) => { row[last] = Math.min(row[last], reach + length); });
     }));
-    const longest = Math.max(1, ...apart.flat().filter(Number.isFinite));
+    const longest = apart.flat().reduce((most, each) => each < Infinity ? Math.max(most, each) : most, 1);
     return apart.map(row => row.map(each => each < Infinity ? each : 1.5 * longest));
   };
 

@@ -9,11 +9,12 @@ Page.share(Page => {
     Page.program = program;
     Page.answer = run => {
       try {
+        module = module || PespModule.startNow(program);
         const { output, fault } = PespModule.answer(module, run);
         return { output: decoder.decode(output), fault };
       } catch (trap) {
         // What was trapped is not used again.
-        PespModule.start(program).then(made => { module = made; });
+        module = null;
         return { output: '', fault: `the module was trapped: ${trap.message}` };
       }
     };

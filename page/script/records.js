@@ -1,7 +1,7 @@
 'use strict';
 
 // Files of the page's own (labels, places, windows, events, the period), cut into records as docs/FORMATS.md says.
-(() => {
+Page.share(Page => {
   const FIELD = /^[ \t]+|[ \t]+$/g;
 
   // The fields of the record that begins at a place, and where the next one begins.
@@ -50,4 +50,27 @@
       super(`${name} file, record ${record}: ${what}`);
     }
   };
-})();
+
+  Page.EVENTS = [0, 999999999];
+  Page.RESIDUES = [0, 65535];
+
+  // The number that a field has, in limits. Raises FileFault.
+  Page.numberIn = (name, record, place, text, [least, most]) => {
+    if (!/^[+-]?[0-9]+$/.test(text)) throw new Page.FileFault(name, record, `field ${place} is not a number`);
+    const value = Number(text) + 0;
+    if (value < least || value > most) throw new Page.FileFault(name, record, `field ${place} is out of range`);
+    return value;
+  };
+
+  // The rows of a file of numbers, an event first, each column with its limits. Raises FileFault.
+  Page.numbersIn = (name, text, columns) => {
+    const seen = new Set();
+    return Page.rowsIn(text).map(({ number, fields }) => {
+      if (fields.length !== columns.length) throw new Page.FileFault(name, number, 'wrong number of fields');
+      const row = fields.map((field, place) => Page.numberIn(name, number, place + 1, field, columns[place]));
+      if (seen.has(row[0])) throw new Page.FileFault(name, number, 'event is repeated');
+      seen.add(row[0]);
+      return row;
+    });
+  };
+});

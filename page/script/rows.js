@@ -52,8 +52,21 @@
     const { first, length } = window, last = (first + length - 1) % period;
     for (const [name, minute, label, left] of [['first', first, 'first minute', first], ['last', last, 'last minute', last + 1]]) {
       const handle = grip(row, name, label);
-      handle.style.left = `${100 * left / period}%`;
+      handle.dataset.at = left;
       Page.tellHandle(handle, minute, 0, period - 1, Page.clock(minute));
+    }
+  };
+
+  // The ends of a frame stand where they are, but beside a diamond that lies there, on the side that is outside.
+  const BESIDE = '0.8rem', NEAR = 0.05;
+
+  const placeEnds = (row, time, period) => {
+    for (const [name, side] of [['first', -1], ['last', 1]]) {
+      const handle = row[name];
+      if (!handle || handle.hidden) continue;
+      const at = handle.dataset.at / period, middle = (time + 0.5) / period, isNear = time !== undefined && side * (middle - at) < NEAR;
+      const beside = `calc(${100 * middle}% ${side < 0 ? '-' : '+'} ${BESIDE})`;
+      handle.style.left = isNear ? `${side < 0 ? 'min' : 'max'}(${100 * at}%, ${beside})` : `${100 * at}%`;
     }
   };
 
@@ -87,6 +100,7 @@
     });
     once(row, 'window', window ? `${window.first} ${window.length}` : '', () => drawHeld(row, window, period));
     once(row, 'time', view.times.get(event), time => drawTime(row, time, period));
+    once(row, 'ends', `${row.drawn.window} ${row.drawn.time}`, () => placeEnds(row, view.times.get(event), period));
     once(row, 'note', noteOf(window, isViolated, period), text => Page.setText(row.note, text));
     once(row, 'violated', isViolated, () => row.node.classList.toggle('alarm', isViolated));
     once(row, 'chosen', isChosen, () => chooseRow(row, isChosen));

@@ -11,33 +11,14 @@ Page.share(Page => {
     const { output, fault } = Page.answer({ ...base, commands: all.length ? all.join('\n') + '\n' : '' });
     if (fault) throw new Page.RunFault(fault);
     const replies = Page.splitReplies(output);
-    const place = base.setup.findIndex((_, each) => replies[each][0] !== 'ok');
-    if (place >= 0) throw new Page.RunFault(`${base.setup[place]}: ${replies[place][0]}`);
+    isDone(base.setup, replies);
     return replies.slice(base.setup.length);
   };
 
-  // The times of the working timetable, by event. No reply tells them as such, so a clock that stands at 0 is put into the
-  // network of the run: an activity from it to an event has that event's time as its tension.
-  Page.askTimes = (base, lines, network) => {
-    const taken = Page.run(base, [...lines, ...network.events.map(event => `untime ${event}`)]).slice(lines.length);
-    const timed = network.events.filter((_, place) => taken[place][0] === 'ok');
-    if (!timed.length) return new Map();
-    const missing = network.events.filter((_, place) => taken[place][0] !== 'ok').map(event => `time ${event} 0`);
-    const [clock] = freeNumbers(new Set(network.events), 1), numbers = freeNumbers(network.activities, timed.length);
-    const tied = timed.map((event, place) => `add activity ${numbers[place]} ${clock} ${event} 0 ${network.period - 1} 0`);
-    const made = [...missing, `add event ${clock}`, `time ${clock} 0`, ...tied];
-    const replies = Page.run(base, [...lines, ...made, 'tensions']).slice(lines.length);
-    const isMade = made.every((_, place) => replies[place][0] === 'ok');
-    if (!isMade) throw new Page.RunFault('there is no room for a clock beside so many events and activities');
-    const tensions = Page.readTensions(replies.pop());
-    return new Map(timed.map((event, place) => [event, tensions.get(numbers[place]).tension]));
-  };
-
-  // So many numbers that nothing has.
-  const freeNumbers = (taken, count) => {
-    const numbers = [];
-    for (let number = 0; numbers.length < count; number += 1) if (!taken.has(number)) numbers.push(number);
-    return numbers;
+  // Raises RunFault with the first of some lines that was refused.
+  const isDone = (lines, replies) => {
+    const place = lines.findIndex((_, each) => replies[each][0] !== 'ok');
+    if (place >= 0) throw new Page.RunFault(`${lines[place]}: ${replies[place][0]}`);
   };
 
   const QUESTIONS = ['dump', 'domains', 'tensions', 'violations', 'cost'];
@@ -45,15 +26,24 @@ Page.share(Page => {
   // What the program tells of the network after some lines, and its replies to these lines.
   Page.look = (base, lines) => {
     const replies = Page.run(base, [...lines, ...QUESTIONS]);
-    const [dump, domains, tensions, violations, cost] = replies.slice(lines.length);
-    return {
-      replies: replies.slice(0, lines.length),
-      network: Page.readNetwork(dump),
-      domains: Page.readDomains(domains),
-      tensions: Page.readTensions(tensions),
-      violations: Page.readViolations(violations),
-      cost: Page.readCost(cost),
-      missing: Page.isRefused(cost) ? cost[0].replace(/^refused 11 /, '') : '',
-    };
+    return { replies: replies.slice(0, lines.length), ...toldBy(replies.slice(lines.length)) };
   };
+
+  // The same of a base that was never looked at, with its times.
+  Page.lookFirst = base => {
+    const lines = Page.withOptima(base.setup), before = base.times ? ['dump'] : [];
+    const replies = Page.run({ ...base, setup: [] }, [...before, ...lines, ...QUESTIONS]);
+    const filed = base.times ? Page.timesOfFile(base, Page.readNetwork(replies.shift()).events) : new Map();
+    isDone(lines, replies.map((reply, place) => lines[place] === 'optimum' ? ['ok'] : reply));
+    return { ...toldBy(replies.slice(lines.length)), times: Page.timesAfter(filed, lines, replies) };
+  };
+
+  const toldBy = ([dump, domains, tensions, violations, cost]) => ({
+    network: Page.readNetwork(dump),
+    domains: Page.readDomains(domains),
+    tensions: Page.readTensions(tensions),
+    violations: Page.readViolations(violations),
+    cost: Page.readCost(cost),
+    missing: Page.isRefused(cost) ? cost[0].replace(/^refused 11 /, '') : '',
+  });
 });

@@ -10,16 +10,20 @@
   const TOLD = {
     activities: 'for the program', fixed: 'fixed times, for the program', times: 'the working timetable, for the program',
     windows: 'windows of more than one minute', events: 'events without activities', period: 'the period', labels: 'names',
+    places: 'where stations lie',
     script: 'the network as commands, as dump tells it',
     lines: 'the steps since the network was opened, as commands',
   };
 
   // The files by name.
-  Page.filesToSave = () => {
-    const { network, times } = Page.view, rows = Page.rowsOf(network, times), files = {};
+  Page.filesToSave = () => filesOf(Page.view.network, Page.view.times);
+
+  const filesOf = (network, times) => {
+    const rows = Page.rowsOf(network, times), files = {};
     for (const [name, header] of Object.entries(HEADERS)) files[name] = `${header}\n${Page.rowsText(rows[name])}`;
     files.period = `period\n${network.period}\n`;
     if (Page.labels.events.size || Page.labels.kinds.size) files.labels = Page.labelsText(Page.labels);
+    if (Page.places.size) files.places = Page.placesText(Page.places);
     return files;
   };
 
@@ -28,42 +32,47 @@
     lines: Page.journal().map(line => `${line}\n`).join(''),
   });
 
-  const give = (name, blob) => {
+  // Gives some of the files as one download.
+  const give = (name, blob, given) => {
     const address = URL.createObjectURL(blob), link = element('a', { href: address, download: name });
     document.body.append(link);
     link.click();
     link.remove();
     setTimeout(() => URL.revokeObjectURL(address), 10000);
-    saved = stateNow();
+    for (const [file, text] of Object.entries(given)) saved.files.set(file, text);
   };
 
   const folderName = () => (Page.session.opened.title || 'network').replace(/[^A-Za-z0-9]+/g, '-').replace(/^-|-$/g, '').toLowerCase() || 'network';
 
   const row = (name, text) => {
-    const save = () => give(name, new Blob([text], { type: 'text/plain' }));
+    const save = () => give(name, new Blob([text], { type: 'text/plain' }), { [name]: text });
     return element('li', {}, element('button', { type: 'button', class: 'link', onclick: save }, name), ` — ${TOLD[name]}`);
   };
 
   Page.showSaving = () => {
+    if (saved.opened !== Page.session.opened) saved = { opened: Page.session.opened, files: new Map() };
     const files = Page.filesToSave(), folder = folderName();
     Page.find('saving-files').replaceChildren(...Object.entries({ ...files, ...linesFiles() }).map(([name, text]) => row(name, text)));
     const placed = Object.fromEntries(Object.entries(files).map(([name, text]) => [`${folder}/${name}`, text]));
-    Page.find('save-all').onclick = () => give(`${folder}.zip`, Page.zipOf(placed));
+    Page.find('save-all').onclick = () => give(`${folder}.zip`, Page.zipOf(placed), files);
     Page.find('saving').showModal();
   };
 
-  // What is shown is saved where a file of it was given since the last step.
-  let saved = null;
-  const stateNow = () => ({ opened: Page.session.opened, step: Page.session.steps[Page.session.place - 1] });
-  const isSaved = () => {
-    const { opened, step } = stateNow();
-    return !step || (saved !== null && saved.opened === opened && saved.step === step);
+  // The texts of files that were given last.
+  let saved = { opened: null, files: new Map() };
+
+  // What is shown is saved where each of its files is the one that was given last, or that was opened.
+  Page.isSaved = () => {
+    const { opened } = Page.session, given = saved.opened === opened ? saved.files : new Map();
+    if (!Page.session.steps.length && !given.size) return true;
+    const before = filesOf(opened.network, opened.times);
+    return Object.entries(Page.filesToSave()).every(([name, text]) => text === (given.has(name) ? given.get(name) : before[name]));
   };
 
   Page.startSaving = () => {
     Page.find('save').addEventListener('click', Page.showSaving);
     window.addEventListener('beforeunload', event => {
-      if (!isSaved()) event.preventDefault();
+      if (!Page.isSaved()) event.preventDefault();
     });
     Page.find('saving-close').addEventListener('click', () => Page.find('saving').close());
   };

@@ -1,8 +1,11 @@
 'use strict';
 
-// Searches in a Worker, which a click stops; what was found is adopted by another click.
+// Work that a click stops, in a Worker: searches, whose best timetable is adopted by another click, why there is none, and
+// long files of lines.
 (() => {
-  let worker = null, asked = null, found = null, began = 0;
+  // `asked` is what the Worker does now, `settle` ends the promise of what it plays, and `found` is what searches of one state
+  // came to: its best timetable, and what the last search said.
+  let worker = null, asked = null, settle = null, found = null, began = 0, wasShown = false;
 
   // The Worker has the parts that are shared, the module's caller and the module, and nothing else.
   const start = () => {
@@ -35,80 +38,96 @@
     Page.stopSearch();
     if (!worker) start();
     asked = { id: performance.now(), ...Page.present(), ...question };
-    found = null;
+    if (!isOfNow(found)) found = null;
     began = performance.now();
     worker.postMessage(asked);
     update();
   };
+
+  // What a base makes, as another one without lines; null where it was stopped. Rejected with the fault's text.
+  Page.play = played => new Promise((done, fail) => {
+    ask({ kind: 'play', played });
+    settle = { done, fail };
+  });
 
   // Ends what the Worker does; what it has found until now stays.
   Page.stopSearch = () => {
     if (!asked) return;
     worker.terminate();
     worker = null;
-    asked = null;
+    ended();
     if (found) found.isStopped = true;
     update();
   };
 
+  const ended = () => {
+    asked = null;
+    if (settle) settle.done(null);
+    settle = null;
+  };
+
+  // The same, where another network takes the place of the one that is shown.
+  Page.forgetSearch = () => {
+    Page.stopSearch();
+    found = null;
+    wasShown = false;
+  };
+
   const answered = told => {
     if (!asked || (told.id !== undefined && told.id !== asked.id)) return;
-    const question = asked;
-    if (told.isDone) asked = null;
-    if (told.fault) Page.say(told.fault, true);
-    else if (question.kind === 'why') Page.showWhy(told.why);
-    else {
-      const seconds = (performance.now() - began) / 1000;
-      found = { ...told.found, nodes: told.nodes, seconds, lines: [...question.lines], base: question.base };
-    }
+    const { kind, base, lines } = asked;
+    if (told.found) found = Page.betterFound(found, { ...told, base, lines: [...lines], seconds: (performance.now() - began) / 1000 });
+    else if (settle) settle[told.fault ? 'fail' : 'done'](told.fault ? new Error(told.fault) : told.base);
+    else if (told.fault) Page.say(told.fault, true);
+    else if (kind === 'why') Page.showWhy(told.why);
+    if (told.isDone) ended();
     const isInfeasible = told.found && told.found.kind === 'infeasible';
     if (isInfeasible) Page.say('No timetable meets everything. “Why?” tells what cannot be met together.', true);
     update();
   };
 
-  const textOf = () => {
-    if (asked && asked.kind === 'why') return 'Looking for what cannot be met together …';
-    if (!found) return asked ? 'Searching …' : '';
-    const nodes = `${found.nodes.toLocaleString('en')} nodes, ${found.seconds.toFixed(1)} s`;
-    const more = asked ? ' — searching on …' : found.isStopped ? ' — stopped' : '';
-    const cost = found.cost === undefined ? '' : found.cost.toLocaleString('en');
-    return {
-      optimum: `Optimum: cost ${cost}. No timetable costs less.`,
-      infeasible: '✕ Infeasible: no timetable meets everything.',
-      stopped: `Found: cost ${cost}, perhaps not the best (${nodes})${more}`,
-      none: `No timetable found yet (${nodes}); there may be one${more}`,
-    }[found.kind];
-  };
+  const BUSY = { why: 'Looking for what cannot be met together …', play: 'Playing the lines …', search: 'Searching …' };
 
-  // What was found is of the state for which it was asked, and is offered as long as that is shown.
-  const isOfNow = () => {
+  // What is found is of the state for which it was asked, and is offered as long as that is shown.
+  const isOfNow = each => {
     const { base, lines } = Page.present();
-    return found && found.base === base && found.lines.length === lines.length && found.lines.every((line, place) => line === lines[place]);
+    return each && each.base === base && each.lines.length === lines.length && each.lines.every((line, place) => line === lines[place]);
   };
 
   const update = () => {
-    if (found && !asked && !isOfNow()) found = null;
-    Page.setText(Page.find('found'), textOf());
-    Page.find('adopt').hidden = !(found && found.times && isOfNow());
+    const isShown = Boolean(isOfNow(found)), isOffered = Boolean(isShown && found.times), isSearching = Boolean(asked && asked.kind === 'search');
+    const isBusyElse = asked && !(isSearching && isShown);
+    Page.setText(Page.find('found'), isBusyElse ? BUSY[asked.kind] : isShown ? Page.foundText(found, isSearching) : '');
+    const compared = isOffered ? Page.comparedText(found, Page.view) : { told: '', adopt: 'Adopt it' };
+    Page.setText(Page.find('compared'), compared.told);
+    Page.setText(Page.find('adopt'), compared.adopt);
+    Page.find('adopt').hidden = !isOffered;
     Page.find('stop').hidden = !asked;
     for (const name of ['optimum', 'try', 'ask-why']) Page.find(name).disabled = Boolean(asked);
+    wasShown = isOffered;
   };
 
   // Times are set by lines of their own, so that nothing is searched again when these lines are given once more.
   const adopt = () => {
     const lines = [...found.times].map(([event, time]) => `time ${event} ${time}`), { cost, kind } = found;
-    Page.stopSearch();
-    found = null;
+    Page.forgetSearch();
     if (Page.step(lines)) Page.say(`adopted: ${kind === 'optimum' ? 'the optimum' : 'the best that was found'}, cost ${cost.toLocaleString('en')}`);
   };
 
-  // A step ends what was asked of the state before it.
+  const ENDS = { why: 'the search for a conflict has ended with it', play: 'the opening has ended with it', search: 'the search has ended with it' };
+
+  // A step ends what was asked of the state before it, and what was found for that is there again when it is taken back.
   Page.panel({
     update: () => {
-      if (asked && (asked.base !== Page.present().base || asked.lines.join() !== Page.present().lines.join())) Page.stopSearch();
+      const ending = asked && !isOfNow(asked) ? ENDS[asked.kind] : '', isLeft = wasShown && !isOfNow(found);
+      if (ending) Page.stopSearch();
+      const kept = isLeft ? `the timetable of cost ${found.cost.toLocaleString('en')} that was found before it is offered again after Undo` : '';
       update();
+      if (ending || kept) Page.sayMore([ending, kept].filter(Boolean).join('; '));
     },
   });
+
+  const STOPPED = { why: 'stopped', play: 'the opening was stopped, and nothing has changed', search: 'the search was stopped' };
 
   Page.startSearching = () => {
     Page.find('optimum').addEventListener('click', () => ask({ kind: 'search', most: 1e12 }));
@@ -119,7 +138,7 @@
     Page.find('stop').addEventListener('click', () => {
       const { kind } = asked;
       Page.stopSearch();
-      Page.say(kind === 'why' ? 'stopped' : 'the search was stopped');
+      Page.say(STOPPED[kind]);
     });
     Page.find('adopt').addEventListener('click', adopt);
     Page.find('ask-why').addEventListener('click', () => {

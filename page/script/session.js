@@ -3,8 +3,6 @@
 // The session: what was opened, the steps since, and which of them are done. What is shown is always what the program
 // tells of the base and the lines of the steps that are done.
 (() => {
-  // Lines that keep the working timetable as it is.
-  const KEEPS_TIMES = /^(fix|window|unfix|span|weight|ends|add|drop activity) /;
   // After so many lines a step keeps a base of its own, so that a run does not begin at the first one.
   const LINES_OF_A_BASE = 300;
 
@@ -25,11 +23,11 @@
 
   // Opens a base with its labels and places, and shows it. Raises RunFault, and then nothing has changed.
   Page.open = (base, { title = '', labels = Page.noLabels(), places = new Map() } = {}) => {
-    const looked = Page.look(base, []), times = Page.askTimes(base, [], looked.network);
-    Object.assign(session, { opened: { base, times, title }, steps: [], place: 0 });
+    const looked = Page.lookFirst(base), { times } = looked;
+    Object.assign(session, { opened: { base, times, title, network: looked.network }, steps: [], place: 0 });
     Object.assign(Page, { labels, places, chosen: null, chosenLine: null, view: null });
-    Page.stopSearch();
-    show({ ...looked, times });
+    Page.forgetSearch();
+    show(looked);
   };
 
   // What a run tells, or null where it ends by a fault, which is told.
@@ -55,9 +53,7 @@
   // Shows what a line would make, as a step of a drag.
   Page.preview = line => {
     const looked = tried([line]);
-    if (!looked) return;
-    const [word, event, time] = line.split(' '), times = Page.timesNow();
-    show({ ...looked, times: word === 'time' ? new Map(times).set(Number(event), Number(time)) : times });
+    if (looked) show({ ...looked, times: Page.timesAfter(Page.timesNow(), [line]) });
   };
 
   // Does some lines as one step, which can be undone; false where one of them is refused, and then nothing has changed.
@@ -67,10 +63,8 @@
       Page.refresh();
       return false;
     }
-    const { base, lines } = present(), all = [...lines, ...more];
-    const times = more.every(line => KEEPS_TIMES.test(line)) ? Page.timesNow() : Page.askTimes(base, all, looked.network);
-    const made = { lines: more, times };
-    if (all.length > LINES_OF_A_BASE) made.base = Page.baseOf(looked.network, times);
+    const times = Page.timesAfter(Page.timesNow(), more), made = { lines: more, times };
+    if (present().lines.length + more.length > LINES_OF_A_BASE) made.base = Page.baseOf(looked.network, times);
     session.steps.splice(session.place, Infinity, made);
     session.place += 1;
     Page.say(more.length === 1 ? more[0] : `${more.length} lines`);

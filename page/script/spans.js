@@ -3,6 +3,8 @@
 // The activities at the chosen event: their spans with ends to drag, and the tension and slack on them.
 (() => {
   const { element } = Page;
+  // So many activities have a card; of more a word says so.
+  const MOST_CARDS = 200;
   let shown = [], cards = new Map();
 
   const build = () => {
@@ -10,21 +12,25 @@
   };
 
   const update = view => {
-    const numbers = [...view.network.activities.values()].filter(each => each.first === Page.chosen || each.last === Page.chosen);
-    const wanted = numbers.map(each => each.number);
-    if (wanted.join() !== shown.join() || !wanted.length) {
+    const all = [...view.network.activities.values()].filter(each => each.first === Page.chosen || each.last === Page.chosen);
+    const some = all.slice(0, MOST_CARDS), wanted = [all.length, ...some.map(each => each.number)];
+    if (wanted.join() !== shown.join() || !all.length) {
       shown = wanted;
-      cards = new Map(numbers.map(each => [each.number, makeCard(each)]));
-      Page.find('activities').replaceChildren(...[...cards.values()].map(card => card.node));
-      if (!numbers.length) Page.find('activities').append(element('p', { class: 'quiet' }, 'No activity is at this event.'));
+      cards = new Map(some.map(each => [each.number, makeCard(each)]));
+      Page.find('activities').replaceChildren(...[...cards.values()].map(card => card.node), ...beyond(all));
     }
-    for (const each of numbers) drawCard(cards.get(each.number), each, view);
+    for (const each of some) drawCard(cards.get(each.number), each, view);
+  };
+
+  const beyond = ({ length }) => {
+    const told = Page.elided(length, MOST_CARDS, 'activities at this event');
+    return !length || told ? [element('p', { class: 'quiet' }, told || 'No activity is at this event.')] : [];
   };
 
   Page.panel({ build, update });
 
-  const field = (card, name, label) => {
-    card[name] = element('input', { type: 'number', step: 1, 'aria-label': label, onchange: () => change(card) });
+  const field = (card, name, label, make = Page.minutesField) => {
+    card[name] = make({ 'aria-label': label, onchange: () => change(card) });
     return card[name];
   };
 
@@ -41,7 +47,7 @@
     card.told = element('span', { class: 'told' });
     const fields = element('div', { class: 'fields' }, element('label', {}, 'from ', field(card, 'least', `${name}: least minutes`)),
       element('label', {}, 'to ', field(card, 'most', `${name}: most minutes`)),
-      element('label', {}, 'weight ', field(card, 'weight', `${name}: cost of a minute of slack`)));
+      element('label', {}, 'weight ', field(card, 'weight', `${name}: cost of a minute of slack`, Page.numberField)));
     const title = element('button', { class: 'link', title: 'show the event at its other end', onclick: () => Page.showRow(other) }, name);
     card.node = element('div', { class: 'card', 'data-activity': number }, element('div', { class: 'title' }, title, card.told), card.track, fields);
     card.track.addEventListener('pointerdown', event => begin(card, event));
@@ -123,7 +129,7 @@
 
   const change = card => {
     const before = Page.view.network.activities.get(card.number);
-    const [lower, upper, weight] = [card.least, card.most, card.weight].map(input => input.value.trim());
+    const [lower, upper] = [card.least, card.most].map(input => Page.minutesTyped(input.value)), weight = card.weight.value.trim();
     const lines = [];
     if (lower !== String(before.lower) || upper !== String(before.upper)) lines.push(`span ${card.number} ${lower} ${upper}`);
     if (weight !== String(before.weight)) lines.push(`weight ${card.number} ${weight}`);

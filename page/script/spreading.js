@@ -28,11 +28,12 @@
   };
 
   const start = (places, tracks, radius) => {
-    const names = [...places.keys()], ends = new Map(names.map(name => [name, []])), rooms = new Map();
+    const names = [...places.keys()], ends = new Map(names.map(name => [name, []])), rooms = new Map(names.map(name => [name, new Map()]));
     for (const { one, other, along, beside } of tracks) {
       ends.get(one).push([other, beside]);
       ends.get(other).push([one, beside]);
-      rooms.set(Page.trackOf(one, other), along);
+      rooms.get(one).set(other, along);
+      rooms.get(other).set(one, along);
     }
     return { places, tracks, radius, names, ends, rooms, isMoved: false };
   };
@@ -48,8 +49,8 @@
     const { names, tracks, radius, rooms, ends } = spreading;
     spreading.isMoved = false;
     names.forEach((one, place) => names.slice(place + 1).forEach(other => {
-      const room = rooms.has(Page.trackOf(one, other)) ? rooms.get(Page.trackOf(one, other)) : 2 * CLEARANCE;
-      push(spreading, one, other, radius.get(one) + radius.get(other) + room);
+      const room = rooms.get(one).get(other);
+      push(spreading, one, other, radius.get(one) + radius.get(other) + (room === undefined ? 2 * CLEARANCE : room));
     }));
     for (const track of tracks) for (const station of names) if (station !== track.one && station !== track.other) clear(spreading, station, track);
     for (const station of names) {

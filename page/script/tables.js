@@ -58,8 +58,8 @@
   const tablesOf = (view, isPrinted) => {
     if (!view.lines.length) return [eventTable(view)];
     return view.lines.map(line => {
-      const drawn = isPrinted && line.stations.length > 1 ? [Page.diagramOf(view, line)] : [];
-      return element('section', { class: 'line' }, headOf(line), Page.lineTable(view, line), ...drawn);
+      const { drawn, told } = isPrinted && line.stations.length > 1 ? Page.diagramOf(view, line) : { drawn: null, told: '' };
+      return element('section', { class: 'line' }, headOf(line), Page.lineTable(view, line), drawn, told && element('p', {}, told));
     });
   };
 

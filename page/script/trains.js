@@ -40,10 +40,17 @@
       train.events.push(step.last);
       train.steps.push(step.number);
     }
-    train.stops = stopsOf(train);
-    train.stations = train.stops.map(stop => stop.station);
-    return train;
+    return withStops(train);
   };
+
+  const withStops = train => {
+    const stops = stopsOf(train);
+    return { ...train, stops, stations: stops.map(stop => stop.station) };
+  };
+
+  // The part of a train from one of its events to before another.
+  Page.trainPart = (train, start, end) =>
+    withStops({ ...train, events: train.events.slice(start, end), steps: train.steps.slice(start, end - 1) });
 
   // The stations of a train with its arrivals and departures.
   const stopsOf = train => {

@@ -1,6 +1,6 @@
 'use strict';
 
-// What the Worker does, so that the page stays usable: searches, and why there is no timetable.
+// What the Worker does, so that the page stays usable: searches, why there is no timetable, and long files of lines.
 Page.share(Page => {
   // A search is asked for in rising numbers of nodes, so that it can be stopped with the best that it has found.
   const FIRST_NODES = 2000, MORE = 4;
@@ -19,10 +19,18 @@ Page.share(Page => {
     tell({ why: Page.findWhy(network, { kept: new Set(kept) }), isDone: true });
   };
 
+  // What a base makes, as another one that has no lines to play.
+  const play = ({ played }, tell) => {
+    const { network, times } = Page.lookFirst(played);
+    tell({ base: Page.baseOf(network, times), isDone: true });
+  };
+
+  const WORK = { search, why, play };
+
   // Does what was asked; `tell` is called with each answer.
   Page.work = (asked, tell) => {
     try {
-      (asked.kind === 'why' ? why : search)(asked, tell);
+      WORK[asked.kind](asked, tell);
     } catch (fault) {
       tell({ fault: String(fault.message || fault), isDone: true });
     }

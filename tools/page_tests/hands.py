@@ -80,6 +80,41 @@ class Hands(Browser):
         self.click(*self.middle(f"#{identifier}"))
         self.frame()
 
+    def again(self):
+        """Opens the page anew, as nobody has touched it."""
+        self.open(self.address)
+
+    def type(self, text):
+        """Types a text, key by key; a line feed is Enter."""
+        for letter in text.replace("\n", "\r"):
+            name = {"key": "Enter", "windowsVirtualKeyCode": 13} if letter == "\r" else {"key": letter}
+            self.call("Input.dispatchKeyEvent", type="keyDown", text=letter, **name)
+            self.call("Input.dispatchKeyEvent", type="keyUp", **name)
+        self.frame()
+
+    def fill(self, selector, text):
+        """Types a text in a field, in the place of what stands there."""
+        self.click(*self.middle(selector), count=3)
+        self.type(text)
+
+    def drop(self, *paths):
+        """Drops files and folders that exist on the page, and waits until they are opened or looked at."""
+        self.ask("Page.say('')")
+        data = {"items": [], "files": [str(path) for path in paths], "dragOperationsMask": 1}
+        for kind in ("dragEnter", "dragOver", "drop"):
+            self.call("Input.dispatchDragEvent", type=kind, x=300, y=300, data=data)
+        self.until("Page.find('opening').open || Page.find('said').textContent !== '' || !Page.find('stop').hidden")
+        self.frame()
+
+    def opening(self):
+        """What the dialog of files tells: whether it is open, its fault and its help."""
+        is_open = self.ask("Page.find('opening').open")
+        return {"open": is_open, "told": self.text("#opening-fault"), "help": self.text("#opening-help")}
+
+    def is_shown(self, identifier):
+        """Whether what has an id is there to be seen."""
+        return self.ask(f"Page.find({json.dumps(identifier)}).getClientRects().length > 0")
+
     def state(self):
         """All that the program told of the state shown, as one text."""
         return self.ask(

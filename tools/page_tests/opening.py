@@ -42,6 +42,7 @@ def forget(page):
 
 def dropping(suite, page):
     """Files that are dropped are opened at once where their names and the period tell all, and else after a look."""
+    page.show(TWO_TRAINS)
     forget(page)
     folder = EXAMPLES / "two-changes"
     drop(page, {name: (folder / name).read_text() for name in ("activities", "fixed", "labels", "period")})

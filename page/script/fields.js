@@ -1,0 +1,31 @@
+'use strict';
+
+// Fields for numbers. The program is given what is typed there, and says what it does not take.
+(() => {
+  const CLOCK = /^([+-]?)([0-9]*):([0-5][0-9])$/;
+
+  // What is typed for minutes: `6:15` are 375 of them, `:07` is 7, and anything else stays as it is.
+  Page.minutesTyped = text => {
+    const found = CLOCK.exec(text.trim());
+    return found ? `${found[1]}${60 * Number(found[2]) + Number(found[3])}` : text.trim();
+  };
+
+  Page.numberField = more => Page.element('input', { class: 'number', inputmode: 'numeric', autocomplete: 'off', ...more });
+
+  const ARROWS = { ArrowUp: 1, ArrowDown: -1 };
+
+  // A field for minutes, which arrow keys move by one.
+  Page.minutesField = more => {
+    const field = Page.numberField({
+      ...more,
+      onkeydown: event => {
+        const move = ARROWS[event.key], minutes = Number(Page.minutesTyped(field.value) || NaN);
+        if (!move || !Number.isInteger(minutes)) return;
+        event.preventDefault();
+        field.value = String(minutes + move);
+        field.dispatchEvent(new Event('change'));
+      },
+    });
+    return field;
+  };
+})();

@@ -1,0 +1,204 @@
+"""The page as it opens, by real keys, clicks and files that exist: what loses work, and what is typed."""
+
+import pathlib
+import tempfile
+
+from page_tests.hands import TWO_TRAINS
+from page_tests.keys import CODES, CTRL
+from page_tests.searching import DONE
+
+# A Worker that gives these answers to each search, one after another, the last of which ends it.
+STAND_IN = """window.Worker = class {
+    addEventListener(name, listener) { if (name === 'message') this.listener = listener; }
+    postMessage({ id, kind }) {
+        if (kind !== 'search') return;
+        ANSWERS.forEach((found, place) => setTimeout(() => this.listener({ data: {
+            id, nodes: 10 * (place + 1), isDone: place + 1 === ANSWERS.length, found: { ...found, times: new Map(found.times) },
+        } }), 50 * place));
+    }
+    terminate() { }
+}"""
+
+
+def placed(folder, texts):
+    """Files that exist, with these texts by their names."""
+    paths = []
+    for name, text in texts.items():
+        paths.append(pathlib.Path(folder) / name)
+        paths[-1].write_text(text)
+    return paths
+
+
+def shortcuts(suite, page):
+    """Undo, redo, open and save by their keys, on a page that nobody has touched."""
+    page.again()
+    page.key("s", 83, CTRL)
+    page.frame()
+    suite.holds("Ctrl and s", page.is_shown("saving"))
+    page.press("saving-close")
+    page.key("o", 79, CTRL)
+    page.frame()
+    suite.holds("Ctrl and o", page.is_shown("opening"))
+    page.press("opening-close")
+    page.again()
+    page.drag([page.minute(1, 20), page.minute(1, 30)])
+    for key, code, modifiers, lines in [
+        ("z", 90, CTRL, []),
+        ("y", 89, CTRL, ["fix 1 30"]),
+        ("z", 90, CTRL, []),
+        ("Z", 90, CTRL + 8, ["fix 1 30"]),
+    ]:
+        page.key(key, code, modifiers)
+        page.frame()
+        suite.note(f"{key} with {modifiers}", {"lines": lines}, {"lines": page.lines()})
+    page.click(*page.middle("#large"))
+    page.key("z", 90, CTRL)
+    page.frame()
+    suite.note("beside a box that is ticked", {"lines": []}, {"lines": page.lines()})
+    page.click(*page.middle("#time-at"))
+    page.key("s", 83, CTRL)
+    page.frame()
+    suite.holds("Ctrl and s in a field", page.is_shown("saving"))
+    page.press("saving-close")
+    page.click(*page.middle("#large"))
+
+
+def typed(suite, page):
+    """What is typed for minutes may be a time of the clock, and is no other number than that."""
+    for period, field, text, line, said in [
+        ("1440", "#time-at", "6:15", "time 1 375", "time 1 375"),
+        ("1440", "#hold-first", "23:05", "window 1 1385 1", "window 1 1385 1"),
+        ("1440", "#hold-length", "1:30", "window 1 0 90", "window 1 0 90"),
+        ("1440", '[data-activity="1"] [aria-label$="most minutes"]:not(.grip)', "1:05", "span 1 3 65", "span 1 3 65"),
+        ("60", "#time-at", ":07", "time 1 7", "time 1 7"),
+        ("60", "#time-at", "6:15", None, "time 1 375 — refused 4 time 375 is out of range"),
+        ("60", "#time-at", "6.15", None, "time 1 6.15 — fault word 3 is not a number"),
+        ("60", '[data-activity="1"] [aria-label$="minute of slack"]', "6:15", None, "weight 1 6:15 — fault word 3 is not a number"),
+    ]:
+        page.show({**TWO_TRAINS, "period": period})
+        page.fill(field, f"{text}\n")
+        wanted = {"lines": [line] if line else [], "said": said}
+        suite.note(f"{text} in {field} at {period}", wanted, {"lines": page.lines(), "said": page.said()})
+    page.show({**TWO_TRAINS, "period": "1440"})
+    page.fill("#time-at", "6:15\n")
+    page.click(*page.middle("#chosen-name"))
+    suite.note("the same in the row", {"time": "6:15"}, {"time": page.row(1, "time")})
+    page.again()
+    page.fill("#nodes", "6:15\n")
+    suite.note("a limit of a search", {"stop": False}, {"stop": page.is_shown("stop")})
+
+
+def saved(suite, page):
+    """A step is saved where each file that it changes was given, or the archive; other files do not count."""
+    for given, wanted in [(["period"], 1), (["labels"], 1), (["fixed"], 0), (["period", "fixed"], 0), (["save-all"], 0)]:
+        page.again()
+        page.drag([page.minute(1, 20), page.minute(1, 30)])
+        page.press("save")
+        for name in given:
+            if name == "save-all":
+                page.press(name)
+            else:
+                place = page.ask(f"[...document.querySelectorAll('#saving-files button')].findIndex(each => each.textContent === '{name}')")
+                page.click(*page.middle(f"#saving-files li:nth-child({place + 1}) button"))
+        before = page.asked_to_stay
+        page.again()
+        suite.note(f"given: {', '.join(given)}", {"asked": wanted}, {"asked": page.asked_to_stay - before})
+
+
+def replaced(suite, page):
+    """Files that are dropped on work that is not saved are opened by a click alone, below a word on what is lost."""
+    with tempfile.TemporaryDirectory() as folder:
+        paths = placed(folder, TWO_TRAINS)
+        page.again()
+        page.drop(*paths)
+        came = {"said": page.said(), "open": page.opening()["open"], "size": page.text("#size")}
+        wanted = {"said": "opened: activities, times, period, labels", "open": False, "size": "2 events, 2 activities, period 10"}
+        suite.note("files on a page that nobody has touched", wanted, came)
+        page.again()
+        page.drag([page.minute(1, 20), page.minute(1, 30)])
+        page.drop(*paths)
+        came = {"lines": page.lines(), "open": page.opening()["open"], "loss": page.is_shown("opening-loss")}
+        suite.note("files on a step that is not saved", {"lines": ["fix 1 30"], "open": True, "loss": True}, came)
+        page.press("opening-close")
+        suite.note("which stays", {"lines": ["fix 1 30"]}, {"lines": page.lines()})
+        page.drop(*paths)
+        page.click(*page.middle("#opening-form .main"))
+        page.until("Page.find('said').textContent.startsWith('opened')")
+        suite.note("or is given up", {"size": "2 events, 2 activities, period 10"}, {"size": page.text("#size")})
+        page.drop(*paths)
+        suite.note("and nothing is lost then", {"open": False}, {"open": page.opening()["open"]})
+        whole = pathlib.Path(folder) / "whole"
+        whole.mkdir()
+        placed(whole, TWO_TRAINS)
+        page.again()
+        page.drop(whole)
+        page.until("Page.find('said').textContent.startsWith('opened')")
+        suite.note("a folder", {"title": "whole"}, {"title": page.text("#title")})
+
+
+def frames(suite, page):
+    """Both ends of a frame can be taken where the diamond lies in it, and the diamond too."""
+    page.again()
+    time = page.ask("Page.view.times.get(1)")
+    unit = page.minute(1, 1)[0] - page.minute(1, 0)[0]
+    for grip, minutes, line in [
+        ("last", 5, f"window 1 {time} 6"),
+        ("first", -3, f"window 1 {time - 3} 9"),
+        ("now", 2, f"time 1 {time + 2}"),
+    ]:
+        if not page.lines():
+            page.click(*page.minute(1, 30))
+            page.key("ArrowRight", CODES["ArrowRight"])
+            suite.note("held where it is", {"lines": [f"fix 1 {time}"]}, {"lines": page.lines()})
+        x, y = page.grip(1, grip)
+        met = page.ask(f"document.elementFromPoint({x}, {y}).dataset.grip || ''")
+        page.drag([(x, y), (x + minutes * unit / 2, y), (x + minutes * unit, y)])
+        suite.note(f"the {grip} of a frame", {"met": grip, "line": line}, {"met": met, "line": page.lines()[-1]})
+
+
+def edited(suite, page):
+    """An edit during a search says what becomes of what was found, and its undo gives that back."""
+    page.again()
+    page.press("optimum")
+    page.until("!Page.find('stop').hidden && /^Found: cost/.test(Page.find('found').textContent)")
+    page.drag([page.minute(1, 20), page.minute(1, 30)])
+    told = page.said()
+    suite.holds(f"a word on the search: {told}", told.startswith("fix 1 30 — the search has ended with it; the timetable of cost "))
+    suite.note("nothing is offered", {"adopt": False, "found": ""}, {"adopt": page.is_shown("adopt"), "found": page.text("#found")})
+    page.key("z", 90, CTRL)
+    page.frame()
+    cost = told.split("cost ")[1].split(" ")[0]
+    came = {"adopt": page.is_shown("adopt"), "found": page.text("#found").startswith(f"Found: cost {cost}, ")}
+    suite.note("undone", {"adopt": True, "found": True}, came)
+    page.press("adopt")
+    suite.note("and adopted", {"cost": cost}, {"cost": page.text("#figure-cost b")})
+
+
+def compared(suite, page):
+    """Of several answers the best is kept, and one that is dearer than the timetable shown is not offered without that word."""
+    page.again()
+    page.show({**TWO_TRAINS, "times": ""})
+    better, worse = ["{ kind: 'stopped', cost: %d, times: [[1, 0], [2, %d]] }" % each for each in [(4, 4), (5, 5)]]
+    page.ask(STAND_IN.replace("ANSWERS", f"[{better}, {worse}]"))
+    page.press("optimum")
+    page.until(DONE)
+    told = page.text("#found")
+    suite.holds(f"the best of two: {told}", told.startswith("Found: cost 4, perhaps not the best (20 nodes, "))
+    page.press("optimum")
+    page.ask(STAND_IN.replace("ANSWERS", f"[{worse}]"))
+    page.until(DONE)
+    suite.holds("and of two searches", page.text("#found").startswith("Found: cost 4, "))
+    page.press("adopt")
+    suite.note("adopted", {"lines": ["time 1 0", "time 2 4"]}, {"lines": page.lines()})
+    page.again()
+    page.show({**TWO_TRAINS, "times": "1; 0\n2; 4\n"})
+    page.ask(STAND_IN.replace("ANSWERS", f"[{worse}]"))
+    page.press("optimum")
+    page.until(DONE)
+    came = {"told": page.text("#compared"), "button": page.text("#adopt")}
+    wanted = {"told": "✕ dearer than the timetable shown, which costs 4", "button": "Adopt the dearer one"}
+    suite.note("a dearer one", wanted, came)
+    page.again()
+
+
+GROUPS = [shortcuts, typed, saved, replaced, frames, edited, compared]
