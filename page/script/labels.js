@@ -48,7 +48,7 @@
   // Where stations lie: `station; x; y`, x to the east and y to the north. Raises FileFault.
   Page.readPlaces = text => {
     const places = new Map();
-    for (const { number, fields } of Page.recordsOf(text)) {
+    for (const { number, fields } of Page.recordsOf(text, true)) {
       const [station, ...place] = fields;
       if (place.length === 2 && place[0] === 'x' && place[1] === 'y') continue;
       const isPlace = place.length === 2 && place.every(each => MEASURE.test(each) && Number.isFinite(Number(each)));

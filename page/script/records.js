@@ -25,8 +25,9 @@ Page.share(Page => {
     }
   };
 
-  // The records that are neither blank nor comments, each with its number.
-  Page.recordsOf = text => {
+  // The records that are neither blank nor comments, each with its number. Where a first field is a name, one in quotes begins
+  // no comment, whatever it begins with.
+  Page.recordsOf = (text, isNamed = false) => {
     const whole = text.replace(/^\uFEFF/, ''), separator = whole.includes(';') ? ';' : ',', records = [];
     let number = 0;
     for (let place = 0; place < whole.length;) {
@@ -34,7 +35,8 @@ Page.share(Page => {
       if (next > place + 1 && !(next === place + 2 && whole.startsWith('\r\n', place))) {
         number += 1;
         if (fields[fields.length - 1] === '') fields.pop();
-        if (fields.length && !fields[0].startsWith('#')) records.push({ number, fields });
+        const isComment = fields.length && fields[0].startsWith('#') && !(isNamed && whole[place] === '"');
+        if (fields.length && !isComment) records.push({ number, fields });
       }
       place = next;
     }

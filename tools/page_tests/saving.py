@@ -2,14 +2,18 @@
 
 import base64
 import io
+import json
 import pathlib
 import tempfile
+import time
 import zipfile
 
 from page_tests.hands import TWO_TRAINS
+from page_tests.keys import CTRL
 from page_tests.opening import EXAMPLES, drop, forget
 from pespbench import Labels, files
 from pespbench.drawn import draw_region
+from pespbench.report import read_places
 
 
 def saving(suite, page):
@@ -96,6 +100,44 @@ def saving(suite, page):
     suite.note("the script", {"script": script}, {"script": page.ask("Page.ask(['dump'])[0].join('\\n')")})
 
 
+def archived(suite, page):
+    """The archive that is saved opens with the network, its times, names and places, in the page and in the package."""
+    page.again()
+    page.drag([page.minute(1, 20), page.minute(1, 30)])
+    page.drag([page.grip(2, "now"), page.minute(2, 50)])
+    wanted = {"state": page.state(), "places": page.ask("[...Page.places]"), "labels": page.ask("[...Page.labels.events]")}
+    with tempfile.TemporaryDirectory() as name:
+        folder = pathlib.Path(name)
+        page.call("Browser.setDownloadBehavior", behavior="allow", downloadPath=name)
+        page.key("s", 83, CTRL)
+        page.press("save-all")
+        for _ in range(100):
+            if list(folder.glob("*.zip")):
+                break
+            time.sleep(0.1)
+        [path] = folder.glob("*.zip")
+        page.press("saving-close")
+        page.again()
+        page.drop(path)
+        page.until("Page.find('said').textContent.startsWith('opened')")
+        came = {"state": page.state(), "places": page.ask("[...Page.places]"), "labels": page.ask("[...Page.labels.events]")}
+        suite.note("in the page", wanted, came)
+        with zipfile.ZipFile(path) as archive:
+            archive.extractall(folder)
+        read = [[station, list(place)] for station, place in read_places(folder / path.stem / "places").items()]
+    suite.note("in the package", {"places": wanted["places"]}, {"places": read})
+    named = {"A; B": [1.5, -2], '"C" # D': [1e-7, 3], "E": [0, 1e21]}
+    page.ask(f"Page.places = new Map(Object.entries({json.dumps(named)}))")
+    with tempfile.TemporaryDirectory() as name:
+        path = pathlib.Path(name) / "places"
+        path.write_text(page.ask("Page.filesToSave().places"))
+        came = {station: list(place) for station, place in read_places(path).items()}
+    suite.note("names of all kinds", {"places": named}, {"places": came})
+    came = page.ask("[...Page.readPlaces('# a comment\\n' + Page.placesText(new Map([['#E', [1, 2]]])))]")
+    suite.note("a name that begins as a comment", {"places": [["#E", [1, 2]]]}, {"places": came})
+    page.again()
+
+
 def stories(suite, page):
     """The stories in the page are the examples', and the region that the package draws."""
     kept = {story["title"]: story["texts"] for story in page.ask("Page.stories")}
@@ -119,4 +161,4 @@ def stories(suite, page):
     suite.note("the region", drawn, region)
 
 
-GROUPS = [saving, stories]
+GROUPS = [saving, archived, stories]
