@@ -93,7 +93,7 @@ def unstarted(suite, page):
         text = pathlib.Path(page.address.removeprefix("file://")).read_text()
         broken.write_text(text.replace('const PESPBENCH_MODULE = "', 'const PESPBENCH_MODULE = "AAAA'))
         page.call("Page.navigate", url=broken.as_uri())
-        page.until("document.readyState === 'complete' && !document.getElementById('cannot').hidden")
+        page.until("document.readyState === 'complete' && document.getElementById('cannot').open")
         suite.holds("it says why", page.ask("document.getElementById('cannot-why').textContent.length > 10"))
         page.log.clear()
         page.requests.remove(broken.as_uri())
