@@ -113,7 +113,7 @@ class Hands(Browser):
 
     def is_shown(self, identifier):
         """Whether what has an id is there to be seen."""
-        return self.ask(f"Page.find({json.dumps(identifier)}).getClientRects().length > 0")
+        return self.ask(f"Page.find({json.dumps(identifier)})?.getClientRects().length > 0")
 
     def state(self):
         """All that the program told of the state shown, as one text."""

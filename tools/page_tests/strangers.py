@@ -209,12 +209,16 @@ def elided(suite, page):
 
 def exact(suite, page):
     """A cost beyond what a number of a script tells exactly is shown as it is, in its digits."""
-    many = "".join(f"{number}; 1; 2; 0; 59; {1_000_000_000 - number % 2}\n" for number in range(99_999))
+    weights = [1_000_000_000 - (number <= 3_750) for number in range(7_500)]
+    many = "".join(
+        f"{number}; {number % 50}; {50 + number // 50 % 50}; 0; 1439; {weight}\n" for number, weight in enumerate(weights)
+    )
+    times = "".join(f"{event}; {-(event // 50)}\n" for event in range(100))
     with tempfile.TemporaryDirectory() as folder:
         page.again()
-        page.drop(*placed(folder, {"activities": many, "times": "1; 0\n2; 59\n", "period": "60"}))
+        page.drop(*placed(folder, {"activities": many, "times": times, "period": "1440"}))
         page.until("Page.find('said').textContent.startsWith('opened')")
-    cost = f"{59 * (99_999 * 1_000_000_000 - 49_999):,}"
+    cost = f"{1_439 * sum(weights):,}"
     page.ask("window.dispatchEvent(new Event('beforeprint'))")
     came = {"shown": page.text("#figure-cost b"), "printed": cost in page.text("#printed")}
     page.ask("window.dispatchEvent(new Event('afterprint'))")
