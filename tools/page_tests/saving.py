@@ -9,7 +9,6 @@ import time
 import zipfile
 
 from page_tests.hands import TWO_TRAINS
-from page_tests.keys import CTRL
 from page_tests.opening import EXAMPLES, drop, forget
 from pespbench import Labels, files
 from pespbench.drawn import draw_region
@@ -105,11 +104,12 @@ def archived(suite, page):
     page.again()
     page.drag([page.minute(1, 20), page.minute(1, 30)])
     page.drag([page.grip(2, "now"), page.minute(2, 50)])
-    wanted = {"state": page.state(), "places": page.ask("[...Page.places]"), "labels": page.ask("[...Page.labels.events]")}
+    names = "[[...Page.places], [...Page.labels.events]]"
+    wanted = {"state": page.state(), "names": page.ask(names)}
     with tempfile.TemporaryDirectory() as name:
         folder = pathlib.Path(name)
         page.call("Browser.setDownloadBehavior", behavior="allow", downloadPath=name)
-        page.key("s", 83, CTRL)
+        page.press("save")
         page.press("save-all")
         for _ in range(100):
             if list(folder.glob("*.zip")):
@@ -120,12 +120,11 @@ def archived(suite, page):
         page.again()
         page.drop(path)
         page.until("Page.find('said').textContent.startsWith('opened')")
-        came = {"state": page.state(), "places": page.ask("[...Page.places]"), "labels": page.ask("[...Page.labels.events]")}
-        suite.note("in the page", wanted, came)
+        suite.note("in the page", wanted, {"state": page.state(), "names": page.ask(names)})
         with zipfile.ZipFile(path) as archive:
             archive.extractall(folder)
         read = [[station, list(place)] for station, place in read_places(folder / path.stem / "places").items()]
-    suite.note("in the package", {"places": wanted["places"]}, {"places": read})
+    suite.note("in the package", {"places": wanted["names"][0]}, {"places": read})
     named = {"A; B": [1.5, -2], '"C" # D': [1e-7, 3], "E": [0, 1e21]}
     page.ask(f"Page.places = new Map(Object.entries({json.dumps(named)}))")
     with tempfile.TemporaryDirectory() as name:

@@ -13,7 +13,8 @@ STAND_IN = """window.Worker = class {
     postMessage({ id, kind }) {
         if (kind !== 'search') return;
         ANSWERS.forEach((found, place) => setTimeout(() => this.listener({ data: {
-            id, nodes: 10 * (place + 1), isDone: place + 1 === ANSWERS.length, found: { ...found, times: new Map(found.times) },
+            id, nodes: 10 * (place + 1), isDone: place + 1 === ANSWERS.length,
+            found: { ...found, times: new Map(found.times) },
         } }), 50 * place));
     }
     terminate() { }
@@ -73,7 +74,7 @@ def typed(suite, page):
         ("60", "#time-at", ":07", "time 1 7", "time 1 7"),
         ("60", "#time-at", "6:15", None, "time 1 375 — refused 4 time 375 is out of range"),
         ("60", "#time-at", "6.15", None, "time 1 6.15 — fault word 3 is not a number"),
-        ("60", '[data-activity="1"] [aria-label$="minute of slack"]', "6:15", None, "weight 1 6:15 — fault word 3 is not a number"),
+        ("60", '[aria-label$="minute of slack"]', "6:15", None, "weight 1 6:15 — fault word 3 is not a number"),
     ]:
         page.show({**TWO_TRAINS, "period": period})
         page.fill(field, f"{text}\n")
@@ -90,7 +91,7 @@ def typed(suite, page):
 
 def saved(suite, page):
     """A step is saved where each file that it changes was given, or the archive; other files do not count."""
-    for given, wanted in [(["period"], 1), (["labels"], 1), (["fixed"], 0), (["period", "fixed"], 0), (["save-all"], 0)]:
+    for wanted, given in [(1, ["period"]), (1, ["labels"]), (0, ["fixed"]), (0, ["period", "fixed"]), (0, ["save-all"])]:
         page.again()
         page.drag([page.minute(1, 20), page.minute(1, 30)])
         page.press("save")
@@ -98,8 +99,8 @@ def saved(suite, page):
             if name == "save-all":
                 page.press(name)
             else:
-                place = page.ask(f"[...document.querySelectorAll('#saving-files button')].findIndex(each => each.textContent === '{name}')")
-                page.click(*page.middle(f"#saving-files li:nth-child({place + 1}) button"))
+                names = page.ask("[...document.querySelectorAll('#saving-files button')].map(each => each.textContent)")
+                page.click(*page.middle(f"#saving-files li:nth-child({names.index(name) + 1}) button"))
         before = page.asked_to_stay
         page.again()
         suite.note(f"given: {', '.join(given)}", {"asked": wanted}, {"asked": page.asked_to_stay - before})
@@ -112,7 +113,8 @@ def replaced(suite, page):
         page.again()
         page.drop(*paths)
         came = {"said": page.said(), "open": page.opening()["open"], "size": page.text("#size")}
-        wanted = {"said": "opened: activities, times, period, labels", "open": False, "size": "2 events, 2 activities, period 10"}
+        opened, size = "opened: activities, times, period, labels", "2 events, 2 activities, period 10"
+        wanted = {"said": opened, "open": False, "size": size}
         suite.note("files on a page that nobody has touched", wanted, came)
         page.again()
         page.drag([page.minute(1, 20), page.minute(1, 30)])
@@ -124,7 +126,7 @@ def replaced(suite, page):
         page.drop(*paths)
         page.click(*page.middle("#opening-form .main"))
         page.until("Page.find('said').textContent.startsWith('opened')")
-        suite.note("or is given up", {"size": "2 events, 2 activities, period 10"}, {"size": page.text("#size")})
+        suite.note("or is given up", {"size": size}, {"size": page.text("#size")})
         page.drop(*paths)
         suite.note("and nothing is lost then", {"open": False}, {"open": page.opening()["open"]})
         whole = pathlib.Path(folder) / "whole"
@@ -163,8 +165,10 @@ def edited(suite, page):
     page.until("!Page.find('stop').hidden && /^Found: cost/.test(Page.find('found').textContent)")
     page.drag([page.minute(1, 20), page.minute(1, 30)])
     told = page.said()
-    suite.holds(f"a word on the search: {told}", told.startswith("fix 1 30 — the search has ended with it; the timetable of cost "))
-    suite.note("nothing is offered", {"adopt": False, "found": ""}, {"adopt": page.is_shown("adopt"), "found": page.text("#found")})
+    word = "fix 1 30 — the search has ended with it; the timetable of cost "
+    suite.holds(f"a word on the search: {told}", told.startswith(word))
+    came = {"adopt": page.is_shown("adopt"), "found": page.text("#found")}
+    suite.note("nothing is offered", {"adopt": False, "found": ""}, came)
     page.key("z", 90, CTRL)
     page.frame()
     cost = told.split("cost ")[1].split(" ")[0]
@@ -175,7 +179,7 @@ def edited(suite, page):
 
 
 def compared(suite, page):
-    """Of several answers the best is kept, and one that is dearer than the timetable shown is not offered without that word."""
+    """Of several answers the best is kept, and one that is dearer than the timetable shown is offered with that word."""
     page.again()
     page.show({**TWO_TRAINS, "times": ""})
     better, worse = ["{ kind: 'stopped', cost: %d, times: [[1, 0], [2, %d]] }" % each for each in [(4, 4), (5, 5)]]
