@@ -31,7 +31,7 @@
   Page.comparedText = ({ cost }, view) => {
     if (Page.countViolated(view) !== 0 || cost < view.cost) return { told: '', adopt: 'Adopt it' };
     const shown = view.cost.toLocaleString('en');
-    if (cost > view.cost) return { told: `✕ dearer than the timetable shown, which costs ${shown}`, adopt: 'Adopt the dearer one' };
-    return { told: `as dear as the timetable shown, which costs ${shown}`, adopt: 'Adopt it all the same' };
+    if (cost > view.cost) return { told: `✕ dearer than the timetable shown (${shown})`, adopt: 'Adopt the dearer one' };
+    return { told: `as dear as the timetable shown (${shown})`, adopt: 'Adopt it all the same' };
   };
 })();

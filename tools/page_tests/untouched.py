@@ -200,7 +200,7 @@ def compared(suite, page):
     page.press("optimum")
     page.until(DONE)
     came = {"told": page.text("#compared"), "button": page.text("#adopt")}
-    wanted = {"told": "✕ dearer than the timetable shown, which costs 4", "button": "Adopt the dearer one"}
+    wanted = {"told": "✕ dearer than the timetable shown (4)", "button": "Adopt the dearer one"}
     suite.note("a dearer one", wanted, came)
     page.again()
 
