@@ -12,7 +12,7 @@ from typing import List, Optional
 
 from pespbench.faults import PespbenchError
 
-MODULES = ["shell", "search", "why", "report", "compare", "lintim"]
+MODULES = ["shell", "search", "why", "report", "compare", "lintim", "drawn"]
 
 
 def main(words: Optional[List[str]] = None) -> int:

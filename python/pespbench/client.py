@@ -3,6 +3,7 @@
 from __future__ import annotations
 
 import os
+import re
 import time as clock
 from contextlib import contextmanager
 from typing import Dict, Iterable, Iterator, List, Mapping, Optional, Union
@@ -14,11 +15,14 @@ from pespbench.faults import Fault, Refused
 from pespbench.labels import Labels
 from pespbench.methods import Commands, found_by
 from pespbench.network import Network
+from pespbench.places import Place
 from pespbench.process import OutOfTime, find_program
 from pespbench.session import Outcome, Session
 from pespbench.work import Work
 
 Path = Union[str, "os.PathLike[str]"]
+# The comment in which a script tells its period.
+PERIOD_COMMENT = re.compile("[ \t]*#[ \t]+period[ \t]+([0-9]{1,9})(?=[ \t\r]|$)")
 
 
 class Bench(Commands):
@@ -33,6 +37,8 @@ class Bench(Commands):
         """Takes a session; `open`, `from_script` and `load` make one."""
         self._session = session
         self.labels = Labels() if labels is None else labels
+        # Where stations lie: x to the east, y to the north.
+        self.places: Dict[str, Place] = {}
 
     @classmethod
     def open(
@@ -82,10 +88,10 @@ class Bench(Commands):
         the first line that is not accepted, Ended for a period that the program does not take, and what `open` raises of the
         program and of the labels.
         """
-        lines = script.splitlines()
-        told = [line.split() for line in lines if line.split()[:2] == ["#", "period"]]
+        lines = script.split("\n")
         if period is None:
-            period = int(told[0][2]) if told else 60
+            told = filter(None, map(PERIOD_COMMENT.match, lines))
+            period = next((int(found[1]) for found in told), 60)
         bench = cls.open(None, period=period, labels=labels, program=program)
         try:
             bench._all(line for line in lines if line.split() and not line.split()[0].startswith("#"))
@@ -103,9 +109,9 @@ class Bench(Commands):
         return load(folder, program)
 
     def save(self, folder: Path) -> None:
-        """Writes network, times and labels to a folder, which is made where it is not there. Raises OSError.
+        """Writes network, times, labels and places to a folder, which is made where it is not there. Raises OSError.
 
-        Its files `activities`, `fixed` and `times` are such as `pespbench --check` reads.
+        All is written, or all stays as it was (pespbench.writing). Its files `activities`, `fixed` and `times` are such as `pespbench --check` reads.
         """
         from pespbench.folders import save
 

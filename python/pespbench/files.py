@@ -1,4 +1,4 @@
-"""Files of activities, fixed times and times, read as the program reads them, and written (docs/FORMATS.md, *Files*).
+"""Files of activities, fixed times and times, read as the program reads them, and their texts (docs/FORMATS.md, *Files*).
 
 Events and activities are numbers, times and bounds whole units of time. What is wrong with a file is told by FileFault,
 with the record and in the words of the program. Limits on the numbers of rows are the program's alone.
@@ -25,10 +25,11 @@ MARK = b"\xef\xbb\xbf"
 LONGEST_FILE = 67_108_864
 
 
-def records(path: Path, encoding: str = "latin-1") -> Iterator[Tuple[int, List[str]]]:
+def records(path: Path, encoding: str = "latin-1", has_names: bool = False) -> Iterator[Tuple[int, List[str]]]:
     """The records of a file that are neither blank nor comments, with their numbers and trimmed fields; headers too.
 
-    Raises OSError, and FileFault for a file that is too long.
+    In a file that `has_names` in its first column, one in quotes is no comment. Raises OSError, and FileFault for a file that
+    is too long.
     """
     with open(path, "rb") as file:
         data = file.read(LONGEST_FILE + 1)
@@ -37,18 +38,33 @@ def records(path: Path, encoding: str = "latin-1") -> Iterator[Tuple[int, List[s
     data = data[len(MARK) :] if data.startswith(MARK) else data
     # Before Python 3.11 `csv` takes no null characters; another one that stands in no number serves as well.
     text = data.replace(b"\0", b"\1").decode(encoding, errors="replace")
-    separator = ";" if ";" in text else ","
-    usual = csv.field_size_limit(LONGEST_FILE)
-    try:
-        listed = list(filter(None, csv.reader(io.StringIO(text, newline=""), delimiter=separator)))
-    finally:
-        csv.field_size_limit(usual)
-    for number, record in enumerate(listed, 1):
+    for number, (record, is_quoted) in enumerate(cut(text), 1):
         fields = [field.strip(" \t") for field in record]
         if not fields[-1]:
             fields.pop()
-        if fields and not fields[0].startswith("#"):
+        if fields and not (fields[0].startswith("#") and not (has_names and is_quoted)):
             yield number, fields
+
+
+def cut(text: str) -> List[Tuple[List[str], bool]]:
+    """The fields of each record that is no empty line, and whether the record begins with a quote."""
+    lines: List[str] = []
+
+    def pulled() -> Iterator[str]:
+        for line in io.StringIO(text, newline=""):
+            lines.append(line)
+            yield line
+
+    found = []
+    usual = csv.field_size_limit(LONGEST_FILE)
+    try:
+        for fields in csv.reader(pulled(), delimiter=";" if ";" in text else ","):
+            if fields:
+                found.append((fields, lines[0].startswith('"')))
+            lines.clear()
+    finally:
+        csv.field_size_limit(usual)
+    return found
 
 
 def rows(path: Path) -> Iterator[Tuple[int, List[str]]]:
@@ -126,33 +142,23 @@ def read_events(path: Path) -> List[int]:
     return [event for [event] in values(path, EVENT, "event is repeated")]
 
 
-def write_text(path: Path, text: str) -> None:
-    """Writes a file whole or not at all: it takes the place of the old one when it is written. Raises OSError."""
-    part = f"{os.fspath(path)}.part"
-    with open(part, "w", encoding="utf-8", newline="") as file:
-        file.write(text)
-    os.replace(part, path)
+def rows_text(header: Sequence[str], listed: Iterable[Sequence[int]]) -> str:
+    """The file of a header and rows of numbers."""
+    return "".join(f"{line}\n" for line in ["; ".join(header), *("; ".join(map(str, row)) for row in listed)])
 
 
-def write_rows(path: Path, header: Sequence[str], listed: Iterable[Sequence[int]]) -> None:
-    """Writes a file of a header and rows of numbers, as `write_text` does. Raises OSError."""
-    lines = ["; ".join(header), *("; ".join(map(str, row)) for row in listed)]
-    write_text(path, "".join(f"{line}\n" for line in lines))
-
-
-def write_activities(path: Path, activities: Mapping[int, Activity]) -> None:
-    """Writes the file of activities, ascending by number. Raises OSError."""
+def activities_text(activities: Mapping[int, Activity]) -> str:
+    """The file of activities, ascending by number."""
     listed = [activities[number] for number in sorted(activities)]
     fields = [(each.number, each.from_event, each.to_event, each.lower, each.upper, each.weight) for each in listed]
-    write_rows(path, ["activity", "from", "to", "lower", "upper", "weight"], fields)
+    return rows_text(["activity", "from", "to", "lower", "upper", "weight"], fields)
 
 
-def write_times(path: Path, times: Mapping[int, int]) -> None:
-    """Writes the file of times, or of fixed times, ascending by event. Raises OSError."""
-    write_rows(path, ["event", "time"], sorted(times.items()))
+def times_text(times: Mapping[int, int]) -> str:
+    """The file of times, or of fixed times, ascending by event."""
+    return rows_text(["event", "time"], sorted(times.items()))
 
 
-def write_windows(path: Path, windows: Mapping[int, Window]) -> None:
-    """Writes the file of windows, ascending by event. Raises OSError."""
-    listed = [(event, windows[event].first, windows[event].length) for event in sorted(windows)]
-    write_rows(path, ["event", "first", "length"], listed)
+def windows_text(windows: Mapping[int, Window]) -> str:
+    """The file of windows, ascending by event."""
+    return rows_text(["event", "first", "length"], [(event, windows[event].first, windows[event].length) for event in sorted(windows)])

@@ -8,18 +8,21 @@
 | `windows` | `event; first; length`: all other windows |
 | `events` | the events that no activity names |
 | `labels` | where there are labels (pespbench.labels) |
+| `places` | where there are places of stations (pespbench.places) |
 """
 
 from __future__ import annotations
 
 import os
 from pathlib import Path
-from typing import TYPE_CHECKING, Union
+from typing import TYPE_CHECKING, Mapping, Union
 
 from pespbench import files
 from pespbench.faults import FileFault, Refused
 from pespbench.labels import Labels
-from pespbench.network import window_command
+from pespbench.network import Network, window_command
+from pespbench.places import Place, places_text, read_places
+from pespbench.writing import write_set
 
 if TYPE_CHECKING:
     from pespbench.client import Bench
@@ -28,21 +31,36 @@ AnyPath = Union[str, "os.PathLike[str]"]
 
 
 def save(bench: "Bench", folder: AnyPath) -> None:
-    """Writes network, times and labels to a folder, which is made where it is not there. Raises OSError."""
-    place = Path(folder)
-    place.mkdir(parents=True, exist_ok=True)
-    network = bench.network
+    """Writes network, times, labels and places to a folder, as `write_folder` does. Raises OSError."""
+    write_folder(folder, bench.network, bench.times, bench.labels, bench.places)
+
+
+def write_folder(
+    folder: AnyPath, network: Network, times: Mapping[int, int], labels: Labels, places: Mapping[str, Place]
+) -> None:
+    """Writes a folder, which is made where it is not there, whole or not at all (pespbench.writing). Raises OSError.
+
+    Of a network that was there before nothing stays: labels and places that this one lacks go, and other files stay as they
+    are.
+    """
     named = {event for each in network.activities.values() for event in (each.from_event, each.to_event)}
     windows = {event: window for event, window in network.windows.items() if window is not None}
     fixed = {event: window.first for event, window in windows.items() if window.length == 1 and event in named}
-    files.write_rows(place / "period", ["period"], [[network.period]])
-    files.write_activities(place / "activities", network.activities)
-    files.write_times(place / "fixed", fixed)
-    files.write_windows(place / "windows", {event: windows[event] for event in windows if event not in fixed})
-    files.write_rows(place / "events", ["event"], [[event] for event in network.events if event not in named])
-    files.write_times(place / "times", bench.times)
-    if bench.labels.events or bench.labels.activities:
-        bench.labels.write(place / "labels")
+    place = Path(folder)
+    place.mkdir(parents=True, exist_ok=True)
+    write_set(
+        place,
+        {
+            "period": files.rows_text(["period"], [[network.period]]),
+            "activities": files.activities_text(network.activities),
+            "fixed": files.times_text(fixed),
+            "windows": files.windows_text({event: windows[event] for event in windows if event not in fixed}),
+            "events": files.rows_text(["event"], [[event] for event in network.events if event not in named]),
+            "times": files.times_text(times),
+            "labels": labels.text() if labels.events or labels.activities else None,
+            "places": places_text(places) if places else None,
+        },
+    )
 
 
 def load(folder: AnyPath, program: Union[AnyPath, None] = None) -> "Bench":
@@ -53,6 +71,8 @@ def load(folder: AnyPath, program: Union[AnyPath, None] = None) -> "Bench":
     there = {name: place / name for name in ("fixed", "times", "labels") if (place / name).exists()}
     bench = Bench.open(place / "activities", period=period_of(place / "period"), program=program, **there)
     try:
+        if (place / "places").exists():
+            bench.places = read_places(place / "places")
         _complete(bench, place)
         bench._session.journal.clear()
     except Refused as refusal:

@@ -19,6 +19,7 @@ from typing import Dict, List, Union
 
 from pespbench import files
 from pespbench.faults import FileFault
+from pespbench.writing import write_text
 
 EVENT_HEADER = ["event", "line", "to", "station", "kind"]
 ACTIVITY_HEADER = ["activity", "kind"]
@@ -73,13 +74,17 @@ class Labels:
 
     def write(self, path: Union[str, "os.PathLike[str]"]) -> None:
         """Writes the file that reads as these labels. Raises OSError."""
+        write_text(path, self.text())
+
+    def text(self) -> str:
+        """The file that reads as these labels."""
         rows: List[List[object]] = [list(EVENT_HEADER)]
         rows += [[event, *astuple(self.events[event])] for event in sorted(self.events)]
         rows += [list(ACTIVITY_HEADER)] if self.activities else []
         rows += [[number, self.activities[number]] for number in sorted(self.activities)]
         text = io.StringIO()
         csv.writer(text, delimiter=";", lineterminator="\n").writerows(rows)
-        files.write_text(path, text.getvalue())
+        return text.getvalue()
 
     def kind(self, activity: int) -> str:
         """The kind of an activity, or an empty text."""

@@ -17,20 +17,26 @@ import argparse
 import csv
 import sys
 from dataclasses import dataclass, field
-from decimal import Decimal, InvalidOperation
+from decimal import Context, Decimal, DecimalException, Inexact, InvalidOperation, Overflow
 from pathlib import Path
 from typing import Iterator, Sequence
 
 from pespbench.faults import FileFault
-from pespbench.files import read_times, write_activities, write_rows, write_text, write_times
+from pespbench.files import BOUNDS, NUMBERS, TIMES, read_times
+from pespbench.folders import write_folder
 from pespbench.labels import EventLabel, Labels
-from pespbench.network import Activity
+from pespbench.network import Activity, Network
+from pespbench.places import Place
+from pespbench.writing import write_text
 
 # LinTim's types of activities by the kinds that are used here; others keep their own word.
 KINDS = {"drive": "run", "wait": "dwell", "turn": "turnaround"}
 TRAIN_TYPES = ("drive", "wait")
 GREATEST_WEIGHT = 1_000_000_000
 MOST_DIGITS = 9
+# Numbers are taken as they stand: one that is too long, too great or too near 0 for that is refused.
+EXACT = Context(prec=60, Emax=30, Emin=-30, traps=[InvalidOperation, Inexact, Overflow])
+LEAST_PERIOD, MOST_PERIOD = 2, 1_440
 
 
 @dataclass
@@ -45,7 +51,7 @@ class LinTim:
     scale: int
     times: dict[int, int] = field(default_factory=dict)
     labels: Labels = field(default_factory=Labels)
-    places: dict[str, tuple[float, float]] = field(default_factory=dict)
+    places: dict[str, Place] = field(default_factory=dict)
 
 
 def read_lintim(activities: Path, timetable: Path | None = None, events: Path | None = None, stops: Path | None = None) -> LinTim:
@@ -57,7 +63,8 @@ def read_lintim(activities: Path, timetable: Path | None = None, events: Path | 
     """
     rows, passengers, types = [], [], {}
     for path, number, fields in rows_of(activities, 7):
-        name, first, last, lower, upper = (whole(path, number, fields[place]) for place in (0, 2, 3, 4, 5))
+        name, first, last = (whole(path, number, fields[place], NUMBERS) for place in (0, 2, 3))
+        lower, upper = (whole(path, number, fields[place], BOUNDS) for place in (4, 5))
         if name in types:
             raise FileFault(str(path), number, f"activity {name} is repeated")
         types[name] = fields[1]
@@ -99,33 +106,40 @@ def rows_of(path: Path, least: int) -> Iterator[tuple[Path, int, list[str]]]:
 def pairs_of(path: Path) -> Iterator[tuple[Path, int, int, int]]:
     """The rows of two whole numbers of a file."""
     for where, number, fields in rows_of(path, 2):
-        yield where, number, whole(where, number, fields[0]), whole(where, number, fields[1])
+        yield where, number, whole(where, number, fields[0], NUMBERS), whole(where, number, fields[1], TIMES)
 
 
 def decimal(path: Path, number: int, text: str) -> Decimal:
-    """A number that may have a point. Raises FileFault, with the row, for a text that is none."""
+    """A number that may have a point. Raises FileFault, with the row, for a text that is none, and for one out of range."""
     try:
-        value = Decimal(text)
+        value = EXACT.create_decimal(text)
     except InvalidOperation:
         value = Decimal("NaN")
+    except DecimalException:
+        raise FileFault(str(path), number, f"{shortened(text)} is out of range") from None
     if not value.is_finite():
-        raise FileFault(str(path), number, f"{text!r} is not a number")
+        raise FileFault(str(path), number, f"{shortened(text)} is not a number")
     return value
 
 
-def whole(path: Path, number: int, text: str) -> int:
+def shortened(text: str) -> str:
+    """A field as a fault tells it."""
+    return repr(text if len(text) <= 40 else f"{text[:40]}..")
+
+
+def whole(path: Path, number: int, text: str, limits: range) -> int:
     """A number without a fraction, with or without a point. Raises FileFault, with the row, for any other text."""
     value = decimal(path, number, text)
-    if abs(value) > GREATEST_WEIGHT or value != value.to_integral_value():
-        raise FileFault(str(path), number, f"{text!r} is not a whole number from -{GREATEST_WEIGHT} to {GREATEST_WEIGHT}")
+    if value != value.to_integral_value() or int(value) not in limits:
+        raise FileFault(str(path), number, f"{shortened(text)} is not a whole number from {limits[0]} to {limits[-1]}")
     return int(value)
 
 
 def weights_of(path: Path, passengers: Sequence[Decimal]) -> tuple[int, list[int]]:
     """The least power of ten that makes all whole, and all of them times it. Raises FileFault for one that is no weight then."""
-    digits = max((-int(each.normalize().as_tuple().exponent) for each in passengers), default=0)
+    digits = max((-int(each.normalize(EXACT).as_tuple().exponent) for each in passengers), default=0)
     scale = 10 ** max(0, min(digits, MOST_DIGITS))
-    weights = [each * scale for each in passengers]
+    weights = [EXACT.multiply(each, scale) if 0 <= each <= GREATEST_WEIGHT else Decimal(-1) for each in passengers]
     for weight, each in zip(weights, passengers):
         if weight != weight.to_integral_value() or not 0 <= weight <= GREATEST_WEIGHT:
             raise FileFault(str(path), None, f"passengers {each} are no weight from 0 to {GREATEST_WEIGHT} times {scale}")
@@ -145,7 +159,7 @@ def read_events(path: Path, names: dict[str, str], read: LinTim) -> None:
     """Takes labels of events: a train goes to the station of its last event."""
     stations, lines, kinds = {}, {}, {}
     for where, number, fields in rows_of(path, 4):
-        event = whole(where, number, fields[0])
+        event = whole(where, number, fields[0], NUMBERS)
         kinds[event], lines[event] = fields[1], f"L{fields[3]}"
         stations[event] = names.get(fields[2], f"stop {fields[2]}")
     ends = last_events(read)
@@ -156,16 +170,20 @@ def read_events(path: Path, names: dict[str, str], read: LinTim) -> None:
 
 
 def last_events(read: LinTim) -> dict[int, int]:
-    """The last event of the train of each event that a train's activity names."""
+    """The last event of the train of each event that a train's activity names.
+
+    A train that runs in a circle ends before it comes to where it was.
+    """
     following = {}
     for name, activity in read.activities.items():
         if read.types[name] in TRAIN_TYPES:
             following[activity.from_event] = activity.to_event
     ends: dict[int, int] = {}
     for event in following:
-        way = [event]
-        while way[-1] in following and way[-1] not in ends and following[way[-1]] != event:
+        way, passed = [event], {event}
+        while way[-1] in following and way[-1] not in ends and following[way[-1]] not in passed:
             way.append(following[way[-1]])
+            passed.add(way[-1])
         end = ends.get(way[-1], way[-1])
         ends.update((each, end) for each in way)
     return ends
@@ -183,14 +201,14 @@ def save_lintim(read: LinTim, folder: Path, period: int) -> None:
     Raises:
         OSError: the folder cannot be made, or a file cannot be written.
     """
-    folder.mkdir(parents=True, exist_ok=True)
-    write_rows(folder / "period", ["period"], [[period]])
-    write_activities(folder / "activities", read.activities)
-    write_times(folder / "times", {event: time % period for event, time in read.times.items()})
-    read.labels.write(folder / "labels")
-    if read.places:
-        rows = "".join(f"{station}; {x}; {y}\n" for station, (x, y) in read.places.items())
-        write_text(folder / "places", "station; x; y\n" + rows)
+    times = {event: time % period for event, time in read.times.items()}
+    write_folder(folder, network_of(read, period), times, read.labels, read.places)
+
+
+def network_of(read: LinTim, period: int) -> Network:
+    """The network whose events are the ends of the activities."""
+    events = {event for each in read.activities.values() for event in (each.from_event, each.to_event)}
+    return Network(period, dict.fromkeys(sorted(events)), read.activities)
 
 
 def add_parser(subparsers: argparse._SubParsersAction[argparse.ArgumentParser]) -> None:
@@ -201,7 +219,8 @@ def add_parser(subparsers: argparse._SubParsersAction[argparse.ArgumentParser]) 
     parser.add_argument("--timetable", type=Path, metavar="FILE", help="Timetable-periodic.tim")
     parser.add_argument("--events", type=Path, metavar="FILE", help="Events-periodic.giv, for labels")
     parser.add_argument("--stops", type=Path, metavar="FILE", help="Stops.giv, for the names and places of stations")
-    parser.add_argument("--period", type=int, default=60, help="the period, 2 to 1440 [default: 60]")
+    periods = range(LEAST_PERIOD, MOST_PERIOD + 1)
+    parser.add_argument("--period", type=int, choices=periods, default=60, metavar="T", help="the period, 2 to 1440 [default: 60]")
     parser.set_defaults(run=run)
     back = subparsers.add_parser("to-lintim", help="times as LinTim's Timetable-periodic.tim")
     back.add_argument("times", type=Path, metavar="TIMES", help="a file of times")

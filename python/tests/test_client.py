@@ -96,6 +96,17 @@ class Commands(Case):
         with self.assertRaises(Refused), Bench.from_script("add event 1\nadd event 1\n", program=PROGRAM):
             pass
 
+    def test_comments_that_tell_no_period(self) -> None:
+        """The period is that of the first comment that tells one, and else 60; lines end at line feeds alone."""
+        for comment in ("# period", "# period x", "# period 1O lines 5", "#period 7", "# a period 7", "# period -5", "# period " + "9" * 5_000):
+            with self.subTest(comment=comment[:20]), Bench.from_script(f"{comment}\nadd event 1\n", program=PROGRAM) as bench:
+                self.assertEqual((bench.period, bench.network.events), (60, [1]))
+        for comment in ("# period 7", "#  period\t7 lines 5\r", "# period\n# period 7", " # period 7"):
+            with self.subTest(comment=comment), Bench.from_script(f"{comment}\n", program=PROGRAM) as bench:
+                self.assertEqual(bench.period, 7)
+        with self.assertRaises(Fault), Bench.from_script("add event 1\x0badd event 2\n", program=PROGRAM):
+            pass
+
 
 class Raised(Case):
     """What is raised, and what is in it."""

@@ -2,9 +2,12 @@
 
 from __future__ import annotations
 
+import contextlib
+import io
 import unittest
 
 from pespbench import Bench, EventLabel, Labels
+from pespbench.__main__ import main
 from pespbench.drawn import Region, draw_region
 from pespbench.drawn.circles import Tree, reach
 from pespbench.report import read_places
@@ -72,6 +75,41 @@ class Drawn(Case):
         with Bench.open(self.folder / "activities", times=self.folder / "times", program=PROGRAM) as bench:
             self.assertEqual(len(bench.violations()), 0)
             self.assertEqual(bench.times, region.times)
+
+
+class Drawing(Case):
+    """The subcommand `draw`."""
+
+    def test_folder(self) -> None:
+        folder = self.folder / "region"
+        (self.folder / "region").mkdir()
+        (folder / "fixed").write_text("event; time\n1; 1\n")
+        self.assertEqual(main(["draw", "5", str(folder)]), 0)
+        region = draw_region(5)
+        with Bench.load(folder, program=PROGRAM) as bench:
+            self.assertEqual((bench.period, bench.times, len(bench.violations())), (60, region.times, 0))
+            self.assertEqual(set(bench.network.windows.values()), {None})
+            self.assertEqual(bench.places, region.places.places)
+            self.assertEqual(bench.labels.kind(1), region.activities[0].kind)
+        before = {path.name: path.read_bytes() for path in folder.iterdir()}
+        self.assertEqual(main(["draw", "5", str(folder)]), 0)
+        self.assertEqual({path.name: path.read_bytes() for path in folder.iterdir()}, before)
+
+    def test_infeasible(self) -> None:
+        self.assertEqual(main(["draw", "5", str(self.folder), "--infeasible"]), 0)
+        with Bench.load(self.folder, program=PROGRAM) as bench:
+            self.assertEqual(len(bench.violations()), 1)
+
+    def test_wrong_words(self) -> None:
+        for words in (["x", "a"], ["5"], []):
+            with contextlib.redirect_stderr(io.StringIO()), self.assertRaises(SystemExit) as caught:
+                main(["draw", *words])
+            self.assertEqual(caught.exception.code, 2)
+
+    def test_region_is_loaded(self) -> None:
+        draw_region(3).save(self.folder)
+        with Bench.load(self.folder, program=PROGRAM) as bench:
+            self.assertEqual(bench.period, 60)
 
 
 if __name__ == "__main__":

@@ -5,6 +5,8 @@ from __future__ import annotations
 import argparse
 import contextlib
 import io
+import queue
+import threading
 import unittest
 from pathlib import Path
 
@@ -98,10 +100,55 @@ class LinTimFiles(Case):
             self.assertEqual((caught.exception.path, caught.exception.record), (str(self.paths["activities"]), record))
 
     def test_passengers_that_are_no_weight(self) -> None:
-        for passengers in ("-1", "2000000000", "1e-12", "500000000.25"):
+        for passengers in ("-1", "2000000000", "1e-12", "500000000.25", "1e9999999", "1e-9999999", "1." + "0" * 80 + "1"):
             self.paths["activities"].write_text(f"1; drive; 1; 2; 3; 4; {passengers}\n")
             with self.subTest(passengers=passengers), self.assertRaises(FileFault):
                 self.read()
+
+    def test_numbers_out_of_range(self) -> None:
+        for rows in ("1; drive; 1; 2; 3; 1e9999999; 5", "1; drive; 1; 1e9999999; 3; 4; 5", "-1; drive; 1; 2; 3; 4; 5", "1; drive; 1; 2; -1000001; 4; 5"):
+            with self.subTest(rows=rows), self.assertRaises(FileFault) as caught:
+                self.paths["activities"].write_text(f"{rows}\n")
+                self.read()
+            self.assertEqual(caught.exception.record, 1)
+        self.paths["activities"].write_text(ACTIVITIES)
+        self.paths["stops"].write_text("7; A; Ashford; 1e9999999; 0\n")
+        self.assertRaises(FileFault, self.read)
+
+    def test_period(self) -> None:
+        for period in ("0", "1", "1441", "-60", "x"):
+            with contextlib.redirect_stderr(io.StringIO()), self.assertRaises(SystemExit) as caught:
+                self.run_words("from-lintim", str(self.paths["activities"]), str(self.folder / "network"), "--period", period)
+            self.assertEqual(caught.exception.code, 2)
+        self.assertFalse((self.folder / "network").exists())
+
+    def test_drives_in_circles(self) -> None:
+        """A train whose drives lead into a circle, or round one, ends before it comes to where it was."""
+        rows = ["1; drive; 1; 2; 3; 4; 5", "2; drive; 2; 3; 3; 4; 5", "3; wait; 3; 2; 3; 4; 5", "4; drive; 4; 5; 3; 4; 5", "5; drive; 5; 4; 3; 4; 5"]
+        self.paths["activities"].write_text("\n".join(rows))
+        self.paths["events"].write_text("".join(f"{event}; departure; {event}; 1\n" for event in range(1, 6)))
+        found: "queue.Queue[LinTim]" = queue.Queue()
+        threading.Thread(target=lambda: found.put(read_lintim(self.paths["activities"], None, self.paths["events"])), daemon=True).start()
+        to = {event: label.to for event, label in found.get(timeout=10).labels.events.items()}
+        self.assertEqual(to, {1: "stop 3", 2: "stop 3", 3: "stop 3", 4: "stop 5", 5: "stop 5"})
+
+    def test_names_in_places(self) -> None:
+        self.paths["stops"].write_text('7; A; "Ashford; west"; 0; 1\n8; B; "#3 ""Benton"""; 10; 2\n9; C; Cranley # 1; 20; -1\n')
+        folder = str(self.folder / "network")
+        self.run_words("from-lintim", str(self.paths["activities"]), folder, "--stops", str(self.paths["stops"]))
+        wanted = {"Ashford; west": (0.0, 1.0), '#3 "Benton"': (10.0, 2.0), "Cranley # 1": (20.0, -1.0)}
+        self.assertEqual(read_places(self.folder / "network/places"), wanted)
+
+    def test_folder_of_another_network(self) -> None:
+        folder = self.folder / "network"
+        with self.two_trains() as bench:
+            bench.many(["fix 1 3", "window 2 4 5", "add event 70"])
+            bench.places = {"Ashford": (1.0, 2.0)}
+            bench.save(folder)
+        self.run_words("from-lintim", str(self.paths["activities"]), str(folder))
+        with Bench.load(folder, program=PROGRAM) as bench:
+            self.assertEqual(bench.network.windows, dict.fromkeys(range(1, 6)))
+            self.assertEqual((bench.times, bench.places), ({}, {}))
 
     def test_missing_file(self) -> None:
         self.assertRaises(OSError, read_lintim, Path(self.folder / "missing"))

@@ -8,9 +8,11 @@ from __future__ import annotations
 
 from dataclasses import dataclass
 from pathlib import Path
-from typing import Sequence
 
 from pespbench.drawn.stations import Stations
+from pespbench.folders import write_folder
+from pespbench.labels import EventLabel, Labels
+from pespbench.network import Activity, Network
 
 PERIOD = 60
 
@@ -76,24 +78,15 @@ class Region:
         return len(parts[self.events[0].number]) == len(parts)
 
     def save(self, folder: Path) -> None:
-        """Writes the files activities, times, labels and places.
+        """Writes the region as a folder that `Bench.load` takes, with the hidden timetable as its times.
 
         Raises:
             OSError: the folder cannot be made, or a file cannot be written.
         """
-        folder.mkdir(parents=True, exist_ok=True)
-        for name, rows in self._files().items():
-            text = "".join("; ".join(map(str, row)) + "\n" for row in rows)
-            (folder / name).write_text(text, encoding="utf-8")
-
-    def _files(self) -> dict[str, list[Sequence[object]]]:
-        rows = [(each.number, each.first, each.last, each.lower, each.upper, each.weight) for each in self.activities]
-        labels: list[Sequence[object]] = [("event", "line", "to", "station", "kind")]
-        labels += [(each.number, each.line, each.to, each.station, each.kind) for each in self.events]
-        labels += [("activity", "kind"), *((each.number, each.kind) for each in self.activities)]
-        return {
-            "activities": [("activity", "from", "to", "lower", "upper", "weight"), *rows],
-            "times": [("event", "time"), *self.times.items()],
-            "labels": labels,
-            "places": [("station", "x", "y"), *((name, x, y) for name, (x, y) in self.places.places.items())],
+        activities = {
+            each.number: Activity(each.number, each.first, each.last, each.lower, each.upper, each.weight) for each in self.activities
         }
+        labels = Labels({each.number: EventLabel(each.line, each.to, each.station, each.kind) for each in self.events})
+        labels.activities = {each.number: each.kind for each in self.activities}
+        network = Network(self.period, dict.fromkeys(sorted(self.times)), activities)
+        write_folder(folder, network, self.times, labels, self.places.places)

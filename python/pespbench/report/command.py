@@ -9,11 +9,11 @@ from typing import Optional
 
 from pespbench.answers import Found
 from pespbench.client import Bench
-from pespbench.files import write_text
 from pespbench.opening import add_network, open_network
+from pespbench.places import Place, read_places
 from pespbench.report.gathering import gather
 from pespbench.report.page import netgraph_of, page_of
-from pespbench.report.places import Place, read_places
+from pespbench.writing import write_text
 
 
 def add_parser(subparsers: argparse._SubParsersAction[argparse.ArgumentParser]) -> None:

@@ -8,8 +8,8 @@ from pespbench.answers import Domain, Found, Infeasible, Optimum, Stopped, Tensi
 from pespbench.client import Bench
 from pespbench.faults import Refused
 from pespbench.labels import EventLabel
+from pespbench.places import Place
 from pespbench.report.content import Activity, Content, Event
-from pespbench.report.places import Place
 
 NO_TIME = 11
 

@@ -6,9 +6,10 @@ import math
 from dataclasses import dataclass, field
 from typing import Iterator
 
+from pespbench.places import Place
 from pespbench.report.content import Event
 from pespbench.report.markup import Element, append, drawing, element
-from pespbench.report.places import Place, lay_out
+from pespbench.report.places import lay_out
 from pespbench.report.spreading import Wanted, spread
 from pespbench.report.style import INK, color_of
 from pespbench.report.trains import Line

@@ -1,47 +1,15 @@
-"""Where stations lie on a netgraph: read from a file, or laid out from the lengths of tracks."""
+"""Where stations lie on a netgraph whose places are not known: laid out from the lengths of tracks."""
 
 from __future__ import annotations
 
-import csv
 import math
-from pathlib import Path
 from typing import Mapping
 
-from pespbench.faults import FileFault
+from pespbench.places import Place
 
-Place = tuple[float, float]
 Track = tuple[str, str]
 # So many moves of a station towards where its distances want it; fewer where there are many stations.
 MOST_ROUNDS, MOST_MOVES = 200, 600_000
-
-
-def read_places(path: Path) -> dict[str, Place]:
-    """The places of a file with the rows `station; x; y`: x to the east, y to the north, in any unit.
-
-    Raises:
-        OSError: the file cannot be read.
-        FileFault: a row has not three fields, or a place is no number.
-    """
-    places: dict[str, Place] = {}
-    with open(path, encoding="utf-8-sig", newline="") as file:
-        reader = csv.reader(file, delimiter=";")
-        try:
-            for row in reader:
-                fields = [each.strip() for each in row]
-                if any(fields) and not fields[0].startswith("#") and fields[1:] != ["x", "y"]:
-                    station, x, y = fields
-                    places[station] = finite(x), finite(y)
-        except (ValueError, csv.Error):
-            raise FileFault(str(path), reader.line_num, "wanted station; x; y") from None
-    return places
-
-
-def finite(text: str) -> float:
-    """A number that is neither endless nor no number. Raises ValueError for any other text."""
-    value = float(text)
-    if not math.isfinite(value):
-        raise ValueError(text)
-    return value
 
 
 def lay_out(stations: list[str], tracks: Mapping[Track, float]) -> dict[str, Place]:

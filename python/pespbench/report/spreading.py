@@ -7,7 +7,8 @@ from dataclasses import dataclass
 from itertools import combinations
 from typing import Mapping
 
-from pespbench.report.places import Place, Track
+from pespbench.places import Place
+from pespbench.report.places import Track
 
 # So many rounds, and fewer where there are many stations and tracks.
 MOST_ROUNDS, MOST_LOOKS = 300, 2_000_000

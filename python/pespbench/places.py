@@ -1,0 +1,66 @@
+"""Places of stations, for people: the program never reads them.
+
+A file of places has a row for each station, with x to the east and y to the north in any unit; semicolons, quotes and
+comments are those of the other files, and it is UTF-8. A name that begins with `#` stands in quotes, and is then no comment.
+
+    station; x; y
+    Ashford; 12; 40.5
+"""
+
+from __future__ import annotations
+
+import math
+import os
+import re
+from typing import Dict, Mapping, Tuple, Union
+
+from pespbench import files
+from pespbench.faults import FileFault
+
+Place = Tuple[float, float]
+HEADER = ["station", "x", "y"]
+SPECIAL = re.compile('[;"\n\r]|^[ \t#]|[ \t]$')
+NUMBER = re.compile("[+-]?([0-9]+[.]?[0-9]*|[.][0-9]+)([eE][+-]?[0-9]+)?")
+
+
+def read_places(path: Union[str, "os.PathLike[str]"]) -> Dict[str, Place]:
+    """The places of a file by station.
+
+    Raises:
+        OSError: the file cannot be read.
+        FileFault: a row has not three fields, or a place is no number.
+    """
+    places: Dict[str, Place] = {}
+    for record, fields in files.records(path, "utf-8", has_names=True):
+        if fields[1:] == HEADER[1:]:
+            continue
+        try:
+            station, x, y = fields
+            places[station] = measure(x), measure(y)
+        except ValueError:
+            raise FileFault(os.fspath(path), record, "wanted station; x; y") from None
+    return places
+
+
+def measure(text: str) -> float:
+    """A number that is neither endless nor no number. Raises ValueError for any other text."""
+    value = float(text) if NUMBER.fullmatch(text) else math.nan
+    if not math.isfinite(value):
+        raise ValueError(text)
+    return value
+
+
+def places_text(places: Mapping[str, Place]) -> str:
+    """The file that reads as these places."""
+    rows = [(quoted(station), plain(x), plain(y)) for station, (x, y) in places.items()]
+    return "".join(f"{'; '.join(row)}\n" for row in [HEADER, *rows])
+
+
+def quoted(name: str) -> str:
+    """A name as a field, in quotes where it would not be read as it is."""
+    return '"{}"'.format(name.replace('"', '""')) if SPECIAL.search(name) else name
+
+
+def plain(value: float) -> str:
+    """A number without a point where it is whole."""
+    return str(int(value)) if value == int(value) and abs(value) < 1e15 else repr(value)
