@@ -1,19 +1,38 @@
 """The package of the program, and its installing."""
 
 import os
+import re
 import shutil
 import tarfile
 
-from tests.harness import TOP, run, within
+from tests.harness import SOME, TOP, run, within
+from tests.written import headings_of, links_of
 
 # Debian's own Python, for which its packages are.
 SYSTEM = "/usr/bin/python3"
 
 
+# tools/library makes it.
+LIBRARY = TOP / "crates/pesp_embedded/out/libpesp_embedded.a"
+ANSWER = ["-o", "answer", "embedded/answer.c", "embedded/heap.c", "embedded/libpesp_embedded.a"]
+
+
 def called(suite, words, **how):
-    """What a tool gives, with the program of the tests as the built one."""
+    """What a tool gives, with the program of the tests as the built one, and a stand-in where the library is not built."""
     env = {"PATH": os.environ["PATH"], "HOME": str(suite.folder), "PESPBENCH": str(suite.program), "PYTHONDONTWRITEBYTECODE": "1"}
-    return run(words, env={**env, **how.pop("env", {})}, **how)
+    library = LIBRARY if LIBRARY.exists() else suite.file("stand-in.a", b"!<arch>\n")
+    return run(words, env={**env, "PESPBENCH_LIBRARY": str(library), **how.pop("env", {})}, **how)
+
+
+def git(tree, *words):
+    """What git gives in a tree, which no settings of a user change."""
+    env = {"PATH": os.environ["PATH"], "HOME": str(tree), "GIT_CONFIG_NOSYSTEM": "1"}
+    return run(["git", "-C", tree, "-c", "user.name=n", "-c", "user.email=n@n", *words], env=env)
+
+
+def told_of_changes():
+    """What tools/package tells on standard error: where this tree has what is not committed, that it is left out."""
+    return SOME if git(TOP, "status", "--porcelain", "--untracked-files=no")["standard output"] else b""
 
 
 @within(120)
@@ -22,7 +41,7 @@ def package(suite):
     came = [called(suite, [TOP / "tools/package", suite.folder]) for _ in range(2)]
     path = suite.folder / came[0]["standard output"].decode().strip().rpartition("/")[2]
     first = path.read_bytes()
-    suite.note("tools/package", {"status": 0, "standard error": b""}, came[0])
+    suite.note("tools/package", {"status": 0, "standard error": told_of_changes()}, came[0])
     called(suite, [TOP / "tools/package", suite.folder])
     suite.holds("the same files make the same package", path.read_bytes() == first)
     with tarfile.open(path) as tar:
@@ -30,6 +49,9 @@ def package(suite):
         tar.extractall(suite.folder / "unpacked")
     suite.holds("nothing that was compiled by Python is in it", not [name for name in names if name.endswith(".pyc")])
     top = next((suite.folder / "unpacked").iterdir())
+    version(suite, top)
+    parts(suite, top)
+    live_links(suite, top)
     sums = run(["sha256sum", "--check", "--quiet", "SHA256SUMS"], cwd=top)
     suite.note("the sums of the package", {"status": 0, "standard output": b""}, sums)
     prefix = suite.folder / "prefix"
@@ -37,6 +59,94 @@ def package(suite):
     installed(suite, prefix)
     suite.note("tools/install again", {"status": 0}, called(suite, [TOP / "tools/install", prefix]))
     installed(suite, prefix)
+
+
+def version(suite, top):
+    """The name has the newest version of the changelog, and says where more stands above it."""
+    headings = re.findall(r"^## \[?([\w.]+)", (top / "CHANGELOG.md").read_text(), re.M)
+    numbered = next(each for each in headings if each[0].isdigit())
+    wanted = numbered if headings[0] == numbered else f"{numbered}+unreleased"
+    suite.note("the version of a package", {"name": f"pespbench-{wanted}-{os.uname().machine}"}, {"name": top.name})
+
+
+def parts(suite, top):
+    """The page is in it, and the library with its header, over which a caller is made as its page says."""
+    for name in ["page/pespbench.html", "page/README.md", "embedded/pespbench.h", "embedded/libpesp_embedded.a", "embedded/answer.c"]:
+        suite.holds(f"the package has {name}", (top / name).is_file())
+    compiler = shutil.which("gcc") or shutil.which("cc")
+    if not LIBRARY.exists() or not compiler:
+        print("  no caller of the package's library was made: it is not built, or there is no compiler")
+        return
+    suite.holds("its page says how", "-o /tmp/answer embedded/answer.c embedded/heap.c embedded/libpesp" in (top / "embedded/README.md").read_text())
+    suite.note("a caller of the package's library is made", {"status": 0}, run([compiler, *ANSWER], cwd=top))
+    suite.note("it answers", {"standard output": b"cost 0\n"}, run([top / "answer", "10", "-", "-", "-"], given=b"cost\n"))
+    (top / "answer").unlink(missing_ok=True)
+
+
+def live_links(suite, top):
+    """Each link of a document of the package leads to a file of the package, and to a heading that it has."""
+    pages = sorted(top.rglob("*.md"))
+    suite.holds("the package has documents", len(pages) > 10)
+    for page in pages:
+        named = [(path, heading) for path, heading in links_of(page)]
+        lost = [str(path.relative_to(top)) for path, heading in named if not path.exists() or heading and heading not in headings_of(path)]
+        suite.note(f"the links of {page.relative_to(top)} in the package", {"lost": []}, {"lost": lost})
+
+
+def a_clone(suite, name):
+    """A clone of what tools/package looks at, with names that are hard to a shell."""
+    tree = suite.folder / name
+    (tree / "tools/packing").mkdir(parents=True)
+    for path in [TOP / "tools/package", TOP / "tools/install", *(TOP / "tools").glob("packing/*.py")]:
+        shutil.copy(path, tree / path.relative_to(TOP))
+    texts = {"CHANGELOG.md": "# Changes\n\n## Unreleased\n\n## 1.2.3\n\n- one\n", "README.md": "[a](docs/a.md) [b](other/b.md)\n"}
+    texts["SECURITY.md"] = ""
+    texts.update({f"{part}/a.md": "" for part in ["man", "completions", "docs", "embedded", "python/pespbench"]})
+    texts.update({"docs/two words.md": "[up](../README.md#none)\n", "examples/a 'b' \"c\"": "", "examples/-n": "", "other/b.md": ""})
+    texts.update({"python/README.md": "", "python/pyproject.toml": "", "page/README.md": "", "page/page.png": "", "page/pespbench.html": "<p>"})
+    for path, text in texts.items():
+        (tree / path).parent.mkdir(parents=True, exist_ok=True)
+        (tree / path).write_text(text)
+    git(tree, "init", "-q")
+    git(tree, "add", "-A")
+    suite.note("a clone to pack", {"status": 0}, git(tree, "commit", "-q", "-m", "one"))
+    return tree
+
+
+def packed(suite, tree, title, **how):
+    """The package of a clone: its name, its entries with their permissions, and its texts."""
+    came = called(suite, [tree / "tools/package", suite.folder], **how)
+    suite.note(title, {"status": 0}, came)
+    if came["status"]:
+        return "", {}, {}
+    path = came["standard output"].decode().strip()
+    with tarfile.open(path) as tar:
+        entries = {each.name.partition("/")[2]: each for each in tar.getmembers()}
+        texts = {name: tar.extractfile(each).read() for name, each in entries.items() if each.isfile()}
+    return path.rpartition("/")[2], {name: each.mode for name, each in entries.items()}, texts
+
+
+@within(120)
+def package_of_a_clone(suite):
+    """A package has what git has, whatever the names are, and nothing else, and is the same under each umask."""
+    tree = a_clone(suite, "clone")
+    name, modes, texts = packed(suite, tree, "tools/package with names that are hard to a shell")
+    suite.holds("nothing unreleased, and so a plain version", name.startswith("pespbench-1.2.3-"))
+    suite.holds("names with blanks and quotes are in it", {"docs/two words.md", "examples/a 'b' \"c\"", "examples/-n"} <= set(texts))
+    suite.note("a link to what is not packed", {"text": b"[a](docs/a.md) b\n"}, {"text": texts.get("README.md")})
+    for path in ["docs/secret", "python/pespbench/mine.py", "examples/a/b/notes~"]:
+        (tree / path).parent.mkdir(parents=True, exist_ok=True)
+        (tree / path).write_text("not for others\n")
+    (tree / "docs/leads-away").symlink_to("/etc/passwd")
+    (tree / "docs/a.md").write_text("not yet\n")
+    again = packed(suite, tree, "tools/package beside files that are not in git", preexec_fn=lambda: os.umask(0o077))
+    suite.note("what is packed again, by a careful user", {"package": (name, modes, texts)}, {"package": again})
+    suite.holds("all can read it", modes and all(mode in (0o644, 0o755) for mode in modes.values()))
+    (tree / "CHANGELOG.md").write_text((tree / "CHANGELOG.md").read_text().replace("Unreleased\n", "Unreleased\n\n- two\n"))
+    git(tree, "commit", "-q", "-a", "-m", "two")
+    suite.holds("something unreleased is told", packed(suite, tree, "tools/package again")[0].startswith("pespbench-1.2.3+unreleased-"))
+    shutil.rmtree(tree / ".git")
+    suite.note("tools/package without git's files", {"status": 1}, called(suite, [tree / "tools/package", suite.folder]))
 
 
 def installed(suite, prefix):
@@ -76,12 +186,12 @@ def without_a_program(suite):
     """Without a built program both say so, and make nothing."""
     for tool in ["package", "install"]:
         tree = suite.folder / tool
-        (tree / "tools").mkdir(parents=True)
+        shutil.copytree(TOP / "tools/packing", tree / "tools/packing", ignore=shutil.ignore_patterns("__pycache__"))
         (tree / "CHANGELOG.md").write_text("## 1.0\n")
-        (tree / "tools" / tool).write_bytes((TOP / "tools" / tool).read_bytes())
-        came = called(suite, ["sh", tree / "tools" / tool, tree], env={"PESPBENCH": ""})
+        shutil.copy(TOP / "tools" / tool, tree / "tools" / tool)
+        came = called(suite, [tree / "tools" / tool, tree], env={"PESPBENCH": ""})
         told = {"status": came["status"], "told": b"is not built" in came["standard error"]}
         suite.note(f"tools/{tool} without a program", {"status": 1, "told": True}, told)
 
 
-GROUPS = [package, pip, without_a_program]
+GROUPS = [package, package_of_a_clone, pip, without_a_program]

@@ -1,0 +1,57 @@
+"""The tree that is packed, as git has it, and the version that it is."""
+
+import io
+import os
+import pathlib
+import re
+import subprocess
+import tarfile
+
+TOP = pathlib.Path(__file__).resolve().parents[2]
+PARTS = ["README.md", "CHANGELOG.md", "SECURITY.md", "man", "completions", "docs", "examples", "embedded", "tools/install"]
+PARTS += ["python/README.md", "python/pyproject.toml", "python/pespbench"]
+PARTS += ["page/README.md", "page/page.png", "page/pespbench.html"]
+
+
+class NotMade(Exception):
+    """No package is made, and why."""
+
+
+def git(*words):
+    """What git tells of this tree, whatever tree the environment is about."""
+    env = {name: value for name, value in os.environ.items() if not name.startswith("GIT_")}
+    try:
+        done = subprocess.run(["git", "-C", TOP, *words], env=env, capture_output=True)
+    except OSError as fault:
+        raise NotMade(f"git does not start: {fault}") from None
+    if done.returncode:
+        raise NotMade(f"git does not tell what is in the tree: {done.stderr.decode(errors='replace').strip()}")
+    return done.stdout
+
+
+def committed():
+    """The files that are packed, each with its bytes and whether it is run, as HEAD has them. Raises NotMade."""
+    if os.path.realpath(git("rev-parse", "--show-toplevel").decode().rstrip("\n")) != str(TOP):
+        raise NotMade("this folder is no clone of git, which says what belongs to it")
+    found = {}
+    with tarfile.open(fileobj=io.BytesIO(git("archive", "--format=tar", "HEAD", "--", *PARTS))) as tar:
+        for member in tar.getmembers():
+            if member.isfile():
+                found[member.name] = tar.extractfile(member).read(), bool(member.mode & 0o100)
+            elif not member.isdir():
+                raise NotMade(f"{member.name} is neither a file nor a folder")
+    return found
+
+
+def has_changes():
+    """Whether a file that is packed is other than HEAD has it."""
+    return bool(git("status", "--porcelain", "--untracked-files=no", "--", *PARTS))
+
+
+def version_of(changelog):
+    """The newest version that a changelog has, with `+unreleased` where more stands above it. Raises NotMade."""
+    heading = re.search(r"^## \[?([0-9][0-9.]*)", changelog, re.M)
+    if heading is None:
+        raise NotMade("CHANGELOG.md has no version")
+    above = re.search(r"^## [^\n]*\n(.*)", changelog[: heading.start()], re.M | re.S)
+    return heading[1] + ("+unreleased" if above and above[1].strip() else "")

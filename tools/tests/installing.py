@@ -1,0 +1,119 @@
+"""What tools/install promises of PREFIX, of links, of who can read, and of two at once; and where the command looks for modules."""
+
+import os
+import subprocess
+
+from tests.harness import TOP, run, within
+
+INSTALL = TOP / "tools/install"
+TWO = TOP / "examples/two-trains/activities"
+ANSWER = b"optimum 4 2\n1 0\n2 4\n"
+
+
+def surroundings(suite, **more):
+    return {"PATH": os.environ["PATH"], "HOME": str(suite.folder), "PESPBENCH": str(suite.program), **more}
+
+
+def install(suite, *words, **how):
+    return run([INSTALL, *words], env=surroundings(suite), **how)
+
+
+def searched(suite, prefix, command="bin/pespbench-py", **how):
+    """What the installed command finds, with the program that was installed."""
+    env = surroundings(suite, **{"PESPBENCH": "", **how.pop("env", {})})
+    return run([prefix / command, "search", "--period", "10", TWO], env=env, **how)
+
+
+def is_whole(suite, title, prefix):
+    """The package that is installed is that of the tree."""
+    package = prefix / "share/pespbench/python/pespbench"
+    wanted = {str(path.relative_to(TOP / "python/pespbench")): path.read_bytes() for path in (TOP / "python/pespbench").rglob("*.py")}
+    came = {str(path.relative_to(package)): path.read_bytes() for path in package.rglob("*.py")}
+    suite.holds(f"{title}: the package is whole", came == wanted)
+    suite.note(f"{title}: nothing is left beside it", {"entries": ["python"]}, {"entries": os.listdir(package.parents[1])})
+
+
+@within(240)
+def installed_command(suite):
+    """The installed command takes no module of the folder where it is called, or of one that the environment names."""
+    prefix = suite.folder / "prefix"
+    suite.note("tools/install", {"status": 0, "standard error": b""}, install(suite, prefix))
+    strangers = suite.folder / "strangers"
+    (strangers / "pespbench").mkdir(parents=True)
+    for name in ["csv.py", "argparse.py", "runpy.py", "sitecustomize.py", "pespbench/__init__.py", "pespbench/__main__.py"]:
+        (strangers / name).write_text("import os\nos.write(1, b'a stranger was here')\nos._exit(3)\n")
+    wanted = {"status": 0, "standard output": ANSWER}
+    suite.note("the command in a folder of strangers", wanted, searched(suite, prefix, cwd=strangers))
+    env = {"PYTHONPATH": f"{strangers}:", "PYTHONSTARTUP": str(strangers / "csv.py")}
+    suite.note("the command where PYTHONPATH names it", wanted, searched(suite, prefix, env=env, cwd=strangers))
+    parts = [prefix / "bin/pespbench-py", "search", "--parts", "--workers", "2", "--period", "10", TWO]
+    suite.note("the command with workers there", wanted, run(parts, env=surroundings(suite, PESPBENCH=""), cwd=strangers))
+
+
+@within(240)
+def installed_prefixes(suite):
+    """PREFIX with marks that a shell or a search path takes for its own, and of nothing."""
+    for name in ["a:b", "two words", "it's $HOME", "-n"]:
+        suite.note(f"tools/install {name}", {"status": 0, "standard error": b""}, install(suite, name, cwd=suite.folder))
+        prefix = suite.folder / name
+        suite.note(f"the command in {name}", {"status": 0, "standard output": ANSWER}, searched(suite, prefix))
+    for words in [[""], ["a\nb"], ["a", "b"]]:
+        suite.note(f"tools/install {words}", {"status": 1, "standard output": b""}, install(suite, *words, cwd=suite.folder))
+    suite.holds("nothing is installed at home then", not (suite.folder / ".local").exists())
+    env = {name: value for name, value in surroundings(suite).items() if name != "HOME"}
+    suite.note("tools/install without HOME", {"status": 1}, run([INSTALL], env=env))
+    came = run([INSTALL, suite.folder / "none"], env=surroundings(suite, PESPBENCH="/no/program"))
+    suite.note("tools/install of a program that is not there", {"status": 1, "made": False}, {**came, "made": (suite.folder / "none").exists()})
+
+
+@within(240)
+def installed_links(suite):
+    """Nothing is written or deleted through a link in the place of a file or of the package."""
+    victim = suite.folder / "victim"
+    (victim / "python/pespbench").mkdir(parents=True)
+    (victim / "python/pespbench/mine.py").write_text("mine\n")
+    (victim / "command").write_text("mine\n")
+    for place in ["share/pespbench", "share/pespbench/python"]:
+        prefix = suite.folder / place.replace("/", "-")
+        (prefix / place).parent.mkdir(parents=True)
+        (prefix / place).symlink_to(victim)
+        came = install(suite, prefix)
+        suite.note(f"a link in the place of {place}", {"status": 1, "told": True}, {**came, "told": b"is a link" in came["standard error"]})
+        suite.holds(f"nothing is installed beside it, {place}", not (prefix / "bin").exists())
+    prefix = suite.folder / "prefix"
+    (prefix / "bin").mkdir(parents=True)
+    for name in ["pespbench", "pespbench-py"]:
+        (prefix / "bin" / name).symlink_to(victim / "command")
+    suite.note("links in the place of both commands", {"status": 0}, install(suite, prefix))
+    suite.note("the command in their place", {"standard output": ANSWER}, searched(suite, prefix))
+    came = {"command": (victim / "command").read_text(), "module": (victim / "python/pespbench/mine.py").read_text()}
+    suite.note("what the links led to", {"command": "mine\n", "module": "mine\n"}, {"module": "", **came})
+    other = suite.folder / "other"
+    other.mkdir()
+    (suite.folder / "linked").mkdir()
+    (suite.folder / "linked/bin").symlink_to(other)
+    suite.note("a folder of commands that is a link", {"status": 0}, install(suite, suite.folder / "linked"))
+    suite.note("the command there", {"standard output": ANSWER}, searched(suite, other, "pespbench-py"))
+
+
+def installed_for_all(suite):
+    """Everybody can read what is installed under a umask of 077."""
+    prefix = suite.folder / "prefix"
+    suite.note("tools/install by a careful user", {"status": 0}, install(suite, prefix, preexec_fn=lambda: os.umask(0o077)))
+    wanted = {path: 0o055 if path.is_dir() or path.parent.name == "bin" else 0o044 for path in [prefix, *prefix.rglob("*")]}
+    wrong = [str(path) for path, mode in wanted.items() if path.stat().st_mode & mode != mode]
+    suite.note("what others cannot read", {"paths": []}, {"paths": wrong})
+
+
+@within(240)
+def installed_at_once(suite):
+    """However many install at once, all end well, and one whole package is there."""
+    prefix = suite.folder / "prefix"
+    for turn in range(3):
+        several = [subprocess.Popen([INSTALL, prefix], env=surroundings(suite), stdout=subprocess.DEVNULL, stderr=subprocess.PIPE) for _ in range(4)]
+        told = [(each.communicate(timeout=100)[1], each.returncode) for each in several]
+        suite.note(f"four at once, {turn}", {"told": [(b"", 0)] * 4}, {"told": told})
+        is_whole(suite, f"four at once, {turn}", prefix)
+
+
+GROUPS = [installed_command, installed_prefixes, installed_links, installed_for_all, installed_at_once]
