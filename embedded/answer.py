@@ -7,7 +7,8 @@ LIBRARY is the library as a shared one. pespbench.h says what the numbers mean.
 """
 
 import ctypes
-import pathlib
+import os
+import re
 import sys
 
 
@@ -23,6 +24,7 @@ class Told(ctypes.Structure):
     ]
 
 
+LONGEST_FILE = 67_108_864
 FILES = ["activities", "fixed", "times"]
 REASONS = ["wrong number of fields", "field {} is not a number", "field {} is out of range", "weight has a fraction"]
 REASONS += ["lower bound above upper bound", "activity number is repeated", "event is repeated"]
@@ -62,21 +64,80 @@ def fault_of(told):
     return ENDINGS[told.status - len(FILES) - 1].format(told.place)
 
 
-def content(path):
-    return b"" if path == "-" else pathlib.Path(path).read_bytes()
+class Refused(Exception):
+    """Why the program would not take the files or the words, and its exit status."""
+
+    def __init__(self, status, text):
+        super().__init__(text)
+        self.status = status
 
 
-def main(library, period, activities, fixed, times):
-    files = [content(path) for path in (activities, fixed, times)]
-    replies, told = answer(loaded(library), int(period), *files, sys.stdin.buffer.read())
-    sys.stdout.buffer.write(replies)
-    sys.stdout.buffer.flush()
-    fault = fault_of(told)
-    if fault is None:
+def content(path, name):
+    """The bytes of a file. Raises Refused."""
+    if path == "-":
+        return b""
+    try:
+        with open(path, "rb") as file:
+            data = file.read(LONGEST_FILE + 1)
+    except (OSError, ValueError):
+        raise Refused(1, f"pespbench: {name} file cannot be read") from None
+    if len(data) > LONGEST_FILE:
+        raise Refused(1, f"pespbench: {name} file is too long")
+    return data
+
+
+def period_of(word):
+    """The period of a word. Raises Refused."""
+    found = re.fullmatch("[+]?0*([0-9]{1,4})", word)
+    if not found or not 2 <= int(found[1]) <= 1440:
+        raise Refused(2, "answer.py: PERIOD is a whole number from 2 to 1440")
+    return int(found[1])
+
+
+def whole_lines(descriptor):
+    """The bytes of a descriptor, and whether it came to its end; where it did not, the whole lines before that."""
+    pieces = []
+    try:
+        while not pieces or pieces[-1]:
+            pieces.append(os.read(descriptor, 1 << 20))
+        return b"".join(pieces), True
+    except OSError:
+        data = b"".join(pieces)
+        return data[: data.rfind(b"\n") + 1], False
+
+
+def write(descriptor, data):
+    """Writes all. Raises Refused."""
+    rest = memoryview(data)
+    try:
+        while rest:
+            rest = rest[os.write(descriptor, rest) :]
+    except OSError:
+        raise Refused(1, "pespbench: replies cannot be written") from None
+
+
+def run(library, period, *paths):
+    """Answers what standard input has. Raises Refused."""
+    period = period_of(period)
+    files = [content(path, name) for path, name in zip(paths, FILES)]
+    commands, is_whole = whole_lines(0)
+    replies, told = answer(loaded(library), period, *files, commands)
+    write(1, replies)
+    fault = fault_of(told) or (None if is_whole else ENDINGS[0])
+    if fault is not None:
+        raise Refused(1, f"pespbench: {fault}")
+
+
+def main(words):
+    try:
+        if len(words) != 5:
+            raise Refused(2, "usage: answer.py LIBRARY PERIOD ACTIVITIES FIXED TIMES <COMMANDS")
+        run(*words)
         return 0
-    print(f"pespbench: {fault}", file=sys.stderr)
-    return 1
+    except Refused as refused:
+        print(refused, file=sys.stderr)
+        return refused.status
 
 
 if __name__ == "__main__":
-    sys.exit(main(*sys.argv[1:]))
+    sys.exit(main(sys.argv[1:]))

@@ -6,6 +6,8 @@ use std::io::{Read, Write};
 use std::process::ExitCode;
 use std::{env, fs, io};
 
+const LONGEST_FILE: u64 = 67_108_864;
+
 /// What a call tells; `pespbench.h` says what the numbers mean.
 #[repr(C)]
 #[derive(Clone, Copy, Debug, Default)]
@@ -117,32 +119,77 @@ fn fault_of(told: &Told) -> Option<String> {
     })
 }
 
-fn file_at(path: &str) -> io::Result<Vec<u8>> {
+/// Why the program would not go on, and its exit status.
+struct Refused(u8, String);
+
+fn failed(why: &str) -> Refused {
+    Refused(1, format!("pespbench: {why}"))
+}
+
+fn file_at(path: &str, name: &str) -> Result<Vec<u8>, Refused> {
+    let mut bytes = Vec::new();
     if path == "-" {
-        Ok(Vec::new())
-    } else {
-        fs::read(path)
+        return Ok(bytes);
+    }
+    fs::File::open(path)
+        .and_then(|file| file.take(LONGEST_FILE + 1).read_to_end(&mut bytes))
+        .map_err(|_| failed(&format!("{name} file cannot be read")))?;
+    if bytes.len() as u64 > LONGEST_FILE {
+        return Err(failed(&format!("{name} file is too long")));
+    }
+    Ok(bytes)
+}
+
+/// The commands, and whether they came to their end; where they did not, the whole lines before that.
+fn commands_of(mut input: impl Read) -> (Vec<u8>, bool) {
+    let mut commands = Vec::new();
+    if input.read_to_end(&mut commands).is_ok() {
+        return (commands, true);
+    }
+    let whole = commands.iter().rposition(|byte| *byte == b'\n');
+    commands.truncate(whole.map_or(0, |place| place + 1));
+    (commands, false)
+}
+
+fn period_of(word: &str) -> Result<u16, Refused> {
+    let period = word.parse().ok().filter(|period| (2..=1440).contains(period));
+    let why = "answer: PERIOD is a whole number from 2 to 1440";
+    period.ok_or_else(|| Refused(2, why.into()))
+}
+
+fn run(words: &[String]) -> Result<(), Refused> {
+    let [period, activities, fixed, times] = words else {
+        return Err(Refused(2, "usage: answer PERIOD ACTIVITIES FIXED TIMES <COMMANDS".into()));
+    };
+    let period = period_of(period)?;
+    let activities = file_at(activities, "activities")?;
+    let fixed = file_at(fixed, "fixed")?;
+    let times = file_at(times, "times")?;
+    let (commands, is_whole) = commands_of(io::stdin());
+    let (replies, told) = answer(&Asked {
+        period,
+        activities,
+        fixed,
+        times,
+        commands,
+    });
+    let mut output = io::stdout();
+    let written = output.write_all(&replies).and_then(|()| output.flush());
+    written.map_err(|_| failed("replies cannot be written"))?;
+    match fault_of(&told) {
+        Some(fault) => Err(failed(&fault)),
+        None if !is_whole => Err(failed("commands cannot be read")),
+        None => Ok(()),
     }
 }
 
-fn main() -> io::Result<ExitCode> {
-    let words: Vec<String> = env::args().skip(1).collect();
-    let mut commands = Vec::new();
-    io::stdin().read_to_end(&mut commands)?;
-    let asked = Asked {
-        period: words[0].parse().unwrap_or(0),
-        activities: file_at(&words[1])?,
-        fixed: file_at(&words[2])?,
-        times: file_at(&words[3])?,
-        commands,
-    };
-    let (replies, told) = answer(&asked);
-    io::stdout().write_all(&replies)?;
-    match fault_of(&told) {
-        None => Ok(ExitCode::SUCCESS),
-        Some(fault) => {
-            eprintln!("pespbench: {fault}");
-            Ok(ExitCode::FAILURE)
+fn main() -> ExitCode {
+    let words: Option<Vec<String>> = env::args_os().skip(1).map(|word| word.into_string().ok()).collect();
+    match run(&words.unwrap_or_default()) {
+        Ok(()) => ExitCode::SUCCESS,
+        Err(Refused(status, why)) => {
+            eprintln!("{why}");
+            ExitCode::from(status)
         }
     }
 }

@@ -3,6 +3,7 @@ is used as embedded/pespbench.h says."""
 
 import ctypes
 import importlib.util
+import os
 import random
 import shutil
 import sys
@@ -10,7 +11,7 @@ import sys
 from tests.drawn_runs import drawn_run, told_by
 from tests.examples import content, folders, words_of
 from tests.file_cases import TWO
-from tests.harness import TOP, run, within
+from tests.harness import SOME, TOP, closed_pipe, run, within
 
 SOURCES = TOP / "embedded"
 # tools/library makes it.
@@ -66,7 +67,9 @@ def asked_by(words):
 @within(240)
 def embedded(suite):
     """The stories of examples/ that have commands, and drawn runs."""
-    for language, words in callers(suite).items():
+    made_of = callers(suite)
+    refusals(suite, made_of)
+    for language, words in made_of.items():
         for folder in folders():
             commands = content(folder / "commands", None)
             if commands is None:
@@ -81,6 +84,55 @@ def embedded(suite):
         drawn_runs(suite, module, call)
         rooms(suite, module, call)
         periods(suite, module, call)
+
+
+PERIODS = ["65546", "65535", "10x", "x10", "", " 10", "10 ", "-5", "0", "1", "2", "1440", "1441", "1e1", "10.0", "+10", "++10", "+", "0010", "9" * 30]
+
+
+def odd_runs(suite):
+    """Titles, and words PERIOD ACTIVITIES FIXED TIMES with what goes in and out, at which a caller is easily other than the program."""
+    folder, two = str(suite.folder), str(suite.file("two", TWO))
+    crossed, lines = str(suite.file("crossed", b"1; 1; 2; 5; 3; 2\n")), b"cost\n"
+    for period in PERIODS:
+        yield f"period {period!r}", [period, "-", "-", "-"], {"given": lines}
+    yield "a refused period before a file that is not there", ["10x", "none", "-", "-"], {"given": lines, "cwd": folder}
+    long, longest = suite.folder / "long", suite.folder / "longest"
+    for path, length in [(long, 67_108_865), (longest, 67_108_864)]:
+        path.touch()
+        os.truncate(path, length)
+    for place in range(3):
+        files = [two, "-", "-"] if place else ["-", "-", "-"]
+        for title, name in [("folder", folder), ("file that is not there", "none"), ("file of 64 MiB + 1", str(long)), ("file of 64 MiB", str(longest))]:
+            yield f"a {title} in place {place}", ["10", *files[:place], name, *files[place + 1 :]], {"given": lines, "cwd": folder}
+    yield "a folder after a fault of the activities", ["10", crossed, "-", folder], {"given": lines}
+    yield "a fault of the activities before faulty times", ["10", crossed, "-", crossed], {"given": lines}
+    with open("/dev/full", "wb") as full:
+        yield "a full device", ["10", "-", "-", "-"], {"given": lines, "stdout": full}
+        yield "a full device that gets nothing", ["10", "-", "-", "-"], {"given": b"# nothing\n", "stdout": full}
+    writer = closed_pipe()
+    yield "a reader that has gone", ["10", "-", "-", "-"], {"given": lines, "stdout": writer}
+    os.close(writer)
+    # Nothing can be read at its first byte. A folder would do, but at that Python itself ends.
+    with open("/proc/self/mem", "rb", buffering=0) as memory:
+        yield "commands that cannot be read", ["10", two, "-", "-"], {"stdin": memory}
+
+
+def words_to(suite, period, activities, fixed, times):
+    """The program's words for those of a caller."""
+    options = [f"--{name}={path}" for name, path in [("fixed", fixed), ("times", times)] if path != "-"]
+    return [suite.program, "--period", period, *options, *([] if activities == "-" else [activities])]
+
+
+def refusals(suite, languages):
+    """A caller refuses what the program refuses, with its status and its line; the texts of refused words are their own."""
+    for title, words, how in odd_runs(suite):
+        wanted = run(words_to(suite, *words), **how)
+        wanted["standard error"] = SOME if wanted["status"] == 2 else wanted["standard error"]
+        for language, caller in languages.items():
+            suite.note(f"{title}, in {language}", wanted, run([*caller, *words], **how))
+    for words in [[], ["10"], ["10", "-", "-", "-", "-"]]:
+        for language, caller in languages.items():
+            suite.note(f"{len(words)} words, in {language}", {"status": 2, "standard error": SOME}, run([*caller, *words], given=b"cost\n"))
 
 
 def answering():
