@@ -152,14 +152,20 @@ fn commands_of(mut input: impl Read) -> (Vec<u8>, bool) {
 }
 
 fn period_of(word: &str) -> Result<u16, Refused> {
-    let period = word.parse().ok().filter(|period| (2..=1440).contains(period));
+    let period = word
+        .parse()
+        .ok()
+        .filter(|period| (2..=1440).contains(period));
     let why = "answer: PERIOD is a whole number from 2 to 1440";
     period.ok_or_else(|| Refused(2, why.into()))
 }
 
 fn run(words: &[String]) -> Result<(), Refused> {
     let [period, activities, fixed, times] = words else {
-        return Err(Refused(2, "usage: answer PERIOD ACTIVITIES FIXED TIMES <COMMANDS".into()));
+        return Err(Refused(
+            2,
+            "usage: answer PERIOD ACTIVITIES FIXED TIMES <COMMANDS".into(),
+        ));
     };
     let period = period_of(period)?;
     let activities = file_at(activities, "activities")?;
@@ -184,7 +190,10 @@ fn run(words: &[String]) -> Result<(), Refused> {
 }
 
 fn main() -> ExitCode {
-    let words: Option<Vec<String>> = env::args_os().skip(1).map(|word| word.into_string().ok()).collect();
+    let words: Option<Vec<String>> = env::args_os()
+        .skip(1)
+        .map(|word| word.into_string().ok())
+        .collect();
     match run(&words.unwrap_or_default()) {
         Ok(()) => ExitCode::SUCCESS,
         Err(Refused(status, why)) => {

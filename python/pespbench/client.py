@@ -11,7 +11,8 @@ from typing import Dict, Iterable, Iterator, List, Mapping, Optional, Union
 from pespbench import files
 from pespbench.answers import Answer, Found, Stopped
 from pespbench.commands import MOST_NODES, checked
-from pespbench.faults import Fault, Refused
+from pespbench.curing import cured
+from pespbench.faults import Ended, Fault, Refused
 from pespbench.labels import Labels
 from pespbench.methods import Commands, found_by
 from pespbench.network import Network
@@ -62,7 +63,10 @@ class Bench(Commands):
         options = {"fixed": fixed, "times": times}
         words = [f"--{name}={os.fspath(path)}" for name, path in options.items() if path is not None]
         words += [] if activities is None else ["--", os.fspath(activities)]
-        session = Session.opened(find_program(program), period, words)
+        try:
+            session = Session.opened(find_program(program), period, words)
+        except Ended as ended:
+            raise cured(ended, {"activities": activities, **options}) from None
         bench = cls(session, named)
         try:
             given = {} if times is None else files.read_times(times)

@@ -45,17 +45,19 @@ class Fault(PespbenchError):
 class Ended(PespbenchError):
     """The program ended before it had answered.
 
-    `status` is its exit status, negative where a signal ended it; `text` is what it wrote to standard error. What the bench
-    had accepted is kept: its next use starts the program again.
+    `status` is its exit status, negative where a signal ended it; `text` is what it wrote to standard error. `cure` says what
+    a fault of a file comes from and what mends it, where that is known, and is empty else. What the bench had accepted is
+    kept: its next use starts the program again.
     """
 
-    def __init__(self, status: int, text: str) -> None:
-        super().__init__(status, text)
+    def __init__(self, status: int, text: str, cure: str = "") -> None:
+        super().__init__(status, text, cure)
         self.status = status
         self.text = text
+        self.cure = cure
 
     def __str__(self) -> str:
-        return self.text or f"the program ended with status {self.status} and said nothing"
+        return with_cure(self.text or f"the program ended with status {self.status} and said nothing", self.cure)
 
 
 class BadReply(PespbenchError):
@@ -70,14 +72,24 @@ class BadReply(PespbenchError):
 
 
 class FileFault(PespbenchError):
-    """A file is not as it has to be. `path` is the file; `record` counts its records from 1, and is None for the whole file."""
+    """A file is not as it has to be.
 
-    def __init__(self, path: str, record: Optional[int], text: str) -> None:
-        super().__init__(path, record, text)
+    `path` is the file; `record` counts its records from 1, and is None for the whole file. `cure` says what the fault comes
+    from and what mends it, where that is known, and is empty else.
+    """
+
+    def __init__(self, path: str, record: Optional[int], text: str, cure: str = "") -> None:
+        super().__init__(path, record, text, cure)
         self.path = path
         self.record = record
         self.text = text
+        self.cure = cure
 
     def __str__(self) -> str:
         place = "" if self.record is None else f", record {self.record}"
-        return f"{self.path}{place}: {self.text}"
+        return with_cure(f"{self.path}{place}: {self.text}", self.cure)
+
+
+def with_cure(text: str, cure: str) -> str:
+    """What is wrong, and then what mends it, where that is known."""
+    return f"{text}. {cure}" if cure else text

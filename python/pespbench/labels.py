@@ -18,7 +18,8 @@ from dataclasses import astuple, dataclass, field
 from typing import Dict, List, Union
 
 from pespbench import files
-from pespbench.faults import FileFault
+from pespbench.curing import file_fault
+from pespbench.records import records
 from pespbench.writing import write_text
 
 EVENT_HEADER = ["event", "line", "to", "station", "kind"]
@@ -46,14 +47,14 @@ class Labels:
     def read(cls, path: Union[str, "os.PathLike[str]"]) -> "Labels":
         """The labels of a file. Raises OSError where it cannot be read, FileFault where it is no file of labels."""
         labels, part = cls(), ""
-        for record, fields in files.records(path, "utf-8"):
+        for record, fields in records(path, "utf-8"):
             try:
                 if fields[0] in ("event", "activity"):
                     part = fields[0]
                 else:
                     labels._take(part, fields)
             except ValueError as fault:
-                raise FileFault(os.fspath(path), record, str(fault)) from None
+                raise file_fault(path, record, str(fault)) from None
         return labels
 
     def _take(self, part: str, fields: List[str]) -> None:

@@ -14,8 +14,8 @@ import os
 import re
 from typing import Dict, Mapping, Tuple, Union
 
-from pespbench import files
-from pespbench.faults import FileFault
+from pespbench.curing import file_fault
+from pespbench.records import records
 
 Place = Tuple[float, float]
 HEADER = ["station", "x", "y"]
@@ -31,14 +31,14 @@ def read_places(path: Union[str, "os.PathLike[str]"]) -> Dict[str, Place]:
         FileFault: a row has not three fields, or a place is no number.
     """
     places: Dict[str, Place] = {}
-    for record, fields in files.records(path, "utf-8", has_names=True):
+    for record, fields in records(path, "utf-8", has_names=True):
         if fields[1:] == HEADER[1:]:
             continue
         try:
             station, x, y = fields
             places[station] = measure(x), measure(y)
         except ValueError:
-            raise FileFault(os.fspath(path), record, "wanted station; x; y") from None
+            raise file_fault(path, record, "wanted station; x; y") from None
     return places
 
 

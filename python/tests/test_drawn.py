@@ -101,7 +101,8 @@ class Drawing(Case):
             self.assertEqual(len(bench.violations()), 1)
 
     def test_wrong_words(self) -> None:
-        for words in (["x", "a"], ["5"], []):
+        table: list[list[str]] = [["x", "a"], ["5"], []]
+        for words in table:
             with contextlib.redirect_stderr(io.StringIO()), self.assertRaises(SystemExit) as caught:
                 main(["draw", *words])
             self.assertEqual(caught.exception.code, 2)

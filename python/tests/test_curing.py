@@ -1,0 +1,94 @@
+"""What a fault of a file of another form comes from, and what mends it."""
+
+from __future__ import annotations
+
+import os
+import threading
+import unittest
+from typing import Callable
+
+from pespbench import Bench, Ended, FileFault, Labels, files
+from pespbench.curing import DECIMAL, TABS, UTF_16
+from pespbench.places import read_places
+from tests.common import PROGRAM, Case
+
+ROWS = "activity; from; to; lower; upper; weight\n1; 1; 2; 3; 5; 2\n2; 2; 1; 4; 6; 1\n"
+# Files of activities, and what cures each.
+TABLE = [
+    (ROWS.replace("; ", "\t").encode(), TABS),
+    (ROWS.split("\n", 1)[1].replace("; ", "\t").encode(), TABS),
+    (ROWS.replace("; ", "\t").replace("2\n", "2,5\n").encode(), TABS),
+    (ROWS.encode("utf-16"), UTF_16),
+    (ROWS.encode("utf-16-le"), UTF_16),
+    (ROWS.encode("utf-16-be"), UTF_16),
+    (ROWS.replace("2\n", "2,0\n").encode(), DECIMAL),
+    (ROWS.replace("; ", ",").replace("2\n", "2,0\n").encode(), DECIMAL),
+    (ROWS.replace("; 5", "; 1").encode(), ""),
+    (ROWS.replace("1; 1; 2", "1; drive; 1; 2").replace("; ", ",").encode(), ""),
+    (ROWS.replace("2; 2", "2;; 2").encode(), ""),
+    (ROWS.replace("3", "x").encode(), ""),
+]
+
+
+class Cures(Case):
+    """Each fault with its cure, told by the program and by the package's own readers."""
+
+    def raised(self, path: "os.PathLike[str]") -> Ended:
+        """How opening a file of activities ends."""
+        with self.assertRaises(Ended) as told:
+            Bench.open(path, program=PROGRAM).close()
+        return told.exception
+
+    def test_activities(self) -> None:
+        path = self.folder / "activities"
+        for text, cure in TABLE:
+            path.write_bytes(text)
+            ended = self.raised(path)
+            with self.assertRaises(FileFault) as told:
+                files.read_activities(path)
+            with self.subTest(text=text):
+                self.assertEqual((ended.cure, told.exception.cure), (cure, cure))
+                self.assertTrue(ended.text.startswith("pespbench: activities file, record "))
+                self.assertEqual(str(ended), f"{ended.text}. {cure}" if cure else ended.text)
+                self.assertTrue(str(told.exception).endswith(cure or told.exception.text))
+
+    def test_times_and_fixed_times(self) -> None:
+        activities, path = self.folder / "activities", self.folder / "times"
+        activities.write_text(ROWS)
+        table = {b"event\ttime\n1\t0\n": TABS, b"1; 0,5\n": DECIMAL, b"1,0,5\n": DECIMAL, "1; 0\n".encode("utf-16"): UTF_16, b"1; x\n": ""}
+        for text, cure in table.items():
+            path.write_bytes(text)
+            for option in ("times", "fixed"):
+                with self.subTest(text=text, option=option), self.assertRaises(Ended) as told:
+                    Bench.open(activities, program=PROGRAM, **{option: path}).close()  # type: ignore[arg-type]
+                self.assertEqual(told.exception.cure, cure)
+
+    def test_labels_and_places(self) -> None:
+        path = self.folder / "file"
+        table = {"event\tline\n1\tM\n": TABS, "event;line\nx;M\n": ""}
+        for text, cure in table.items():
+            path.write_text(text)
+            self.assertEqual(self.fault(lambda: Labels.read(path)).cure, cure)
+        path.write_bytes("station; x; y\nDale; 1; 2\n".encode("utf-16"))
+        self.assertEqual(self.fault(lambda: read_places(path)).cure, UTF_16)
+        for text, cure in {"Dale; 1,5; 2\n": DECIMAL, "Dale\t1\t2\n": TABS, "Dale; one; 2\n": ""}.items():
+            path.write_text(text)
+            self.assertEqual(self.fault(lambda: read_places(path)).cure, cure)
+
+    def fault(self, read: Callable[[], object]) -> FileFault:
+        """The fault that reading raises."""
+        with self.assertRaises(FileFault) as told:
+            read()
+        return told.exception
+
+    def test_pipe_is_read_once(self) -> None:
+        """A file that can be read once alone has no cure, and is not waited for."""
+        path = self.folder / "pipe"
+        os.mkfifo(path)
+        writer = threading.Thread(target=lambda: path.write_text("1\t2\n"), daemon=True)
+        writer.start()
+        self.assertEqual(self.raised(path).cure, "")
+
+
+if __name__ == "__main__":
+    unittest.main()
