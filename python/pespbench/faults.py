@@ -4,6 +4,8 @@ from __future__ import annotations
 
 from typing import Optional
 
+from pespbench.terminal import shown
+
 
 class PespbenchError(Exception):
     """What the package raises of its own."""
@@ -69,6 +71,10 @@ class BadReply(PespbenchError):
         return f"no reply of pespbench: {self.text[:200]!r}"
 
 
+class WrongWords(PespbenchError):
+    """What was typed is not as it has to be. `str` says what."""
+
+
 class FileFault(PespbenchError):
     """A file is not as it has to be. `path` is the file; `record` counts its records from 1, and is None for the whole file."""
 
@@ -80,4 +86,4 @@ class FileFault(PespbenchError):
 
     def __str__(self) -> str:
         place = "" if self.record is None else f", record {self.record}"
-        return f"{self.path}{place}: {self.text}"
+        return f"{shown(self.path)}{place}: {self.text}"
