@@ -71,8 +71,8 @@ class BadReply(PespbenchError):
         return f"no reply of pespbench: {self.text[:200]!r}"
 
 
-class WrongWords(PespbenchError):
-    """What was typed is not as it has to be. `str` says what."""
+class WrongWords(PespbenchError, ValueError):
+    """What was asked for is not there to be asked for. `str` says what."""
 
 
 class FileFault(PespbenchError):

@@ -91,7 +91,7 @@ def variants(
     A refused edit makes Refused or Fault the answer of its list. What a worker or a program had in hand that died is given
     out once more, and is Lost, with its place in the lists, where that dies too; a process pool of the caller that broke
     takes nothing more, so all that is left is Lost then. Raises ValueError for a line that is no change, before anything is
-    sent, and BadReply.
+    sent, or for workers below 1, and BadReply.
     """
     lists = [tuple(map(change, edits)) for edits in lists_of_edits]
     shared = Base.of(base)
@@ -109,7 +109,12 @@ def variants(
 
 
 def hands_of(executor: Optional[Executor], workers: Optional[int], at_once: int) -> Hands:
-    """The caller's executor, which is given `workers` tasks at once, or so many processes of this machine."""
+    """The caller's executor, which is given `workers` tasks at once, or so many processes of this machine.
+
+    Raises ValueError for workers below 1.
+    """
+    if workers is not None and workers < 1:
+        raise ValueError("there is at least one worker")
     return OwnHands(workers) if executor is None else LentHands(executor, workers or at_once)
 
 

@@ -40,7 +40,7 @@ class Shell(Case):
         lines = f"fix 1 0\nundo\nundo\nfix 1 3\nadopt\ntimes\nsearch 5\nsearch x\nsave\nsave {folder}\nhelp\nquit\ncost\n"
         status, output, error = called("shell", *TWO, given=lines)
         wanted = "ok\n# taken back: fix 1 0\nthere is nothing to take back\nok\nok\n1 3  event 1\n2 7  event 2\noptimum 4 2\n1 3\n2 7\n"
-        wanted += f"could not convert string to float: 'x'\nsave wants a folder\n# saved: {folder}\n"
+        wanted += f"a search takes from 0 to 1,000,000 seconds, and not 'x'\nsave wants a folder\n# saved: {folder}\n"
         self.assertTrue(output.startswith(wanted), output)
         self.assertIn("Ctrl-C", output)
         self.assertEqual((status, error), (0, ""))

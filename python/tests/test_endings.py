@@ -55,7 +55,9 @@ class Endings(Case):
         words = [str(self.folder / "variants.py"), str(self.program)] if name == "variants" else words
         words += ["--workers", "2"] if "--parts" in words else []
         pipe, none = subprocess.PIPE, subprocess.DEVNULL
-        command = subprocess.Popen([sys.executable, *words], stdin=pipe, stdout=none, stderr=none, env=environment, start_new_session=True)
+        command = subprocess.Popen(
+            [sys.executable, *words], stdin=pipe, stdout=none, stderr=none, env=environment, start_new_session=True
+        )  # fmt: skip
         self.addCleanup(self.end, command, name)
         assert command.stdin is not None
         command.stdin.write(b"optimum\n")

@@ -142,7 +142,7 @@ class StandIns(Case):
 
     def test_one_reply_too_many_later(self) -> None:
         """What comes when nobody asks is seen before the next line is sent, and no answer shifts."""
-        bench = self.opened(before_usual('if line == "add event 1":\n    write(b"ok\\n")\n    time.sleep(0.1)'))
+        bench = self.opened(before_usual('if line == "add event 1" and start == 1:\n    write(b"ok\\n")\n    time.sleep(0.1)'))
         bench.add_event(1)
         time.sleep(0.3)
         self.assertRaises(BadReply, bench.add_event, 2)

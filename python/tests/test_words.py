@@ -53,7 +53,7 @@ class Words(Case):
         words = [str(self.folder / "activities"), *files, "--title", "A region", "--netgraph", str(picture)]
         self.assertEqual(self.typed("report", *words, "--output", str(output)), "")
         text = output.read_text(encoding="utf-8")
-        self.assertEqual(self.typed("report", *words), text)
+        self.assertEqual(self.typed("report", *words, "--output", "-"), text)
         self.assertIn("Nothing: every activity and every fixed time is met.", text)
         shown = Page(text).root.all("data-event")
         netgraph = ElementTree.parse(picture).getroot()
@@ -63,18 +63,18 @@ class Words(Case):
     def test_places_of_a_folder(self) -> None:
         draw_region(3).save(self.folder)
         (self.folder / "period").write_text("60\n")
-        told = self.typed("report", str(self.folder), "--search", "0.01")
+        told = self.typed("report", str(self.folder), "--search", "0.01", "--output", "-")
         (self.folder / "places").unlink()
-        laid_out = self.typed("report", str(self.folder), "--search", "0.01")
+        laid_out = self.typed("report", str(self.folder), "--search", "0.01", "--output", "-")
         self.assertIn("Netgraph", laid_out)
         self.assertNotEqual(told.split('id="netgraph"')[1][:3_000], laid_out.split('id="netgraph"')[1][:3_000])
 
     def test_search(self) -> None:
-        told = self.typed("report", LINE, "--search", "20")
+        told = self.typed("report", LINE, "--search", "20", "--output", "-")
         self.assertIn("The best timetable costs ", told)
         fixed = self.folder / "fixed"
         fixed.write_text("1; 0\n2; 30\n")
-        self.assertIn("No timetable meets everything.", self.typed("report", LINE, "--fixed", str(fixed), "--search", "20"))
+        self.assertIn("No timetable meets everything.", self.typed("report", LINE, "--fixed", str(fixed), "--search", "20", "--output", "-"))
 
     def test_compare(self) -> None:
         told = self.typed("compare", LINE, LINE, "--times", TIMES, "--other-times", TIMES)
