@@ -8,6 +8,7 @@ from typing import Collection, Sequence
 from pespbench.client import Bench
 from pespbench.faults import WrongWords
 from pespbench.labels import Labels
+from pespbench.terminal import shown
 from pespbench.why.answers import Conflict, Possible, Undecided, Why
 from pespbench.why.members import Kept, Member, Of, Verdict
 from pespbench.why.mending import Mending
@@ -53,7 +54,7 @@ def hard_members(bench: Bench, kinds: Collection[str]) -> frozenset[Member]:
     known = dict.fromkeys([*sorted(filter(None, set(labels.activities.values()))), FIXED])
     unknown = [kind for kind in kinds if kind not in known]
     if unknown:
-        raise WrongWords(f"no kind to be held hard: {', '.join(unknown)}; there are {', '.join(known)}")
+        raise WrongWords(f"no kind to be held hard: {', '.join(map(shown, unknown))}; there are {', '.join(map(shown, known))}")
     activities = {Member(Of.ACTIVITY, number) for number in bench.network.activities if labels.kind(number) in kinds}
     events = {Member(Of.EVENT, event) for event in bench.network.windows} if FIXED in kinds else set()
     return frozenset(activities | events)
