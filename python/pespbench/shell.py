@@ -15,13 +15,13 @@ from pespbench.terminal import shown, tell
 from pespbench.watching import Line
 from pespbench.wording import Names, found_text
 
-HELP = """Of the network; E, I and J are events, A is an activity, and times are minutes of the period:
+HELP = """Of the network, with E, I and J for events, A for an activity, and times in minutes:
   add event E, drop event E           an event comes or goes
-  fix E t, window E f n, unfix E      it has to be at t, or at one of n minutes from f on, or anywhere
-  add activity A I J l u w            an activity from I to J takes l to u minutes, at w a minute above l
+  fix E t, window E f n, unfix E      it is held at t, or at one of n minutes from f on, or not
+  add activity A I J l u w            from I to J it takes l to u minutes, at w a minute above l
   drop activity A                     it goes
   span A l u, weight A w, ends A I J  it changes
-  time E t, untime E                  the event is at t in the working timetable, or has no time there
+  time E t, untime E                  it is at t in the working timetable, or has no time
 Questions:
   domain E, domains                   when an event, or each, can still be
   optimum, try N                      the best timetable; the same within N nodes of a search
@@ -29,7 +29,7 @@ Questions:
   tensions, violations, cost          what the working timetable makes of the network
   dump                                the network as commands
 Of this shell:
-  search SECONDS                      looks so long for the best timetable, and tells the best that it knows then
+  search SECONDS                      looks so long for the best timetable
   times                               tells the working timetable
   undo                                takes back the last accepted change
   save FOLDER                         writes network, times and labels, to be opened again

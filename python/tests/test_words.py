@@ -4,9 +4,11 @@ from __future__ import annotations
 
 import contextlib
 import io
+import os
 import unittest
 from xml.etree import ElementTree
 
+from pespbench import Bench
 from pespbench.__main__ import main
 from pespbench.drawn import draw_region
 from tests.common import EXAMPLES, PROGRAM, Case
@@ -59,6 +61,22 @@ class Words(Case):
         netgraph = ElementTree.parse(picture).getroot()
         drawn = {node.get("data-event") for node in netgraph.iter() if node.get("data-event")}
         self.assertEqual(drawn, {node.attributes["data-event"] for node in shown})
+
+    def test_report_by_default(self) -> None:
+        """It goes to a file that is named after the network, which is told, and not to the terminal."""
+        before = os.getcwd()
+        self.addCleanup(os.chdir, before)
+        os.chdir(self.folder)
+        self.assertEqual(self.typed("report", LINE), "activities.html\n")
+        text = (self.folder / "activities.html").read_text(encoding="utf-8")
+        self.assertEqual(self.typed("report", LINE, "--output", "-"), text)
+        (self.folder / "a line").mkdir()
+        with Bench.open(LINE, times=TIMES, program=PROGRAM) as bench:
+            bench.save("a line")
+        self.assertEqual(self.typed("report", "a line/"), "a line.html\n")
+        os.chdir("a line")
+        self.assertEqual(self.typed("report", "."), "a line.html\n")
+        self.assertTrue((self.folder / "a line/a line.html").read_text(encoding="utf-8").startswith("<!DOCTYPE html>"))
 
     def test_places_of_a_folder(self) -> None:
         draw_region(3).save(self.folder)

@@ -74,8 +74,7 @@ def headline_of(content: Content) -> str:
         return ""
     if untimed == len(content.events):
         return "There is no timetable yet."
-    have = "event has no time" if untimed == 1 else "events have no time"
-    return f"The timetable is not whole: {untimed:,} of {len(content.events):,} {have}."
+    return f"The timetable is not whole: {untimed:,} of {len(content.events):,} events {'has' if untimed == 1 else 'have'} no time."
 
 
 def missing_text(content: Content) -> str:
