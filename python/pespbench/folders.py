@@ -14,7 +14,7 @@ from __future__ import annotations
 
 import os
 from pathlib import Path
-from typing import TYPE_CHECKING, Mapping, Optional, Union
+from typing import TYPE_CHECKING, Any, Dict, Mapping, Optional, Union
 
 from pespbench import files
 from pespbench.faults import FileFault, Refused
@@ -58,8 +58,8 @@ def load(
     from pespbench.client import Bench
 
     place = Path(folder)
+    given: Dict[str, Any] = {name: path for name, path in (instead or {}).items() if path is not None}
     there = {name: place / name for name in ("fixed", "times", "labels") if (place / name).exists()}
-    given = {name: path for name, path in (instead or {}).items() if path is not None}
     there.update(given)
     known = period_of(place / "period") if period is None else period
     bench = Bench.open(place / "activities", period=known, program=program, **there)

@@ -109,7 +109,10 @@ def window_text(first: int, length: int, period: int) -> str:
 
 def domain_text(residues: Sequence[int], period: int) -> str:
     """The minutes that an event can be at, as `0-3, 42-53`, or `6:15-6:20`; empty where there is none."""
-    told = str if not is_of_hours(period) else lambda minute: clock(minute, period)
+
+    def told(minute: int) -> str:
+        return clock(minute, period) if is_of_hours(period) else str(minute)
+
     return ", ".join(told(first) if first == last else f"{told(first)}-{told(last)}" for first, last in runs(residues))
 
 

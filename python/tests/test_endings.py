@@ -9,6 +9,7 @@ import sys
 import time
 import unittest
 import uuid
+from functools import partial
 from pathlib import Path
 from typing import Callable, Dict, List, Set
 
@@ -97,7 +98,7 @@ class Endings(Case):
         for number, status in STATUSES.items():
             commands = {name: self.started(name) for name in SEARCHING}
             for name in commands:
-                self.wait_until(lambda name=name: self.is_searching(name), f"{name} does not search")  # type: ignore[misc]
+                self.wait_until(partial(self.is_searching, name), f"{name} does not search")
             for command in commands.values():
                 command.send_signal(number)
             for name, command in commands.items():

@@ -6,6 +6,7 @@ import threading
 import time
 import unittest
 from pathlib import Path
+from typing import List
 
 from pespbench import BadReply, Bench, Ended, Stopped, Window
 from tests.common import Case
@@ -93,7 +94,7 @@ class StandIns(Case):
         self.assertEqual((bench.network.events, self.starts()), ([1, 2], 2))
 
     def test_outlives_the_thread_that_opened_it(self) -> None:
-        opened = []
+        opened: List[Bench] = []
         thread = threading.Thread(target=lambda: opened.append(self.opened(before_usual(""))))
         thread.start()
         thread.join()
@@ -144,7 +145,7 @@ class StandIns(Case):
         """What comes when nobody asks is seen before the next line is sent, and no answer shifts."""
         bench = self.opened(before_usual('if line == "add event 1" and start == 1:\n    write(b"ok\\n")\n    time.sleep(0.1)'))
         bench.add_event(1)
-        time.sleep(0.3)
+        time.sleep(1)
         self.assertRaises(BadReply, bench.add_event, 2)
         bench.add_event(3)
         self.assertEqual(bench.network.events, [1, 3])
@@ -159,7 +160,7 @@ class StandIns(Case):
         self.assertRaises(BadReply, self.opened, 'write(b"ok\\n" + EMPTY)')
 
     def test_many_with_one_reply_too_many(self) -> None:
-        bench = self.opened(before_usual('if line == "fix 1 2":\n    write(b"ok\\n")'))
+        bench = self.opened(before_usual('if line == "fix 1 2":\n    write(b"ok\\nok\\n")\n    return'))
         self.assertRaises(BadReply, bench.many, ["add event 1", "fix 1 2"])
         self.assertEqual(bench.network.events, [event for event in [1] if "add event 1" in bench.journal])
 
