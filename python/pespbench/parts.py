@@ -12,7 +12,7 @@ from pespbench.answers import Infeasible, Optimum, Stopped
 from pespbench.client import Bench
 from pespbench.faults import BadReply
 from pespbench.network import Activity, Network
-from pespbench.variants import Base, Task, answer_task, hands_of
+from pespbench.variants import Base, Task, answer_task, at_work, hands_of
 from pespbench.watching import Watch
 from pespbench.workers import Driver, Lost, Progress
 
@@ -79,14 +79,13 @@ def optimum_in_parts(
         raise ValueError("there is at least one span, and one range of it")
     parts = parts_of(bench.network, spans, ranges)
     bar = Progress(len(parts), progress if watch is None else False)
-    search = Search(parts, Base.of(bench), bar, Watch() if watch is None else watch)
+    base = Base.of(bench)
+    search = Search(parts, base, bar, Watch() if watch is None else watch)
     search.begin(bench.standing())
     hands = hands_of(executor, workers, os.cpu_count() or 1)
-    try:
+    with at_work(hands, base):
         for place, answer in Driver(answer_task, hands).run(search.tasks()):
             search.take(place, answer)
-    finally:
-        hands.close()
     return Infeasible() if search.best is None else search.best
 
 

@@ -64,6 +64,12 @@ class Session:
         if process is not None:
             process.kill()
 
+    def end(self) -> None:
+        """Ends the program by force, from whatever thread; who waits for it is raised Ended."""
+        process = self._process
+        if process is not None:
+            process.end()
+
     def _ready(self, lines: int) -> Process:
         """The program, with room for so many lines, and with all that was accepted."""
         if self._is_closed:

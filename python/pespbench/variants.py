@@ -5,8 +5,9 @@ from __future__ import annotations
 import os
 import threading
 from concurrent.futures import Executor
+from contextlib import contextmanager
 from dataclasses import dataclass
-from typing import List, Optional, Sequence, Tuple, Union
+from typing import Dict, Iterator, List, Optional, Sequence, Tuple, Union
 
 from pespbench.client import Bench
 from pespbench.commands import CHANGES, checked, name_of
@@ -61,14 +62,34 @@ class Opened(threading.local):
 
 
 _opened = Opened()
+# What the threads of this process have in hand, by thread.
+_in_hand: Dict[int, Tuple[Base, Bench]] = {}
 
 
 def answer_task(task: Task) -> Outcome:
     """The answer to a variant, or the first refusal of its edits. Raises Ended and BadReply."""
     bench = _opened.bench(task.base)
-    with bench.trial():
-        *edits, answer = bench.many([*task.edits, task.question])
+    _in_hand[threading.get_ident()] = task.base, bench
+    try:
+        with bench.trial():
+            *edits, answer = bench.many([*task.edits, task.question])
+    finally:
+        del _in_hand[threading.get_ident()]
     return next((outcome for outcome in edits if isinstance(outcome, (Refused, Fault))), answer)
+
+
+@contextmanager
+def at_work(hands: Hands, base: Base) -> Iterator[None]:
+    """Lets hands go at the end, however it comes; where something is raised, no thread of this process searches on."""
+    try:
+        yield
+    except BaseException:
+        for other, bench in list(_in_hand.values()):
+            if other is base:
+                bench._session.end()
+        raise
+    finally:
+        hands.close()
 
 
 def variants(
@@ -99,12 +120,10 @@ def variants(
     answers: List[Union[Outcome, Lost]] = [None] * len(lists)
     bar = Progress(len(lists), progress)
     hands = hands_of(executor, workers, AT_ONCE)
-    try:
+    with at_work(hands, shared):
         for place, answer in Driver(answer_task, hands).run(tasks):
             answers[place] = answer
             bar.step()
-    finally:
-        hands.close()
     return answers
 
 

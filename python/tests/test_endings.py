@@ -27,14 +27,19 @@ else:
 """
 VARIANTS = """
 import sys
+from concurrent.futures import ThreadPoolExecutor
 from pespbench import Bench, variants
 
 if __name__ == "__main__":
-    with Bench.open(None, program=sys.argv[1]) as bench:
-        variants(bench, [[], []], workers=2)
+    with Bench.open(None, program=sys.argv[2]) as bench:
+        if sys.argv[1] == "processes":
+            variants(bench, [[], []], workers=2)
+        else:
+            with ThreadPoolExecutor(2) as executor:
+                variants(bench, [[]] * 9, executor=executor)
 """
 # How many programs search at once in each command.
-SEARCHING = {"search": 1, "search --parts": 2, "shell": 1, "variants": 2}
+SEARCHING = {"search": 1, "search --parts": 2, "shell": 1, "variants over processes": 2, "variants over threads": 2}
 STATUSES = {signal.SIGINT: 130, signal.SIGTERM: 143, signal.SIGHUP: 129, signal.SIGKILL: -9}
 
 
@@ -53,7 +58,8 @@ class Endings(Case):
         self.runs[name] = uuid.uuid4().hex
         environment = {**os.environ, "RUN": self.runs[name], "PYTHONPATH": str(TOP / "python")}
         words = ["-m", "pespbench", *name.split(), str(self.folder / "activities"), "--program", str(self.program)]
-        words = [str(self.folder / "variants.py"), str(self.program)] if name == "variants" else words
+        if name.startswith("variants"):
+            words = [str(self.folder / "variants.py"), name.split()[-1], str(self.program)]
         words += ["--workers", "2"] if "--parts" in words else []
         pipe, none = subprocess.PIPE, subprocess.DEVNULL
         command = subprocess.Popen(
@@ -111,7 +117,7 @@ class Endings(Case):
             assert command.stdin is not None
             command.stdin.close()
             status = 0
-        wanted: List[int] = [status, -number] if name == "variants" else [status]
+        wanted: List[int] = [status, -number] if name.startswith("variants") else [status]
         self.assertIn(command.wait(20), wanted)
         self.wait_until(lambda: not self.left(name), "a process is left")
 
