@@ -25,7 +25,7 @@ def add_parser(subparsers: argparse._SubParsersAction[argparse.ArgumentParser]) 
     places = "places of stations: station; x; y [default: the file places of a folder, else laid out]"
     parser.add_argument("--places", metavar="FILE", help=places)
     parser.add_argument("--title", default="Timetable", help="the title [default: Timetable]")
-    output = "where the report is written, `-` for standard output [default: NAME.html here, after NETWORK, which is told]"
+    output = "where the report is written; - is standard output [default: the name of NETWORK with .html, in this folder]"
     parser.add_argument("--output", metavar="FILE", help=output)
     parser.add_argument("--netgraph", metavar="FILE", help="write the netgraph alone too, as an SVG picture")
     best = "look so long for the best timetable, and report on it where one is found"
