@@ -25,8 +25,11 @@ def written_out(code: int) -> str:
 
 def write(text: str, stream: TextIO) -> None:
     """Writes a text to a stream, at once; characters that its encoding lacks are written out too."""
-    encoding = stream.encoding or "utf-8"
-    stream.write(shown(text, LAYOUT).encode(encoding, "backslashreplace").decode(encoding))
+    told = shown(text, LAYOUT)
+    try:
+        stream.write(told)
+    except UnicodeEncodeError:
+        stream.write(told.encode(stream.encoding, "backslashreplace").decode(stream.encoding))
     stream.flush()
 
 

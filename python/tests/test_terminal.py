@@ -13,7 +13,7 @@ from unittest import mock
 
 from pespbench import EventLabel, Labels
 from pespbench.__main__ import main
-from pespbench.terminal import LAYOUT, shown
+from pespbench.terminal import LAYOUT, shown, write
 from tests.common import PROGRAM, Case
 
 # Clears the screen, rings, turns red by a control of one byte, turns the direction, ends the line, goes to its begin.
@@ -126,6 +126,12 @@ class Shown(unittest.TestCase):
         self.assertEqual(shown("Zürich → Köln, 東京, \U0001f682\u200d, שלום"), "Zürich → Köln, 東京, \U0001f682\u200d, שלום")
         self.assertEqual(shown("\udcff"), "\\udcff")
         self.assertEqual(shown(shown(STEERING)), WRITTEN)
+
+    def test_a_stream_of_few_characters(self) -> None:
+        data = io.BytesIO()
+        stream = io.TextIOWrapper(data, "ascii", newline="")
+        write("Zürich → Köln\x1b\n", stream)
+        self.assertEqual(data.getvalue(), b"Z\\xfcrich \\u2192 K\\xf6ln\\x1b\n")
 
 
 if __name__ == "__main__":
