@@ -8,28 +8,42 @@ from __future__ import annotations
 import argparse
 import sys
 from importlib import import_module
-from typing import List, Optional
+from typing import List, NoReturn, Optional
 
-from pespbench.faults import PespbenchError
+from pespbench.ending import INTERRUPTS, status_of, terminated
+from pespbench.faults import PespbenchError, WrongWords
+from pespbench.terminal import complain, shown
 
 MODULES = ["shell", "search", "why", "report", "compare", "lintim", "drawn"]
 
 
+class Parser(argparse.ArgumentParser):
+    """A parser that tells wrong words so that they do not steer a terminal."""
+
+    def error(self, message: str) -> NoReturn:
+        """Tells what is wrong, and exits with status 2."""
+        super().error(shown(message))
+
+
 def main(words: Optional[List[str]] = None) -> int:
-    """Runs a subcommand, and gives the exit status: 0, 1 for a fault that is told on standard error, 2 for wrong words."""
-    parser = argparse.ArgumentParser(prog="python3 -m pespbench", description="What a planner does with pespbench.")
+    """Runs a subcommand, and gives the exit status.
+
+    It is 0, or 1 for a fault that is told on standard error, 2 for wrong words, and 128 with the number of the signal where
+    one ended it.
+    """
+    parser = Parser(prog="python3 -m pespbench", description="What a planner does with pespbench.")
     subparsers = parser.add_subparsers(required=True, metavar="SUBCOMMAND")
     for name in MODULES:
         import_module(f"pespbench.{name}").add_parser(subparsers)
     chosen = parser.parse_args(words)
     try:
-        return int(chosen.run(chosen))
+        with terminated():
+            return int(chosen.run(chosen))
     except (PespbenchError, OSError) as fault:
-        # What the program said of its end begins so already.
-        print(f"pespbench: {str(fault).removeprefix('pespbench: ')}", file=sys.stderr)
-        return 1
-    except KeyboardInterrupt:
-        return 130
+        complain(str(fault))
+        return 2 if isinstance(fault, WrongWords) else 1
+    except INTERRUPTS as interrupt:
+        return status_of(interrupt)
 
 
 if __name__ == "__main__":

@@ -19,11 +19,14 @@ from pespbench.network import Network
 from pespbench.places import Place
 from pespbench.process import OutOfTime, find_program
 from pespbench.session import Outcome, Session
+from pespbench.watching import Watch
 from pespbench.work import Work
 
 Path = Union[str, "os.PathLike[str]"]
 # The comment in which a script tells its period.
 PERIOD_COMMENT = re.compile("[ \t]*#[ \t]+period[ \t]+([0-9]{1,9})(?=[ \t\r]|$)")
+MOST_SECONDS = 1_000_000
+SECONDS_TEXT = f"a search takes from 0 to {MOST_SECONDS:,} seconds"
 
 
 class Bench(Commands):
@@ -106,11 +109,23 @@ class Bench(Commands):
         return bench
 
     @classmethod
-    def load(cls, folder: Path, *, program: Optional[Path] = None) -> "Bench":
-        """Opens what `save` has written. Raises OSError, FileFault, and what `open` raises."""
+    def load(
+        cls,
+        folder: Path,
+        *,
+        fixed: Optional[Path] = None,
+        times: Optional[Path] = None,
+        period: Optional[int] = None,
+        labels: Union[Path, Labels, None] = None,
+        program: Optional[Path] = None,
+    ) -> "Bench":
+        """Opens what `save` has written; what is given is taken in place of the folder's own.
+
+        Raises OSError, FileFault, and what `open` raises.
+        """
         from pespbench.folders import load
 
-        return load(folder, program)
+        return load(folder, program, period, {"fixed": fixed, "times": times, "labels": labels})
 
     def save(self, folder: Path) -> None:
         """Writes network, times, labels and places to a folder, which is made where it is not there. Raises OSError.
@@ -179,24 +194,34 @@ class Bench(Commands):
         """
         return list(self._session.outcomes([checked(command) for command in commands]))
 
-    def search(self, seconds: float, nodes: int = 1_000) -> Found:
-        """The optimum where it is found within a time, and else the best timetable that was found.
+    def standing(self) -> Stopped:
+        """The working timetable with its cost where it meets everything; else a cost of None, and no times."""
+        if len(self._session.work.times) < len(self.network.windows) or len(self.violations()):
+            return Stopped()
+        return Stopped(self.cost(), self.times)
 
-        It tries `nodes` nodes, twice as many, and so on; what is under way when the time is over is killed.
+    def search(self, seconds: float, nodes: int = 1_000, watch: Optional[Watch] = None) -> Found:
+        """The optimum where it is found within a time, and else the best timetable that is known.
+
+        The working timetable is one where it meets everything. It tries `nodes` nodes, twice as many, and so on; what is
+        under way when the time is over is killed. `watch` is told what it comes to, and so has the best timetable where
+        anything is raised. Raises ValueError for seconds that are not from 0 to 1,000,000.
         """
+        if not 0 <= seconds <= MOST_SECONDS:
+            raise ValueError(SECONDS_TEXT)
         deadline = clock.monotonic() + seconds
-        best = Stopped()
+        watch = Watch() if watch is None else watch
+        watch.take(self.standing())
         while True:
             try:
                 found = found_by(self._one(f"try {nodes}", deadline))
             except OutOfTime:
-                return best
+                return watch.best
             if not isinstance(found, Stopped):
                 return found
-            if best.cost is None or found.cost is not None and found.cost < best.cost:
-                best = found
+            watch.take(found)
             if nodes == MOST_NODES:
-                return best
+                return watch.best
             nodes = min(2 * nodes, MOST_NODES)
 
     # The journal.

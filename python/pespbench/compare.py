@@ -3,7 +3,6 @@
 from __future__ import annotations
 
 import argparse
-import sys
 from dataclasses import dataclass
 from typing import Iterator, Mapping, Optional
 
@@ -13,6 +12,7 @@ from pespbench.faults import Refused
 from pespbench.labels import Labels
 from pespbench.network import Activity, Network, Window
 from pespbench.opening import add_network, open_network
+from pespbench.terminal import shown, tell
 from pespbench.wording import Names, clock, minutes, span_text, window_text
 
 NO_TIME = 11
@@ -53,7 +53,7 @@ class Side:
         """What the activities of each kind cost together."""
         found: dict[str, int] = {}
         for number, tension in self.tensions.items():
-            kind = self.labels.kind(number) or "activity"
+            kind = shown(self.labels.kind(number)) or "activity"
             found[kind] = found.get(kind, 0) + tension.slack * self.network.activities[number].weight
         return found
 
@@ -122,7 +122,7 @@ def moved_times(before: Side, after: Side, names: Names) -> Iterator[str]:
         return
     for event in sorted({*before.times, *after.times}):
         if moves.get(event) != 0:
-            times = (f"{clock(side.times[event])}" if event in side.times else "no time" for side in (before, after))
+            times = (clock(side.times[event], side.network.period) if event in side.times else "no time" for side in (before, after))
             yield f"{names.event(event)}: {' to '.join(times)}" + (f" ({signed(moves[event])})" if event in moves else "")
 
 
@@ -163,6 +163,8 @@ def add_parser(subparsers: argparse._SubParsersAction[argparse.ArgumentParser]) 
     parser.add_argument("other", metavar="OTHER", help="the network after the change, a file or a folder like NETWORK")
     parser.add_argument("--other-fixed", metavar="FILE", help="its fixed times")
     parser.add_argument("--other-times", metavar="FILE", help="its times")
+    parser.add_argument("--other-period", type=int, metavar="PERIOD", help="its period [default: that of --period]")
+    parser.add_argument("--other-labels", metavar="FILE", help="its labels [default: those of --labels]")
     parser.set_defaults(run=run)
 
 
@@ -171,7 +173,9 @@ def run(words: argparse.Namespace) -> int:
     with open_network(words) as bench:
         before = Side.of(bench)
     words.network, words.fixed, words.times = words.other, words.other_fixed, words.other_times
+    words.period = words.period if words.other_period is None else words.other_period
+    words.labels = words.labels if words.other_labels is None else words.other_labels
     with open_network(words) as bench:
         after = Side.of(bench)
-    sys.stdout.write(compare(before, after))
+    tell(compare(before, after))
     return 0

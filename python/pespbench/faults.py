@@ -4,6 +4,8 @@ from __future__ import annotations
 
 from typing import Optional
 
+from pespbench.terminal import shown
+
 
 class PespbenchError(Exception):
     """What the package raises of its own."""
@@ -71,6 +73,10 @@ class BadReply(PespbenchError):
         return f"no reply of pespbench: {self.text[:200]!r}"
 
 
+class WrongWords(PespbenchError, ValueError):
+    """What was asked for is not there to be asked for. `str` says what."""
+
+
 class FileFault(PespbenchError):
     """A file is not as it has to be.
 
@@ -87,7 +93,7 @@ class FileFault(PespbenchError):
 
     def __str__(self) -> str:
         place = "" if self.record is None else f", record {self.record}"
-        return with_cure(f"{self.path}{place}: {self.text}", self.cure)
+        return with_cure(f"{shown(self.path)}{place}: {self.text}", self.cure)
 
 
 def with_cure(text: str, cure: str) -> str:

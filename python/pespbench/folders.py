@@ -15,7 +15,7 @@ from __future__ import annotations
 
 import os
 from pathlib import Path
-from typing import TYPE_CHECKING, Mapping, Union
+from typing import TYPE_CHECKING, Any, Dict, Mapping, Optional, Union
 
 from pespbench import files
 from pespbench.faults import FileFault, Refused
@@ -63,17 +63,28 @@ def write_folder(
     )
 
 
-def load(folder: AnyPath, program: Union[AnyPath, None] = None) -> "Bench":
-    """Opens a folder that was saved. Only `activities` and `period` have to be there. Raises OSError, FileFault and Ended."""
+def load(
+    folder: AnyPath,
+    program: Union[AnyPath, None] = None,
+    period: Optional[int] = None,
+    instead: Optional[Mapping[str, Union[AnyPath, Labels, None]]] = None,
+) -> "Bench":
+    """Opens a folder that was saved; a period, and files of some names, are taken in place of the folder's own.
+
+    Only `activities` and `period` have to be there, and no period where one is given. Raises OSError, FileFault and Ended.
+    """
     from pespbench.client import Bench
 
     place = Path(folder)
+    given: Dict[str, Any] = {name: path for name, path in (instead or {}).items() if path is not None}
     there = {name: place / name for name in ("fixed", "times", "labels") if (place / name).exists()}
-    bench = Bench.open(place / "activities", period=period_of(place / "period"), program=program, **there)
+    there.update(given)
+    known = period_of(place / "period") if period is None else period
+    bench = Bench.open(place / "activities", period=known, program=program, **there)
     try:
         if (place / "places").exists():
             bench.places = read_places(place / "places")
-        _complete(bench, place)
+        _complete(bench, place, there.get("times"), given.get("fixed"))
         bench._session.journal.clear()
     except Refused as refusal:
         bench.close()
@@ -92,12 +103,16 @@ def period_of(path: Path) -> int:
     return periods[0]
 
 
-def _complete(bench: "Bench", place: Path) -> None:
-    """Does what the program reads from no file: events without activities with their times, and windows."""
+def _complete(bench: "Bench", place: Path, timed: Optional[AnyPath], held: Optional[AnyPath]) -> None:
+    """Does what the program reads from no file: events without activities with their times, and windows.
+
+    Those of events that a file of fixed times holds that was given are left out.
+    """
     events = files.read_events(place / "events") if (place / "events").exists() else []
     windows = files.read_windows(place / "windows") if (place / "windows").exists() else {}
-    times = files.read_times(place / "times") if (place / "times").exists() else {}
+    times = {} if timed is None else files.read_times(timed)
+    fixed = {} if held is None else files.read_times(held)
     commands = [f"add event {event}" for event in events]
-    commands += [window_command(event, windows[event]) for event in windows]
+    commands += [window_command(event, windows[event]) for event in windows if event not in fixed]
     commands += [f"time {event} {times[event] % bench.period}" for event in events if event in times]
     bench._all(commands)

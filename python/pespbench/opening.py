@@ -1,15 +1,15 @@
-"""The words of a command line that say which network is opened, the same for each subcommand."""
+"""The words of a command line that more than one subcommand has: which network is opened, and numbers."""
 
 from __future__ import annotations
 
 import argparse
 import os
 
-from pespbench.client import Bench
+from pespbench.client import MOST_SECONDS, SECONDS_TEXT, Bench
 
 
 def add_network(parser: argparse.ArgumentParser) -> None:
-    """Adds NETWORK and its options to a subcommand's parser."""
+    """Adds NETWORK and its options to a subcommand's parser; each option is taken in place of what a folder has."""
     parser.add_argument("network", metavar="NETWORK", help="a file of activities, or a folder that was saved")
     parser.add_argument("--period", type=int, help="the period, 2 to 1440 [default: 60; of a folder, its own]")
     parser.add_argument("--fixed", metavar="FILE", help="fixed times of events")
@@ -20,8 +20,26 @@ def add_network(parser: argparse.ArgumentParser) -> None:
 
 def open_network(words: argparse.Namespace) -> Bench:
     """Opens the network that a command line names. Raises what Bench.open and Bench.load raise."""
-    if os.path.isdir(words.network):
-        return Bench.load(words.network, program=words.program)
-    period = 60 if words.period is None else words.period
     files = {"fixed": words.fixed, "times": words.times, "labels": words.labels}
+    if os.path.isdir(words.network):
+        return Bench.load(words.network, period=words.period, program=words.program, **files)
+    period = 60 if words.period is None else words.period
     return Bench.open(words.network, period=period, program=words.program, **files)
+
+
+def seconds(text: str) -> float:
+    """A time for a search. Raises ArgumentTypeError."""
+    try:
+        number = float(text)
+    except ValueError:
+        number = -1.0
+    if not 0 <= number <= MOST_SECONDS:
+        raise argparse.ArgumentTypeError(f"{SECONDS_TEXT}, and not {text!r}")
+    return number
+
+
+def whole(text: str) -> int:
+    """A whole number above 0. Raises ArgumentTypeError."""
+    if not text.isdecimal() or int(text) < 1:
+        raise argparse.ArgumentTypeError(f"it is a whole number above 0, and not {text!r}")
+    return int(text)

@@ -8,11 +8,12 @@ from concurrent.futures import Executor
 from dataclasses import dataclass
 from typing import Iterator, List, Optional, Tuple, Union
 
-from pespbench.answers import Infeasible, Optimum
+from pespbench.answers import Infeasible, Optimum, Stopped
 from pespbench.client import Bench
 from pespbench.faults import BadReply
 from pespbench.network import Activity, Network
-from pespbench.variants import Base, Task, answer_task, hands_of
+from pespbench.variants import Base, Task, answer_task, at_work, hands_of
+from pespbench.watching import Watch
 from pespbench.workers import Driver, Lost, Progress
 
 
@@ -62,36 +63,49 @@ def optimum_in_parts(
     executor: Optional[Executor] = None,
     workers: Optional[int] = None,
     progress: Optional[bool] = None,
+    watch: Optional[Watch] = None,
 ) -> Union[Optimum, Infeasible]:
     """The same optimum as `bench.optimum()`, found in up to `ranges` to the power of `spans` searches, side by side.
 
     The slack of a range counts from its own lower bound, so a part's cost lacks its constant. A part whose constant alone is
-    above the best cost found is not begun: it has no timetable as cheap. One whose constant is that cost may have one that
-    comes first, so it is answered too. `executor`, `workers` and `progress` are as in `variants`, but that an executor is
-    given as many parts at once as this machine has processors where `workers` is None. Raises Lost where what had a part in
-    hand died twice, BadReply, and ValueError for spans or ranges below 1.
+    above the best cost known is not begun: it has no timetable as cheap. One whose constant is that cost may have one that
+    comes first, so it is answered too. The working timetable is known from the first where it meets everything. `executor`,
+    `workers` and `progress` are as in `variants`, but that an executor is given as many parts at once as this machine has
+    processors where `workers` is None. A `watch` is told what the search comes to, in place of the bar, and so has the best
+    timetable where anything is raised. Raises Lost where what had a part in hand died twice, BadReply, and ValueError for
+    spans, ranges or workers below 1.
     """
     if spans < 1 or ranges < 1:
         raise ValueError("there is at least one span, and one range of it")
     parts = parts_of(bench.network, spans, ranges)
-    search = Search(parts, Base.of(bench), Progress(len(parts), progress))
+    bar = Progress(len(parts), progress if watch is None else False)
+    base = Base.of(bench)
+    search = Search(parts, base, bar, Watch() if watch is None else watch)
+    search.begin(bench.standing())
     hands = hands_of(executor, workers, os.cpu_count() or 1)
-    try:
+    with at_work(hands, base):
         for place, answer in Driver(answer_task, hands).run(search.tasks()):
             search.take(place, answer)
-    finally:
-        hands.close()
     return Infeasible() if search.best is None else search.best
 
 
 class Search:
     """The parts, and the first of the cheapest timetables that came."""
 
-    def __init__(self, parts: List[Part], base: Base, bar: Progress) -> None:
+    def __init__(self, parts: List[Part], base: Base, bar: Progress, watch: Watch) -> None:
         self._parts = parts
         self._base = base
         self._bar = bar
+        self._watch = watch
+        # The places of parts that are not answered yet.
+        self._left = set(range(len(parts)))
         self.best: Optional[Optimum] = None
+
+    def begin(self, standing: Stopped) -> None:
+        """Takes a timetable that is known."""
+        if standing.cost is not None:
+            self._found(Optimum(standing.cost, standing.times))
+        self._tell_bound()
 
     def tasks(self) -> Iterator[Task]:
         """The parts as tasks, as long as one may have a timetable that is as cheap as the best."""
@@ -103,15 +117,26 @@ class Search:
     def take(self, place: int, answer: object) -> None:
         """Takes the answer of a part. Raises Lost and BadReply."""
         self._bar.step()
+        self._left.discard(place)
+        self._watch.take_parts(len(self._parts) - len(self._left), len(self._parts))
         if isinstance(answer, Lost):
             raise answer
-        if isinstance(answer, Infeasible):
-            return
-        if not isinstance(answer, Optimum):
+        if not isinstance(answer, (Optimum, Infeasible)):
             raise BadReply(str(answer))
-        found = Optimum(answer.cost + self._parts[place].constant, answer.times)
+        if isinstance(answer, Optimum):
+            self._found(Optimum(answer.cost + self._parts[place].constant, answer.times))
+        self._tell_bound()
+
+    def _found(self, found: Optimum) -> None:
         if self.best is None or order_of(found) < order_of(self.best):
             self.best = found
+            self._watch.take(Stopped(found.cost, found.times))
+
+    def _tell_bound(self) -> None:
+        """No timetable is cheaper than the best one, nor than the constant of a part that is not answered."""
+        costs = [self._parts[place].constant for place in self._left] + ([self.best.cost] if self.best else [])
+        if costs:
+            self._watch.take_bound(min(costs))
 
 
 def order_of(found: Optimum) -> Tuple[int, List[int]]:

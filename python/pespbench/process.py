@@ -11,8 +11,9 @@ import time
 import weakref
 from typing import IO, Iterator, List, Optional, Sequence, Tuple, Union
 
-from pespbench.faults import Ended
+from pespbench.faults import BadReply, Ended
 from pespbench.replies import Assembler
+from pespbench.starting import started
 
 PIECE = 65_536
 # How long a program may take to end that was told to, or has closed its output.
@@ -42,8 +43,7 @@ class Process:
         """Starts it. Raises OSError where it cannot be started."""
         # What it says of its end goes to a file, which is never full as a pipe is.
         self._errors = tempfile.TemporaryFile()
-        pipe = subprocess.PIPE
-        self._child = subprocess.Popen(words, bufsize=0, stdin=pipe, stdout=pipe, stderr=self._errors, start_new_session=True)
+        self._child = started(words, self._errors)
         assert self._child.stdin is not None and self._child.stdout is not None
         self._input, self._output = self._child.stdin, self._child.stdout
         os.set_blocking(self._input.fileno(), False)
@@ -53,21 +53,34 @@ class Process:
         self.lines = 0
         # One that nobody closed goes with its object, or with the interpreter.
         self._let_go = weakref.finalize(self, let_go, self._child, self._selector, self._errors, os.getpid())
+        _running.add(self)
 
     def replies(self, commands: Sequence[str], deadline: Optional[float] = None) -> Iterator[List[str]]:
         """Sends commands, and gives the reply to each as it comes.
 
         Where the caller stops before the last, replies are left in the pipe, and the process is of no more use. The deadline
-        is one of `time.monotonic`. Raises Ended where the program ends, OutOfTime at the deadline, BadReply.
+        is one of `time.monotonic`. Raises Ended where the program ends, OutOfTime at the deadline, BadReply, also for what
+        comes unasked: then no reply that is not given yet can be relied on.
         """
+        self._want_silence()
         self.lines += len(commands)
         rest = self._write(memoryview("".join(f"{command}\n" for command in commands).encode()))
         wanted = len(commands)
         while wanted:
             data, rest = self._move(rest, deadline)
-            for reply in self._assembler.feed(data):
-                wanted -= 1
-                yield reply
+            came = list(self._assembler.feed(data))
+            wanted -= len(came)
+            if not wanted:
+                self._want_silence()
+            if wanted < 0 or not wanted and self._assembler.is_within_reply():
+                raise BadReply(f"more than was asked for, after {came[0][0]}")
+            yield from came
+
+    def _want_silence(self) -> None:
+        """Raises BadReply where there is something to read that nobody has asked for."""
+        data = os.read(self._output.fileno(), PIECE) if self._selector.select(0) else b""
+        if data:
+            raise BadReply(f"more than was asked for: {data.decode(errors='replace').strip()}")
 
     def _move(self, rest: memoryview, deadline: Optional[float]) -> Tuple[bytes, memoryview]:
         """Waits until there is something to read or room to write; what was read, and what is left to be written."""
@@ -122,6 +135,20 @@ class Process:
     def kill(self) -> None:
         """Ends the program by force."""
         self._let_go()
+
+    def end(self) -> None:
+        """Ends the program by force, and leaves all that leads to it as it is."""
+        self._child.kill()
+
+
+# What runs for this process; a worker that is ended ends these first.
+_running: "weakref.WeakSet[Process]" = weakref.WeakSet()
+
+
+def kill_all() -> None:
+    """Ends all programs of this process by force, from whatever thread; each is of no more use."""
+    for process in list(_running):
+        process.end()
 
 
 def let_go(child: "subprocess.Popen[bytes]", selector: selectors.BaseSelector, errors: IO[bytes], owner: int) -> None:

@@ -6,8 +6,15 @@ import re
 from typing import Dict, Iterator, List, Optional, Sequence, Union
 
 from pespbench.answers import Answer, Domain, Infeasible, Optimum, Stopped, Tension, Violations
+from pespbench.commands import CHANGES, name_of
 from pespbench.faults import BadReply, Fault, Refused
 
+# How the replies to questions begin; each command can be refused or be a fault, too, and changes are answered by `ok`.
+BEGINNINGS = {
+    "domains": {"domains"}, "tensions": {"tensions"}, "violations": {"violations"}, "cost": {"cost"}, "dump": {"#"},
+    "optimum": {"optimum", "infeasible"}, "try": {"optimum", "infeasible", "stopped"}, "adopt": {"ok"},
+    **dict.fromkeys(CHANGES, {"ok"}),
+}  # fmt: skip
 # Where in the first line the number of lines that follow stands.
 COUNT_PLACES = {"domains": 1, "tensions": 1, "violations": 1, "optimum": 2, "stopped": 2, "#": 4}
 
@@ -55,6 +62,16 @@ def replies_of(text: str) -> Iterator[List[str]]:
     yield from assembler.feed(text.encode() if not text or text.endswith("\n") else f"{text}\n".encode())
     if assembler.is_within_reply():
         raise BadReply("the last reply is not whole")
+
+
+def is_reply_to(command: str, reply: Sequence[str]) -> bool:
+    """Whether a reply is one that a command can have; a command that is not known here can have any."""
+    first, name = reply[0].split()[0], name_of(command)
+    if first in ("refused", "fault"):
+        return True
+    if name == "domain":
+        return [f"{int(number)}:" for number in command.split()[1:] if number.lstrip("+").isdecimal()] == [first]
+    return name not in BEGINNINGS or first in BEGINNINGS[name]
 
 
 def answer_of(reply: Sequence[str]) -> Answer:

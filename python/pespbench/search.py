@@ -3,36 +3,93 @@
 from __future__ import annotations
 
 import argparse
+import sys
+from pathlib import Path
+from typing import Optional, Tuple
 
-from pespbench.answers import Found, Infeasible
-from pespbench.opening import add_network, open_network
+from pespbench.answers import Found, Infeasible, Stopped
+from pespbench.client import Bench
+from pespbench.ending import INTERRUPTS, status_of, uninterrupted
+from pespbench.faults import FileFault, PespbenchError
+from pespbench.files import read_times
+from pespbench.opening import add_network, open_network, seconds, whole
 from pespbench.parts import optimum_in_parts
 from pespbench.replies import text_of
+from pespbench.terminal import tell, write
+from pespbench.watching import Line, Watch
+from pespbench.wording import found_text
 
 
 def add_parser(subparsers: "argparse._SubParsersAction[argparse.ArgumentParser]") -> None:
     """Adds the subcommand."""
     parser = subparsers.add_parser("search", help="look for the best timetable, and save it")
     add_network(parser)
-    parser.add_argument("--seconds", type=float, default=60.0, help="how long to look [default: 60]")
+    parser.add_argument("--seconds", type=seconds, default=60.0, help="how long to look [default: 60]")
     parser.add_argument("--parts", action="store_true", help="look in parts, over all processors, until the optimum is found")
-    parser.add_argument("--spans", type=int, default=2, help="how many spans are cut [default: 2]")
-    parser.add_argument("--ranges", type=int, default=3, help="into how many ranges each [default: 3]")
-    parser.add_argument("--workers", type=int, help="how many programs run side by side [default: one for each processor]")
-    parser.add_argument("--save", metavar="FOLDER", help="write the network with the timetable that was found")
+    parser.add_argument("--spans", type=whole, default=2, help="how many spans are cut [default: 2]")
+    parser.add_argument("--ranges", type=whole, default=3, help="into how many ranges each [default: 3]")
+    parser.add_argument("--workers", type=whole, help="how many programs run side by side [default: one for each processor]")
+    saved = "write the network with the best timetable that is known, at Ctrl-C too; never a dearer one than the folder has"
+    parser.add_argument("--save", metavar="FOLDER", help=saved)
     parser.set_defaults(run=run)
 
 
 def run(words: argparse.Namespace) -> int:
-    """Prints what is found as the program would; the exit status is 1 where no timetable was found."""
+    """Prints what is found as the program would; the exit status is 1 where no timetable was found.
+
+    Raises what ended the search before its time, once what it had found is saved; an interrupt is told by the status.
+    """
     with open_network(words) as bench:
-        if words.parts:
-            found: Found = optimum_in_parts(bench, spans=words.spans, ranges=words.ranges, workers=words.workers)
-        else:
-            found = bench.search(words.seconds)
-        print(text_of("optimum", found), end="")
-        times = {} if isinstance(found, Infeasible) else found.times
-        if times and words.save:
-            bench.set_times(times)
-            bench.save(words.save)
-        return 0 if times or not isinstance(found, Infeasible) and found.cost is not None else 1
+        if words.save:
+            take_better(bench, bench.standing(), words.save)
+        found, ended = looked_for(bench, words)
+        with uninterrupted():
+            if words.save and not isinstance(found, Infeasible) and found.cost is not None:
+                found = take_better(bench, found, words.save)
+                bench.save(words.save)
+            tell(text_of("optimum", found))
+            if isinstance(found, Stopped):
+                write(f"{found_text(found)}\n", sys.stderr)
+    if isinstance(ended, PespbenchError):
+        raise ended
+    if ended is not None:
+        return status_of(ended)
+    return 1 if isinstance(found, Infeasible) or found.cost is None else 0
+
+
+def looked_for(bench: Bench, words: argparse.Namespace) -> Tuple[Found, Optional[BaseException]]:
+    """What a search finds; where something ends it before its time, the best that it had found, and what ended it."""
+    with Line() as line:
+        try:
+            return sought(bench, words, line), None
+        except (*INTERRUPTS, PespbenchError) as ended:
+            return line.best, ended
+
+
+def sought(bench: Bench, words: argparse.Namespace, watch: Watch) -> Found:
+    """What the search finds that was asked for."""
+    if words.parts:
+        return optimum_in_parts(bench, spans=words.spans, ranges=words.ranges, workers=words.workers, watch=watch)
+    return bench.search(words.seconds, watch=watch)
+
+
+def take_better(bench: Bench, found: Found, folder: str) -> Found:
+    """Makes what was found the working timetable, or the one that a folder has, where that meets everything and is cheaper."""
+    there = standing_in(bench, folder)
+    cost = None if isinstance(found, Infeasible) else found.cost
+    if there.cost is not None and (cost is None or there.cost < cost):
+        found = there
+    if not isinstance(found, Infeasible) and found.cost is not None:
+        bench.set_times(found.times)
+    return found
+
+
+def standing_in(bench: Bench, folder: str) -> Stopped:
+    """The timetable of a folder with its cost in a bench, where it meets everything there."""
+    try:
+        listed = read_times(Path(folder) / "times")
+    except (OSError, FileFault):
+        return Stopped()
+    with bench.trial():
+        bench.set_times({event: listed[event] % bench.period for event in bench.network.events if event in listed})
+        return bench.standing()

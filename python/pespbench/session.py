@@ -9,7 +9,7 @@ from pespbench.answers import Answer, Optimum
 from pespbench.commands import CHANGES, MOST_LINES, name_of
 from pespbench.faults import BadReply, Fault, Refused
 from pespbench.process import Process
-from pespbench.replies import answer_of
+from pespbench.replies import answer_of, is_reply_to
 from pespbench.work import Work, work_of
 
 Outcome = Union[Answer, Refused, Fault]
@@ -43,6 +43,8 @@ class Session:
         process = Process([program, f"--period={period}", *words])
         try:
             [reply] = process.replies(["dump"])
+            if not isinstance(answer_of(reply), str):
+                raise BadReply(reply[0])
             work = work_of(reply[1:], period)
         except BaseException:
             process.kill()
@@ -61,6 +63,12 @@ class Session:
         process, self._process = self._process, None
         if process is not None:
             process.kill()
+
+    def end(self) -> None:
+        """Ends the program by force, from whatever thread; who waits for it is raised Ended."""
+        process = self._process
+        if process is not None:
+            process.end()
 
     def _ready(self, lines: int) -> Process:
         """The program, with room for so many lines, and with all that was accepted."""
@@ -94,9 +102,9 @@ class Session:
         try:
             replies = self._ready(len(lines)).replies(lines, deadline)
             for command in commands:
-                outcome = outcome_of(next(replies))
+                outcome = outcome_of(command, next(replies))
                 if command.split() == ["adopt"]:
-                    outcome = self._adopted(outcome, outcome_of(next(replies)))
+                    outcome = self._adopted(outcome, outcome_of("optimum", next(replies)))
                 elif outcome is None and name_of(command) in CHANGES:
                     self.journal.append(Change([command], self.work.apply(command)))
                 yield outcome
@@ -146,8 +154,10 @@ class Session:
         return change.commands
 
 
-def outcome_of(reply: Sequence[str]) -> Outcome:
-    """The answer of a reply, or its refusal or fault as a value. Raises BadReply."""
+def outcome_of(command: str, reply: Sequence[str]) -> Outcome:
+    """The answer of a reply, or its refusal or fault as a value. Raises BadReply, also for a reply to another command."""
+    if not is_reply_to(command, reply):
+        raise BadReply(f"{reply[0]} to {command}")
     try:
         return answer_of(reply)
     except (Refused, Fault) as told:

@@ -5,8 +5,9 @@ from __future__ import annotations
 import os
 import threading
 from concurrent.futures import Executor
+from contextlib import contextmanager
 from dataclasses import dataclass
-from typing import List, Optional, Sequence, Tuple, Union
+from typing import Dict, Iterator, List, Optional, Sequence, Tuple, Union
 
 from pespbench.client import Bench
 from pespbench.commands import CHANGES, checked, name_of
@@ -61,14 +62,34 @@ class Opened(threading.local):
 
 
 _opened = Opened()
+# What the threads of this process have in hand, by thread.
+_in_hand: Dict[int, Tuple[Base, Bench]] = {}
 
 
 def answer_task(task: Task) -> Outcome:
     """The answer to a variant, or the first refusal of its edits. Raises Ended and BadReply."""
     bench = _opened.bench(task.base)
-    with bench.trial():
-        *edits, answer = bench.many([*task.edits, task.question])
+    _in_hand[threading.get_ident()] = task.base, bench
+    try:
+        with bench.trial():
+            *edits, answer = bench.many([*task.edits, task.question])
+    finally:
+        del _in_hand[threading.get_ident()]
     return next((outcome for outcome in edits if isinstance(outcome, (Refused, Fault))), answer)
+
+
+@contextmanager
+def at_work(hands: Hands, base: Base) -> Iterator[None]:
+    """Lets hands go at the end, however it comes; where something is raised, no thread of this process searches on."""
+    try:
+        yield
+    except BaseException:
+        for other, bench in list(_in_hand.values()):
+            if other is base:
+                bench._session.end()
+        raise
+    finally:
+        hands.close()
 
 
 def variants(
@@ -91,7 +112,7 @@ def variants(
     A refused edit makes Refused or Fault the answer of its list. What a worker or a program had in hand that died is given
     out once more, and is Lost, with its place in the lists, where that dies too; a process pool of the caller that broke
     takes nothing more, so all that is left is Lost then. Raises ValueError for a line that is no change, before anything is
-    sent, and BadReply.
+    sent, or for workers below 1, and BadReply.
     """
     lists = [tuple(map(change, edits)) for edits in lists_of_edits]
     shared = Base.of(base)
@@ -99,17 +120,20 @@ def variants(
     answers: List[Union[Outcome, Lost]] = [None] * len(lists)
     bar = Progress(len(lists), progress)
     hands = hands_of(executor, workers, AT_ONCE)
-    try:
+    with at_work(hands, shared):
         for place, answer in Driver(answer_task, hands).run(tasks):
             answers[place] = answer
             bar.step()
-    finally:
-        hands.close()
     return answers
 
 
 def hands_of(executor: Optional[Executor], workers: Optional[int], at_once: int) -> Hands:
-    """The caller's executor, which is given `workers` tasks at once, or so many processes of this machine."""
+    """The caller's executor, which is given `workers` tasks at once, or so many processes of this machine.
+
+    Raises ValueError for workers below 1.
+    """
+    if workers is not None and workers < 1:
+        raise ValueError("there is at least one worker")
     return OwnHands(workers) if executor is None else LentHands(executor, workers or at_once)
 
 

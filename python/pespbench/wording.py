@@ -7,10 +7,12 @@ What is named here has the attributes of an event (`number`, `line`, `to`, `stat
 from __future__ import annotations
 
 from dataclasses import dataclass
-from typing import Mapping, Protocol
+from typing import Mapping, Optional, Protocol, Sequence
 
+from pespbench.answers import Found, Infeasible, Optimum, runs
 from pespbench.labels import EventLabel, Labels
 from pespbench.network import Activity
+from pespbench.terminal import shown
 
 
 class NamedEvent(Protocol):
@@ -83,14 +85,46 @@ def span_text(lower: int, upper: int) -> str:
     return str(lower) if lower == upper else f"{lower} to {upper}"
 
 
-def clock(minute: int) -> str:
-    """A minute of the period, as `:07`."""
-    return f":{minute:02d}"
+def is_of_hours(period: int) -> bool:
+    """Whether minutes of a period are told with their hour, as those of a day are."""
+    return period > 60 and period % 60 == 0
+
+
+def clock(minute: int, period: int) -> str:
+    """A minute of the period, as `:07`, or `23:41` where it has several hours."""
+    return f"{minute // 60}:{minute % 60:02d}" if is_of_hours(period) else f":{minute:02d}"
+
+
+def bare_clock(minute: Optional[int], period: int) -> str:
+    """The same in a table of minutes, as `07`; a dash where there is none."""
+    return "–" if minute is None else clock(minute, period).lstrip(":")
 
 
 def window_text(first: int, length: int, period: int) -> str:
     """The minutes of a window, as `at :07` or `from :55 to :05`."""
-    return f"at {clock(first)}" if length == 1 else f"from {clock(first)} to {clock((first + length - 1) % period)}"
+    if length == 1:
+        return f"at {clock(first, period)}"
+    return f"from {clock(first, period)} to {clock((first + length - 1) % period, period)}"
+
+
+def domain_text(residues: Sequence[int], period: int) -> str:
+    """The minutes that an event can be at, as `0-3, 42-53`, or `6:15-6:20`; empty where there is none."""
+
+    def told(minute: int) -> str:
+        return clock(minute, period) if is_of_hours(period) else str(minute)
+
+    return ", ".join(told(first) if first == last else f"{told(first)}-{told(last)}" for first, last in runs(residues))
+
+
+def found_text(found: Found) -> str:
+    """What a search found out, in a sentence."""
+    if isinstance(found, Optimum):
+        return f"The best timetable costs {found.cost:,}."
+    if isinstance(found, Infeasible):
+        return "No timetable meets everything."
+    if found.cost is not None:
+        return f"A timetable that meets everything costs {found.cost:,}; whether there is a better one is undecided."
+    return "Whether a timetable meets everything is undecided."
 
 
 def short_name(activity: NamedActivity, first: NamedEvent, last: NamedEvent) -> str:
@@ -125,7 +159,7 @@ class NamedKind:
 
 
 class Names:
-    """The names of a network's events and activities."""
+    """The names of a network's events and activities, for a terminal too."""
 
     def __init__(self, labels: Labels, activities: Mapping[int, Activity]) -> None:
         self.labels, self.activities = labels, activities
@@ -137,9 +171,9 @@ class Names:
     def activity(self, number: int) -> str:
         """An activity in words, by the events that it leads from and to."""
         activity = self.activities[number]
-        kind = NamedKind(number, self.labels.kind(number))
+        kind = NamedKind(number, shown(self.labels.kind(number)))
         return activity_name(kind, self._named(activity.from_event), self._named(activity.to_event))
 
     def _named(self, number: int) -> Named:
         label = self.labels.events.get(number, EventLabel())
-        return Named(number, label.line, label.to, label.station, label.kind)
+        return Named(number, shown(label.line), shown(label.to), shown(label.station), shown(label.kind))

@@ -4,13 +4,18 @@ from __future__ import annotations
 
 import multiprocessing
 import os
+import signal
 import sys
+import threading
 from concurrent.futures import Executor, Future, ProcessPoolExecutor
 from concurrent.futures.process import BrokenProcessPool
+from multiprocessing.connection import wait
 from queue import SimpleQueue
 from typing import Any, Callable, Dict, Generic, Iterable, Iterator, List, Optional, Tuple, TypeVar, Union
 
+from pespbench import ending
 from pespbench.faults import Ended, PespbenchError
+from pespbench.process import kill_all
 
 Task = TypeVar("Task")
 Result = TypeVar("Result")
@@ -56,7 +61,7 @@ class OwnHands(Hands):
 
     def _start(self) -> None:
         # A process that is forked would hold the pipes of this one's programs open.
-        pool = ProcessPoolExecutor(1, mp_context=multiprocessing.get_context("forkserver"))
+        pool = ProcessPoolExecutor(1, mp_context=multiprocessing.get_context("forkserver"), initializer=begin)
         self._all.append(pool)
         self._idle.append(pool)
 
@@ -77,6 +82,28 @@ class OwnHands(Hands):
             for process in list((getattr(pool, "_processes", None) or {}).values()):
                 process.terminate()
             pool.shutdown()
+
+
+def begin() -> None:
+    """What a worker begins with: it leaves Ctrl-C to its client, and ends with its programs where that tells it to or ends."""
+    signal.signal(signal.SIGINT, signal.SIG_IGN)
+    for number in ending.SIGNALS:
+        signal.signal(number, lambda *_: end())
+    client = multiprocessing.parent_process()
+    if client is not None:
+        threading.Thread(target=end_with, args=(client.sentinel,), daemon=True).start()
+
+
+def end_with(sentinel: int) -> None:
+    """Ends this worker as soon as its client has ended."""
+    wait([sentinel])
+    end()
+
+
+def end() -> None:
+    """Ends this worker at once."""
+    kill_all()
+    os._exit(1)
 
 
 class LentHands(Hands):

@@ -12,6 +12,9 @@ import unittest
 from pathlib import Path
 from typing import List, Tuple
 
+from pespbench.commands import CHANGES
+from pespbench.replies import BEGINNINGS
+from pespbench.shell import OWN
 from tests.common import EXAMPLES, PROGRAM, TOP, Case, drawn_script
 
 TWO = ["--period", "10", str(EXAMPLES / "two-trains/activities")]
@@ -40,11 +43,36 @@ class Shell(Case):
         lines = f"fix 1 0\nundo\nundo\nfix 1 3\nadopt\ntimes\nsearch 5\nsearch x\nsave\nsave {folder}\nhelp\nquit\ncost\n"
         status, output, error = called("shell", *TWO, given=lines)
         wanted = "ok\n# taken back: fix 1 0\nthere is nothing to take back\nok\nok\n1 3  event 1\n2 7  event 2\noptimum 4 2\n1 3\n2 7\n"
-        wanted += f"could not convert string to float: 'x'\nsave wants a folder\n# saved: {folder}\n"
+        wanted += f"a search takes from 0 to 1,000,000 seconds, and not 'x'\nsave wants a folder\n# saved: {folder}\n"
         self.assertTrue(output.startswith(wanted), output)
         self.assertIn("Ctrl-C", output)
         self.assertEqual((status, error), (0, ""))
         self.assertEqual(called("shell", folder, given="cost\n"), (0, "cost 4\n", ""))
+
+    def test_words_that_end_it(self) -> None:
+        for word in ("quit", "exit", " exit "):
+            self.assertEqual(called("shell", *TWO, given=f"dump\n{word}\ncost\n")[:2], (0, called("shell", *TWO, given="dump\n")[1]))
+
+    def test_help_tells_each_command(self) -> None:
+        told = called("shell", *TWO, given="help\n")[1]
+        for word in [*CHANGES, *BEGINNINGS, *OWN, "quit", "exit", "Ctrl-D"]:
+            self.assertRegex(told, rf"(?m)[ ,]{word}\b")
+        self.assertLessEqual(max(map(len, told.splitlines())), 100)
+
+    def test_stopped_in_a_sentence(self) -> None:
+        """The reply is the program's, and a planner is told what it says."""
+        told = "A timetable that meets everything costs 3; whether there is a better one is undecided."
+        none = "Whether a timetable meets everything is undecided."
+        fixed = self.folder / "times"
+        fixed.write_text("1; 0\n2; 3\n")
+        activities = self.folder / "activities"
+        activities.write_text("1; 1; 2; 0; 9; 1\n")
+        words = ["--period", "10", str(activities)]
+        self.assertEqual(called("search", *words, "--times", str(fixed), "--seconds", "0"), (0, "stopped 3 2\n1 0\n2 3\n", f"{told}\n"))
+        self.assertEqual(called("search", *words, "--seconds", "0"), (1, "stopped none\n", f"{none}\n"))
+        given = "search 0\ntime 1 0\ntime 2 3\nsearch 0\n"
+        wanted = f"stopped none\n# {none}\nok\nok\nstopped 3 2\n1 0\n2 3\n# {told}\n"
+        self.assertEqual(called("shell", *words, given=given), (0, wanted, ""))
 
     def test_control_c_at_a_terminal(self) -> None:
         """Ctrl-C in a long search: the edits that were typed are there, and the next line is answered."""

@@ -4,7 +4,7 @@ from __future__ import annotations
 
 import unittest
 
-from pespbench import Bench, EventLabel, Labels
+from pespbench import Bench, EventLabel, Found, Infeasible, Labels, Stopped
 from pespbench.answers import runs
 from pespbench.report import gather, page_of, read_places
 from pespbench.report.strips import narrowed
@@ -120,6 +120,30 @@ class Others(Case):
         text = self.page(self.two_trains())
         self.assertIn("Event 1 has no time", text)
         self.assertNotIn("What is violated", text)
+
+    def test_headlines(self) -> None:
+        """Where the network has no timetable, that is said above all else."""
+        bench = self.two_trains()
+        self.assertEqual(self.headline(bench), "There is no timetable yet.")
+        bench.time(1, 0)
+        self.assertEqual(self.headline(bench), "The timetable is not whole: 1 of 2 events has no time.")
+        bench.time(2, 7)
+        self.assertEqual(self.headline(bench), "")
+        self.assertEqual(self.headline(bench, Stopped()), "")
+        self.assertEqual(self.headline(bench, Infeasible()), "No timetable meets everything.")
+        bench.span(1, 3, 3)
+        bench.fix(1, 0)
+        self.assertEqual(bench.domain(2).residues, ())
+        self.assertEqual(self.headline(bench), "No timetable meets everything.")
+        bench.many(["untime 1", "untime 2"])
+        self.assertEqual(self.headline(bench), "No timetable meets everything.")
+
+    def headline(self, bench: Bench, found: Found | None = None) -> str:
+        """What is said above the figures of a report, once."""
+        page = Page(page_of(gather(bench, "Two trains", None, found))).root
+        said = [node.text for node in page.all("class") if node.attributes["class"] == "headline"]
+        self.assertEqual(page.text.count(said[0]) if said else 1, 1)
+        return "".join(said)
 
     def test_without_anything(self) -> None:
         self.assertIn("Activities by kind", self.page(Bench.open(None, program=PROGRAM)))

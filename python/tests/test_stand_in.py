@@ -2,9 +2,11 @@
 
 from __future__ import annotations
 
+import threading
 import time
 import unittest
 from pathlib import Path
+from typing import List
 
 from pespbench import BadReply, Bench, Ended, Stopped, Window
 from tests.common import Case
@@ -91,6 +93,15 @@ class StandIns(Case):
         bench.add_event(2)
         self.assertEqual((bench.network.events, self.starts()), ([1, 2], 2))
 
+    def test_outlives_the_thread_that_opened_it(self) -> None:
+        opened: List[Bench] = []
+        thread = threading.Thread(target=lambda: opened.append(self.opened(before_usual(""))))
+        thread.start()
+        thread.join()
+        time.sleep(0.2)
+        opened[0].add_event(1)
+        self.assertEqual((opened[0].network.events, self.starts()), ([1], 1))
+
     def test_reads_late(self) -> None:
         bench = self.opened(before_usual('if line == "add event 0":\n    time.sleep(0.3)'))
         self.assertEqual(bench.many([f"add event {event}" for event in range(30_000)]), [None] * 30_000)
@@ -118,6 +129,40 @@ class StandIns(Case):
                 self.assertRaises(BadReply, bench.cost)
                 bench.add_event(1)
                 self.assertEqual(bench.network.events, [1])
+
+    def test_one_reply_too_many(self) -> None:
+        """It is told at once, and nothing of it is taken: in one write, in another one, and a part of a line."""
+        for extra in ['b"cost 3\\ncost 4\\n"', 'b"cost 3\\n")\n    write(b"cost 4\\n"', 'b"cost 3\\ncos"']:
+            bench = self.opened(before_usual(f'if line == "cost":\n    write({extra})\n    return'))
+            bench.add_event(1)
+            with self.assertRaises(BadReply):
+                bench.cost()
+                bench.add_event(2)
+            bench.add_event(3)
+            self.assertEqual((bench.network.events, bench.journal), ([1, 3], ["add event 1", "add event 3"]))
+
+    def test_one_reply_too_many_later(self) -> None:
+        """What comes when nobody asks is seen before the next line is sent, and no answer shifts."""
+        bench = self.opened(before_usual('if line == "add event 1" and start == 1:\n    write(b"ok\\n")\n    time.sleep(0.1)'))
+        bench.add_event(1)
+        time.sleep(1)
+        self.assertRaises(BadReply, bench.add_event, 2)
+        bench.add_event(3)
+        self.assertEqual(bench.network.events, [1, 3])
+
+    def test_replies_to_another_command(self) -> None:
+        """A reply that comes while another is waited for is none to it, as far as its form tells."""
+        bench = self.opened(before_usual('if line == "domain 2":\n    write(b"3: 1 2\\n")\n    return'))
+        for command in ["domain 2", "cost", "violations", "tensions", "optimum"]:
+            self.assertRaises(BadReply, bench.ask, command)
+
+    def test_a_reply_to_nothing(self) -> None:
+        self.assertRaises(BadReply, self.opened, 'write(b"ok\\n" + EMPTY)')
+
+    def test_many_with_one_reply_too_many(self) -> None:
+        bench = self.opened(before_usual('if line == "fix 1 2":\n    write(b"ok\\nok\\n")\n    return'))
+        self.assertRaises(BadReply, bench.many, ["add event 1", "fix 1 2"])
+        self.assertEqual(bench.network.events, [event for event in [1] if "add event 1" in bench.journal])
 
     def test_another_answer(self) -> None:
         bench = self.opened(before_usual('if line in ("cost", "fix 1 1"):\n    write(b"infeasible\\n")\n    return'))

@@ -4,9 +4,11 @@ from __future__ import annotations
 
 import contextlib
 import io
+import os
 import unittest
 from xml.etree import ElementTree
 
+from pespbench import Bench
 from pespbench.__main__ import main
 from pespbench.drawn import draw_region
 from tests.common import EXAMPLES, PROGRAM, Case
@@ -53,28 +55,44 @@ class Words(Case):
         words = [str(self.folder / "activities"), *files, "--title", "A region", "--netgraph", str(picture)]
         self.assertEqual(self.typed("report", *words, "--output", str(output)), "")
         text = output.read_text(encoding="utf-8")
-        self.assertEqual(self.typed("report", *words), text)
+        self.assertEqual(self.typed("report", *words, "--output", "-"), text)
         self.assertIn("Nothing: every activity and every fixed time is met.", text)
         shown = Page(text).root.all("data-event")
         netgraph = ElementTree.parse(picture).getroot()
         drawn = {node.get("data-event") for node in netgraph.iter() if node.get("data-event")}
         self.assertEqual(drawn, {node.attributes["data-event"] for node in shown})
 
+    def test_report_by_default(self) -> None:
+        """It goes to a file that is named after the network, which is told, and not to the terminal."""
+        before = os.getcwd()
+        self.addCleanup(os.chdir, before)
+        os.chdir(self.folder)
+        self.assertEqual(self.typed("report", LINE), "activities.html\n")
+        text = (self.folder / "activities.html").read_text(encoding="utf-8")
+        self.assertEqual(self.typed("report", LINE, "--output", "-"), text)
+        (self.folder / "a line").mkdir()
+        with Bench.open(LINE, times=TIMES, program=PROGRAM) as bench:
+            bench.save("a line")
+        self.assertEqual(self.typed("report", "a line/"), "a line.html\n")
+        os.chdir("a line")
+        self.assertEqual(self.typed("report", "."), "a line.html\n")
+        self.assertTrue((self.folder / "a line/a line.html").read_text(encoding="utf-8").startswith("<!DOCTYPE html>"))
+
     def test_places_of_a_folder(self) -> None:
         draw_region(3).save(self.folder)
         (self.folder / "period").write_text("60\n")
-        told = self.typed("report", str(self.folder), "--search", "0.01")
+        told = self.typed("report", str(self.folder), "--search", "0.01", "--output", "-")
         (self.folder / "places").unlink()
-        laid_out = self.typed("report", str(self.folder), "--search", "0.01")
+        laid_out = self.typed("report", str(self.folder), "--search", "0.01", "--output", "-")
         self.assertIn("Netgraph", laid_out)
         self.assertNotEqual(told.split('id="netgraph"')[1][:3_000], laid_out.split('id="netgraph"')[1][:3_000])
 
     def test_search(self) -> None:
-        told = self.typed("report", LINE, "--search", "20")
+        told = self.typed("report", LINE, "--search", "20", "--output", "-")
         self.assertIn("The best timetable costs ", told)
         fixed = self.folder / "fixed"
         fixed.write_text("1; 0\n2; 30\n")
-        self.assertIn("No timetable meets everything.", self.typed("report", LINE, "--fixed", str(fixed), "--search", "20"))
+        self.assertIn("No timetable meets everything.", self.typed("report", LINE, "--fixed", str(fixed), "--search", "20", "--output", "-"))
 
     def test_compare(self) -> None:
         told = self.typed("compare", LINE, LINE, "--times", TIMES, "--other-times", TIMES)

@@ -9,10 +9,12 @@ from typing import Optional
 
 from pespbench.answers import Found
 from pespbench.client import Bench
-from pespbench.opening import add_network, open_network
+from pespbench.opening import add_network, open_network, seconds
 from pespbench.places import Place, read_places
 from pespbench.report.gathering import gather
 from pespbench.report.page import netgraph_of, page_of
+from pespbench.terminal import shown, tell
+from pespbench.watching import Line
 from pespbench.writing import write_text
 
 
@@ -23,10 +25,11 @@ def add_parser(subparsers: argparse._SubParsersAction[argparse.ArgumentParser]) 
     places = "places of stations: station; x; y [default: the file places of a folder, else laid out]"
     parser.add_argument("--places", metavar="FILE", help=places)
     parser.add_argument("--title", default="Timetable", help="the title [default: Timetable]")
-    parser.add_argument("--output", metavar="FILE", help="where the report is written [default: standard output]")
+    output = "where the report is written; - is standard output [default: the name of NETWORK with .html, in this folder]"
+    parser.add_argument("--output", metavar="FILE", help=output)
     parser.add_argument("--netgraph", metavar="FILE", help="write the netgraph alone too, as an SVG picture")
     best = "look so long for the best timetable, and report on it where one is found"
-    parser.add_argument("--search", metavar="SECONDS", type=float, help=best)
+    parser.add_argument("--search", metavar="SECONDS", type=seconds, help=best)
     parser.set_defaults(run=run)
 
 
@@ -36,10 +39,13 @@ def run(words: argparse.Namespace) -> int:
     with open_network(words) as bench:
         found = None if words.search is None else searched(bench, words.search)
         content = gather(bench, words.title, places, found)
-    if words.output is None:
+    output = words.output or f"{Path(words.network).resolve().name or 'report'}.html"
+    if output == "-":
         sys.stdout.write(page_of(content))
     else:
-        write_text(words.output, page_of(content))
+        write_text(output, page_of(content))
+    if words.output is None:
+        tell(f"{shown(output)}\n")
     if words.netgraph is not None:
         write_text(words.netgraph, netgraph_of(content))
     return 0
@@ -53,9 +59,10 @@ def places_for(words: argparse.Namespace) -> Optional[dict[str, Place]]:
     return read_places(beside if words.places is None else Path(words.places))
 
 
-def searched(bench: Bench, seconds: float) -> Optional[Found]:
+def searched(bench: Bench, limit: float) -> Optional[Found]:
     """What a search found; its timetable, where there is one, is the working timetable from then on."""
-    found = bench.search(seconds)
+    with Line() as line:
+        found = bench.search(limit, watch=line)
     times = getattr(found, "times", {})
     if times:
         bench.set_times(times)

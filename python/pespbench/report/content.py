@@ -4,6 +4,8 @@ from __future__ import annotations
 
 from dataclasses import dataclass, field
 
+from pespbench.wording import bare_clock
+
 
 @dataclass(frozen=True)
 class Event:
@@ -22,6 +24,12 @@ class Event:
     window: tuple[int, int] | None = None
     domain: tuple[int, ...] | None = None
     is_violated: bool = False
+    period: int = 60
+
+    @property
+    def minute(self) -> str:
+        """The event's time as tables and drawings have it."""
+        return bare_clock(self.time, self.period)
 
 
 @dataclass(frozen=True)
@@ -53,7 +61,7 @@ class Content:
     """A network with its working timetable, as replies told it.
 
     `cost` is None, and `missing` names an event, where the working timetable is not whole. `search` is what was found
-    out about the best timetable, in a line, where anybody asked.
+    out about the best timetable, in a line, where anybody asked, and `is_infeasible` whether that is that there is none.
     """
 
     title: str
@@ -63,7 +71,13 @@ class Content:
     cost: int | None = None
     missing: int | None = None
     search: str = ""
+    is_infeasible: bool = False
     places: dict[str, tuple[float, float]] = field(default_factory=dict)
+
+    @property
+    def is_impossible(self) -> bool:
+        """Whether it is known that no timetable meets everything: a search says so, or a domain is empty."""
+        return self.is_infeasible or any(each.domain == () for each in self.events.values())
 
     @property
     def violated_activities(self) -> list[Activity]:

@@ -10,11 +10,14 @@ from pespbench.report.markup import Element, append, drawing, element
 from pespbench.report.netgraph import lengths_of
 from pespbench.report.style import FAINT, INK, PALE
 from pespbench.report.trains import Line, Train
+from pespbench.wording import clock
 
 # Units of the drawing, which are pixels where the page is wide enough.
 WIDTH, LEFT, RIGHT, TOP, BOTTOM = 640.0, 92.0, 14.0, 30.0, 24.0
 LEAST_HEIGHT, HEIGHT_OF_A_TRACK = 150.0, 38.0
 TURN = 11.0
+# The most marks of an axis at long periods.
+MOST_MARKS = 7
 # How activities are called in which a train waits for its way back, and no name.
 TURNS = ("", "turn", "turnaround")
 
@@ -77,17 +80,24 @@ def diagram(content: Content, lines: list[Line], line: Line, color: str) -> Elem
 
 def grid(frame: Frame) -> list[Element]:
     """Stations with their names, and minutes above them."""
-    step = 10 if frame.period > 30 else 5 if frame.period > 12 else 1
+    step = step_of(frame.period)
     made = []
     for minute in range(0, frame.period + 1, step):
         path = f"M{frame.x(minute):.1f} {TOP - 4}V{frame.bottom + 4:.1f}"
         made.append(element("path", d=path, stroke=FAINT, stroke_width=1))
-        label = f":{minute % frame.period:02d}"
+        label = clock(minute % frame.period, frame.period)
         made.append(element("text", label, x=frame.x(minute), y=TOP - 17, text_anchor="middle", font_size=11, fill=PALE))
     for station, y in frame.heights.items():
         made.append(element("path", d=f"M{LEFT} {y:.1f}H{WIDTH - RIGHT}", stroke="#c5ced8", stroke_width=1))
         made.append(element("text", station, x=LEFT - 10, y=y + 4, text_anchor="end", font_size=12.5, fill=INK))
     return made
+
+
+def step_of(period: int) -> int:
+    """How many minutes lie between two marks of an axis."""
+    if period <= 60:
+        return 10 if period > 30 else 5 if period > 12 else 1
+    return next((step for step in (15, 30, 60, 120) if period <= step * MOST_MARKS), 240)
 
 
 def points(frame: Frame, train: Train) -> list[tuple[float, float]]:
@@ -148,7 +158,7 @@ def end_numbers(frame: Frame, line: Line, train: Train, color: str) -> list[Elem
         is_above = line.is_forward(train) != is_first
         x, margin = frame.x(event.time), 0.04 * frame.period
         is_left = event.time >= margin if is_first else event.time > frame.period - margin
-        text = element("text", f"{event.time:02d}", x=x + (-4 if is_left else 4), y=y + (-4 if is_above else 12), font_size=11)
+        text = element("text", event.minute, x=x + (-4 if is_left else 4), y=y + (-4 if is_above else 12), font_size=11)
         text.attrib.update({"fill": color, "font-weight": "700", "text-anchor": "end" if is_left else "start"})
         text.attrib.update({"stroke": "#fff", "stroke-width": "2.5", "paint-order": "stroke", "data-event": str(event.number)})
         made.append(text)

@@ -4,12 +4,14 @@ from __future__ import annotations
 
 from typing import Mapping, Optional
 
-from pespbench.answers import Domain, Found, Infeasible, Optimum, Stopped, Tension, Violations
+from pespbench.answers import Domain, Found, Infeasible, Tension, Violations
 from pespbench.client import Bench
 from pespbench.faults import Refused
 from pespbench.labels import EventLabel
 from pespbench.places import Place
 from pespbench.report.content import Activity, Content, Event
+from pespbench.terminal import shown
+from pespbench.wording import found_text
 
 NO_TIME = 11
 
@@ -38,7 +40,9 @@ def gather(bench: Bench, title: str, places: Optional[Mapping[str, Place]] = Non
         missing = refusal.event
     events = {event: event_of(bench, event, domains, violations) for event in bench.network.events}
     activities = {number: activity_of(bench, number, tensions, violations) for number in sorted(bench.network.activities)}
-    return Content(title, bench.period, events, activities, cost, missing, search_text(found), dict(places or {}))
+    search = "" if found is None else found_text(found)
+    named = {shown(station): place for station, place in (places or {}).items()}
+    return Content(shown(title), bench.period, events, activities, cost, missing, search, isinstance(found, Infeasible), named)
 
 
 def event_of(bench: Bench, event: int, domains: Mapping[int, Domain], violations: Violations) -> Event:
@@ -46,8 +50,8 @@ def event_of(bench: Bench, event: int, domains: Mapping[int, Domain], violations
     label = bench.labels.events.get(event, EventLabel())
     window = bench.network.windows[event]
     return Event(
-        event, label.line, label.to, label.station, label.kind, bench.times.get(event),
-        (window.first, window.length) if window else None, domains[event].residues, event in violations.events,
+        event, shown(label.line), shown(label.to), shown(label.station), shown(label.kind), bench.times.get(event),
+        (window.first, window.length) if window else None, domains[event].residues, event in violations.events, bench.period,
     )  # fmt: skip
 
 
@@ -55,16 +59,5 @@ def activity_of(bench: Bench, number: int, tensions: Mapping[int, Tension], viol
     """An activity with its kind, tension and slack."""
     each, taken = bench.network.activities[number], tensions.get(number)
     known = (taken.tension, taken.slack) if taken else (None, None)
-    kind, is_violated = bench.labels.kind(number), number in violations.activities
+    kind, is_violated = shown(bench.labels.kind(number)), number in violations.activities
     return Activity(number, each.from_event, each.to_event, each.lower, each.upper, each.weight, kind, *known, is_violated)
-
-
-def search_text(found: Optional[Found]) -> str:
-    """What a search found out, in a sentence."""
-    if isinstance(found, Optimum):
-        return f"The best timetable costs {found.cost:,}."
-    if isinstance(found, Infeasible):
-        return "No timetable meets everything."
-    if isinstance(found, Stopped) and found.cost is not None:
-        return f"A timetable that meets everything costs {found.cost:,}; whether there is a better one is undecided."
-    return "" if found is None else "Whether a timetable meets everything is undecided."

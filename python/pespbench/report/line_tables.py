@@ -37,5 +37,4 @@ def cell(event: Event | None, name: str) -> Element:
     if event is None:
         return element("td", "", class_=name or None)
     classes = [name, "held" if event.window else "", "alarm" if event.is_violated else ""]
-    minute = "–" if event.time is None else f"{event.time:02d}"
-    return element("td", element("span", minute, data_event=event.number), class_=" ".join(filter(None, classes)) or None)
+    return element("td", element("span", event.minute, data_event=event.number), class_=" ".join(filter(None, classes)) or None)

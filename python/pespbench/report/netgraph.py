@@ -18,7 +18,7 @@ from pespbench.report.trains import Line
 WIDTH, HEIGHT, MARGIN, EDGE = 1020, 640, 64, 8
 STATIONS_OF_A_PAGE = 14
 LANE, RING = 29, 11
-# What the name of a line takes of a track with some space, and what each number takes at each of its ends.
+# What the name of a line takes of a track with some space, and what a number of two digits takes at each of its ends.
 ROOM, NUMBER = 70.0, 21.0
 # The size of the names of stations, and how far from all else a name is far enough.
 NAME, ENOUGH = 14.5, 16.0
@@ -40,10 +40,10 @@ class Lane:
 Tracks = dict[tuple[str, str], list[Lane]]
 
 
-def most_of(lanes: list[Lane]) -> int:
-    """The most numbers that stand in a row at an end of some lanes."""
+def most_of(lanes: list[Lane]) -> float:
+    """What the longest row of numbers takes at an end of some lanes."""
     rows = [events for lane in lanes for side in (lane.leaving, lane.arriving) for events in side.values()]
-    return max(map(len, rows), default=1)
+    return max((sum(NUMBER * max(2, len(event.minute)) / 2 for event in row) for row in rows), default=NUMBER)
 
 
 def tracks_of(lines: list[Line]) -> Tracks:
@@ -86,7 +86,7 @@ class Netgraph:
             places = lay_out(stations, lengths_of(lines))
         chosen = {station: (places[station][0], -places[station][1]) for station in stations}
         wanted = {
-            ends: Wanted(ROOM + 2 * NUMBER * most_of(lanes), self._half_width(ends)) for ends, lanes in self.tracks.items()
+            ends: Wanted(ROOM + 2 * most_of(lanes), self._half_width(ends)) for ends, lanes in self.tracks.items()
         }
         # A few stations do not fill the page.
         share = min(1.0, math.sqrt(len(stations) / STATIONS_OF_A_PAGE))
@@ -125,7 +125,7 @@ class Netgraph:
         color = color_of(lane.line)
         append(frame, element("path", d=f"M0 0H{sign * length:.1f}", stroke=color, stroke_width=3))
         # No farther from its ring than leaves room for the name of the line in the middle.
-        most = (length - sum(self.radius[end] for end in ends)) / 2 - 17 - NUMBER * most_of([lane])
+        most = (length - sum(self.radius[end] for end in ends)) / 2 - 17 - most_of([lane])
         begins = [min(self._clear(end, ends, offset), self.radius[end] + max(5.0, most)) for end in ends]
         middle = sign * (length + begins[0] - begins[1]) / 2
         append(frame, *pill(middle, self.lines[lane.line].name, color))
@@ -240,8 +240,7 @@ def minutes_text(events: list[Event], x: float, y: float, anchor: str, weight: i
     text = element("text", x=x, y=y, text_anchor=anchor, font_size=11.5, font_weight=weight, fill=INK)
     text.attrib.update({"stroke": "#fff", "stroke-width": "2.5", "paint-order": "stroke"})
     for place, event in enumerate(sorted(events, key=lambda each: each.time or 0)):
-        minute = "–" if event.time is None else f"{event.time:02d}"
-        append(text, " " if place else None, element("tspan", minute, data_event=event.number))
+        append(text, " " if place else None, element("tspan", event.minute, data_event=event.number))
     return text
 
 

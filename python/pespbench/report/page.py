@@ -7,10 +7,11 @@ from pespbench.report.diagrams import diagram
 from pespbench.report.line_tables import TRAINS_BESIDE, line_table
 from pespbench.report.markup import Element, append, drawing, element, text_of
 from pespbench.report.netgraph import Netgraph, legend
-from pespbench.report.strips import narrowed, strips
+from pespbench.report.strips import marks_of, narrowed, strips
 from pespbench.report.style import SHEET, color_of
 from pespbench.report.tables import activities_tables, kinds_of, kinds_table, violations_table
 from pespbench.report.trains import Line, lines_of
+from pespbench.wording import is_of_hours
 
 
 def page_of(content: Content) -> str:
@@ -53,13 +54,27 @@ def summary(content: Content, lines: list[Line]) -> Element:
     append(figures, figure(len(content.events), "events", ""), figure(len(content.activities), "activities", ""))
     if content.cost is not None:
         append(figures, figure(violated, "violated", "bad" if violated else "good"), figure(content.cost, "cost", ""))
-    notes = [element("p", text) for text in (missing_text(content), content.search) if text]
-    return element("div", figures, *notes)
+    headline = headline_of(content)
+    title = element("p", headline, class_="headline") if headline else None
+    notes = [element("p", text) for text in (missing_text(content), content.search) if text and text != headline]
+    return element("div", title, figures, *notes)
 
 
 def figure(number: int, words: str, name: str) -> Element:
     """One number with its words."""
     return element("div", element("b", f"{number:,}"), element("span", words), class_=f"figure {name}".strip(), data_figure=words)
+
+
+def headline_of(content: Content) -> str:
+    """What is said above all where the network has no timetable."""
+    if content.is_impossible:
+        return "No timetable meets everything."
+    untimed = sum(each.time is None for each in content.events.values())
+    if not untimed:
+        return ""
+    if untimed == len(content.events):
+        return "There is no timetable yet."
+    return f"The timetable is not whole: {untimed:,} of {len(content.events):,} events {'has' if untimed == 1 else 'have'} no time."
 
 
 def missing_text(content: Content) -> str:
@@ -103,6 +118,7 @@ def lines_part(content: Content, lines: list[Line]) -> Element | None:
     if not lines:
         return None
     note = "Minutes past the hour." if content.period == 60 else f"Minutes of the period of {content.period}."
+    note = f"Hours and minutes of the period of {content.period} minutes." if is_of_hours(content.period) else note
     note += " A framed minute is held by a fixed time or a window. In the diagrams, stations are as far apart as trains need"
     note += " at least, dashes are turnarounds, and grey ways are trains of other lines on the same track."
     made = part("lines", "Lines", note)
@@ -123,8 +139,8 @@ def strips_part(content: Content) -> Element | None:
     if not count:
         return None
     note = f"{count} of {len(content.events)} events can no longer be at every minute. Each strip is one period, with a gap"
-    note += " at every tenth minute: blue is what single activities leave, a dot is the working timetable's time, a frame"
-    note += " is a fixed time or a window. That a minute is left does not say that some timetable has it."
+    note += f" every {marks_of(content)} minutes: blue is what single activities leave, a dot is the working timetable's time, a"
+    note += " frame is a fixed time or a window. That a minute is left does not say that some timetable has it."
     return part("domains", "When events can still be", note, strips(content))
 
 

@@ -4,9 +4,10 @@ from __future__ import annotations
 
 from pespbench.answers import runs
 from pespbench.report.content import Content, Event
+from pespbench.report.diagrams import step_of
 from pespbench.report.markup import Element, append, drawing, element
 from pespbench.report.style import ALARM, DOMAIN, FAINT, INK
-from pespbench.wording import DONE, train_name, window_text
+from pespbench.wording import DONE, clock, domain_text, train_name, window_text
 
 WIDTH, HEIGHT = 480, 16
 
@@ -32,10 +33,10 @@ def strips(content: Content) -> Element:
 def strip(content: Content, event: Event) -> Element:
     """One strip below its words."""
     domain = event.domain or ()
-    told = ", ".join(f"{first}" if first == last else f"{first}-{last}" for first, last in runs(domain))
+    told = domain_text(domain, content.period)
     held = f" · held {window_text(*event.window, content.period)}" if event.window else ""
     label = f"{DONE.get(event.kind, event.kind + ' at')} {event.station}" if event.station else f"event {event.number}"
-    at = "" if event.time is None else f" at {event.time}"
+    at = "" if event.time is None else f" at {clock(event.time, content.period)}"
     return element(
         "div",
         element("span", label + at + held),
@@ -46,6 +47,11 @@ def strip(content: Content, event: Event) -> Element:
     )
 
 
+def marks_of(content: Content) -> int:
+    """How many minutes lie between two gaps of a strip."""
+    return step_of(max(60, content.period))
+
+
 def picture(content: Content, event: Event) -> Element:
     """The period from left to right, with what is possible, a mark at the event's time and a frame round its window."""
     unit = WIDTH / content.period
@@ -53,7 +59,8 @@ def picture(content: Content, event: Event) -> Element:
     append(made, element("rect", x=0, y=3, width=WIDTH, height=HEIGHT - 6, fill=FAINT))
     for first, last in runs(event.domain or ()):
         append(made, element("rect", x=first * unit, y=3, width=(last + 1 - first) * unit, height=HEIGHT - 6, fill=DOMAIN))
-    for minute in range(10, content.period, 10):
+    step = marks_of(content)
+    for minute in range(step, content.period, step):
         append(made, element("path", d=f"M{minute * unit:.1f} 3V{HEIGHT - 3}", stroke="#fff", stroke_width=1))
     for first, length in pieces(event, content.period):
         frame = element("rect", x=first * unit + 1, y=2, width=length * unit - 2, height=HEIGHT - 4, fill="none", rx=2)

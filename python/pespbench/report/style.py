@@ -17,6 +17,7 @@ h1 { font-size: 30px; line-height: 1.2; margin: 0 0 4px; letter-spacing: -.01em;
 h2 { font-size: 20px; margin: 44px 0 4px; padding-top: 14px; border-top: 2px solid #1d2733; }
 h3 { font-size: 16px; margin: 24px 0 6px; }
 p { margin: 4px 0 12px; max-width: 78ch; }
+.headline { font-size: 22px; line-height: 1.25; font-weight: 700; color: #b3131f; margin: 14px 0 0; }
 .note { color: #5f6c7a; font-size: 13.5px; }
 svg { display: block; width: 100%; height: auto; font-family: inherit; }
 table { border-collapse: collapse; font-size: 14px; }
@@ -62,7 +63,7 @@ footer { margin-top: 48px; color: #5f6c7a; font-size: 12.5px; border-top: 1px so
   main { max-width: none; padding: 0; }
   nav { display: none; }
   h1 { font-size: 20pt; } h2 { font-size: 14pt; margin-top: 20pt; } h3 { font-size: 11.5pt; }
-  h2, h3 { break-after: avoid; }
+  h2, h3 { break-after: avoid; } .headline { font-size: 15pt; }
   table { font-size: 9pt; } th { font-size: 8pt; }
   thead { display: table-header-group; }
   tr, .line, .figure, svg { break-inside: avoid; }

@@ -33,7 +33,7 @@ def violations_table(content: Content) -> Element:
         append(body, row_of("td", *texts, numbers_from=1, data_violated_activity=activity.number))
     for event in content.violated_events:
         window = window_text(*event.window, content.period) if event.window else ""
-        texts = (event_name(event), window, "" if event.time is None else clock(event.time), off_text(event, content.period))
+        texts = (event_name(event), window, "" if event.time is None else clock(event.time, content.period), off_text(event, content.period))
         append(body, row_of("td", *texts, numbers_from=1, data_violated_event=event.number))
     return element("table", element("thead", head), body)
 

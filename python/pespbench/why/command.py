@@ -3,9 +3,9 @@
 from __future__ import annotations
 
 import argparse
-import sys
 
-from pespbench.opening import add_network, open_network
+from pespbench.opening import add_network, open_network, seconds, whole
+from pespbench.terminal import tell
 from pespbench.why.finding import why
 from pespbench.why.telling import text_of
 from pespbench.wording import Names
@@ -17,27 +17,21 @@ def add_parser(subparsers: argparse._SubParsersAction[argparse.ArgumentParser]) 
     add_network(parser)
     parser.add_argument("--hard", metavar="KINDS", default="", help="kinds that are not to be changed, as run,dwell,headway")
     parser.add_argument("--nodes", type=whole, default=2_000, help="the nodes of each search of a part [default: 2000]")
-    parser.add_argument("--seconds", type=some, default=10.0, help="about how long the whole is searched [default: 10]")
+    parser.add_argument("--seconds", type=some_seconds, default=10.0, help="about how long the whole is searched [default: 10]")
     parser.set_defaults(run=run)
 
 
-def whole(text: str) -> int:
-    """A whole number above 0. Raises ValueError."""
-    if (number := int(text)) < 1:
-        raise ValueError(text)
-    return number
-
-
-def some(text: str) -> float:
-    """A number above 0. Raises ValueError."""
-    if not 0 < (number := float(text)) < float("inf"):
-        raise ValueError(text)
+def some_seconds(text: str) -> float:
+    """A time that is not 0. Raises ArgumentTypeError."""
+    number = seconds(text)
+    if not number:
+        raise argparse.ArgumentTypeError("there is no answer in 0 seconds")
     return number
 
 
 def run(words: argparse.Namespace) -> int:
     """Tells why, on standard output."""
     with open_network(words) as bench:
-        answer = why(bench, [kind for kind in words.hard.split(",") if kind], words.nodes, words.seconds)
-        sys.stdout.write(text_of(answer, Names(bench.labels, bench.network.activities)))
+        answer = why(bench, [kind for kind in map(str.strip, words.hard.split(",")) if kind], words.nodes, words.seconds)
+        tell(text_of(answer, Names(bench.labels, bench.network.activities)))
     return 0

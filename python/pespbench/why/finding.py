@@ -6,7 +6,9 @@ import time
 from typing import Collection, Sequence
 
 from pespbench.client import Bench
+from pespbench.faults import WrongWords
 from pespbench.labels import Labels
+from pespbench.terminal import shown
 from pespbench.why.answers import Conflict, Possible, Undecided, Why
 from pespbench.why.members import Kept, Member, Of, Verdict
 from pespbench.why.mending import Mending
@@ -23,8 +25,9 @@ FIXED = "fixed"
 def why(bench: Bench, hard: Collection[str] = (), nodes: int = 2_000, seconds: float = 10.0) -> Why:
     """A least set of activities, fixed times and windows of a network that cannot be met together.
 
-    The bench is not changed, for a program of its own is asked. First what is no part of the conflict is let go by halves, as long as single
-    activities alone show an empty domain; then by searches.
+    There is none where the working timetable meets everything, which is looked at first. The bench is not changed, for a
+    program of its own is asked. What is no part of the conflict is let go by halves, as long as single activities alone show
+    an empty domain; then by searches.
 
     Args:
         hard: kinds of activities, by the bench's labels, that are not to be changed; `fixed` are fixed times and windows.
@@ -34,17 +37,24 @@ def why(bench: Bench, hard: Collection[str] = (), nodes: int = 2_000, seconds: f
 
     Raises:
         Ended: the program ended.
-        ValueError: a number of nodes or seconds is not above 0.
+        ValueError: a number of nodes or seconds is not above 0, or no label has a kind.
     """
-    if nodes < 1 or seconds <= 0:
+    if nodes < 1 or not seconds > 0:
         raise ValueError("nodes and seconds have to be above 0")
+    held = hard_members(bench, hard)
+    if (standing := bench.standing()).cost is not None:
+        return Possible(dict(standing.times))
     with Bench.from_script(bench.dump(), period=bench.period, program=bench.program) as copy:
-        return Finding(Probe(copy), hard_members(bench, hard), nodes, seconds).answer()
+        return Finding(Probe(copy), held, nodes, seconds).answer()
 
 
 def hard_members(bench: Bench, kinds: Collection[str]) -> frozenset[Member]:
-    """The members of some kinds."""
+    """The members of some kinds. Raises WrongWords for one that is not known."""
     labels: Labels = bench.labels
+    known = dict.fromkeys([*sorted(filter(None, set(labels.activities.values()))), FIXED])
+    unknown = [kind for kind in kinds if kind not in known]
+    if unknown:
+        raise WrongWords(f"no kind to be held hard: {', '.join(map(shown, unknown))}; there are {', '.join(map(shown, known))}")
     activities = {Member(Of.ACTIVITY, number) for number in bench.network.activities if labels.kind(number) in kinds}
     events = {Member(Of.EVENT, event) for event in bench.network.windows} if FIXED in kinds else set()
     return frozenset(activities | events)
