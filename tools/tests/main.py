@@ -8,13 +8,13 @@ import signal
 import tempfile
 import time
 
-from tests import arguments, checks, commands, devices, dialogue, documents, drawing, embedded, examples, files, package
+from tests import arguments, checks, commands, devices, dialogue, documents, drawing, embedded, examples, files, module_program, package
 from tests import packaging, page_module, quick_model, rows, scripts, shelves, sources, start_script, strangers, streams, unproved
 from tests import written
 from tests.harness import PROGRAM, Suite
 
 TOPICS = [examples, commands, quick_model, dialogue, streams, arguments, files, rows, checks, devices, scripts, drawing, documents]
-TOPICS += [start_script, unproved, shelves, strangers, packaging, package, embedded, page_module, written, sources]
+TOPICS += [start_script, unproved, shelves, strangers, packaging, package, embedded, page_module, module_program, written, sources]
 # A group takes a few seconds; this is the most where it names nothing else.
 SECONDS = 120
 
