@@ -22,7 +22,9 @@ CRATES = ["pesp_tests_core", "pesp_tests_text", "pesp_tests_shell"]
 # What these groups try is not the module's: the built program's memory, the library in process, the module beside the
 # program, and the time that a start takes alone.
 PROGRAM_ALONE = ["want_of_memory", "memory_of_commands", "embedded", "page_module", "module_rows", "module_streams"]
-PROGRAM_ALONE += ["look_for_sources"]
+PROGRAM_ALONE += ["look_for_sources", "documents_of_what_is_built"]
+# The module starts more slowly than the program, and other parts run beside a group.
+PATIENCE = "4"
 COUNTS = re.compile(r"(\d+) passed(?:, (\d+) failed)?")
 
 
@@ -77,7 +79,7 @@ def parts(program):
     found.append(Part("the page in a browser", "chromium", lambda: counted([sys.executable, TOP / "tools/test_page"])))
     for name in whole.groups():
         if name not in PROGRAM_ALONE:
-            words = [sys.executable, TOP / "tools/test_program", "--only", name, program]
+            words = [sys.executable, TOP / "tools/test_program", "--patience", PATIENCE, "--only", name, program]
             found.append(Part(name, "node", lambda words=words: counted(words)))
     return found
 
