@@ -86,12 +86,25 @@ def shown_in():
     return sorted(path for pattern in [*(f"{folder}*.md" for folder in folders), "man/*.1"] for path in TOP.glob(pattern))
 
 
+def of_what_is_built(path):
+    """Whether a document's sessions want the built program's own memory, or the library in process."""
+    return path.name == "SECURITY.md" or path.parent.name == "embedded"
+
+
 @within(240)
 def documents(suite):
+    play_all(suite, [path for path in shown_in() if not of_what_is_built(path)])
+
+
+def documents_of_what_is_built(suite):
+    play_all(suite, [path for path in shown_in() if of_what_is_built(path)])
+
+
+def play_all(suite, paths):
     commands = suite.folder / "bin"
     commands.mkdir()
     (commands / "pespbench").symlink_to(suite.program)
-    for path in shown_in():
+    for path in paths:
         for number, session in enumerate(sessions(path), 1):
             titles = [f"what command {place} prints, {shown.command}," for place, shown in enumerate(session, 1)]
             wanted = dict(zip(titles, [shown.wanted() for shown in session]))
@@ -138,4 +151,4 @@ def checks_say_so(suite):
                 suite.holds(f"{path.relative_to(TOP)} says --check in {shown.command}", is_fine)
 
 
-GROUPS = [documents, named_texts, shown_scripts, checks_say_so]
+GROUPS = [documents, documents_of_what_is_built, named_texts, shown_scripts, checks_say_so]

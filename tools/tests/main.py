@@ -8,13 +8,14 @@ import signal
 import tempfile
 import time
 
-from tests import arguments, checks, commands, devices, dialogue, documents, drawing, embedded, examples, files, installing
+from tests import arguments, checks, commands, devices, dialogue, documents, drawing, embedded, examples, files, installing, module_program
 from tests import package, packaging, page_module, quick_model, rows, scripts, shelves, sources, start_script, strangers, streams, unproved
 from tests import written
 from tests.harness import PROGRAM, Suite
 
 TOPICS = [examples, commands, quick_model, dialogue, streams, arguments, files, rows, checks, devices, scripts, drawing, documents]
-TOPICS += [start_script, unproved, shelves, strangers, packaging, installing, package, embedded, page_module, written, sources]
+TOPICS += [start_script, unproved, shelves, strangers, packaging, installing, package, embedded, page_module, module_program, written]
+TOPICS += [sources]
 # A group takes a few seconds; this is the most where it names nothing else.
 SECONDS = 120
 
@@ -37,17 +38,18 @@ def alone(group, suite):
     group(suite)
 
 
-def run_group(name, group, program, folder):
-    """How many cases of a group passed, and how many failed."""
+def run_group(name, group, program, folder, patience):
+    """How many cases of a group passed, and how many failed, within so many times its seconds."""
+    seconds = patience * limit_of(group)
     folder.mkdir()
     tally = folder.with_suffix(".tally")
     tally.write_text("")
     process = multiprocessing.get_context("fork").Process(target=alone, args=(group, Suite(program, folder, tally)))
     process.start()
-    process.join(limit_of(group))
+    process.join(seconds)
     fault = "" if process.exitcode == 0 else "it broke off"
     if process.exitcode is None:
-        fault = f"it is not done within {limit_of(group)} seconds"
+        fault = f"it is not done within {seconds} seconds"
         os.killpg(process.pid, signal.SIGKILL)
         process.join()
     if fault:
@@ -56,12 +58,12 @@ def run_group(name, group, program, folder):
     return cases.count("p"), cases.count("f") + bool(fault)
 
 
-def run_all(chosen, program):
+def run_all(chosen, program, patience):
     passed = failed = 0
     with tempfile.TemporaryDirectory() as name:
         for number, (title, group) in enumerate(chosen.items()):
             began = time.monotonic()
-            counts = run_group(title, group, program, pathlib.Path(name).resolve() / str(number))
+            counts = run_group(title, group, program, pathlib.Path(name).resolve() / str(number), patience)
             print(f"{title}: {counts[0]} passed, {counts[1]} failed, {time.monotonic() - began:.1f} s", flush=True)
             passed, failed = passed + counts[0], failed + counts[1]
     print(f"{passed} passed, {failed} failed")
@@ -72,6 +74,7 @@ def main(words):
     parser = argparse.ArgumentParser(prog="tools/test_program", description="Runs the tests of the built programs.")
     parser.add_argument("--list", action="store_true", help="print the names of the groups, and the seconds of each")
     parser.add_argument("--only", action="append", metavar="NAME", choices=groups(), help="run this group alone")
+    parser.add_argument("--patience", type=int, default=1, metavar="N", help="give each group N times its seconds, over a slower program")
     parser.add_argument("program", nargs="?", type=pathlib.Path, default=PROGRAM)
     words = parser.parse_args(words)
     if words.list:
@@ -80,4 +83,4 @@ def main(words):
     program = words.program.absolute()
     if not os.access(program, os.X_OK):
         parser.error(f"there is no program at {program}")
-    return run_all({name: group for name, group in groups().items() if not words.only or name in words.only}, program)
+    return run_all({name: group for name, group in groups().items() if not words.only or name in words.only}, program, words.patience)

@@ -24,7 +24,7 @@ while [ -e "$FAKE/waits" ]; do sleep 0.01; done
 printf '#!/bin/sh\\necho ran in "$PWD" with "$@"\\n' >out/pespbench && chmod +x out/pespbench
 """
 
-# The stand-in in a folder of its own, with the words after those of the toolchain, and the toolchain's last line.
+# The stand-in in a folder of its own, with the words after those of the toolchain, and the toolchain's last three lines.
 FAKE_TRY = """#!/bin/sh
 while [ "$1" != -- ]; do shift; done
 shift
@@ -32,6 +32,8 @@ folder=$(mktemp -d) && cd "$folder" || exit 2
 "{python}" "{stand_in}" "$@"
 status=$?
 rmdir "$folder"
+echo "interpreter: no-answer: the run did not finish within 1000 steps: the program may loop forever" >&2
+echo "checked: ended status=$status" >&2
 echo "run=ended status=$status runners=1 proved=no" >&2
 exit $status
 """

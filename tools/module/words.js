@@ -1,0 +1,75 @@
+'use strict';
+
+// The words of the command line, read as the program reads them: in turn, and the first fault ends it.
+
+const { readFileSync } = require('node:fs');
+
+class Help extends Error {}
+
+class Refused extends Error {}
+
+const LEAST_PERIOD = 2, GREATEST_PERIOD = 1440, USUAL_PERIOD = 60;
+const VALUED = ['period', 'fixed', 'times'];
+const MORE = '\n\nUsage: pespbench [OPTIONS] [ACTIVITIES]\n\nFor more information, try \'--help\'.';
+
+const refuse = text => {
+  throw new Refused(text + MORE);
+};
+
+// Node makes text of words that are none, so the bytes are looked at where the system has them.
+const wordsAreText = () => {
+  try {
+    new TextDecoder('utf-8', { fatal: true }).decode(readFileSync('/proc/self/cmdline'));
+    return true;
+  } catch (fault) {
+    return fault.code === 'ENOENT' && !process.argv.some(word => word.includes('\ufffd'));
+  }
+};
+
+const periodOf = word => {
+  const number = /^\+?[0-9]+$/.test(word) ? Number(word) : 0;
+  if (number >= LEAST_PERIOD && number <= GREATEST_PERIOD) return number;
+  return refuse(`invalid value '${word}' for '--period <T>': it is not in ${LEAST_PERIOD}..=${GREATEST_PERIOD}`);
+};
+
+const put = (settings, name, value) => {
+  if (name in settings) refuse(`the argument '--${name}' cannot be used multiple times`);
+  settings[name] = name === 'period' ? periodOf(value) : value;
+};
+
+// The value of an option stands after `=`, or is the next word, where that does not begin with `-`.
+const valueOf = (name, inline, words) => {
+  if (inline !== undefined) return inline;
+  if (!words.length || (words[0].startsWith('-') && words[0] !== '-')) return refuse(`a value is required for '--${name}'`);
+  return words.shift();
+};
+
+const takeOption = (settings, word, words) => {
+  const [, name, inline] = /^--([^=]*)(?:=([^]*))?$/.exec(word) || [];
+  if (VALUED.includes(name)) return put(settings, name, valueOf(name, inline, words));
+  if (name === 'check' || name === 'help') {
+    if (inline !== undefined) refuse(`unexpected value '${inline}' for '--${name}'`);
+    if (name === 'help') throw new Help();
+    return put(settings, name, true);
+  }
+  if (word.startsWith('-h')) throw new Help();
+  return refuse(`unexpected argument '${word}' found`);
+};
+
+const takeFile = (settings, word) => {
+  if ('activities' in settings) refuse(`unexpected argument '${word}' found`);
+  settings.activities = word;
+};
+
+const settingsOf = given => {
+  const settings = {}, words = [...given];
+  while (words.length) {
+    const word = words.shift();
+    if (word === '--') words.splice(0).forEach(rest => takeFile(settings, rest));
+    else if (word.startsWith('-') && word !== '-') takeOption(settings, word, words);
+    else takeFile(settings, word);
+  }
+  return { period: USUAL_PERIOD, check: false, ...settings };
+};
+
+module.exports = { settingsOf, wordsAreText, Help, Refused };

@@ -1,0 +1,127 @@
+"""The tests that want no proof, a few parts at once."""
+
+import argparse
+import os
+import re
+import shlex
+import shutil
+import subprocess
+import sys
+import tempfile
+import time
+from concurrent.futures import ThreadPoolExecutor, as_completed
+from pathlib import Path
+from typing import NamedTuple
+
+from tests import main as whole
+from tests.case_files import told, write_cases
+from tests.harness import TOP
+from tests.module_program import MODULE
+
+CRATES = ["pesp_tests_core", "pesp_tests_text", "pesp_tests_shell"]
+# What these groups try is not the module's: the built program's memory, the library in process, the module beside the
+# program, and the time that a start takes alone.
+PROGRAM_ALONE = ["want_of_memory", "memory_of_commands", "embedded", "page_module", "module_rows", "module_streams"]
+PROGRAM_ALONE += ["look_for_sources", "documents_of_what_is_built"]
+# The module starts more slowly than the program, and other parts run beside a group.
+PATIENCE = "4"
+COUNTS = re.compile(r"(\d+) passed(?:, (\d+) failed)?")
+
+
+class Part(NamedTuple):
+    """A part of the tests: what it wants on the path, and what gives its counts and what it says."""
+
+    name: str
+    wants: str
+    run: object
+
+
+def called(words, folder=TOP):
+    done = subprocess.run(words, cwd=folder, stdout=subprocess.PIPE, stderr=subprocess.STDOUT, text=True, errors="replace")
+    return done.returncode, done.stdout
+
+
+def counted(words, folder=TOP):
+    """The counts that a command tells last; one that fails and tells no failure is one."""
+    status, output = called(words, folder)
+    found = COUNTS.findall(output)
+    passed, failed = (int(number or 0) for number in found[-1]) if found else (int(status == 0), 0)
+    return passed, failed or int(status != 0), output
+
+
+def crate(name):
+    status, output = called(["rt", "try", "--test", "--seconds", "300"], TOP / "crates" / name)
+    return output.count("... ok\n"), int(status != 0), output
+
+
+def cases():
+    """The program, built once without a proof, over rows and streams whose replies are known."""
+    with tempfile.TemporaryDirectory() as name:
+        wanted, data = write_cases(Path(name))
+        words = ["rt", "try", "--steps", "1000", "--seconds", "600", *data, "--cases", Path(name) / "cases"]
+        status, output = called(words, TOP / "crates/pespbench")
+        wrong = told(output, wanted)
+    tail = "" if status == 0 else "\n".join(output.splitlines()[-20:])
+    return len(wanted) - len(wrong), len(wrong), "\n".join([*wrong, tail])
+
+
+def in_its_place(folder):
+    """The module as a program of one file, which runs wherever it is copied and whatever path it is given."""
+    path = Path(folder) / "pespbench"
+    path.write_text(f"#!/bin/sh\nPATH=$PATH:{shlex.quote(os.environ['PATH'])} exec {shlex.quote(str(MODULE))} \"$@\"\n")
+    path.chmod(0o755)
+    return path
+
+
+def parts(program):
+    found = [Part("the program's rows and streams", "rt", cases)]
+    found += [Part(name, "rt", lambda name=name: crate(name)) for name in CRATES]
+    found.append(Part("the page in a browser", "chromium", lambda: counted([sys.executable, TOP / "tools/test_page"])))
+    for name in whole.groups():
+        if name not in PROGRAM_ALONE:
+            words = [sys.executable, TOP / "tools/test_program", "--patience", PATIENCE, "--only", name, program]
+            found.append(Part(name, "node", lambda words=words: counted(words)))
+    return found
+
+
+def timed(part):
+    began = time.monotonic()
+    passed, failed, output = part.run()
+    return passed, failed, output, time.monotonic() - began
+
+
+def run_all(chosen, jobs):
+    passed = failed = 0
+    with ThreadPoolExecutor(jobs) as threads:
+        running = {threads.submit(timed, part): part for part in chosen}
+        for future in as_completed(running):
+            good, bad, output, seconds = future.result()
+            if bad:
+                print(output.rstrip())
+            print(f"{running[future].name}: {good} passed, {bad} failed, {seconds:.1f} s", flush=True)
+            passed, failed = passed + good, failed + bad
+    return passed, failed
+
+
+def main(words):
+    parser = argparse.ArgumentParser(prog="tools/test", description="Runs the tests without proving anything.")
+    parser.add_argument("--list", action="store_true", help="print the names of the parts")
+    parser.add_argument("--only", action="append", metavar="NAME", help="run this part alone")
+    parser.add_argument("--jobs", type=int, default=min(4, os.cpu_count() or 1), help="how many parts run at once")
+    words = parser.parse_args(words)
+    with tempfile.TemporaryDirectory() as folder:
+        return of_parts(words, [part for part in parts(in_its_place(folder)) if not words.only or part.name in words.only])
+
+
+def of_parts(words, known):
+    if words.list:
+        print("\n".join(part.name for part in known))
+        return 0
+    print("tools/test: nothing is proved here; .ci/run proves everything", flush=True)
+    there = [part for part in known if shutil.which(part.wants)]
+    passed, failed = run_all(there, max(1, words.jobs))
+    for missing in sorted({part.wants for part in known} - {part.wants for part in there}):
+        print(f"tools/test: there is no {missing}, so {sum(part.wants == missing for part in known)} parts were not tried")
+    print("tools/test: nothing of this was proved")
+    print(f"{passed} passed, {failed} failed")
+    return int(failed > 0 or not there)
