@@ -9,9 +9,9 @@
 
   const isUtf16 = ([first, second, ...some]) => (first === 0xff && second === 0xfe) || (first === 0xfe && second === 0xff) || some.includes(0);
 
-  // Among semicolons a decimal comma stands in a field; among commas it makes one field more.
+  // Among semicolons a decimal comma stands in a field; among commas it makes one field more of numbers.
   const hasDecimalComma = ({ fields }, text, kind) => text.includes(';') ? fields.some(field => /^[+-]?[0-9]+,[0-9]+$/.test(field))
-    : fields.length > (kind === 'activities' ? 6 : 2);
+    : fields.length > (kind === 'activities' ? 6 : 2) && fields.every(field => /^[+-]?[0-9]+$/.test(field.trim()));
 
   // The help for a fault in a file; '' where the file has nothing of that. `fileOf` gives the file of a kind.
   Page.helpFor = (fault, fileOf) => {
@@ -20,7 +20,7 @@
     if (isUtf16(file.bytes.subarray(0, 200))) return UTF_16;
     const text = new TextDecoder().decode(file.bytes), record = Page.recordsOf(text).find(each => each.number === Number(number));
     if (!record) return '';
-    if (record.fields.length === 1 && record.fields[0].includes('\t')) return TABS;
+    if (record.fields[0].includes('\t')) return TABS;
     return hasDecimalComma(record, text, kind) ? DECIMAL : '';
   };
 })();
