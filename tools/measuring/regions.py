@@ -7,6 +7,7 @@ import subprocess
 import sys
 import tempfile
 
+from measuring.cycles import write_cycles
 from measuring.network import PERIOD, Numbers, text_of
 from tests.harness import TOP
 
@@ -19,9 +20,10 @@ LINES = [2, 3, 6]
 FIXED = 8
 PARTS = [14, 50, 100]
 WEIGHTS = 10
+# A limit of glpsol's own would be of a clock: it has that of run_limited alone.
 SOLVERS = {
     "cbc": lambda model: ["cbc", model, "sec", str(SECONDS), "solve", "quit"],
-    "glpsol": lambda model: ["glpsol", "--lp", model, "--tmlim", str(SECONDS)],
+    "glpsol": lambda model: ["glpsol", "--lp", model],
 }
 
 
@@ -83,20 +85,23 @@ def shown(seconds):
     return f"> {SECONDS}" if seconds is None else f"{seconds:.2f}"
 
 
-def write_model(rows, fixed, path):
+def write_plain(rows, fixed, period, path):
     """The network as a whole-number program: a residue for each event, periods and slack for each activity."""
     times, held = {event: f"t{event}" for row in rows for event in row[1:3]}, dict(fixed)
     lines = ["Minimize", " cost: " + " + ".join(f"{row[5]} y{row[0]}" for row in rows), "Subject To"]
     for name, first, last, lower, *_ in rows:
         ends = "" if first == last else f"{times[last]} - {times[first]} + "
-        lines.append(f" a{name}: {ends}{PERIOD} p{name} - y{name} = {lower}")
+        lines.append(f" a{name}: {ends}{period} p{name} - y{name} = {lower}")
     lines.append("Bounds")
     for event, time in times.items():
-        lines.append(f" {time} = {held[event]}" if event in held else f" 0 <= {time} <= {PERIOD - 1}")
+        lines.append(f" {time} = {held[event]}" if event in held else f" 0 <= {time} <= {period - 1}")
     for name, _, _, lower, upper, _ in rows:
-        lines += [f" -1000 <= p{name} <= 1000", f" 0 <= y{name} <= {min(upper - lower, PERIOD - 1)}"]
+        lines += [f" -1000 <= p{name} <= 1000", f" 0 <= y{name} <= {min(upper - lower, period - 1)}"]
     lines += ["Generals", " " + "\n ".join([*times.values(), *(f"p{row[0]}" for row in rows)]), "End"]
     path.write_text("\n".join(lines) + "\n")
+
+
+FORMULATIONS = {"cycles": write_cycles, "plain": write_plain}
 
 
 def measure_network(programs, folder, rows, fixed):
@@ -114,13 +119,13 @@ def measure_network(programs, folder, rows, fixed):
     return answer, figures, used
 
 
-def solver_figures(solvers, folder, rows, fixed):
-    """The seconds of each solver for the same network as a whole-number program."""
+def solver_figures(columns, folder, rows, fixed):
+    """The seconds of each solver for the same network as a whole-number program, in each formulation."""
     model, figures = folder / "model.lp", []
-    write_model(rows, fixed, model)
-    for solver in solvers:
+    for solver, formulation in columns:
+        FORMULATIONS[formulation](rows, fixed, PERIOD, model)
         _, seconds, _ = run_limited(SOLVERS[solver](str(model)), "/dev/null", folder / "memory")
-        figures.append(shown(seconds if seconds and seconds < SECONDS - 1 else None))
+        figures.append(shown(None if seconds is None or seconds > SECONDS - 1 else seconds))
     return figures
 
 
@@ -141,16 +146,16 @@ def networks():
 
 def print_regions(programs, folder, part="", with_solvers=False):
     """The figures of the networks whose names have the part, with those of the solvers that are here where they are asked for."""
-    solvers = [solver for solver in SOLVERS if with_solvers and shutil.which(solver)]
-    names = [*["before", "now"][-len(programs) :], *solvers]
-    missing = "; neither cbc nor glpsol is here" if with_solvers and not solvers else ""
+    columns = [(solver, formulation) for formulation in FORMULATIONS for solver in SOLVERS if with_solvers and shutil.which(solver)]
+    names = [*["before", "now"][-len(programs) :], *map(" ".join, columns)]
+    missing = "; neither cbc nor glpsol is here" if with_solvers and not columns else ""
     print(f"\nseconds of a processor for the optimum, at most {SECONDS}{missing}")
-    print(f"{'network':<52} {'events':>6} {'activities':>10} {'answer':>16}" + "".join(f" {name:>9}" for name in names) + f" {'peak kB':>9}")
+    print(f"{'network':<52} {'events':>6} {'activities':>10} {'answer':>16}" + "".join(f" {name:>13}" for name in names) + f" {'peak kB':>9}")
     for name, rows, fixed in networks():
         if part not in name:
             continue
         answer, figures, used = measure_network(programs, folder, rows, fixed)
-        figures += solver_figures(solvers, folder, rows, fixed)
+        figures += solver_figures(columns, folder, rows, fixed)
         events = len({event for row in rows for event in row[1:3]})
-        shown_figures = "".join(f" {figure:>9}" for figure in figures)
+        shown_figures = "".join(f" {figure:>13}" for figure in figures)
         print(f"{name:<52} {events:>6} {len(rows):>10} {answer:>16}{shown_figures} {used:>9}", flush=True)
