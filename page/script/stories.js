@@ -268,265 +268,265 @@ Page.stories = [
 111; 55
 112; 11
 `,
-      labels: `event; line; to; station; kind
-1; R1; Inworth; Gorsley; departure
-2; R1; Inworth; Dale; arrival
-3; R1; Inworth; Dale; departure
-4; R1; Inworth; Norwood; arrival
-5; R1; Inworth; Norwood; departure
-6; R1; Inworth; Kelby; arrival
-7; R1; Inworth; Kelby; departure
-8; R1; Inworth; Marden; arrival
-9; R1; Inworth; Marden; departure
-10; R1; Inworth; Inworth; arrival
-11; R1; Gorsley; Inworth; departure
-12; R1; Gorsley; Marden; arrival
-13; R1; Gorsley; Marden; departure
-14; R1; Gorsley; Kelby; arrival
-15; R1; Gorsley; Kelby; departure
-16; R1; Gorsley; Norwood; arrival
-17; R1; Gorsley; Norwood; departure
-18; R1; Gorsley; Dale; arrival
-19; R1; Gorsley; Dale; departure
-20; R1; Gorsley; Gorsley; arrival
-21; R2; Hatton; Cranley; departure
-22; R2; Hatton; Elmore; arrival
-23; R2; Hatton; Elmore; departure
-24; R2; Hatton; Jarrow; arrival
-25; R2; Hatton; Jarrow; departure
-26; R2; Hatton; Ashford; arrival
-27; R2; Hatton; Ashford; departure
-28; R2; Hatton; Oakham; arrival
-29; R2; Hatton; Oakham; departure
-30; R2; Hatton; Hatton; arrival
-31; R2; Cranley; Hatton; departure
-32; R2; Cranley; Oakham; arrival
-33; R2; Cranley; Oakham; departure
-34; R2; Cranley; Ashford; arrival
-35; R2; Cranley; Ashford; departure
-36; R2; Cranley; Jarrow; arrival
-37; R2; Cranley; Jarrow; departure
-38; R2; Cranley; Elmore; arrival
-39; R2; Cranley; Elmore; departure
-40; R2; Cranley; Cranley; arrival
-41; R3; Kelby; Farley; departure
-42; R3; Kelby; Linton; arrival
-43; R3; Kelby; Linton; departure
-44; R3; Kelby; Ashford; arrival
-45; R3; Kelby; Ashford; departure
-46; R3; Kelby; Jarrow; arrival
-47; R3; Kelby; Jarrow; departure
-48; R3; Kelby; Elmore; arrival
-49; R3; Kelby; Elmore; departure
-50; R3; Kelby; Kelby; arrival
-51; R3; Farley; Kelby; departure
-52; R3; Farley; Elmore; arrival
-53; R3; Farley; Elmore; departure
-54; R3; Farley; Jarrow; arrival
-55; R3; Farley; Jarrow; departure
-56; R3; Farley; Ashford; arrival
-57; R3; Farley; Ashford; departure
-58; R3; Farley; Linton; arrival
-59; R3; Farley; Linton; departure
-60; R3; Farley; Farley; arrival
-61; R4; Benton; Ashford; departure
-62; R4; Benton; Jarrow; arrival
-63; R4; Benton; Jarrow; departure
-64; R4; Benton; Elmore; arrival
-65; R4; Benton; Elmore; departure
-66; R4; Benton; Kelby; arrival
-67; R4; Benton; Kelby; departure
-68; R4; Benton; Marden; arrival
-69; R4; Benton; Marden; departure
-70; R4; Benton; Benton; arrival
-71; R4; Ashford; Benton; departure
-72; R4; Ashford; Marden; arrival
-73; R4; Ashford; Marden; departure
-74; R4; Ashford; Kelby; arrival
-75; R4; Ashford; Kelby; departure
-76; R4; Ashford; Elmore; arrival
-77; R4; Ashford; Elmore; departure
-78; R4; Ashford; Jarrow; arrival
-79; R4; Ashford; Jarrow; departure
-80; R4; Ashford; Ashford; arrival
-81; R5; Marden; Gorsley; departure
-82; R5; Marden; Dale; arrival
-83; R5; Marden; Dale; departure
-84; R5; Marden; Norwood; arrival
-85; R5; Marden; Norwood; departure
-86; R5; Marden; Kelby; arrival
-87; R5; Marden; Kelby; departure
-88; R5; Marden; Marden; arrival
-89; R5; Gorsley; Marden; departure
-90; R5; Gorsley; Kelby; arrival
-91; R5; Gorsley; Kelby; departure
-92; R5; Gorsley; Norwood; arrival
-93; R5; Gorsley; Norwood; departure
-94; R5; Gorsley; Dale; arrival
-95; R5; Gorsley; Dale; departure
-96; R5; Gorsley; Gorsley; arrival
-97; R6; Hatton; Dale; departure
-98; R6; Hatton; Gorsley; arrival
-99; R6; Hatton; Gorsley; departure
-100; R6; Hatton; Ashford; arrival
-101; R6; Hatton; Ashford; departure
-102; R6; Hatton; Oakham; arrival
-103; R6; Hatton; Oakham; departure
-104; R6; Hatton; Hatton; arrival
-105; R6; Dale; Hatton; departure
-106; R6; Dale; Oakham; arrival
-107; R6; Dale; Oakham; departure
-108; R6; Dale; Ashford; arrival
-109; R6; Dale; Ashford; departure
-110; R6; Dale; Gorsley; arrival
-111; R6; Dale; Gorsley; departure
-112; R6; Dale; Dale; arrival
-activity; kind
-1; run
-2; dwell
-3; run
-4; dwell
-5; run
-6; dwell
-7; run
-8; dwell
-9; run
-10; run
-11; dwell
-12; run
-13; dwell
-14; run
-15; dwell
-16; run
-17; dwell
-18; run
-19; turnaround
-20; turnaround
-21; run
-22; dwell
-23; run
-24; dwell
-25; run
-26; dwell
-27; run
-28; dwell
-29; run
-30; run
-31; dwell
-32; run
-33; dwell
-34; run
-35; dwell
-36; run
-37; dwell
-38; run
-39; turnaround
-40; turnaround
-41; run
-42; dwell
-43; run
-44; dwell
-45; run
-46; dwell
-47; run
-48; dwell
-49; run
-50; run
-51; dwell
-52; run
-53; dwell
-54; run
-55; dwell
-56; run
-57; dwell
-58; run
-59; turnaround
-60; turnaround
-61; run
-62; dwell
-63; run
-64; dwell
-65; run
-66; dwell
-67; run
-68; dwell
-69; run
-70; run
-71; dwell
-72; run
-73; dwell
-74; run
-75; dwell
-76; run
-77; dwell
-78; run
-79; turnaround
-80; turnaround
-81; run
-82; dwell
-83; run
-84; dwell
-85; run
-86; dwell
-87; run
-88; run
-89; dwell
-90; run
-91; dwell
-92; run
-93; dwell
-94; run
-95; turnaround
-96; turnaround
-97; run
-98; dwell
-99; run
-100; dwell
-101; run
-102; dwell
-103; run
-104; run
-105; dwell
-106; run
-107; dwell
-108; run
-109; dwell
-110; run
-111; turnaround
-112; turnaround
-113; change
-114; change
-115; change
-116; change
-117; change
-118; change
-119; change
-120; change
-121; change
-122; change
-123; change
-124; change
-125; change
-126; change
-127; change
-128; change
-129; change
-130; change
-131; change
-132; change
-133; change
-134; headway
-135; headway
-136; headway
-137; headway
-138; headway
-139; headway
-140; headway
-141; headway
-142; headway
-143; headway
-144; headway
-145; headway
+      labels: `event;line;to;station;kind
+1;R1;Inworth;Gorsley;departure
+2;R1;Inworth;Dale;arrival
+3;R1;Inworth;Dale;departure
+4;R1;Inworth;Norwood;arrival
+5;R1;Inworth;Norwood;departure
+6;R1;Inworth;Kelby;arrival
+7;R1;Inworth;Kelby;departure
+8;R1;Inworth;Marden;arrival
+9;R1;Inworth;Marden;departure
+10;R1;Inworth;Inworth;arrival
+11;R1;Gorsley;Inworth;departure
+12;R1;Gorsley;Marden;arrival
+13;R1;Gorsley;Marden;departure
+14;R1;Gorsley;Kelby;arrival
+15;R1;Gorsley;Kelby;departure
+16;R1;Gorsley;Norwood;arrival
+17;R1;Gorsley;Norwood;departure
+18;R1;Gorsley;Dale;arrival
+19;R1;Gorsley;Dale;departure
+20;R1;Gorsley;Gorsley;arrival
+21;R2;Hatton;Cranley;departure
+22;R2;Hatton;Elmore;arrival
+23;R2;Hatton;Elmore;departure
+24;R2;Hatton;Jarrow;arrival
+25;R2;Hatton;Jarrow;departure
+26;R2;Hatton;Ashford;arrival
+27;R2;Hatton;Ashford;departure
+28;R2;Hatton;Oakham;arrival
+29;R2;Hatton;Oakham;departure
+30;R2;Hatton;Hatton;arrival
+31;R2;Cranley;Hatton;departure
+32;R2;Cranley;Oakham;arrival
+33;R2;Cranley;Oakham;departure
+34;R2;Cranley;Ashford;arrival
+35;R2;Cranley;Ashford;departure
+36;R2;Cranley;Jarrow;arrival
+37;R2;Cranley;Jarrow;departure
+38;R2;Cranley;Elmore;arrival
+39;R2;Cranley;Elmore;departure
+40;R2;Cranley;Cranley;arrival
+41;R3;Kelby;Farley;departure
+42;R3;Kelby;Linton;arrival
+43;R3;Kelby;Linton;departure
+44;R3;Kelby;Ashford;arrival
+45;R3;Kelby;Ashford;departure
+46;R3;Kelby;Jarrow;arrival
+47;R3;Kelby;Jarrow;departure
+48;R3;Kelby;Elmore;arrival
+49;R3;Kelby;Elmore;departure
+50;R3;Kelby;Kelby;arrival
+51;R3;Farley;Kelby;departure
+52;R3;Farley;Elmore;arrival
+53;R3;Farley;Elmore;departure
+54;R3;Farley;Jarrow;arrival
+55;R3;Farley;Jarrow;departure
+56;R3;Farley;Ashford;arrival
+57;R3;Farley;Ashford;departure
+58;R3;Farley;Linton;arrival
+59;R3;Farley;Linton;departure
+60;R3;Farley;Farley;arrival
+61;R4;Benton;Ashford;departure
+62;R4;Benton;Jarrow;arrival
+63;R4;Benton;Jarrow;departure
+64;R4;Benton;Elmore;arrival
+65;R4;Benton;Elmore;departure
+66;R4;Benton;Kelby;arrival
+67;R4;Benton;Kelby;departure
+68;R4;Benton;Marden;arrival
+69;R4;Benton;Marden;departure
+70;R4;Benton;Benton;arrival
+71;R4;Ashford;Benton;departure
+72;R4;Ashford;Marden;arrival
+73;R4;Ashford;Marden;departure
+74;R4;Ashford;Kelby;arrival
+75;R4;Ashford;Kelby;departure
+76;R4;Ashford;Elmore;arrival
+77;R4;Ashford;Elmore;departure
+78;R4;Ashford;Jarrow;arrival
+79;R4;Ashford;Jarrow;departure
+80;R4;Ashford;Ashford;arrival
+81;R5;Marden;Gorsley;departure
+82;R5;Marden;Dale;arrival
+83;R5;Marden;Dale;departure
+84;R5;Marden;Norwood;arrival
+85;R5;Marden;Norwood;departure
+86;R5;Marden;Kelby;arrival
+87;R5;Marden;Kelby;departure
+88;R5;Marden;Marden;arrival
+89;R5;Gorsley;Marden;departure
+90;R5;Gorsley;Kelby;arrival
+91;R5;Gorsley;Kelby;departure
+92;R5;Gorsley;Norwood;arrival
+93;R5;Gorsley;Norwood;departure
+94;R5;Gorsley;Dale;arrival
+95;R5;Gorsley;Dale;departure
+96;R5;Gorsley;Gorsley;arrival
+97;R6;Hatton;Dale;departure
+98;R6;Hatton;Gorsley;arrival
+99;R6;Hatton;Gorsley;departure
+100;R6;Hatton;Ashford;arrival
+101;R6;Hatton;Ashford;departure
+102;R6;Hatton;Oakham;arrival
+103;R6;Hatton;Oakham;departure
+104;R6;Hatton;Hatton;arrival
+105;R6;Dale;Hatton;departure
+106;R6;Dale;Oakham;arrival
+107;R6;Dale;Oakham;departure
+108;R6;Dale;Ashford;arrival
+109;R6;Dale;Ashford;departure
+110;R6;Dale;Gorsley;arrival
+111;R6;Dale;Gorsley;departure
+112;R6;Dale;Dale;arrival
+activity;kind
+1;run
+2;dwell
+3;run
+4;dwell
+5;run
+6;dwell
+7;run
+8;dwell
+9;run
+10;run
+11;dwell
+12;run
+13;dwell
+14;run
+15;dwell
+16;run
+17;dwell
+18;run
+19;turnaround
+20;turnaround
+21;run
+22;dwell
+23;run
+24;dwell
+25;run
+26;dwell
+27;run
+28;dwell
+29;run
+30;run
+31;dwell
+32;run
+33;dwell
+34;run
+35;dwell
+36;run
+37;dwell
+38;run
+39;turnaround
+40;turnaround
+41;run
+42;dwell
+43;run
+44;dwell
+45;run
+46;dwell
+47;run
+48;dwell
+49;run
+50;run
+51;dwell
+52;run
+53;dwell
+54;run
+55;dwell
+56;run
+57;dwell
+58;run
+59;turnaround
+60;turnaround
+61;run
+62;dwell
+63;run
+64;dwell
+65;run
+66;dwell
+67;run
+68;dwell
+69;run
+70;run
+71;dwell
+72;run
+73;dwell
+74;run
+75;dwell
+76;run
+77;dwell
+78;run
+79;turnaround
+80;turnaround
+81;run
+82;dwell
+83;run
+84;dwell
+85;run
+86;dwell
+87;run
+88;run
+89;dwell
+90;run
+91;dwell
+92;run
+93;dwell
+94;run
+95;turnaround
+96;turnaround
+97;run
+98;dwell
+99;run
+100;dwell
+101;run
+102;dwell
+103;run
+104;run
+105;dwell
+106;run
+107;dwell
+108;run
+109;dwell
+110;run
+111;turnaround
+112;turnaround
+113;change
+114;change
+115;change
+116;change
+117;change
+118;change
+119;change
+120;change
+121;change
+122;change
+123;change
+124;change
+125;change
+126;change
+127;change
+128;change
+129;change
+130;change
+131;change
+132;change
+133;change
+134;headway
+135;headway
+136;headway
+137;headway
+138;headway
+139;headway
+140;headway
+141;headway
+142;headway
+143;headway
+144;headway
+145;headway
 `,
       places: `station; x; y
 Ashford; 24; 33
