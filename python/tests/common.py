@@ -16,6 +16,8 @@ from pespbench import Bench
 TOP = Path(__file__).resolve().parents[2]
 EXAMPLES = TOP / "examples"
 PROGRAM = os.path.abspath(os.environ.get("PESPBENCH") or TOP / "crates/pespbench/out/pespbench")
+# Over a program that is so many times slower, as tools/test_program says it, so many times fewer are drawn where many are.
+PATIENCE = int(os.environ.get("PESPBENCH_PATIENCE") or 1)
 
 
 class Case(unittest.TestCase):

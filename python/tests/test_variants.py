@@ -17,7 +17,7 @@ from pespbench import Bench, Fault, Infeasible, Lost, Optimum, Refused, optimum_
 from pespbench.network import Activity, Network
 from pespbench.parts import parts_of, ranges_of
 from pespbench.workers import Progress
-from tests.common import PROGRAM, Case, drawn_bench
+from tests.common import PATIENCE, PROGRAM, Case, drawn_bench
 
 
 def small(seed: int) -> Bench:
@@ -44,10 +44,10 @@ class Variants(Case):
 
     def test_a_worker_is_ended(self) -> None:
         """A thousand variants, of which one worker is ended in the middle: all are answered, as one after the other."""
-        lists = drawn_lists(1_000)
+        lists = drawn_lists(1_000 // PATIENCE)
         with small(1) as bench:
             wanted = one_by_one(bench, lists)
-            with at_step(300, end_one):
+            with at_step(len(lists) * 3 // 10, end_one):
                 self.assertEqual(variants(bench, lists, workers=2), wanted)
 
     def test_what_is_asked(self) -> None:
@@ -122,7 +122,7 @@ class Parts(Case):
         """On 200 small networks the optimum in parts is the optimum, its text byte for byte."""
         seen = set()
         with ThreadPoolExecutor(3) as executor:
-            for seed in range(200):
+            for seed in range(200 // PATIENCE):
                 with small(seed) as bench:
                     if seed % 3 == 0:
                         bench.many(f"span {number} {seed * number % 10} {seed * number % 10 + 2}" for number in range(6))

@@ -14,9 +14,9 @@ from pespbench.why import Conflict, Member, Mend, Of, Possible, Span, Undecided,
 from pespbench.why.members import Bounds, Held
 from pespbench.why.shapes import Circle
 from pespbench.wording import Names
-from tests.common import PROGRAM, Case
+from tests.common import PATIENCE, PROGRAM, Case
 
-NETWORKS = 1_000
+NETWORKS = 1_000 // PATIENCE
 # Long enough for a program that was built without its proofs, which takes a hundred times as long.
 SECONDS = 1_000.0
 

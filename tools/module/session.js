@@ -7,7 +7,6 @@ const { Fault } = require('./devices.js');
 const { Kept } = require('./kept.js');
 const { split, firstWord } = require('./replies.js');
 
-const SEARCHES = ['optimum', 'try', 'adopt'];
 const OPTIMUM = Buffer.from('optimum');
 const FEED = Buffer.from('\n');
 // So many lines are answered in one run, at first; the more the shorter their replies are.
@@ -64,8 +63,7 @@ class Session {
   // Answers the first of the lines, takes them away, and gives their replies.
   some(left) {
     const lines = left.slice(0, this.count);
-    const searches = lines.some(({ words }) => SEARCHES.includes(words[0]));
-    const before = this.kept.before(searches);
+    const before = this.kept.before(lines.map(({ words }) => words[0]));
     const said = lines.flatMap(line => (line.words[0] === 'adopt' ? [OPTIMUM, line.bytes] : [line.bytes]));
     const { output, ending } = this.run([...before, ...said]);
     if (ending.status && lines.length > 1) {
@@ -95,19 +93,16 @@ class Session {
   // What a line and its reply leave for later lines.
   note({ words, bytes }, reply) {
     const first = firstWord(reply);
-    if (words[0] === 'optimum' || words[0] === 'try') this.noteSearch(bytes, reply, first);
+    if (words[0] === 'optimum' || words[0] === 'try') this.noteSearch(words, bytes, first, reply);
     else if (first !== 'ok') return;
     else if (words[0] === 'adopt') this.kept.adopt(bytes, this.known);
     else this.noteChange(words, bytes);
   }
 
-  noteSearch(bytes, reply, first) {
-    if (first === 'optimum' || first === 'infeasible') {
-      if (!this.known) this.kept.search(bytes);
-      this.known = reply;
-    } else if (first === 'stopped') {
-      this.kept.search(bytes);
-    }
+  noteSearch(words, bytes, first, reply) {
+    if (!['optimum', 'infeasible', 'stopped'].includes(first)) return;
+    if (!this.known) this.kept.search(words, bytes, first);
+    if (first !== 'stopped') this.known = reply;
   }
 
   // Times are no part of what is searched.

@@ -12,8 +12,11 @@ from tests.replies import TWO_REPLIES
 from tests.streams import drawn_lines
 
 STREAMS, LINES = 40, 50
-# A case's own status, beside its output.
-ENDED = re.compile(r"^case=(\S+) run=ended status=(\d+)(.*)$", re.M)
+# What the toolchain says of a case on standard error: the program's own fault, where output is not compared, and its status.
+ENDED = re.compile(r"^(pespbench: .*\n)?case=(\S+) run=ended status=(\d+)(.*)$", re.M)
+# What it prints on standard output is that of such cases, each after its name.
+NAMED = re.compile(r"^== (\S+)\n", re.M)
+COMPARED = "output=expected"
 
 
 class Folder:
@@ -35,8 +38,10 @@ class Folder:
         cases = self.top / "cases"
         (cases / name).write_bytes(given)
         (cases / f"{name}.args").write_text("".join(f"{word}\n" for word in words))
-        (cases / f"{name}.stdout").write_bytes(output)
-        self.wanted[name] = (status, error.decode())
+        # Standard error is told just where output is not compared.
+        if not error:
+            (cases / f"{name}.stdout").write_bytes(output)
+        self.wanted[name] = (status, (output + error).decode() if error else COMPARED)
 
 
 def write_rows(folder):
@@ -71,13 +76,19 @@ def write_cases(top):
     return folder.wanted, folder.data
 
 
-def told(output, wanted):
+def outcomes(output, errors):
+    """The status of each case that ended, with what it printed, or with COMPARED."""
+    parts, came = NAMED.split(output), {}
+    printed = dict(zip(parts[1::2], parts[2::2]))
+    for fault, name, status, rest in ENDED.findall(errors):
+        came[name] = int(status), COMPARED if COMPARED in rest.split() else printed.get(name, "") + fault
+    return came
+
+
+def told(output, errors, wanted):
     """What is wrong in what the toolchain said of the cases: a line for each that gave something else, or did not run."""
-    came = {name: (int(status), rest) for name, status, rest in ENDED.findall(output)}
-    wrong = []
-    for name, (status, error) in wanted.items():
-        if name not in came:
-            wrong.append(f"FAILED case {name}: it did not end")
-        elif came[name][0] != status or "output=expected" not in came[name][1] or error not in output:
-            wrong.append(f"FAILED case {name}: wanted status {status} and {error!r}, came {came[name]}")
+    came, wrong = outcomes(output, errors), []
+    for name, what in wanted.items():
+        if came.get(name) != what:
+            wrong.append(f"FAILED case {name}: wanted {what}, came {came.get(name, 'no end')}")
     return wrong

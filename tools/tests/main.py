@@ -74,7 +74,7 @@ def main(words):
     parser = argparse.ArgumentParser(prog="tools/test_program", description="Runs the tests of the built programs.")
     parser.add_argument("--list", action="store_true", help="print the names of the groups, and the seconds of each")
     parser.add_argument("--only", action="append", metavar="NAME", choices=groups(), help="run this group alone")
-    parser.add_argument("--patience", type=int, default=1, metavar="N", help="give each group N times its seconds, over a slower program")
+    parser.add_argument("--patience", type=int, default=1, metavar="N", help="give each group N times its seconds, over a slower program, and have the package's tests draw N times fewer")
     parser.add_argument("program", nargs="?", type=pathlib.Path, default=PROGRAM)
     words = parser.parse_args(words)
     if words.list:
@@ -83,4 +83,6 @@ def main(words):
     program = words.program.absolute()
     if not os.access(program, os.X_OK):
         parser.error(f"there is no program at {program}")
+    # The tests of the Python package read it there.
+    os.environ["PESPBENCH_PATIENCE"] = str(words.patience)
     return run_all({name: group for name, group in groups().items() if not words.only or name in words.only}, program, words.patience)

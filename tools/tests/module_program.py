@@ -16,6 +16,18 @@ START = TOP / "tools/pespbench"
 MODULE = TOP / "tools/pespbench_module"
 NOT_PROVED = b"tools/pespbench: the page's module runs, under Node: nothing of what it answers is proved\n"
 STREAMS, LINES, AT_ONCE = 2_000, 40, 4
+# How many lines a session says again after a hundred networks that came and went: before a question, an optimum and a try.
+KEPT = """
+const { Kept } = require(process.argv[1]);
+const kept = new Kept();
+const say = line => kept.change(line.split(' '), Buffer.from(line));
+for (let round = 0; round < 100; round++) {
+  ['add event 1', 'add event 2', 'add activity 7 1 2 3 5 1', 'fix 1 0', 'ends 7 2 1', 'time 2 3'].forEach(say);
+  kept.search(['optimum'], Buffer.from('optimum'), 'optimum');
+  ['drop activity 7', 'drop event 2', 'drop event 1'].forEach(say);
+}
+console.log(...['cost', 'optimum', 'try'].map(name => kept.before([name]).length));
+"""
 
 
 def module_start(suite):
@@ -53,6 +65,12 @@ def module_session(suite):
                 talk.send(line + b"\n")
                 came += talk.reply()
         suite.note(f"drawn session {number} at period {period}", {"replies": whole}, {"replies": came})
+
+
+def module_kept(suite):
+    """What a session says again does not grow with what came and went."""
+    come = run(["node", "-e", KEPT, TOP / "tools/module/kept.js"])
+    suite.note("lines that are said again", {"status": 0, "standard output": b"0 0 10\n", "standard error": b""}, come)
 
 
 def cases_of(suite):
@@ -109,4 +127,4 @@ def module_streams(suite):
     same(suite, list(streams_of(suite)))
 
 
-GROUPS = [module_start, module_session, module_rows, module_streams]
+GROUPS = [module_start, module_session, module_kept, module_rows, module_streams]

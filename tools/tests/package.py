@@ -18,15 +18,19 @@ def environment(suite):
 
 
 def run_tests(suite, modules, python=sys.executable, warnings="error"):
-    """Notes each test of modules of python/tests; one that is skipped is told, and is no case."""
+    """Notes each test of modules of python/tests; one that is skipped is told, and is no case.
+
+    They ran to their end too where all were skipped.
+    """
     command = [python, "-W", warnings, "-m", "tests", *modules]
     with subprocess.Popen(command, cwd=PYTHON, env=environment(suite), stdout=subprocess.PIPE, text=True) as process:
         told = 0
         for line in process.stdout:
             word, _, name = line.rstrip().partition(" ")
-            if word in ("passed", "failed") and name.startswith("tests."):
+            is_told = word in ("passed", "failed", "skipped") and name.startswith("tests.")
+            told += is_told
+            if is_told and word != "skipped":
                 suite.holds(f"python: {name}", word == "passed")
-                told += 1
             elif line.strip():
                 print(f"  {line.rstrip()}", flush=True)
     suite.holds(f"python: the tests of {' '.join(modules)} ran to their end", told and process.returncode in (0, 1))

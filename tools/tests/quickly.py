@@ -13,6 +13,7 @@ from concurrent.futures import ThreadPoolExecutor, as_completed
 from pathlib import Path
 from typing import NamedTuple
 
+from page_tests.browser import found as browser
 from tests import main as whole
 from tests.case_files import told, write_cases
 from tests.harness import TOP
@@ -25,6 +26,11 @@ PROGRAM_ALONE = ["want_of_memory", "memory_of_commands", "embedded", "page_modul
 PROGRAM_ALONE += ["look_for_sources", "documents_of_what_is_built"]
 # The module starts more slowly than the program, and other parts run beside a group.
 PATIENCE = "4"
+# Those that take longest, which begin first: so none of them runs alone at the end.
+LONGEST = ["the program's rows and streams", "the page in a browser", "python_why", "pesp_tests_text", "pesp_tests_shell"]
+LONGEST += ["python_variants", "python_files", "damaged_files", "pesp_tests_core", "drawn_streams"]
+# What some groups want beside Node.
+MORE = {"python_browser": "browser"}
 COUNTS = re.compile(r"(\d+) passed(?:, (\d+) failed)?")
 
 
@@ -32,8 +38,12 @@ class Part(NamedTuple):
     """A part of the tests: what it wants on the path, and what gives its counts and what it says."""
 
     name: str
-    wants: str
+    wants: list
     run: object
+
+
+def is_there(wanted):
+    return browser() is not None if wanted == "browser" else shutil.which(wanted) is not None
 
 
 def called(words, folder=TOP):
@@ -59,9 +69,9 @@ def cases():
     with tempfile.TemporaryDirectory() as name:
         wanted, data = write_cases(Path(name))
         words = ["rt", "try", "--steps", "1000", "--seconds", "600", *data, "--cases", Path(name) / "cases"]
-        status, output = called(words, TOP / "crates/pespbench")
-        wrong = told(output, wanted)
-    tail = "" if status == 0 else "\n".join(output.splitlines()[-20:])
+        done = subprocess.run(words, cwd=TOP / "crates/pespbench", capture_output=True, text=True, errors="replace")
+        wrong = told(done.stdout, done.stderr, wanted)
+    tail = "" if done.returncode == 0 else "\n".join(done.stderr.splitlines()[-20:])
     return len(wanted) - len(wrong), len(wrong), "\n".join([*wrong, tail])
 
 
@@ -74,14 +84,16 @@ def in_its_place(folder):
 
 
 def parts(program):
-    found = [Part("the program's rows and streams", "rt", cases)]
-    found += [Part(name, "rt", lambda name=name: crate(name)) for name in CRATES]
-    found.append(Part("the page in a browser", "chromium", lambda: counted([sys.executable, TOP / "tools/test_page"])))
+    """All parts, the longest first."""
+    found = [Part("the program's rows and streams", ["rt", "node"], cases)]
+    found += [Part(name, ["rt"], lambda name=name: crate(name)) for name in CRATES]
+    found.append(Part("the page in a browser", ["browser"], lambda: counted([sys.executable, TOP / "tools/test_page"])))
     for name in whole.groups():
         if name not in PROGRAM_ALONE:
             words = [sys.executable, TOP / "tools/test_program", "--patience", PATIENCE, "--only", name, program]
-            found.append(Part(name, "node", lambda words=words: counted(words)))
-    return found
+            wants = ["node", *filter(None, [MORE.get(name)])]
+            found.append(Part(name, wants, lambda words=words: counted(words)))
+    return sorted(found, key=lambda part: LONGEST.index(part.name) if part.name in LONGEST else len(LONGEST))
 
 
 def timed(part):
@@ -118,10 +130,11 @@ def of_parts(words, known):
         print("\n".join(part.name for part in known))
         return 0
     print("tools/test: nothing is proved here; .ci/run proves everything", flush=True)
-    there = [part for part in known if shutil.which(part.wants)]
+    missing = [wanted for wanted in sorted({each for part in known for each in part.wants}) if not is_there(wanted)]
+    there = [part for part in known if not set(part.wants) & set(missing)]
     passed, failed = run_all(there, max(1, words.jobs))
-    for missing in sorted({part.wants for part in known} - {part.wants for part in there}):
-        print(f"tools/test: there is no {missing}, so {sum(part.wants == missing for part in known)} parts were not tried")
+    for wanted in missing:
+        print(f"tools/test: there is no {wanted}, so {sum(wanted in part.wants for part in known)} parts were not tried")
     print("tools/test: nothing of this was proved")
     print(f"{passed} passed, {failed} failed")
     return int(failed > 0 or not there)
