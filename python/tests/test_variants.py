@@ -43,7 +43,7 @@ class Variants(Case):
     """`variants`."""
 
     def test_a_worker_is_ended(self) -> None:
-        """A thousand variants, of which one worker is ended in the middle: all are answered, as one after the other."""
+        """Of many variants one worker is ended in the middle: all are answered, as one after the other."""
         lists = drawn_lists(1_000 // PATIENCE)
         with small(1) as bench:
             wanted = one_by_one(bench, lists)
@@ -119,7 +119,7 @@ class Parts(Case):
     """`optimum_in_parts`."""
 
     def test_small_networks(self) -> None:
-        """On 200 small networks the optimum in parts is the optimum, its text byte for byte."""
+        """On small networks the optimum in parts is the optimum, its text byte for byte."""
         seen = set()
         with ThreadPoolExecutor(3) as executor:
             for seed in range(200 // PATIENCE):
