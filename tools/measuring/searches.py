@@ -43,7 +43,7 @@ def seconds_of(network, limit):
 def measure_search(program, folder, events, seed):
     """The least limit that ends the search, the instructions for each node of it and the seconds, on one network of the set.
 
-    Where that is great, the instructions are those of a lesser limit. By differences a limit bounds work, and no node need be visited.
+    Where that is great, the instructions are those of a lesser limit. By cycles a limit bounds work, and no node need be visited.
     """
     rows = events * ACTIVITIES_OF_AN_EVENT
     network = Network(program, folder, rows, events, lambda event: False, seed, WIDTHS)

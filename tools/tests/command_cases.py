@@ -5,8 +5,8 @@ TWO = "1; 1; 2; 3; 5; 2 / 2; 2; 1; 4; 6; 1"
 THREE = "1; 1; 2; 1; 2; 0 / 2; 1; 3; 1; 2; 0 / 3; 2; 3; 1; 2; 0"
 
 STOPPED = "1 0 / 2 1 / 3 9"
-# They cost nothing, and are so heavy that costs are too great for the search over differences: the tree alone is searched.
-HEAVY_LOOPS = " / ".join(f"{number}; 1; 1; 0; 9; 1000000" for number in range(4, 34))
+# They cost nothing and admit what the first activity of their case does, and make so many cycles that the tree alone is searched.
+COPIES = " / ".join(f"{number}; 3; 2; 2; 8; 0" for number in range(4, 1006))
 TEN = "0 1 2 3 4 5 6 7 8 9"
 FULL = f"domains 2 / 1: {TEN} / 2: {TEN}"
 BEST = "optimum 4 2 / 1 0 / 2 4"
@@ -107,10 +107,52 @@ CASES = [
     (
         "a stop with what an earlier one told",
         10,
-        f"1; 3; 2; 2; 8; 3 / 2; 3; 2; 8; 14; 3 / 3; 1; 2; 1; 7; 1 / {HEAVY_LOOPS}",
+        f"1; 3; 2; 2; 8; 3 / 2; 3; 2; 8; 14; 3 / 3; 1; 2; 1; 7; 1 / {COPIES}",
         "try 0 / try 3 / try 0 / weight 2 4 / try 0 / fix 1 3 / try 0 / unfix 1 / try 0",
         f"stopped none / stopped 12 3 / {STOPPED} / stopped 12 3 / {STOPPED} / ok / stopped 16 3 / {STOPPED} / ok / stopped none"
         f" / ok / stopped 16 3 / {STOPPED}",
+    ),
+    (
+        "loops that cost, and one that nothing meets",
+        10,
+        "1; 1; 2; 2; 9; 5 / 2; 2; 1; 3; 8; 4 / 3; 2; 2; 4; 20; 3 / 4; 1; 1; 0; 0; 7",
+        "optimum / weight 3 5 / optimum / span 4 1 9 / optimum",
+        "optimum 38 2 / 1 0 / 2 2 / ok / optimum 50 2 / 1 0 / 2 2 / ok / infeasible",
+    ),
+    (
+        "the optimum beside a gap of a domain",
+        10,
+        "1; 1; 2; 0; 6; 1 / 2; 1; 2; 4; 12; 3 / 3; 2; 3; 1; 3; 2 / 4; 3; 1; 1; 9; 2",
+        "fix 1 0 / domain 2 / optimum / weight 1 9 / optimum",
+        "ok / 2: 0 1 2 4 5 6 / optimum 12 3 / 1 0 / 2 4 / 3 5 / ok / optimum 34 3 / 1 0 / 2 0 / 3 1",
+    ),
+    (
+        "activities that admit all and cost nothing",
+        10,
+        "1; 1; 2; 3; 12; 0 / 2; 2; 3; 1; 30; 0 / 3; 1; 3; 4; 8; 2 / 4; 3; 4; 0; 9; 0 / 5; 4; 1; 2; 5; 3",
+        "optimum / fix 4 3 / optimum",
+        "optimum 0 4 / 1 0 / 2 0 / 3 4 / 4 8 / ok / optimum 0 4 / 1 5 / 2 0 / 3 9 / 4 3",
+    ),
+    (
+        "the greatest weights",
+        10,
+        "1; 1; 2; 1; 9; 1000000000 / 2; 2; 3; 2; 9; 999999999 / 3; 3; 1; 1; 9; 1000000000 / 4; 1; 3; 0; 9; 1",
+        "optimum",
+        "optimum 6000000003 3 / 1 0 / 2 1 / 3 3",
+    ),
+    (
+        "the first of many that cost nothing",
+        10,
+        "1; 1; 2; 0; 9; 1 / 2; 2; 1; 0; 9; 1 / 3; 2; 3; 0; 4; 0 / 4; 3; 1; 0; 9; 0",
+        "optimum / window 1 3 4 / optimum / fix 3 5 / optimum",
+        "optimum 0 3 / 1 0 / 2 0 / 3 0 / ok / optimum 0 3 / 1 3 / 2 3 / 3 3 / ok / optimum 0 3 / 1 3 / 2 3 / 3 5",
+    ),
+    (
+        "the first where events are held in turn",
+        10,
+        "1; 1; 2; 1; 3; 0 / 2; 2; 3; 1; 3; 0 / 3; 1; 3; 5; 9; 0 / 4; 3; 4; 1; 9; 1 / 5; 4; 1; 1; 9; 1",
+        "optimum / fix 4 2 / optimum",
+        "optimum 2 4 / 1 0 / 2 3 / 3 6 / 4 7 / ok / optimum 2 4 / 1 3 / 2 6 / 3 9 / 4 2",
     ),
     (
         "refusals and dump",

@@ -231,7 +231,7 @@ rewindowed_event I e window ok none = record {
 -- ---- one more event
 
 -- the times of the other events
-other_time : (e q : ℕ) (es : List (ℕ × ℕ)) → (q ≡ e → ⊥) → lookup (is_at (nat_cmp q)) (remove_entry (is_at (nat_cmp e)) es) ≡ lookup (is_at (nat_cmp q)) es
+pub other_time : (e q : ℕ) (es : List (ℕ × ℕ)) → (q ≡ e → ⊥) → lookup (is_at (nat_cmp q)) (remove_entry (is_at (nat_cmp e)) es) ≡ lookup (is_at (nat_cmp q)) es
 other_time e q [] apart = refl
 other_time e q (x ∷ es) apart =
     rw (same_test e x.0, same_test q x.0)

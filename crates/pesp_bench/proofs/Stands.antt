@@ -35,11 +35,11 @@ refused_so : {X : Type 0} (b : Bool) (refusal : Refusal) (rest : List (Option Re
 refused_so b refusal rest x y is ok = false≢true (sym (not_refused b refusal rest x y ok) ∙ is)
 
 -- the refusals after one whose condition does not hold
-rest_of : {X : Type 0} (b : Bool) (refusal : Refusal) (rest : List (Option Refusal)) (x y : X) → unless_refused (when b refusal ∷ rest) x ≡ Ok y → unless_refused rest x ≡ Ok y
+pub rest_of : {X : Type 0} (b : Bool) (refusal : Refusal) (rest : List (Option Refusal)) (x y : X) → unless_refused (when b refusal ∷ rest) x ≡ Ok y → unless_refused rest x ≡ Ok y
 rest_of true refusal rest x y ok = absurd (false≢true (ap is_ok ok))
 rest_of false refusal rest x y ok = ok
 
-there_is : (b : Bool) → not b ≡ false → b ≡ true
+pub there_is : (b : Bool) → not b ≡ false → b ≡ true
 there_is true is = refl
 there_is false is = absurd (false≢true (sym is))
 

@@ -184,11 +184,16 @@ found_has (x ∷ es) (y ∷ xs) q keys some =
       | false ↦ λ left. found_has es xs q tail left
     ]) (rw (same_test q x.0, head) at some)
 
+-- an optimum that is known
+pub adopted : (I : Network) (pushed : List Pair) (m n : Times) (known : Option Answer) (cost : ℕ)
+    → IsState I pushed m known → known ≡ Some (Optimal cost n) → IsOptimum I n cost
+adopted I pushed m n known cost s is = rw is at s.optimum
+
 -- after the optimum is adopted
 pub after_adopt : (I : Network) (pushed : List Pair) (m n : Times) (known : Option Answer) (cost : ℕ)
     → IsState I pushed m known → known ≡ Some (Optimal cost n) → IsStrictlyIncreasing (timed_events n) → IsState I pushed n known
 after_adopt I pushed m n known cost s is rising =
-    let optimum : IsOptimum I n cost = rw is at s.optimum in
+    let optimum : IsOptimum I n cost = adopted I pushed m n known cost s is in
     record {
       nothing = s.nothing;
       period = optimum.member.period;

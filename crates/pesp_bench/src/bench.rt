@@ -9,6 +9,7 @@ ghost use Rattle.pesp_instance.specs.Network.{has_event};
 ghost use Rattle.pesp_tension.specs.Timetables.{no_times, time_of};
 ghost use Rattle.pesp_search.specs.Optima.{IsAnswer};
 
+use crate::costing::KeptCost;
 use pesp_domains::Keeper;
 use pesp_instance::Instance;
 use pesp_search::Answer;
@@ -23,6 +24,8 @@ pub struct Bench<K: Keeper> {
     keeper: K,
     // Of the instance's period, and of events of the instance.
     times: Timetable,
+    // What the times cost, and how many events have none.
+    kept: KeptCost,
     // The optimum of the keeper's instance; None where it is not known.
     known: Option<Answer>,
     // The timetable of an optimum that was forgotten, or that a search stopped with; whether it meets everything is
@@ -33,13 +36,15 @@ pub struct Bench<K: Keeper> {
 }
 
 impl<K: Keeper> Model for Bench<K> {
+    ghost use Rattle.pesp_bench.specs.Costing.{IsCosted};
     ghost use Rattle.pesp_bench.specs.State.{State, IsState};
 
     ghost Value = { State };
 
     ghost view = { λ b. record { instance = K.network b.keeper; times = b.times; known = b.known; nodes = b.nodes } };
 
-    ghost invariant = { λ b. IsState (K.network b.keeper) (K.pushes b.keeper) b.times b.known };
+    ghost invariant = { λ b. IsState (K.network b.keeper) (K.pushes b.keeper) b.times b.known
+        × IsCosted (K.network b.keeper) b.times b.kept.cost b.kept.missing };
 }
 
 impl<K: Keeper> Bench<K> {
@@ -54,9 +59,11 @@ impl<K: Keeper> Bench<K> {
         } }
     {
         let times = Timetable::new(alloc, keeper.instance().period());
+        let kept = KeptCost::untimed(keeper.instance(), &times);
         Bench {
             keeper,
             times,
+            kept,
             known: None,
             candidate: None,
             nodes: 0,

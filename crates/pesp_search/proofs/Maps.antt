@@ -14,7 +14,7 @@ use Rattle.pesp_tension.specs.Answers as tension
 use Rattle.pesp_tension.specs.Timetables.{Times}
 use Rattle.pesp_search_network.specs.Arcs.{Arcs, IsCosted, IsMet, has}
 use Rattle.pesp_search_network.specs.Arcs as arcs
-use Rattle.pesp_search_network.specs.declared.arc.Arc.{Arc}
+use Rattle.pesp_search_graph.specs.declared.arc.Arc.{Arc}
 use Rattle.pesp_search.specs.Arcs.{AreArcsOf, IsArcOf, IsNetworkOf}
 use Rattle.pesp_search.specs.Optima.{IsMember}
 use Rattle.pesp_search.specs.Paths.{at, timetable_of}

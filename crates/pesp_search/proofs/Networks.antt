@@ -12,7 +12,7 @@ use Rattle.pesp_instance.specs.Network.{IsNetwork, Network, event_ids, has_event
 use Rattle.pesp_domains.specs.declared.pair.Pair.{Pair}
 use Rattle.pesp_search_bounds.specs.Rows.{AreDomains}
 use Rattle.pesp_search_network.specs.Arcs.{Arcs}
-use Rattle.pesp_search_network.specs.declared.arc.Arc.{Arc}
+use Rattle.pesp_search_graph.specs.declared.arc.Arc.{Arc}
 use Rattle.pesp_search.specs.Arcs.{AreArcsOf, IsArcOf, IsNetworkOf, tested}
 use Rattle.pesp_search.proofs.Events.{index_of}
 

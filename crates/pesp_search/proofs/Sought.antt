@@ -1,4 +1,4 @@
--- What the search over differences comes to is told of timetables.
+-- What the search by cycles comes to is told of timetables.
 use Rattle.std.proofs.Common.{◌≡◌, ℕ, ◌-◌, ◌^◌, ◌<◌, Bool, true, false, List, [], ◌∷◌, length, Option, Some, None, IfSome, option_map, Result, Ok, Err, IfOk, sym, ◌∙◌, ap, subst, inl, inr, arith}
 use Rattle.std.specs.Map.{values_of}
 use Rattle.std.proofs.lemmas.Bool.{false≢true}
@@ -15,7 +15,7 @@ use Rattle.pesp_search_network.specs.Arcs.{Arcs, IsCosted}
 use Rattle.pesp_search.specs.Arcs.{IsNetworkOf}
 use Rattle.pesp_base.specs.declared.memory.Memory.{Memory}
 use Rattle.pesp_search.specs.declared.answer.Best.{Best}
-use Rattle.pesp_search.specs.declared.differences.Sought.{Sought}
+use Rattle.pesp_search.specs.declared.seek.Sought.{Sought}
 use Rattle.pesp_search.specs.Optima.{IsBound, IsMember, IsOptimum, Precedes}
 use Rattle.pesp_search.specs.Paths.{HasEmpty, IsDeadEnd, timetable_of}
 use Rattle.pesp_search.specs.Sought.{IsCap, IsMapOf, IsSought, IsSoughtMap, best_of_map}

@@ -4,7 +4,7 @@ use Rattle.pesp_base.specs.declared.activity.Activity.{Activity}
 use Rattle.pesp_domains.specs.Domains.{InDomains}
 use Rattle.pesp_instance.specs.Network.{Network, event_ids}
 use Rattle.pesp_search_network.specs.Arcs.{Arcs, has}
-use Rattle.pesp_search_network.specs.declared.arc.Arc.{Arc}
+use Rattle.pesp_search_graph.specs.declared.arc.Arc.{Arc}
 
 -- the arc leads between the indices of the activity's ends, with its span and weight
 pub record IsArcOf (ids : List ℕ) (a : Activity) (arc : Arc) : Type 0 where

@@ -1,4 +1,4 @@
--- What the search over differences comes to.
+-- What the search by cycles comes to.
 use Rattle.std.specs.Prelude.{◌≡◌, ℕ, ◌-◌, ◌^◌, ◌<◌, Bool, true, false, All, length, Option, Some, None, IfSome}
 use Rattle.pesp_instance.specs.Network.{Network, event_ids}
 use Rattle.pesp_search_least.specs.declared.outcome.Candidate.{Candidate}

@@ -11,7 +11,8 @@ use pesp_base::{Activity, EventId, Memory, Period};
 use pesp_domains::Keeper;
 use pesp_instance::Instance;
 use pesp_search_bounds::fill_rows;
-use pesp_search_network::{Arc, Network};
+use pesp_search_graph::Arc;
+use pesp_search_network::Network;
 use std::alloc::Global;
 
 /// The index of an event among ascending ones, of which it is one.

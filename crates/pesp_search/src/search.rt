@@ -10,12 +10,12 @@ ghost use Rattle.pesp_search.specs.Tree.{AreNodes};
 ghost use Rattle.pesp_search.specs.Tried.{IsFound, IsOutcome, MayTry};
 
 use crate::branch::Branch;
-use crate::differences::seek;
 use crate::dived::{dived, first_known, limit_of_dive, lowest};
 use crate::guide::Guide;
 use crate::incumbent::Incumbent;
 use crate::outcome::{Outcome, answer_of, ended, told};
 use crate::parts::least_of_parts;
+use crate::seek::seek;
 use crate::steps::has_empty_row;
 use crate::tree_search::TreeSearch;
 use crate::{Answer, Best, Tried};
@@ -85,7 +85,7 @@ fn search_tree<K: Keeper>(
     Ok(told(search.run(keeper), before))
 }
 
-/// Asks the search over differences, and where that does not come to its end goes through the tree.
+/// Asks the search by cycles, and where that does not come to its end goes through the tree.
 fn search_in_turn<K: Keeper>(
     alloc: Global,
     keeper: &mut K,

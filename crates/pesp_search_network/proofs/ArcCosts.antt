@@ -5,7 +5,7 @@ use Rattle.std.proofs.lemmas.List.{take_all}
 use Rattle.std.proofs.lemmas.List.Sums.{sum_by_more}
 use Rattle.pesp_base.specs.Tensions.{is_met, slack_of}
 use Rattle.pesp_search_network.specs.Arcs.{Arcs, IsCosted, IsMet, KeepsRows, cost_in, cost_met, meets}
-use Rattle.pesp_search_network.specs.declared.arc.Arc.{Arc}
+use Rattle.pesp_search_graph.specs.declared.arc.Arc.{Arc}
 
 chosen : (b : Bool) (n m : ℕ) → cond b (Some n) None ≡ Some m → IsTrue b × (n ≡ m)
 chosen true n m e = (refl, cc)

@@ -4,15 +4,16 @@ use Rattle.std.proofs.Math.Nat.{mod-eq_of_lt, mod-lt, add-mod_right, add-mod-mod
 use Rattle.std.proofs.lemmas.Bool.{false≢true, cases_lt}
 use Rattle.std.proofs.lemmas.List.{get_or_append_left, get_or_push, length_push}
 use Rattle.std.proofs.lemmas.List.Elements.{All-cons, All-filter, All-head, All-nil, All-tail, filter_passes}
-use Rattle.pesp_search_tables.specs.Differences.{difference}
 use Rattle.pesp_search_network.specs.Arcs.{Arcs, KeepsRows, has}
-use Rattle.pesp_search_network.specs.Pieces.{IsEnd, IsJoined, IsPiece, MayTurn, is_inner, is_of, touches, turn_of}
-use Rattle.pesp_search_network.specs.declared.arc.Arc.{Arc}
+use Rattle.pesp_search_network.specs.Pieces.{IsEnd, IsJoined, IsPiece, MayTurn, difference, is_inner, is_of, touches, turn_of}
+use Rattle.pesp_search_graph.specs.declared.arc.Arc.{Arc}
 use Rattle.pesp_base.proofs.WindowLaws.{after_no_step}
-use Rattle.pesp_search_tables.proofs.Differences.{difference_is}
 use Rattle.pesp_search_network.proofs.Turned.{IsTurned}
 
 -- ---- turns
+
+difference_is : (T r s : ℕ) → r < T → difference T r s ≡ (s + (T - r)) % T
+difference_is T r s h = ap (λ q. (s + (T - q)) % T) (mod-eq_of_lt h)
 
 -- turned as far as another residue is ahead, it is that one
 turned_there : (T r s : ℕ) → r < T → s < T → (r + difference T r s) % T ≡ s

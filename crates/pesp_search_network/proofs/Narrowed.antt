@@ -4,12 +4,11 @@ use Rattle.std.proofs.Math.ListN.{set}
 use Rattle.std.proofs.lemmas.List.{get_or-set_same, get_or-set_other, get_or_past, length-set}
 use Rattle.std.proofs.lemmas.Nat.{div-mul-add}
 use Rattle.std.proofs.lemmas.Bool.{cases_eq, cases_lt}
-use Rattle.pesp_search_least.specs.Order.{BelowResidue, IsHeld}
-use Rattle.pesp_search_least.specs.Sums.{IsLowerBound, IsWithin}
+use Rattle.pesp_search_least.specs.Order.{IsHeld}
 use Rattle.pesp_search_network.specs.Arcs.{Arcs, IsCosted, IsMet, cost_in, has, meets}
 use Rattle.pesp_search_network.specs.Narrow.{IsNarrowed}
-use Rattle.pesp_search_network.specs.declared.arc.Arc.{Arc}
-use Rattle.pesp_search_network.proofs.Placements.{keeps_rows}
+use Rattle.pesp_search_graph.specs.declared.arc.Arc.{Arc}
+use Rattle.pesp_search_network.proofs.Residues.{keeps_rows}
 
 -- ---- one residue
 
@@ -128,11 +127,7 @@ module _ (event low high : ℕ) (N M : Arcs) (narrowed : IsNarrowed event low hi
     costs = ap (λ T. sum_by (cost_in T map) M.arcs) narrowed.period ∙ ap (sum_by (cost_in N.period map)) narrowed.arcs ∙ is.costs;
   }
 
--- ---- what a region finds
-
--- a copy that is narrowed
-pub narrowed_copy : (event end high : ℕ) (N M U : Arcs) → M ≡ N → high ≡ N.period → IsNarrowed event end high M U → IsNarrowed event end N.period N U
-narrowed_copy event end high N M U copied top is = subst (λ (T : ℕ). IsNarrowed event end T N U) top (subst (λ (Q : Arcs). IsNarrowed event end high Q U) copied is)
+-- ---- one residue is left
 
 -- residues below one, and after it, are forbidden
 pub held : (event residue first next : ℕ) (N M U : Arcs) → event < N.events → first ≡ min residue N.period → next ≡ min (residue + 1) N.period
@@ -156,31 +151,3 @@ held event residue first next N M U h low high before after = record {
   where
     least_and_most : (r residue first next T : ℕ) → first ≡ min residue T → next ≡ min (residue + 1) T → r < T → (r < first → ⊥) → (next ≤ r → r < T → ⊥) → r ≡ residue
     least_and_most r residue first next T low high below most less = grind arith
-
-least_residue : (r residue end T : ℕ) → end ≡ min residue T → r < T → (end ≤ r → r < T → ⊥) → r < residue
-least_residue r residue end T e below out = elim (cases_lt r end) [
-  | inr most ↦ absurd (out most below)
-  | inl less ↦ omega (arith, e, less)
-]
-
-no_residue : (r residue end T : ℕ) → end ≡ min residue T → r < T → r < residue → end ≤ r → ⊥
-no_residue r residue end T e below less most = omega (arith, e, below, less, most)
-
--- maps with a residue below another are those of the network in which the others are forbidden
-pub below_there : (event residue end : ℕ) (N U : Arcs) → event < N.events → end ≡ min residue N.period → IsNarrowed event end N.period N U → IsWithin (IsCosted U) (BelowResidue (IsCosted N) event residue)
-below_there event residue end N U h e narrowed map cost is =
-    let old = narrowed-within event end N.period N U narrowed map cost is in
-    let below = (keeps_rows N map old.met).below event h in
-    (old, least_residue (slice_index map event) residue end N.period e below (narrowed-out event end N.period N U narrowed map cost h is))
-
-pub below_back : (event residue end : ℕ) (N U : Arcs) → event < N.events → end ≡ min residue N.period → IsNarrowed event end N.period N U → IsWithin (BelowResidue (IsCosted N) event residue) (IsCosted U)
-below_back event residue end N U h e narrowed map cost is =
-    let below = (keeps_rows N map is.0.met).below event h in
-    narrowed-keeps event end N.period N U narrowed map cost is.0 (λ most _. no_residue (slice_index map event) residue end N.period e below is.1 most)
-
--- where none is possible there is none
-pub none_below : (event residue end cap : ℕ) (N : Arcs) → event < N.events → end ≡ min residue N.period → ((map : List ℕ) (cost : ℕ) → IsCosted N map cost → slice_index map event < end → ⊥)
-    → IsLowerBound (BelowResidue (IsCosted N) event residue) cap
-none_below event residue end cap N h e none map cost is =
-    let below = (keeps_rows N map is.0.met).below event h in
-    absurd (none map cost is.0 (omega (arith, e, below, is.1)))

@@ -5,11 +5,11 @@ use Rattle.std.proofs.lemmas.List.Filters.{sum_by-filter_both}
 use Rattle.pesp_search_network.specs.Arcs.{Arcs, IsCosted, KeepsRows, cost_in, has, meets}
 use Rattle.pesp_search_network.specs.Pieces.{IsJoined, IsPeeled, IsShare, is_inner, is_of, turn_of}
 use Rattle.pesp_search_network.specs.SumsApart.{AreTogether, IsSumOf}
-use Rattle.pesp_search_network.specs.declared.arc.Arc.{Arc}
+use Rattle.pesp_search_graph.specs.declared.arc.Arc.{Arc}
 use Rattle.pesp_base.proofs.WindowLaws.{after_no_step}
 use Rattle.pesp_search_network.proofs.Joined.{IsBuilt, all_both, build, joined_inside, joined_keeps_rows, joined_list, joined_outside, outside_same}
 use Rattle.pesp_search_network.proofs.Turned.{costs-turned, met-turned}
-use Rattle.pesp_search_network.proofs.Placements.{keeps_rows}
+use Rattle.pesp_search_network.proofs.Residues.{keeps_rows}
 
 -- ---- one share
 

@@ -10,7 +10,7 @@ use Rattle.pesp_base.specs.Tensions.{residue, slack_of}
 use Rattle.pesp_base.proofs.Laws.{against, spread}
 use Rattle.pesp_base.proofs.ResidueLaws.{residue-whole_periods}
 use Rattle.pesp_search_network.specs.Arcs.{cost_in, meets}
-use Rattle.pesp_search_network.specs.declared.arc.Arc.{Arc}
+use Rattle.pesp_search_graph.specs.declared.arc.Arc.{Arc}
 
 -- a turned residue is the residue and the turn, less whole periods
 turned_parts : (T t r : ℕ) → pos ((r + t) % T) ≡ pos (r + t) +ℤ pos T *ℤ neg_ℤ (pos ((r + t) / T))

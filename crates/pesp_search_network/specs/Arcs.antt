@@ -1,7 +1,7 @@
 -- A network of arcs between events by index, and what its maps of events to residues cost.
 use Rattle.std.specs.Prelude.{◌≡◌, ℕ, ◌+◌, ◌*◌, ◌<◌, ◌≤◌, Bool, false, IsTrue, Option, Some, None, List, All, length, slice_index, slice_index_or, sum_by, if◌then◌else◌}
 use Rattle.pesp_base.specs.Tensions.{is_met, slack_of}
-use Rattle.pesp_search_network.specs.declared.arc.Arc.{Arc}
+use Rattle.pesp_search_graph.specs.declared.arc.Arc.{Arc}
 
 -- a period, how many events there are, the arcs in their order, and for each event, for each residue, whether it is admitted
 pub record Arcs : Type 0 where
@@ -57,8 +57,3 @@ pub record AreArcs (N : Arcs) : Type 0 where
   pub ends : All (IsBetween N.events) N.arcs
   pub count : length N.arcs ≤ 100000
   pub rows : length N.rows ≡ N.events * N.period
-
--- the arc is one of the network
-pub record IsArc (N : Arcs) (a : Arc) : Type 0 where
-  pub between : IsBetween N.events a
-  pub met : (map : List ℕ) → IsMet N map → IsTrue (meets N.period map a)

@@ -1,10 +1,6 @@
 pub mod Arcs
 pub mod Narrow
+pub mod Only
 pub mod Pieces
-pub mod Placements
-pub mod Ranges
-pub mod Relaxed
-pub mod Scales
-pub mod Splits
 pub mod SumsApart
-pub mod Told
+pub mod Tried

@@ -1,9 +1,8 @@
 -- A network in two: a piece that is solved apart, and the rest.
-use Rattle.std.specs.Prelude.{◌≡◌, ℕ, ◌+◌, ◌%◌, ◌<◌, ◌⊎◌, ⊤, Bool, true, false, not, ◌||◌, IsTrue, Option, Some, None, List, All, filter, length, slice_index, slice_index_or}
-use Rattle.pesp_search_tables.specs.Differences.{difference}
+use Rattle.std.specs.Prelude.{◌≡◌, ℕ, ◌+◌, ◌-◌, ◌%◌, ◌<◌, ◌⊎◌, ⊤, Bool, true, false, not, ◌||◌, IsTrue, Option, Some, None, List, All, filter, length, slice_index, slice_index_or}
 use Rattle.pesp_search_network.specs.Arcs.{Arcs, IsBetween, has}
-use Rattle.pesp_search_network.specs.Placements.{IsOnly}
-use Rattle.pesp_search_network.specs.declared.arc.Arc.{Arc}
+use Rattle.pesp_search_network.specs.Only.{IsOnly}
+use Rattle.pesp_search_graph.specs.declared.arc.Arc.{Arc}
 
 -- whether the event is in the piece
 abbrev pub is_inner : List Bool → ℕ → Bool
@@ -76,6 +75,10 @@ pub record IsPeeled (N P R : Arcs) (inner : List Bool) (joint : Option ℕ) : Ty
   pub outside : IsShare inner false N R
 
 -- ---- maps
+
+-- how far s is ahead of r, round the period
+abbrev pub difference : ℕ → ℕ → ℕ → ℕ
+difference T r s = (s + (T - r % T)) % T
 
 -- how far a map of the piece is turned, so that both maps agree at the joint
 abbrev pub turn_of : ℕ → Option ℕ → List ℕ → List ℕ → ℕ

@@ -6,13 +6,13 @@ ghost use Rattle.pesp_search_least.specs.Sums.{IsCandidate, IsLeast, IsLowerBoun
 ghost use Rattle.pesp_search_network.specs.Arcs.{IsCosted};
 ghost use Rattle.pesp_search_network.specs.Pieces.{IsPeeled};
 
-use crate::Network;
 use crate::pieces::Peeled;
+use crate::{Method, Network};
 use pesp_base::Memory;
 use pesp_search_least::{Budget, Candidate, Limits, Outcome};
 use std::alloc::Global;
 
-/// How many pieces may be peeled off, one within the other; small networks have fewer.
+/// How many pieces may be peeled off, one within the other.
 const MOST_PIECES: usize = 100;
 
 impl Network {
@@ -34,7 +34,8 @@ impl Network {
         }
     }
 
-    /// The outcome where the piece has a least map, and the rest has been searched below what is left of the cap.
+    /// The outcome where the piece has a least map, and the rest has been searched below what is left
+    /// of the cap.
     fn joined_outcome(&self, peeled: &Peeled, piece: &Candidate, cap: u64, rest: Outcome) -> Outcome
         requires peeled { IsPeeled self.now peeled.now.piece peeled.now.rest
             peeled.now.cut.inner.items peeled.now.cut.joint }
@@ -62,9 +63,10 @@ impl Network {
     }
 
     /// The same as [`Network::least`], with so many pieces solved apart at most.
-    fn least_apart(
+    fn least_apart<M: Method>(
         &self,
         alloc: Global,
+        method: &M,
         limits: Limits,
         budget: &mut Budget,
         pieces: usize,
@@ -78,22 +80,24 @@ impl Network {
             → OnOk result (SpendsUnit budget.old.left budget.new.left) }
     {
         if pieces == 0 {
-            return self.least_in_one(alloc, limits, budget);
+            return method.least(alloc, self, limits, budget);
         }
         let Some(peeled) = self.peel(alloc)? else {
-            return self.least_in_one(alloc, limits, budget);
+            return method.least(alloc, self, limits, budget);
         };
         let of_piece = Limits {
             floor: 0,
             cap: limits.cap,
         };
-        match peeled.piece.least_in_one(alloc, of_piece, budget)? {
+        match method.least(alloc, &peeled.piece, of_piece, budget)? {
             Outcome::Found(piece) => {
                 let left = Limits {
                     floor: limits.floor.saturating_sub(piece.cost),
                     cap: limits.cap - piece.cost,
                 };
-                let rest = peeled.rest.least_apart(alloc, left, budget, pieces - 1)?;
+                let rest = peeled
+                    .rest
+                    .least_apart(alloc, method, left, budget, pieces - 1)?;
                 Ok(self.joined_outcome(&peeled, &piece, limits.cap, rest))
             }
             Outcome::NoneBelow => Ok(Outcome::NoneBelow),
@@ -104,13 +108,15 @@ impl Network {
         }
     }
 
-    /// A map of least cost, where some cost is below the cap.
+    /// A map of least cost, where some cost is below the cap, by a method that is asked for each
+    /// piece.
     ///
-    /// No cost is below the floor. The search ends with a least one, and stops before that only where the budget is
-    /// spent. Tables take memory as [`Network::is_small`] allows.
-    pub fn least(
+    /// No cost is below the floor. The search ends with a least one, and stops before that only where
+    /// the budget is spent.
+    pub fn least<M: Method>(
         &self,
         alloc: Global,
+        method: &M,
         limits: Limits,
         budget: &mut Budget,
     ) -> Result<Outcome, Memory>
@@ -118,11 +124,11 @@ impl Network {
         ensures outcome { IfOk result (IsOutcome (IsCosted self.now) limits.cap) }
         ensures spent { IfOk result (StopsWhereSpent budget.new.left) }
         ensures budget { OnlySpends budget.old.left budget.new.left }
-        // Without a unit no node is expanded, and so nothing is known.
+        // Without a unit nothing is known.
         ensures stops { limits.floor < limits.cap → budget.old.left ≡ Some 0 → IfOk result IsStop }
         ensures spends { limits.floor < limits.cap → budget.old.left ≢ Some 0
             → OnOk result (SpendsUnit budget.old.left budget.new.left) }
     {
-        self.least_apart(alloc, limits, budget, MOST_PIECES)
+        self.least_apart(alloc, method, limits, budget, MOST_PIECES)
     }
 }

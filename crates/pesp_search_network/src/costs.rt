@@ -21,15 +21,6 @@ pub(crate) fn cost_between(period: Period, arc: &Arc, from: u16, to: u16) -> Opt
     }
 }
 
-/// The most that an arc can cost.
-pub(crate) fn most_between(period: Period, arc: Arc) -> u64
-    ensures { result ≤ 1439000000000 }
-{
-    let width = (arc.span.upper() - arc.span.lower()).unsigned_abs();
-    let slack = width.min(u32::from(period.get()) - 1);
-    u64::from(arc.weight.get()) * u64::from(slack)
-}
-
 impl Network {
     /// Whether the event may stand at the residue.
     pub(crate) fn may_have(&self, event: usize, residue: u16) -> bool

@@ -1,7 +1,7 @@
 //! Networks.
 
-ghost use Rattle.std.specs.Prelude.{◌≡◌, ℕ, ◌+◌, ◌*◌, ◌<◌, ◌≤◌, [], ◌∷◌, ◌++◌, true, false, IfOk, OnOk, OnErr, filter, length, replicate, slice_index_or, slice_set};
-ghost use Rattle.pesp_search_network.specs.Arcs.{IsBetween, has};
+ghost use Rattle.std.specs.Prelude.{◌≡◌, ℕ, ◌+◌, ◌*◌, ◌<◌, ◌≤◌, [], ◌∷◌, ◌++◌, true, false, All, IfOk, OnOk, OnErr, filter, length, replicate, slice_index_or, slice_set};
+ghost use Rattle.pesp_search_network.specs.Arcs.{AreArcs, IsBetween, has};
 ghost use Rattle.pesp_search_network.specs.Pieces.{is_of};
 
 use crate::Arc;
@@ -82,15 +82,6 @@ impl Network {
         self.rows[index] = false;
     }
 
-    /// Puts an arc in place of another.
-    pub(crate) fn set_arc(&mut self, index: usize, arc: Arc)
-        requires index { index < length self.old.arcs }
-        requires between { IsBetween self.old.events arc }
-        ensures { self.new ≡ record self.old { arcs = slice_set self.old.arcs index arc } }
-    {
-        self.arcs[index] = arc;
-    }
-
     /// The same network once more.
     pub(crate) fn copy(&self) -> Result<Network, Memory>
         ensures { IfOk result (λ network. network ≡ self.now) }
@@ -147,35 +138,51 @@ impl Network {
         })
     }
 
+    /// What holds of all networks.
+    pub fn sound(&self)
+        ensures { AreArcs self.now }
+    {
+        let _ = &self.period;
+    }
+
     /// For each event, for each residue, whether the event may stand there.
-    pub(crate) fn rows(&self) -> &[bool]
+    pub fn rows(&self) -> &[bool]
         ensures { result.now ≡ self.now.rows }
     {
         &self.rows
     }
 
-    pub(crate) fn period(&self) -> Period
+    pub fn period(&self) -> Period
         ensures { result ≡ self.now.period }
     {
         self.period
     }
 
-    pub(crate) fn events(&self) -> usize
+    pub fn events(&self) -> usize
         ensures value { result ≡ self.now.events }
         ensures few { result ≤ 20000 }
     {
         self.events
     }
 
+    /// The arcs, in the order in which they were added.
+    pub fn arcs(&self) -> &[Arc]
+        ensures value { result.now ≡ self.now.arcs }
+        ensures between { All (IsBetween self.now.events) result.now }
+        ensures few { length result.now ≤ 100000 }
+    {
+        &self.arcs
+    }
+
     /// How many arcs there are.
-    pub(crate) fn arc_count(&self) -> usize
+    pub fn arc_count(&self) -> usize
         ensures value { result ≡ length self.now.arcs }
         ensures few { result ≤ 100000 }
     {
         self.arcs.len()
     }
 
-    pub(crate) fn arc(&self, index: usize) -> Arc
+    pub fn arc(&self, index: usize) -> Arc
         requires { index < length self.now.arcs }
         ensures value { result ≡ slice_index_or self.now.arcs index result }
         ensures between { IsBetween self.now.events result }
@@ -184,7 +191,7 @@ impl Network {
     }
 
     /// For each residue whether the event may stand there.
-    pub(crate) fn row(&self, event: usize) -> &[bool]
+    pub fn row(&self, event: usize) -> &[bool]
         requires { event < self.now.events }
         ensures long { length result.now ≡ self.now.period }
         ensures values { (r : ℕ) → r < self.now.period

@@ -5,7 +5,7 @@ ghost use Rattle.pesp_search_network.specs.Arcs.{IsBetween};
 ghost use Rattle.pesp_search_network.specs.Pieces.{IsEnd, IsFree, IsPeeled, IsPiece, MayTurn, StaysIn, is_inner};
 
 use crate::separation::Separation;
-use crate::traversal::{circles_of, cut_at, traverse};
+use crate::traversal::{cut_at, cycles_of, traverse};
 use crate::{Arc, Network};
 use pesp_base::Memory;
 use std::alloc::Global;
@@ -102,9 +102,9 @@ impl Network {
     {
         let graph = self.links(alloc)?;
         let discoveries = traverse(alloc, &graph, self.events())?;
-        let circles = circles_of(&discoveries);
+        let cycles = cycles_of(&discoveries);
         for index in (0..discoveries.len()).rev() {
-            if let Some(cut) = cut_at(alloc, self.events(), &discoveries, index, circles)? {
+            if let Some(cut) = cut_at(alloc, self.events(), &discoveries, index, cycles)? {
                 if self.is_piece(&cut) {
                     return Ok(Some(cut));
                 }

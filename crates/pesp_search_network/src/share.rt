@@ -12,7 +12,7 @@ use std::alloc::Global;
 
 impl Network {
     /// The first residue at which the event may stand.
-    fn first_residue(&self, event: usize) -> Option<u16>
+    pub(crate) fn first_residue(&self, event: usize) -> Option<u16>
         requires { event < self.now.events }
         ensures { MatchOption result
             ((r : ℕ) → r < self.now.period → has self.now event r ≡ false)

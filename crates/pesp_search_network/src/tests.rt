@@ -1,19 +1,19 @@
-//! A small network, whose least costs and first maps another program found, which tries all maps.
+//! A small network, whose least costs another program found, which tries all maps.
 
-ghost use Rattle.std.specs.Prelude.{◌+◌, ◌<◌, ◌^◌};
-ghost use Rattle.pesp_search_least.specs.Sums.{IsLeast, IsOutcome};
+ghost use Rattle.pesp_search_least.specs.Sums.{IsOutcome};
 ghost use Rattle.pesp_search_network.specs.Arcs.{IsCosted};
 
+use crate::trials::Trials;
 use crate::{Arc, Network};
-use pesp_base::{Memory, Period, Span, Weight};
-use pesp_search_least::{Budget, Candidate, First, Limits, Outcome, first};
+use pesp_base::{Period, Span, Weight};
+use pesp_search_least::{Budget, Limits, Outcome};
 use std::alloc::Global;
 use std::process::Abort;
 
 /// The ends of an arc, its bounds and its weight.
 pub(crate) type Line = (usize, usize, i32, i32, u32);
 
-/// At period ten a circle of four events, two arcs across it, and a loop.
+/// At period ten a cycle of four events, two arcs across it, and a loop.
 const LINES: &[Line] = &[
     (0, 1, 2, 9, 5),
     (1, 2, 2, 4, 3),
@@ -75,16 +75,13 @@ fn found(rt: &impl Abort, alloc: Global, network: &Network, cap: u64, units: u64
     let limits = Limits { floor: 0, cap };
     let mut budget = Budget::of(units);
     network
-        .least(alloc, limits, &mut budget)
+        .least(alloc, &Trials, limits, &mut budget)
         .ok()
         .expect(rt, "memory")
 }
 
-/// A map of least cost, which is this one.
-fn least_at(rt: &impl Abort, alloc: Global, network: &Network, cost: u64) -> Candidate
-    ensures least { IsLeast (IsCosted network.now) result }
-    ensures room { result.cost + 1 < 2 ^ 64 }
-{
+/// The least cost, and that a map that costs it is told.
+pub(crate) fn try_least(rt: &impl Abort, alloc: Global, network: &Network, cost: u64) {
     let candidate = match found(rt, alloc, network, 1_000, 1_000_000) {
         Outcome::Found(candidate) => Some(candidate),
         _ => None,
@@ -92,40 +89,20 @@ fn least_at(rt: &impl Abort, alloc: Global, network: &Network, cost: u64) -> Can
     let candidate = candidate.expect(rt, "found");
     assert!(rt; candidate.cost == cost, "the least cost");
     assert!(rt; network.cost(&candidate.map) == Some(cost), "its map");
-    candidate
-}
-
-/// What was found without a limit is this map.
-fn assert_first(rt: &impl Abort, first: Result<First, Memory>, map: &[u16], message: &str) {
-    match first.ok().expect(rt, "memory") {
-        First::Done(found) => assert!(rt; found.map.as_slice() == map, "{}", message),
-        First::Spent(_) => assert!(rt; false, "no limit"),
-    }
-}
-
-/// The first map of least cost, and that cost, by questions to the network and by an elimination.
-pub(crate) fn try_first(rt: &impl Abort, alloc: Global, network: Network, cost: u64, map: &[u16]) {
-    let copy = network.copy().ok().expect(rt, "memory");
-    let candidate = least_at(rt, alloc, &copy, cost);
-    let asked = first(alloc, copy, candidate, &mut Budget::unlimited());
-    assert_first(rt, asked, map, "the first map by questions");
-    let candidate = least_at(rt, alloc, &network, cost);
-    let held = network.first_by_buckets(alloc, candidate, &mut Budget::unlimited());
-    assert_first(rt, held, map, "the first map by buckets");
 }
 
 #[test]
-fn first_of_all(rt: HostRuntime) {
+fn least_of_all(rt: HostRuntime) {
     let network = square(&rt, rt.alloc());
-    try_first(&rt, rt.alloc(), network, 35, &[0, 2, 4, 8]);
+    try_least(&rt, rt.alloc(), &network, 35);
 }
 
 #[test]
-fn first_in_rows(rt: HostRuntime) {
+fn least_in_rows(rt: HostRuntime) {
     let mut network = square(&rt, rt.alloc());
     hold(&rt, &mut network, 0, 7, 8);
     hold(&rt, &mut network, 2, 2, 4);
-    try_first(&rt, rt.alloc(), network, 40, &[7, 9, 2, 5]);
+    try_least(&rt, rt.alloc(), &network, 40);
 }
 
 #[test]
@@ -141,7 +118,6 @@ fn none_below(rt: HostRuntime) {
 #[test]
 fn spent(rt: HostRuntime) {
     let network = square(&rt, rt.alloc());
-    assert!(rt; network.is_small(), "small");
     let outcome = found(&rt, rt.alloc(), &network, 1_000, 0);
     assert!(rt;
         matches!(outcome, Outcome::Spent { best: None, .. }),

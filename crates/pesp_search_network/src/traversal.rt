@@ -21,8 +21,8 @@ pub(crate) struct Discovery {
     low: usize,
     // How many discoveries are below it, itself too; they stand one after another.
     size: usize,
-    // How many circles their links close.
-    circles: usize,
+    // How many cycles their links close.
+    cycles: usize,
 }
 
 /// An event that the traversal may go to, and the index of the discovery from which it would come.
@@ -54,14 +54,14 @@ fn discover(
         parent: step.parent,
         low: index,
         size: 1,
-        circles: 0,
+        cycles: 0,
     };
     if discoveries.push(discovery).is_err() {
         return Err(Memory);
     }
     for neighbour in graph.neighbours(step.event).iter().rev() {
         let next = Step {
-            event: neighbour.node,
+            event: *neighbour,
             parent: Some(index),
         };
         if waiting.push(next).is_err() {
@@ -101,7 +101,7 @@ fn traverse_from(
     Ok(())
 }
 
-/// The discovery, with its low point and the circles that its links to earlier ones close.
+/// The discovery, with its low point and the cycles that its links to earlier ones close.
 fn with_low_point(
     graph: &Graph,
     indices: &[Option<usize>],
@@ -111,7 +111,7 @@ fn with_low_point(
     let mut low = discovery.low;
     let mut links: usize = 0;
     for neighbour in graph.neighbours(discovery.event) {
-        if let Some(Some(other)) = indices.get(neighbour.node) {
+        if let Some(Some(other)) = indices.get(*neighbour) {
             if *other < index {
                 low = low.min(*other);
                 links = links.saturating_add(1);
@@ -123,7 +123,7 @@ fn with_low_point(
     }
     Discovery {
         low,
-        circles: discovery.circles.saturating_add(links),
+        cycles: discovery.cycles.saturating_add(links),
         ..discovery
     }
 }
@@ -136,7 +136,7 @@ fn tell_parent(discoveries: &mut [Discovery], discovery: Discovery) {
             discoveries[parent] = Discovery {
                 low: told.low.min(discovery.low),
                 size: told.size.saturating_add(discovery.size),
-                circles: told.circles.saturating_add(discovery.circles),
+                cycles: told.cycles.saturating_add(discovery.cycles),
                 ..told
             };
         }
@@ -171,28 +171,28 @@ pub(crate) fn traverse(
     Ok(discoveries)
 }
 
-/// How many circles there are.
-pub(crate) fn circles_of(discoveries: &[Discovery]) -> usize {
-    let mut circles: usize = 0;
+/// How many cycles there are.
+pub(crate) fn cycles_of(discoveries: &[Discovery]) -> usize {
+    let mut cycles: usize = 0;
     for discovery in discoveries {
         if discovery.parent.is_none() {
-            circles = circles.saturating_add(discovery.circles);
+            cycles = cycles.saturating_add(discovery.cycles);
         }
     }
-    circles
+    cycles
 }
 
 impl Discovery {
-    /// Whether what is below the discovery is joined with what came before at one node at most, and there are circles on
-    /// both sides, so many in all.
+    /// Whether what is below the discovery is joined with what came before at one node at most, and
+    /// there are cycles on both sides, so many in all.
     ///
-    /// Without circles there is nothing to be gained: bounds of tables have no gap there.
-    fn is_apart(self, circles: usize) -> bool {
+    /// Without cycles there is nothing to search: each arc costs what it costs at least.
+    fn is_apart(self, cycles: usize) -> bool {
         let hangs = match self.parent {
             Some(parent) => parent <= self.low,
             None => true,
         };
-        hangs && 0 < self.circles && self.circles < circles
+        hangs && 0 < self.cycles && self.cycles < cycles
     }
 }
 
@@ -203,12 +203,12 @@ pub(crate) fn cut_at(
     events: usize,
     discoveries: &[Discovery],
     index: usize,
-    circles: usize,
+    cycles: usize,
 ) -> Result<Option<Separation>, Memory>
     requires { index < length discoveries.now }
 {
     let discovery = discoveries[index];
-    if !discovery.is_apart(circles) {
+    if !discovery.is_apart(cycles) {
         return Ok(None);
     }
     let Ok(mut inner) = vec![in alloc; false; events] else {
@@ -228,23 +228,4 @@ pub(crate) fn cut_at(
         inner,
         joint: joint.filter(|joint| *joint < events),
     }))
-}
-
-impl Network {
-    /// A graph of the events and of the origin, in which arcs join those that have more than one residue; the origin is joined with
-    /// those that may not stand everywhere, or have an arc to one with one residue alone.
-    pub(crate) fn links(&self, alloc: Global) -> Result<Graph, Memory> {
-        let mut graph = self.graph(alloc)?;
-        for index in 0..self.arc_count() {
-            let arc = self.arc(index);
-            let ends = self.nodes_of(&arc);
-            if arc.from != arc.to
-                && self.only(ends.to).is_none()
-                && graph.pair(ends.from, ends.to).is_none()
-            {
-                graph.join(ends.from, ends.to, index)?;
-            }
-        }
-        Ok(graph)
-    }
 }

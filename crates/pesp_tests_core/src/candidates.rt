@@ -20,9 +20,8 @@ const THREE_EVENTS: &[Change] = &[
     Change::AddActivity(3, (1, 2), (1, 7), 1),
 ];
 
-/// Loops that cost nothing, and of such a weight that costs are too great for the tables of the search over differences: the tree
-/// alone is searched.
-const LOOPS: std::ops::Range<u32> = 4..34;
+/// Activities like the first one that cost nothing, and make so many cycles that the tree alone is searched.
+const COPIES: std::ops::Range<u32> = 4..406;
 
 /// The old optimum of the two activities.
 const OLD: &[(u32, u16)] = &[(1, 0), (2, 4)];
@@ -106,12 +105,8 @@ fn candidate_that_is_no_member(rt: HostRuntime) {
 }
 
 fn keep_what_is_found<K: Keeper>(rt: &(impl Abort + AllocGlobal), bench: &mut Bench<K>) {
-    for number in LOOPS {
-        change(
-            rt,
-            bench,
-            Change::AddActivity(number, (1, 1), (0, 9), 1_000_000),
-        );
+    for number in COPIES {
+        change(rt, bench, Change::AddActivity(number, (3, 2), (2, 8), 0));
     }
     assert_no_candidate(rt, bench, "nothing is found yet");
     assert_stopped_with(rt, bench, 3, 12, FOUND);

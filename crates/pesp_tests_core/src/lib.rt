@@ -17,6 +17,8 @@ mod candidates;
 #[cfg(test)]
 mod changes;
 #[cfg(test)]
+mod costs;
+#[cfg(test)]
 mod counts;
 #[cfg(test)]
 mod domains;

@@ -5,7 +5,7 @@ use crate::changes::{Change, TWO_ACTIVITIES};
 
 const INFEASIBLE_WITHOUT_A_NODE: Steps<'_> = &[
     (Step::Edit(Change::SetSpan(1, 3, 3)), "3 to 3"),
-    (Step::Infeasible(Some(0)), "told by differences"),
+    (Step::Infeasible(Some(0)), "told by cycles"),
 ];
 
 #[test]

@@ -39,23 +39,12 @@ pub(crate) fn two(alloc: Global) -> Option<Instance> {
     Some(instance)
 }
 
-/// A loop that costs nothing, and is as heavy as any.
-fn heavy_loop(number: u32) -> Option<Activity> {
-    Some(Activity {
-        id: ActivityId::new(number)?,
-        from: EventId::new(1)?,
-        to: EventId::new(1)?,
-        span: Span::new(0, 9).ok()?,
-        weight: Weight::new(1_000_000)?,
-    })
-}
-
-/// The same with so many heavy loops that costs are too great for the search over differences: the tree alone is searched.
-pub(crate) fn heavy(alloc: Global) -> Option<Instance> {
+/// The same with so many activities that there are too many cycles, and the tree alone is searched.
+pub(crate) fn dense(alloc: Global) -> Option<Instance> {
     let mut instance = two(alloc)?;
-    for number in 3..33 {
+    for number in 3..405 {
         instance
-            .apply(&Edit::AddActivity(heavy_loop(number)?))
+            .apply(&Edit::AddActivity(activity(number, 1, 2)?))
             .ok()?;
     }
     Some(instance)

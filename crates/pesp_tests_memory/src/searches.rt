@@ -92,8 +92,8 @@ fn try_case<R: Print + AllocGlobal>(rt: &R, instance: Instance, limit: Option<u6
     Some(())
 }
 
-/// Over differences, which end the search of so small an instance before anything is pushed.
-fn try_differences<R: Print + AllocGlobal>(rt: &R, words: &[String]) -> Option<()> {
+/// By cycles, which end the search of so small an instance before anything is pushed.
+fn try_cycles<R: Print + AllocGlobal>(rt: &R, words: &[String]) -> Option<()> {
     for (name, limit) in [("best", None), ("best_within", Some(1))] {
         if is_asked(rt, words, name) {
             try_case(rt, made::two(rt.alloc())?, limit)?;
@@ -108,13 +108,13 @@ fn try_tree<R: Print + AllocGlobal>(rt: &R, words: &[String]) -> Option<()> {
         ("best_within in the tree", Some(1)),
     ] {
         if is_asked(rt, words, name) {
-            try_case(rt, made::heavy(rt.alloc())?, limit)?;
+            try_case(rt, made::dense(rt.alloc())?, limit)?;
         }
     }
     Some(())
 }
 
 pub(crate) fn try_all<R: Print + AllocGlobal>(rt: &R, words: &[String]) -> Option<()> {
-    try_differences(rt, words)?;
+    try_cycles(rt, words)?;
     try_tree(rt, words)
 }

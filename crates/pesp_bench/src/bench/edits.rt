@@ -7,6 +7,7 @@ ghost use Rattle.pesp_bench.specs.Kept.{IsKeptBy};
 ghost use Rattle.pesp_bench.specs.State.{IsTimeRefusal, edited_state, timed_state, times_after, untimed_state};
 
 use crate::Bench;
+use crate::costing::cost_edited;
 use crate::kept::{forget, keeps};
 use pesp_base::{EventId, Refusal};
 use pesp_domains::Keeper;
@@ -38,7 +39,10 @@ impl<K: Keeper> Bench<K> {
         ensures unchanged { OnErr result (self.new ≡ self.old) }
     {
         let is_kept = keeps(self.keeper.instance(), edit, &self.known);
+        let before = cost_edited(self.keeper.instance(), &self.times, edit);
         self.keeper.apply(edit)?;
+        let instance = self.keeper.instance();
+        self.kept.edited(before, instance, &self.times, edit);
         clear_dropped(&mut self.times, edit);
         if !is_kept {
             forget(&mut self.known, &mut self.candidate);
@@ -57,7 +61,8 @@ impl<K: Keeper> Bench<K> {
         if !self.instance().has_event(event) {
             return Err(Refusal::NoEvent(event));
         }
-        self.times.set(event, time)
+        let instance = self.keeper.instance();
+        self.kept.set(instance, &mut self.times, event, time)
     }
 
     /// Takes the event's time away.
@@ -74,7 +79,8 @@ impl<K: Keeper> Bench<K> {
         if self.times.get(event).is_none() {
             return Err(Refusal::MissingTime(event));
         }
-        self.times.clear(event);
+        let instance = self.keeper.instance();
+        self.kept.clear(instance, &mut self.times, event);
         Ok(())
     }
 }

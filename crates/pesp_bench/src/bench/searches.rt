@@ -1,6 +1,6 @@
 //! The optimum: found, kept, and taken as the working timetable.
 
-ghost use Rattle.std.specs.Prelude.{◌≡◌, ◌⊎◌, ℕ, IsErr, IfOk, IfErr, IfSome, IsOkAnd, IsSomeAnd, OnOk, OnErr, Some, None};
+ghost use Rattle.std.specs.Prelude.{◌≡◌, ◌⊎◌, IsErr, IfOk, IfErr, IfSome, IsOkAnd, IsSomeAnd, OnOk, OnErr, Some, None};
 ghost use Rattle.pesp_base.specs.declared.refusal.Refusal.TheVariants as no;
 ghost use Rattle.std.specs.List.Sorted.{IsStrictlyIncreasing};
 ghost use Rattle.pesp_tension.specs.Timetables.{timed_events};
@@ -9,6 +9,7 @@ ghost use Rattle.pesp_search.specs.Optima.{IsAnswer};
 ghost use Rattle.pesp_bench.specs.Asked.{IsAdopted, IsAttempt, IsNoOptimum, IsNotAdopted, IsSearched, IsUnsearched};
 
 use crate::candidate::{candidate_cost, or_candidate};
+use crate::costing::KeptCost;
 use crate::{Attempt, Bench};
 use pesp_base::{Memory, Refusal};
 use pesp_domains::Keeper;
@@ -42,14 +43,17 @@ fn keep_found(alloc: Global, found: &Option<Best>, candidate: &mut Option<Timeta
     }
 }
 
-/// The optimum's timetable, or the refusal where there is none.
-fn optimum_of(alloc: Global, answer: &Answer) -> Result<Timetable, Refusal>
-    ensures ok { IfOk result (λ times. (cost : ℕ) × (answer.now ≡ answers.Optimal cost times)) }
-    ensures rising { IfOk result (λ times. IsStrictlyIncreasing (timed_events times)) }
+/// The optimum's cost and timetable, or the refusal where there is none.
+fn optimum_of(alloc: Global, answer: &Answer) -> Result<Best, Refusal>
+    ensures ok { IfOk result (λ best. answer.now ≡ answers.Optimal best.cost best.times) }
+    ensures rising { IfOk result (λ best. IsStrictlyIncreasing (timed_events best.times)) }
     ensures refused { IfErr result (IsNoOptimum answer.now) }
 {
     match answer {
-        Answer::Optimal { times, .. } => copy_of(alloc, times).map_err(|_| Refusal::Memory),
+        Answer::Optimal { cost, times } => match copy_of(alloc, times) {
+            Ok(times) => Ok(Best { cost: *cost, times }),
+            Err(Memory) => Err(Refusal::Memory),
+        },
         Answer::Infeasible => Err(Refusal::Infeasible),
     }
 }
@@ -139,7 +143,12 @@ impl<K: Keeper> Bench<K> {
         ensures times { OnErr result (self.new.times ≡ self.old.times) }
     {
         self.find_optimum(alloc)?;
-        self.times = optimum_of(alloc, self.known.as_ref().unwrap())?;
+        let best = optimum_of(alloc, self.known.as_ref().unwrap())?;
+        self.kept = KeptCost {
+            cost: best.cost,
+            missing: 0,
+        };
+        self.times = best.times;
         Ok(())
     }
 }

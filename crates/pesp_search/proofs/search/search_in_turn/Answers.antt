@@ -1,4 +1,4 @@
--- The end of the search over differences, or the tree.
+-- The end of the search by cycles, or the tree.
 use Rattle.std.proofs.Common.{sym, subst, ◌∙◌}
 use Rattle.std.proofs.lemmas.Bool.{false≢true}
 use Rattle.std.proofs.lemmas.Result.{IfOk-from_err}
@@ -7,7 +7,7 @@ use Rattle.pesp_search.proofs.Sizes.{no_nodes}
 use Rattle.pesp_search.proofs.Sought.{ended_outcome, found_of_sought}
 use Rattle.pesp_search.proofs.search.search_in_turn.Goals as goal
 
--- ---- the search over differences
+-- ---- the search by cycles
 
 pub seek-requires-clause-network : goal.seek-requires-clause-network
 seek-requires-clause-network g c = c.requires.network

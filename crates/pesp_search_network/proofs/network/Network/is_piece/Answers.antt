@@ -3,7 +3,7 @@ use Rattle.std.proofs.Common.{◌≡◌, ◌<◌, ◌≤◌, true, All, List, le
 use Rattle.std.proofs.lemmas.List.{take_all}
 use Rattle.std.proofs.lemmas.List.Elements.{All-more}
 use Rattle.pesp_search_network.specs.Pieces.{StaysIn}
-use Rattle.pesp_search_network.specs.declared.arc.Arc.{Arc}
+use Rattle.pesp_search_graph.specs.declared.arc.Arc.{Arc}
 use Rattle.pesp_search_network.proofs.network.Network.is_piece.Goals as goal
 
 pub loop-index-preserved : goal.loop-index-preserved

@@ -4,7 +4,7 @@ use Rattle.std.proofs.lemmas.List.Elements.{All-filter, All-same}
 use Rattle.std.proofs.lemmas.List.Sums.{length-filter, count_by-le-length}
 use Rattle.pesp_search_network.specs.Arcs.{AreArcs, Arcs, IsBetween}
 use Rattle.pesp_search_network.specs.Pieces.{is_of}
-use Rattle.pesp_search_network.specs.declared.arc.Arc.{Arc}
+use Rattle.pesp_search_graph.specs.declared.arc.Arc.{Arc}
 use Rattle.pesp_search_network.proofs.network.Network.with_arcs_of.Goals as goal
 
 some_arcs : (N : Arcs) (p : Arc → Bool) (arcs : List Arc) (rows : List Bool) → AreArcs N → arcs ≡ filter p N.arcs → length rows ≡ length N.rows

@@ -1,0 +1,184 @@
+//! The search by cycles, which is asked before the tree is gone through.
+
+ghost use Rattle.std.specs.Prelude.{◌≡◌, ℕ, ◌+◌, ◌<◌, ◌^◌, [], false, IfOk, IfSome, All, None, Some, length, option_map};
+ghost use Rattle.pesp_instance.specs.Network.{IsNetwork, event_ids};
+ghost use Rattle.pesp_search.specs.Arcs.{IsNetworkOf};
+ghost use Rattle.pesp_search.specs.Optima.{IsBound};
+ghost use Rattle.pesp_search.specs.Sought.{IsCap, IsMapOf, IsSought, IsSoughtMap, best_of_map};
+ghost use Rattle.pesp_search_least.specs.Sums.{IsLeast};
+ghost use Rattle.pesp_search_network.specs.Arcs.{IsCosted};
+
+use crate::Best;
+use crate::arcs::network_of;
+use crate::branch::all_at_zero;
+use crate::outcome::put_times;
+use pesp_base::{EventId, Memory};
+use pesp_domains::Keeper;
+use pesp_instance::Instance;
+use pesp_search_cycles::{ByCycles, first, is_of_use};
+use pesp_search_least::{Budget, Candidate, First, Limits, Outcome};
+use pesp_search_network::Network;
+use std::alloc::Global;
+
+/// How many units of work stand for a node of the limit.
+const UNITS_OF_NODE: u64 = 20;
+
+/// What the search by cycles comes to.
+#[derive(Drop)]
+pub(crate) struct Sought {
+    // At the end the optimum, or none; else what was found, if anything was.
+    pub(crate) best: Option<Best>,
+    // Whether the search came to its end.
+    pub(crate) is_end: bool,
+}
+
+/// The same of maps of the events to residues.
+#[derive(Drop)]
+struct SoughtMap {
+    // At the end the first map of least cost, or none; else what was found, if anything was.
+    best: Option<Candidate>,
+    // Whether the search came to its end.
+    is_end: bool,
+}
+
+/// What the search may do: so many units for each node of the limit.
+fn budget_of(limit: Option<u64>) -> Budget {
+    match limit {
+        Some(limit) => Budget::of(limit.saturating_mul(UNITS_OF_NODE)),
+        None => Budget::unlimited(),
+    }
+}
+
+/// The cap below which are the costs within the bound.
+fn cap_of(bound: Option<u64>) -> u64
+    ensures { IsCap bound result }
+{
+    match bound {
+        Some(bound) => bound.saturating_add(1),
+        None => u64::MAX,
+    }
+}
+
+/// From a map of least cost to the first one.
+fn first_map(
+    alloc: Global,
+    network: &Network,
+    candidate: Candidate,
+    budget: &mut Budget,
+) -> Result<SoughtMap, Memory>
+    requires least { IsLeast (IsCosted network.now) candidate }
+    requires room { candidate.cost + 1 < 2 ^ 64 }
+    ensures { (cap : ℕ) → candidate.cost < cap
+        → IfOk result (λ sought. IsSoughtMap (IsCosted network.now) cap sought.is_end sought.best) }
+{
+    match first(alloc, network, candidate, budget)? {
+        First::Done(best) => Ok(SoughtMap {
+            best: Some(best),
+            is_end: true,
+        }),
+        First::Spent(best) => Ok(SoughtMap {
+            best: Some(best),
+            is_end: false,
+        }),
+    }
+}
+
+/// The first map of least cost, where some cost is below the cap.
+fn seek_map(
+    alloc: Global,
+    network: &Network,
+    cap: u64,
+    budget: &mut Budget,
+) -> Result<SoughtMap, Memory>
+    ensures { IfOk result (λ sought. IsSoughtMap (IsCosted network.now) cap sought.is_end sought.best) }
+{
+    match network.least(alloc, &ByCycles, Limits { floor: 0, cap }, budget)? {
+        Outcome::Found(candidate) => first_map(alloc, network, candidate, budget),
+        Outcome::NoneBelow => Ok(SoughtMap {
+            best: None,
+            is_end: true,
+        }),
+        Outcome::Spent { best, .. } => Ok(SoughtMap {
+            best,
+            is_end: false,
+        }),
+    }
+}
+
+/// The timetable of a map, with its cost.
+fn best_of_map(
+    alloc: Global,
+    instance: &Instance,
+    events: &[EventId],
+    candidate: Candidate,
+) -> Result<Best, Memory>
+    requires network { IsNetwork instance.now }
+    requires events { events.now ≡ event_ids instance.now }
+    requires long { length candidate.map.items ≡ length (event_ids instance.now) }
+    requires below { All (λ t. t < instance.now.period) candidate.map.items }
+    ensures { IfOk result (λ best. best ≡ best_of_map instance.now candidate) }
+{
+    let mut times = all_at_zero(alloc, instance)?;
+    put_times(&mut times, instance, events, &candidate.map);
+    Ok(Best {
+        cost: candidate.cost,
+        times,
+    })
+}
+
+/// The same with the timetable of the map.
+fn with_times(
+    alloc: Global,
+    instance: &Instance,
+    events: &[EventId],
+    sought: SoughtMap,
+) -> Result<Sought, Memory>
+    requires network { IsNetwork instance.now }
+    requires events { events.now ≡ event_ids instance.now }
+    requires map { IfSome sought.best (IsMapOf instance.now) }
+    ensures best { IfOk result (λ timed.
+        timed.best ≡ option_map (best_of_map instance.now) sought.best) }
+    ensures end { IfOk result (λ timed. timed.is_end ≡ sought.is_end) }
+{
+    let is_end = sought.is_end;
+    match sought.best {
+        Some(candidate) => Ok(Sought {
+            best: Some(best_of_map(alloc, instance, events, candidate)?),
+            is_end,
+        }),
+        None => Ok(Sought { best: None, is_end }),
+    }
+}
+
+/// What the search by cycles comes to; with limit 0, or where there are too many cycles, it is not begun.
+pub(crate) fn seek<K: Keeper>(
+    alloc: Global,
+    keeper: &K,
+    events: &[EventId],
+    bound: Option<u64>,
+    limit: Option<u64>,
+) -> Result<Sought, Memory>
+    requires network { IsNetwork (K.network keeper.now) }
+    requires events { events.now ≡ event_ids (K.network keeper.now) }
+    requires pushes { K.pushes keeper.now ≡ [] }
+    requires bound { IsBound (K.network keeper.now) bound }
+    ensures sought { IfOk result (λ sought.
+        IsSought (K.network keeper.now) bound sought.is_end sought.best) }
+    ensures none { limit ≡ Some 0
+        → IfOk result (λ sought. (sought.is_end ≡ false) × (sought.best ≡ None)) }
+{
+    let nothing = Sought {
+        best: None,
+        is_end: false,
+    };
+    if limit == Some(0) {
+        return Ok(nothing);
+    }
+    let network = network_of(alloc, keeper, events)?;
+    if !is_of_use(alloc, &network)? {
+        return Ok(nothing);
+    }
+    let mut budget = budget_of(limit);
+    let sought = seek_map(alloc, &network, cap_of(bound), &mut budget)?;
+    with_times(alloc, keeper.instance(), events, sought)
+}

@@ -1,0 +1,100 @@
+//! Ways.
+
+use crate::graph::Graph;
+use crate::growth::repeated;
+use crate::queue::Queue;
+use pesp_base::Memory;
+use std::alloc::Global;
+
+/// The length of a way where there is none.
+const FAR: u64 = u64::MAX;
+
+/// No arc.
+const NONE: u32 = u32::MAX;
+
+/// Least ways to nodes; but for its last arc each is that to the node before.
+#[derive(Drop)]
+pub(crate) struct Ways {
+    // For each node how long its way is, or FAR.
+    lengths: Vec<u64>,
+    // For each node the last arc of its way; NONE where a way begins, and where there is none.
+    last: Vec<u32>,
+}
+
+impl Ways {
+    /// No node has a way.
+    pub(crate) fn none(alloc: Global, nodes: usize) -> Result<Ways, Memory> {
+        Ok(Ways {
+            lengths: repeated(alloc, FAR, nodes)?,
+            last: repeated(alloc, NONE, nodes)?,
+        })
+    }
+
+    /// How long the way to a node is.
+    pub(crate) fn length(&self, node: usize) -> u64 {
+        self.lengths.get(node).copied().unwrap_or(FAR)
+    }
+
+    pub(crate) fn is_reached(&self, node: usize) -> bool {
+        self.length(node) < FAR
+    }
+
+    /// The last arc of the way to a node.
+    pub(crate) fn last(&self, node: usize) -> Option<usize> {
+        match self.last.get(node) {
+            Some(arc) if *arc < NONE => Some(*arc as usize),
+            _ => None,
+        }
+    }
+
+    fn set(&mut self, node: usize, length: u64, last: u32) {
+        if let Some(place) = self.lengths.get_mut(node) {
+            *place = length;
+        }
+        if let Some(place) = self.last.get_mut(node) {
+            *place = last;
+        }
+    }
+
+    /// Finds the least ways from a node, until one that is wanted is reached: the nearest is told.
+    pub(crate) fn reach(
+        &mut self,
+        alloc: Global,
+        graph: &Graph,
+        start: usize,
+        wanted: &[bool],
+    ) -> Result<Option<usize>, Memory> {
+        let mut queue = Queue::new(alloc);
+        self.set(start, 0, NONE);
+        queue.add(0, start)?;
+        for _taken in 0..graph.size() {
+            let Some((length, node)) = queue.take() else {
+                return Ok(None);
+            };
+            // Else a shorter way to the node was gone before.
+            if length == self.length(node) {
+                if wanted.get(node).copied().unwrap_or(false) {
+                    return Ok(Some(node));
+                }
+                self.go_on(graph, node, &mut queue)?;
+            }
+        }
+        Ok(None)
+    }
+
+    /// Goes on from a node by each arc there.
+    fn go_on(&mut self, graph: &Graph, node: usize, queue: &mut Queue) -> Result<(), Memory> {
+        let length = self.length(node);
+        for arc in graph.at(node) {
+            if let Some(link) = graph.link(*arc) {
+                let other = link.other(node);
+                let longer = length.saturating_add(link.length);
+                if longer < self.length(other) {
+                    self.set(other, longer, u32::try_from(*arc).unwrap_or(NONE));
+                    queue.add(longer, other)?;
+                }
+            }
+        }
+        Ok(())
+    }
+}

@@ -1,5 +1,0 @@
-pub mod Blocks
-pub mod Gained
-pub mod Kept
-pub mod Residues
-pub mod Turns

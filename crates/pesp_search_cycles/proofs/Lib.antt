@@ -1,0 +1,14 @@
+pub mod Firsts
+pub mod Floors
+pub mod Halved
+pub mod Numbered
+pub mod Numbers
+pub mod Outcomes
+pub mod Pushed
+pub mod Ranged
+pub mod Regions
+pub mod Rounds
+pub mod Split
+pub mod Taken
+pub mod Tested
+pub mod Totals

@@ -1,0 +1,33 @@
+-- Sums over the slacks of arcs and the residues of events.
+use Rattle.std.specs.Prelude.{ℕ, ◌+◌, ◌*◌, ℤ, pos, ◌+ℤ◌, ◌*ℤ◌, List, [], ◌∷◌, Option, None, Some, map, max, slice_index_or}
+use Rattle.pesp_search_graph.specs.declared.arc.Arc.{Arc}
+
+-- each rate times the number at its place, together
+abbrev pub products : List ℤ → List ℕ → ℤ
+products [] ys = pos 0
+products (r ∷ rs) [] = pos 0
+products (r ∷ rs) (y ∷ ys) = r *ℤ pos y +ℤ products rs ys
+
+-- a number and such products
+abbrev pub value : ℤ → List ℤ → List ℕ → ℤ
+value sum rates ys = sum +ℤ products rates ys
+
+-- the scale times the weight
+abbrev pub rate_of : ℕ → Arc → ℤ
+rate_of scale a = pos (scale * a.weight)
+
+-- the scale times the weight of the arc at this place, and 0 where there is none
+abbrev pub rate_at : ℕ → List Arc → ℕ → ℤ
+rate_at scale arcs k = slice_index_or (map (rate_of scale) arcs) k (pos 0)
+
+-- each weight times the slack at its place, together
+abbrev pub weighed : List Arc → List ℕ → ℕ
+weighed [] ys = 0
+weighed (a ∷ arcs) [] = 0
+weighed (a ∷ arcs) (y ∷ ys) = a.weight * y + weighed arcs ys
+
+-- the greater of two lower bounds, and none where one of them is none
+abbrev pub greater : Option ℕ → Option ℕ → Option ℕ
+greater None other = None
+greater (Some bound) None = None
+greater (Some bound) (Some other) = Some (max bound other)

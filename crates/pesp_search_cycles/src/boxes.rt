@@ -1,0 +1,59 @@
+//! Ranges of a network's numbers, and of the times of walks.
+
+ghost use Rattle.std.specs.Prelude.{IfOk};
+ghost use Rattle.pesp_search_cycles.specs.Splits.{AreSame, HasPlace, IsPut};
+
+use crate::Range;
+use pesp_base::Memory;
+
+/// In which ranges the numbers of a map are.
+#[derive(Drop)]
+pub(crate) struct Boxes {
+    // The slack of each arc, and then the residue of each event.
+    pub(crate) numbers: Vec<Range>,
+    // The time of each walk.
+    pub(crate) rounds: Vec<Range>,
+}
+
+/// One of the ranges.
+#[derive(Clone, Copy)]
+pub(crate) enum Place {
+    Number(usize),
+    Round(usize),
+}
+
+impl Boxes {
+    /// The same ranges once more.
+    fn copy(&self) -> Result<Boxes, Memory>
+        ensures { IfOk result (AreSame self.now) }
+    {
+        let Ok(numbers) = self.numbers.clone() else {
+            return Err(Memory);
+        };
+        let Ok(rounds) = self.rounds.clone() else {
+            return Err(Memory);
+        };
+        Ok(Boxes { numbers, rounds })
+    }
+
+    /// Puts a range in place of another.
+    pub(crate) fn put(&mut self, place: Place, range: Range)
+        requires { HasPlace self.old place }
+        ensures { IsPut self.old place range self.new }
+    {
+        match place {
+            Place::Number(index) => self.numbers[index] = range,
+            Place::Round(index) => self.rounds[index] = range,
+        }
+    }
+
+    /// The same ranges with this one in place of another.
+    pub(crate) fn with(&self, place: Place, range: Range) -> Result<Boxes, Memory>
+        requires { HasPlace self.now place }
+        ensures { IfOk result (IsPut self.now place range) }
+    {
+        let mut boxes = self.copy()?;
+        boxes.put(place, range);
+        Ok(boxes)
+    }
+}

@@ -1,0 +1,80 @@
+//! Networks with walks in them.
+
+ghost use Rattle.std.specs.Prelude.{◌≡◌, All, IfOk, IsTrue};
+ghost use Rattle.pesp_search_cycles.specs.Maps.{AreCycles};
+ghost use Rattle.pesp_search_cycles.specs.Walks.{joins};
+
+use crate::Walk;
+use pesp_base::{Memory, Period};
+use pesp_search_network::Network;
+use std::alloc::Global;
+use std::marker::Model;
+
+/// A network, and walks along and against its arcs.
+#[derive(Drop)]
+pub struct Cycles<'a> {
+    // As it was given.
+    network: &'a Network,
+    // Each leads from its first event to its last.
+    walks: Vec<Walk>,
+}
+
+impl<'a> Model for Cycles<'a> {
+    ghost use Rattle.pesp_search_cycles.specs.Maps.{AreCycles, Net};
+
+    ghost Value = { Net };
+
+    ghost view = { λ a. record { network = a.network.now; walks = a.walks.items } };
+
+    ghost invariant = { λ a. AreCycles (record { network = a.network.now; walks = a.walks.items }) };
+}
+
+impl<'a> Cycles<'a> {
+    /// The network with those of the walks that lead from their first event to their last.
+    pub(crate) fn new(
+        alloc: Global,
+        network: &'a Network,
+        walks: Vec<Walk>,
+    ) -> Result<Cycles<'a>, Memory>
+        ensures { IfOk result (λ cycles. cycles.network ≡ network.now) }
+    {
+        network.sound();
+        let mut joined = Vec::new(alloc);
+        for walk in walks {
+            if walk.joins(network.events(), network.arcs()) && joined.push(walk).is_err() {
+                return Err(Memory);
+            }
+        }
+        Ok(Cycles {
+            network,
+            walks: joined,
+        })
+    }
+
+    /// What holds of all of these.
+    pub(crate) fn sound(&self)
+        ensures { AreCycles self.now }
+    {
+        let _ = &self.walks;
+    }
+
+    pub(crate) fn network(&self) -> &'a Network
+        ensures { result.now ≡ self.now.network }
+    {
+        self.network
+    }
+
+    pub(crate) fn period(&self) -> Period
+        ensures { result ≡ self.now.network.period }
+    {
+        self.network.period()
+    }
+
+    pub(crate) fn walks(&self) -> &[Walk]
+        ensures value { result.now ≡ self.now.walks }
+        ensures joined { All (λ p. IsTrue (joins self.now.network.events self.now.network.arcs p))
+            self.now.walks }
+    {
+        &self.walks
+    }
+}

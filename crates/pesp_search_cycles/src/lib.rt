@@ -1,0 +1,27 @@
+//! Maps of least cost of a network, by ranges of what its slacks add up to along walks.
+#![tactic(auto)]
+
+mod admitted;
+mod boxes;
+mod cut;
+mod cycles;
+mod empty;
+mod gap;
+mod graph;
+mod held;
+mod method;
+mod node;
+mod proposer;
+mod range;
+mod residues;
+mod root;
+mod terms;
+#[cfg(test)]
+mod tests;
+mod walk;
+
+pub use cycles::Cycles;
+pub use held::first;
+pub use method::{ByCycles, is_of_use};
+pub use range::Range;
+pub use walk::Walk;

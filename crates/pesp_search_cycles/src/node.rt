@@ -1,0 +1,322 @@
+//! Nodes of the search: boxes that admit some maps of a network, with a lower bound of what these cost.
+
+ghost use Rattle.std.specs.Prelude.{◌≡◌, ℕ, ◌+◌, ◌<◌, IfNone, IfOk, IfSome, IsTrue, MatchOption, drop, length};
+ghost use Rattle.std.specs.Option.{ForNone, ForSome};
+ghost use Rattle.pesp_search_least.specs.Sums.{AreHalves, IsCandidate, IsEmpty, IsLeast, IsLowerBound, IsWithin};
+ghost use Rattle.pesp_search_cycles.specs.Maps.{AreBoxes, AreCycles, IsAmong, IsSummed};
+ghost use Rattle.pesp_search_cycles.specs.Splits.{AreSingle, HasPlace, IsCut, size};
+ghost use Rattle.pesp_search_cycles.specs.Terms.{greater};
+
+use crate::admitted::{admitted_cost, only_map};
+use crate::boxes::Boxes;
+use crate::cut::{Choice, last_cut, number_cut, round_cut};
+use crate::empty::{has_empty, has_lost_event};
+use crate::gap::gap_at;
+use crate::graph::units_of;
+use crate::proposer::Proposer;
+use crate::root::root;
+use crate::terms::floor;
+use crate::{Cycles, Range};
+use pesp_base::Memory;
+use pesp_search_least::{Budget, Candidate, Relaxation, Split};
+use std::alloc::Global;
+
+/// How many numbers are gone through for one node at most.
+const MOST_NUMBERS: u64 = 1_073_741_824;
+
+/// The maps of a network that boxes admit.
+#[derive(Drop)]
+pub struct Node<'a> {
+    // The whole one: a node admits some of its maps.
+    cycles: &'a Cycles<'a>,
+    // In which the numbers and the times of the walks are at its maps.
+    boxes: Boxes,
+    // What its maps cost at least, or none where there is none.
+    bound: Option<u64>,
+    // What sums are made in: one for each number.
+    rates: Vec<i64>,
+    // Those of the walks.
+    multipliers: Vec<i64>,
+    // Knows multipliers, splits and maps; nothing that it says is relied upon.
+    proposer: Proposer,
+    // Whether a map that is at hand is polished.
+    is_polished: bool,
+    ghost sound: { AreCycles cycles.now },
+    ghost fit: { AreBoxes cycles.now boxes },
+    ghost room: { length rates.items ≡ length cycles.now.network.arcs + cycles.now.network.events },
+    ghost walks: { length multipliers.items ≡ length cycles.now.walks },
+    ghost none: { ForNone bound (IsEmpty (IsSummed cycles.now boxes)) },
+    ghost lower: { ForSome bound (IsLowerBound (IsSummed cycles.now boxes)) },
+}
+
+/// The greater of two lower bounds; none where one tells that there is no map.
+fn greater(bound: Option<u64>, other: Option<u64>) -> Option<u64>
+    ensures { result ≡ greater bound other }
+{
+    match (bound, other) {
+        (Some(bound), Some(other)) => Some(bound.max(other)),
+        _ => None,
+    }
+}
+
+/// How many numbers may be gone through with what is left of a budget.
+fn most_of(budget: &Budget) -> u64 {
+    match budget.left {
+        Some(left) => left
+            .saturating_add(1)
+            .saturating_mul(1_024)
+            .min(MOST_NUMBERS),
+        None => MOST_NUMBERS,
+    }
+}
+
+impl<'a> Node<'a> {
+    /// The node of all maps that have these residues, if all numbers fit.
+    pub(crate) fn among(
+        alloc: Global,
+        cycles: &'a Cycles<'a>,
+        residues: &[Range],
+        proposer: Proposer,
+        is_polished: bool,
+    ) -> Result<Option<Node<'a>>, Memory>
+        requires { length residues.now ≡ cycles.now.network.events }
+        ensures all { IfOk result (λ found. IfSome found (λ node.
+            IsWithin (IsAmong cycles.now.network residues.now) (IsSummed node.cycles.now node.boxes))) }
+        ensures within { IfOk result (λ found. IfSome found (λ node.
+            IsWithin (IsSummed node.cycles.now node.boxes) (IsAmong cycles.now.network residues.now))) }
+    {
+        cycles.sound();
+        let Some(boxes) = root(alloc, cycles, residues)? else {
+            return Ok(None);
+        };
+        let network = cycles.network();
+        let Ok(rates) = vec![in alloc; 0; network.arcs().len() + network.events()] else {
+            return Err(Memory);
+        };
+        let Ok(multipliers) = vec![in alloc; 0; cycles.walks().len()] else {
+            return Err(Memory);
+        };
+        Ok(Some(Node {
+            cycles,
+            boxes,
+            bound: Some(0),
+            rates,
+            multipliers,
+            proposer,
+            is_polished,
+        }))
+    }
+
+    /// Whether it is plain that no map is in the boxes.
+    fn is_empty(&self) -> bool
+        ensures { IsTrue result → IsEmpty (IsSummed self.now.cycles.now self.now.boxes) }
+    {
+        if has_empty(&self.boxes.numbers) {
+            return true;
+        }
+        if has_empty(&self.boxes.rounds) {
+            return true;
+        }
+        has_lost_event(self.cycles.network(), self.residues())
+    }
+
+    /// What the multipliers of the proposer tell of the maps' costs.
+    fn told(&mut self) -> Option<u64>
+        ensures cycles { self.new.cycles ≡ self.old.cycles }
+        ensures boxes { self.new.boxes ≡ self.old.boxes }
+        ensures bound { self.new.bound ≡ self.old.bound }
+        ensures told { MatchOption result
+            (IsEmpty (IsSummed self.new.cycles.now self.new.boxes))
+            (IsLowerBound (IsSummed self.new.cycles.now self.new.boxes)) }
+    {
+        if self.is_empty() {
+            return None;
+        }
+        let scale = self.proposer.write_multipliers(&mut self.multipliers);
+        let rates = &mut self.rates;
+        let told = floor(self.cycles, &self.boxes, &self.multipliers, scale, rates);
+        told
+    }
+
+    /// Raises the bound by what the multipliers of the proposer tell.
+    fn raise(&mut self)
+        ensures cycles { self.new.cycles ≡ self.old.cycles }
+        ensures boxes { self.new.boxes ≡ self.old.boxes }
+    {
+        let told = self.told();
+        self.bound = greater(self.bound, told);
+    }
+
+    /// Keeps the maps below the cut, and hands out those above it.
+    fn halve(&mut self, choice: Choice) -> Result<Node<'a>, Memory>
+        requires place { HasPlace self.old.boxes choice.place }
+        requires cut { IsCut self.old.cycles.now self.old.boxes choice.place choice.halves }
+        ensures halves { IfOk result (λ other. AreHalves
+            (IsSummed self.old.cycles.now self.old.boxes)
+            (IsSummed self.new.cycles.now self.new.boxes)
+            (IsSummed other.cycles.now other.boxes)) }
+        ensures first { IfOk result (λ _. size self.new.boxes < size self.old.boxes) }
+        ensures second { IfOk result (λ other. size other.boxes < size self.old.boxes) }
+    {
+        let Ok(rates) = self.rates.clone() else {
+            return Err(Memory);
+        };
+        let Ok(multipliers) = self.multipliers.clone() else {
+            return Err(Memory);
+        };
+        let proposer = self.proposer.waiting()?;
+        let above = self.boxes.with(choice.place, choice.halves.above)?;
+        self.boxes.put(choice.place, choice.halves.below);
+        self.is_polished = false;
+        Ok(Node {
+            cycles: self.cycles,
+            boxes: above,
+            bound: self.bound,
+            rates,
+            multipliers,
+            proposer,
+            is_polished: false,
+        })
+    }
+
+    /// A map with its cost, if the boxes admit it.
+    fn candidate_of(&self, alloc: Global, map: Vec<u16>) -> Result<Option<Candidate>, Memory>
+        ensures none { IfOk result (λ found. IfNone found ((cost : ℕ)
+            → IsSummed self.now.cycles.now self.now.boxes map.items cost → ⊥)) }
+        ensures same { IfOk result (λ found. IfSome found (λ candidate.
+            candidate.map.items ≡ map.items)) }
+        ensures some { IfOk result (λ found. IfSome found
+            (IsCandidate (IsSummed self.now.cycles.now self.now.boxes))) }
+    {
+        let found = admitted_cost(alloc, self.cycles, &self.boxes, &map)?;
+        match found {
+            Some(cost) => Ok(Some(Candidate { cost, map })),
+            None => Ok(None),
+        }
+    }
+
+    /// The split that promises most, the half to be gone into first before the other one.
+    fn proposed(&self) -> Option<Choice>
+        ensures place { IfSome result (λ choice. HasPlace self.now.boxes choice.place) }
+        ensures cut { IfSome result (λ choice.
+            IsCut self.now.cycles.now self.now.boxes choice.place choice.halves) }
+    {
+        let proposal = self.proposer.split(self.cycles.period())?;
+        let choice = round_cut(self.cycles, &self.boxes, proposal.walk, proposal.at)?;
+        if proposal.is_above_first {
+            Some(choice.swapped())
+        } else {
+            Some(choice)
+        }
+    }
+
+    /// The split of an event's range where its row lacks the residue of the tableau.
+    fn at_gap(&self) -> Option<Choice>
+        ensures place { IfSome result (λ choice. HasPlace self.now.boxes choice.place) }
+        ensures cut { IfSome result (λ choice.
+            IsCut self.now.cycles.now self.now.boxes choice.place choice.halves) }
+    {
+        let network = self.cycles.network();
+        let residues = self.residues();
+        let arcs = network.arcs().len();
+        for event in 0..residues.len() {
+            let number = arcs + event;
+            let residue = self.proposer.number(number);
+            if let Some(at) = gap_at(network.row(event), residues[event], residue) {
+                if let Some(choice) = number_cut(&self.boxes, number, at) {
+                    return Some(choice);
+                }
+            }
+        }
+        None
+    }
+
+    /// The split that promises most, or one at a gap of a row.
+    fn first_choice(&self) -> Option<Choice>
+        ensures place { IfSome result (λ choice. HasPlace self.now.boxes choice.place) }
+        ensures cut { IfSome result (λ choice.
+            IsCut self.now.cycles.now self.now.boxes choice.place choice.halves) }
+    {
+        match self.proposed() {
+            Some(choice) => Some(choice),
+            None => self.at_gap(),
+        }
+    }
+
+    /// Which range is split. None is left where each event has one residue at most.
+    fn choice(&self) -> Option<Choice>
+        ensures place { IfSome result (λ choice. HasPlace self.now.boxes choice.place) }
+        ensures cut { IfSome result (λ choice.
+            IsCut self.now.cycles.now self.now.boxes choice.place choice.halves) }
+        ensures none { IfNone result (AreSingle (drop (length self.now.cycles.now.network.arcs)
+            self.now.boxes.numbers.items)) }
+    {
+        match self.first_choice() {
+            Some(choice) => Some(choice),
+            None => last_cut(self.cycles, &self.boxes),
+        }
+    }
+
+    /// The ranges of the residues.
+    fn residues(&self) -> &[Range]
+        ensures { result.now ≡ drop (length self.now.cycles.now.network.arcs)
+            self.now.boxes.numbers.items }
+    {
+        let arcs = self.cycles.network().arcs().len();
+        &self.boxes.numbers[arcs..]
+    }
+
+    /// The map that is left where each event has one residue at most, if the boxes admit it.
+    fn last(&self, alloc: Global) -> Result<Option<Candidate>, Memory>
+        requires { AreSingle (drop (length self.now.cycles.now.network.arcs)
+            self.now.boxes.numbers.items) }
+        ensures { IfOk result (λ last. MatchOption last
+            (IsEmpty (IsSummed self.now.cycles.now self.now.boxes))
+            (IsLeast (IsSummed self.now.cycles.now self.now.boxes))) }
+    {
+        let Some(map) = only_map(alloc, self.residues())? else {
+            return Ok(None);
+        };
+        let found = self.candidate_of(alloc, map)?;
+        Ok(found)
+    }
+}
+
+impl<'a> Relaxation for Node<'a> {
+    ghost sums = { λ n. IsSummed n.cycles.now n.boxes };
+
+    ghost size = { λ n. size n.boxes };
+
+    fn bound(&self) -> Option<u64> {
+        self.bound
+    }
+
+    fn tighten(&mut self, cap: u64, budget: &mut Budget) {
+        let most = most_of(budget);
+        let work = self.proposer.solve(&self.boxes, cap, most);
+        budget.spend(units_of(work));
+        self.raise();
+    }
+
+    fn candidate(&self, alloc: Global) -> Result<Option<Candidate>, Memory> {
+        let network = self.cycles.network();
+        if !self.proposer.has_map(network.period()) {
+            return Ok(None);
+        }
+        let residues = self.residues();
+        let map = self
+            .proposer
+            .map(alloc, network, residues, self.is_polished)?;
+        self.candidate_of(alloc, map)
+    }
+
+    fn split(&mut self, alloc: Global) -> Result<Split<Self>, Memory> {
+        match self.choice() {
+            Some(choice) => Ok(Split::Halves(self.halve(choice)?)),
+            None => match self.last(alloc)? {
+                Some(candidate) => Ok(Split::Solved(candidate)),
+                None => Ok(Split::Empty),
+            },
+        }
+    }
+}

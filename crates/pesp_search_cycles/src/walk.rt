@@ -1,0 +1,75 @@
+//! Walks along and against arcs.
+
+ghost use Rattle.std.specs.Prelude.{◌≡◌, ℕ, List};
+ghost use Rattle.pesp_search_cycles.specs.Walks.{joins, leads};
+
+use pesp_base::Memory;
+use pesp_search_graph::{Arc, Step};
+use std::marker::Model;
+
+/// Steps from one event to another.
+#[derive(Drop)]
+pub struct Walk {
+    // Any: whether they lead from the one event to the other is tested.
+    pub(crate) from: usize,
+    pub(crate) steps: Vec<Step>,
+    pub(crate) to: usize,
+}
+
+impl Model for Walk {
+    ghost use Rattle.pesp_search_cycles.specs.Walks.{Path};
+
+    ghost Value = { Path };
+
+    ghost view = { λ w. record { from = w.from; steps = w.steps.items; to = w.to } };
+}
+
+impl Walk {
+    /// The steps, from the one event to the other.
+    pub fn new(from: usize, steps: Vec<Step>, to: usize) -> Walk
+        ensures { result ≡ record { from = from; steps = steps.items; to = to } }
+    {
+        Walk { from, steps, to }
+    }
+
+    /// The same walk once more.
+    pub(crate) fn copy(&self) -> Result<Walk, Memory> {
+        let Ok(steps) = self.steps.clone() else {
+            return Err(Memory);
+        };
+        Ok(Walk {
+            from: self.from,
+            steps,
+            to: self.to,
+        })
+    }
+
+    /// Whether the walk leads between so many events, from its first one to its last.
+    pub(crate) fn joins(&self, events: usize, arcs: &[Arc]) -> bool
+        ensures { result ≡ joins events arcs.now self.now }
+    {
+        self.from < events && self.to < events && leads_to(arcs, self.from, &self.steps, self.to)
+    }
+}
+
+/// Whether the steps lead from the one event to the other, each from where the one before it ends.
+fn leads_to(arcs: &[Arc], from: usize, steps: &[Step], to: usize) -> bool
+    ensures { result ≡ leads arcs.now from steps.now to }
+{
+    let mut at = from;
+    for step in steps {
+        let Some(arc) = arcs.get(step.arc) else {
+            return false;
+        };
+        let (start, end) = if step.along {
+            (arc.from, arc.to)
+        } else {
+            (arc.to, arc.from)
+        };
+        if start != at {
+            return false;
+        }
+        at = end;
+    }
+    at == to
+}

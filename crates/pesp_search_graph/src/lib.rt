@@ -1,0 +1,8 @@
+//! Arcs between events by index, and steps along and against them.
+#![tactic(auto)]
+
+mod arc;
+mod step;
+
+pub use arc::Arc;
+pub use step::Step;

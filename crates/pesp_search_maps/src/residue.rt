@@ -1,0 +1,41 @@
+//! Residues and slacks at a map.
+
+ghost use Rattle.std.specs.Prelude.{◌<◌};
+
+use pesp_base::{Period, slack};
+use pesp_search_graph::Arc;
+
+/// A node's residue; 0 where the map has no such node.
+pub(crate) fn residue_of(period: Period, map: &[u16], node: usize) -> u16
+    ensures { result < period }
+{
+    match map.get(node) {
+        // A division takes longer than this question.
+        Some(residue) if *residue < period.get() => *residue,
+        Some(residue) => *residue % period.get(),
+        None => 0,
+    }
+}
+
+/// The slack of an arc at a map.
+pub(crate) fn slack_at(period: Period, map: &[u16], arc: &Arc) -> u16
+    ensures { result < period }
+{
+    let from = residue_of(period, map, arc.from);
+    let to = residue_of(period, map, arc.to);
+    slack(period, arc.span, from, to)
+}
+
+/// The remainder of a number, below the period.
+pub(crate) fn remainder(period: Period, number: i64) -> u16
+    ensures { result < period }
+{
+    number.rem_euclid(i64::from(period.get())) as u16
+}
+
+/// The residue that comes so long after another.
+pub(crate) fn turned(period: Period, residue: u16, by: i64) -> u16
+    ensures { result < period }
+{
+    remainder(period, i64::from(residue).wrapping_add(by))
+}

@@ -1,0 +1,31 @@
+//! A dual simplex for numbers in ranges, in fixed point. Nothing that it says is relied upon.
+#![tactic(auto)]
+
+mod basic;
+mod column;
+#[cfg(test)]
+mod drawn;
+mod end;
+mod enter;
+mod equations;
+mod fixed;
+mod inverse;
+mod light;
+mod matrix;
+mod mend;
+mod number;
+mod pivot;
+mod read;
+mod refresh;
+mod solve;
+mod steps;
+mod tableau;
+mod term;
+#[cfg(test)]
+mod tests;
+
+pub use end::End;
+pub use fixed::{PARTS, SCALE};
+pub use steps::Steps;
+pub use tableau::Tableau;
+pub use term::Term;

@@ -1,0 +1,96 @@
+"""The header of the library in process says what the crate says: the order of parameters, the layout of what is told, and
+the numbers. A C file of assertions is made from the crate's sources, and a C compiler checks it against the header."""
+
+import re
+import shutil
+
+from tests.harness import TOP, run
+
+CRATE = TOP / "crates/pesp_embedded/src"
+HEADER = TOP / "embedded/pespbench.h"
+# The types of parameters and fields: those of C, and how many bytes a field has.
+PARAMETERS = {
+    "u16": ["uint16_t"],
+    "&[u8]": ["const uint8_t *", "size_t"],
+    "&mut [u8]": ["uint8_t *", "size_t"],
+    "&mut Told": ["struct pesp_told *"],
+}
+FIELDS = {"u64": 8, "u32": 4}
+# The words of the header for those of the crate that are not the same in capitals.
+STATUSES = {
+    "Ok": "PESP_DONE",
+    "Activities": "PESP_FAULT_OF_ACTIVITIES",
+    "Fixed": "PESP_FAULT_OF_FIXED",
+    "Times": "PESP_FAULT_OF_TIMES",
+    "Read": "PESP_NOT_READ",
+    "Write": "PESP_NOT_WRITTEN",
+    "Memory": "PESP_MEMORY",
+    "LineTooLong": "PESP_LONG_LINE",
+    "TooManyLines": "PESP_MANY_LINES",
+}
+REASONS = {"Memory": "PESP_READING_MEMORY"}
+
+
+def parameters():
+    """The names and types of the call's parameters, but for the allocator, which no caller sees."""
+    text = (CRATE / "lib.rt").read_text()
+    listed = re.search(r"fn pesp_answer\((.*?)\)\s+ensures", text, re.S).group(1)
+    return [(name, kind) for name, kind in re.findall(r"(\w+): ([^,]+),", listed) if kind != "Global"]
+
+
+def fields(told):
+    """The names and types of what is told, in their order."""
+    return re.findall(r"pub (\w+): (\w+),", re.search(r"pub struct Told \{(.*?)\n\}", told, re.S).group(1))
+
+
+def in_capitals(name):
+    return "PESP_" + re.sub(r"(?<=[a-z])(?=[A-Z])", "_", name).upper()
+
+
+def numbers(told):
+    """The header's words with the crate's numbers."""
+    ended = re.findall(r"(Ok|RunFault::(\w+)).*?=> Told::ended\(\w+, (\d+),", told)
+    found = {STATUSES[name or whole]: int(number) for whole, name, number in ended}
+    found["PESP_NO_PERIOD"] = int(re.search(r"fn no_period.*?Told::ended\(0, (\d+), 0\)", told, re.S).group(1))
+    found.update({STATUSES[name]: int(number) for name, number in re.findall(r"Source::(\w+) => (\d+),", told)})
+    reasons = re.findall(r"FaultKind::(\w+)(?:\(_\))? => (\d+),", told)
+    found.update({REASONS.get(name, in_capitals(name)): int(number) for name, number in reasons})
+    return found
+
+
+def assertions():
+    """A C file that a compiler takes just where the header says what the crate says."""
+    told = (CRATE / "told.rt").read_text()
+    yield '#include "pespbench.h"'
+    place = 0
+    for name, kind in fields(told):
+        yield f'_Static_assert(offsetof(struct pesp_told, {name}) == {place}, "{name}");'
+        yield f'_Static_assert(sizeof(((struct pesp_told *)0)->{name}) == {FIELDS[kind]}, "size of {name}");'
+        place += FIELDS[kind]
+    yield f'_Static_assert(sizeof(struct pesp_told) == {-(-place // 8) * 8}, "what is told");'
+    yield from (f'_Static_assert({name} == {number}, "{name}");' for name, number in numbers(told).items())
+    kinds = ", ".join(kind for _, rust in parameters() for kind in PARAMETERS[rust])
+    yield f"void (*const call)({kinds}) = pesp_answer;"
+
+
+def names_of_the_header():
+    """The names of the parameters, without those of lengths."""
+    listed = re.search(r"void pesp_answer\((.*?)\);", HEADER.read_text(), re.S).group(1)
+    names = [each.split()[-1].lstrip("*") for each in listed.split(",")]
+    return [name for name in names if not name.endswith("_length")]
+
+
+def layout_in_c(suite):
+    """The order of parameters, and each number that the header lists; offsets and sizes, where there is a C compiler."""
+    told = (CRATE / "told.rt").read_text()
+    suite.note("parameters", {"names": [name for name, _ in parameters()]}, {"names": names_of_the_header()})
+    listed = set(re.findall(r"^    (PESP_\w+) = \d+", HEADER.read_text(), re.M))
+    suite.note("numbers", {"words": sorted(numbers(told))}, {"words": sorted(listed)})
+    compiler = shutil.which("gcc") or shutil.which("cc")
+    if compiler:
+        file = suite.file("layout.c", "\n".join(assertions()).encode() + b"\n")
+        words = [compiler, "-std=c11", "-Wall", "-Wextra", "-Wpedantic", "-Werror", "-fsyntax-only", f"-I{HEADER.parent}", file]
+        suite.note("the header", {"status": 0, "standard error": b""}, run(words))
+
+
+GROUPS = [layout_in_c]
