@@ -21,6 +21,9 @@
     return lengths;
   };
 
+  // The part of a diagram's width that the period has.
+  Page.DIAGRAM_PART = (WIDTH - LEFT - RIGHT) / WIDTH;
+
   // A track by the names of its two ends.
   Page.trackOf = (one, other) => JSON.stringify(one < other ? [one, other] : [other, one]);
 
@@ -43,7 +46,7 @@
   };
 
   const diagramOf = (view, line, chosen, waiting) => {
-    const frame = Page.frameOf(line, view.network), size = [WIDTH, frame.bottom + BOTTOM];
+    const frame = { ...Page.frameOf(line, view.network), line, left: LEFT, right: WIDTH - RIGHT }, size = [WIDTH, frame.bottom + BOTTOM];
     const clip = drawing('svg', { x: LEFT, y: TOP - TURN - 4, width: WIDTH - LEFT - RIGHT, height: frame.bottom - TOP + 2 * TURN + 8 });
     clip.setAttribute('viewBox', `${LEFT} ${TOP - TURN - 4} ${WIDTH - LEFT - RIGHT} ${frame.bottom - TOP + 2 * TURN + 8}`);
     const page = drawing('svg', { viewBox: `0 0 ${size.join(' ')}`, role: 'img', 'aria-label': `Distance-time diagram of ${line.name}` });
@@ -55,11 +58,15 @@
       if (minutes) clip.append(...ways(frame, minutes.map((minute, place) => [minute, heightOf(frame, train.events[place])]), line.color, 2.6));
       page.append(...ends(view, frame, line, train));
     }
-    if (chosen !== null) clip.append(...chosenMark(view, frame, line, chosen));
+    const { ways: broken, labels } = Page.conflictMarks(view, frame);
+    clip.append(...broken);
+    if (chosen !== null) clip.append(...chosenMark(view, frame, line, chosen), ...Page.reachesOf(view, frame));
+    page.append(...labels);
     return page;
   };
 
   const heightOf = (frame, event) => frame.heights.get(Page.labelOf(event).station);
+  Page.heightOf = heightOf;
 
   const grid = frame => {
     const made = [], step = Page.stepOf(frame.period);
@@ -69,7 +76,7 @@
     }
     for (const [station, y] of frame.heights) {
       made.push(drawing('path', { class: 'station', d: `M${LEFT} ${y}H${WIDTH - RIGHT}` }));
-      made.push(drawing('text', { x: LEFT - 10, y: y + 4, 'text-anchor': 'end' }, station));
+      made.push(drawing('text', { x: LEFT - 10, y: y + 4, 'text-anchor': 'end', 'data-station': station }, station));
     }
     return made;
   };
@@ -83,7 +90,7 @@
       if (minutes.length === frame.period) return null;
       const offset = side * (Page.labelOf(event).kind === 'arrival' ? 4 : 9), y = heightOf(frame, event) + offset;
       const path = Page.runsOf(minutes).map(([first, last]) => `M${frame.x(first)} ${y}H${frame.x(last + 1)}`).join('');
-      return drawing('path', { class: event === chosen ? 'can chosen' : 'can', d: path, stroke: line.color });
+      return drawing('path', { class: event === chosen ? 'can chosen' : 'can', d: path, stroke: line.color, 'data-event': event });
     }).filter(Boolean);
   });
 
@@ -98,6 +105,8 @@
     }
     return made;
   };
+
+  Page.waysOf = ways;
 
   // The parts of another line's trains that lie on tracks of this one.
   const others = (view, frame, line, other) => other.trains.flatMap(train => {
@@ -118,9 +127,10 @@
   });
 
   const turn = (view, frame, line, each) => {
-    const y = frame.heights.get(Page.labelOf(each.first).station), start = view.times.get(each.first), end = start + view.tensions.get(each.number).tension;
+    const y = frame.heights.get(Page.labelOf(each.first).station), start = view.times.get(each.first), end = start + Page.minutesHad(view, each.number);
     const beyond = y + (y > (TOP + frame.bottom) / 2 ? TURN : -TURN);
-    return ways(frame, [[start, y], [start, beyond], [end, beyond], [end, y]], line.color, 1.3, '3 3');
+    const made = ways(frame, [[start, y], [start, beyond], [end, beyond], [end, y]], line.color, 1.3, '3 3');
+    return made.map(way => Page.marked(way, { 'data-activity': each.number, class: 'turn' }));
   };
 
   // The minutes at which a train begins and ends, beside the ends of its way.
@@ -130,17 +140,19 @@
     const y = heightOf(frame, event), isAbove = Page.isForward(line, train) !== isFirst, edge = 0.04 * frame.period;
     const isLeft = isFirst ? time >= edge : time > frame.period - edge;
     const place = { x: frame.x(time) + (isLeft ? -5 : 5), y: y + (isAbove ? -5 : 14), 'text-anchor': isLeft ? 'end' : 'start' };
-    return drawing('text', { class: 'end', fill: line.color, ...place }, Page.bareClock(time));
+    return drawing('text', { class: 'end', fill: line.color, 'data-event': event, ...place }, Page.bareClock(time));
   }).filter(Boolean);
 
   const chosenMark = (view, frame, line, event) => {
     const time = view.times.get(event);
     if (time === undefined || Page.labelOf(event).line !== line.name || heightOf(frame, event) === undefined) return [];
-    return [drawing('circle', { class: 'mark', cx: frame.x(time), cy: heightOf(frame, event), r: 6 })];
+    const move = Page.movedIn(view), [x, y] = [frame.x(time), heightOf(frame, event)], mark = drawing('circle', { class: 'mark', cx: x, cy: y, r: 6 });
+    const told = move ? `${move.minutes < 0 ? '−' : '+'}${Math.abs(move.minutes)}` : '';
+    return told ? [mark, drawing('text', { class: 'end', x: x + 9, y: y + 16 }, told)] : [mark];
   };
 
   const NOTE = 'Marks along a station: the minutes at which the trains of the line can still be there, below it downwards, above it '
-    + 'upwards. Grey: other lines.';
+    + 'upwards. Grey: other lines. Red: violated, with the minutes had and wanted.';
 
   const update = view => {
     if (Page.tab !== 'diagram') return;

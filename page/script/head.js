@@ -8,8 +8,8 @@
     document.title = [session.opened.title, 'pespbench'].filter(Boolean).join(' – ');
     Page.setText(Page.find('size'), `${network.events.length} events, ${network.activities.size} activities, period ${network.period}`);
     if (view.cost === null) tell('cost', '–', view.missing, false);
-    else tell('cost', view.cost.toLocaleString('en'), 'weight times slack', false);
-    tellViolated(Page.countViolated(view));
+    else tell('cost', view.cost.toLocaleString('en'), Page.changeNote(view, 'cost', 'weight times slack'), false);
+    tellViolated(view, Page.countViolated(view));
     tellDomains(view);
     Page.find('undo').disabled = !session.place;
     Page.find('redo').disabled = session.place === session.steps.length;
@@ -18,9 +18,9 @@
   // How many activities and events are violated; null where the working timetable lacks a time.
   Page.countViolated = ({ violations }) => violations && violations.activities.size + violations.events.size;
 
-  const tellViolated = count => {
+  const tellViolated = (view, count) => {
     if (count === null) tell('violations', '–', 'no whole timetable', false);
-    else tell('violations', String(count), count ? '✕ see which' : '✓ all are met', count > 0);
+    else tell('violations', String(count), Page.changeNote(view, 'violations', count ? '✕ see which' : '✓ all are met'), count > 0);
   };
 
   const tellDomains = view => {

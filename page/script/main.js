@@ -9,7 +9,7 @@
     Page.find('cannot').show();
     return;
   }
-  const views = [Page.startHead, Page.startTabs, Page.startEvents, Page.startDiagram, Page.startLines];
+  const views = [Page.startHead, Page.startTabs, Page.startEvents, Page.startDiagram, Page.startChoosing, Page.startLines];
   for (const start of [...views, Page.startSearching, Page.startPrinting, Page.startOpening, Page.startSaving]) start();
   Page.openStory(Page.stories[0]);
   document.body.classList.add('ready');

@@ -7,7 +7,7 @@
   const WIDTH = 1020, HEIGHT = 640, MARGIN = 64, EDGE = 8, STATIONS_OF_A_PAGE = 14, LANE = 29, RING = 11;
   // What the name of a line takes of a track with some space, and what each number takes at each of its ends.
   const ROOM = 70, NUMBER = 21, NAME = 14.5, ENOUGH = 16, ROW = 13;
-  let graph = null, numbers = new Map();
+  let graph = null, numbers = new Map(), alarms = null;
 
   const layOut = view => {
     const { lines, network } = view, { stations, tracks, told } = Page.nearby(lines, Page.labelOf(Page.chosen).station);
@@ -29,6 +29,7 @@
 
   const draw = view => {
     numbers = new Map();
+    alarms = { lanes: new Map(), stations: new Map() };
     graph = layOut(view);
     const labels = new Map([...graph.places.keys()].map(station => [station, labelPlace(station)]));
     const lanes = graph.tracks.flatMap(track => track.lanes.map((lane, place) => {
@@ -58,9 +59,12 @@
     const rings = [track.one, track.other].map(station => graph.radius.get(station));
     const most = (length - rings[0] - rings[1]) / 2 - 17 - NUMBER * Page.mostNumbers([lane]);
     const begins = [track.one, track.other].map((station, end) => Math.min(clearOf(station, track, offset), rings[end] + Math.max(5, most)));
+    const leaving = [...lane.leaving.values()].flat(), middle = sign * (length + begins[0] - begins[1]) / 2;
     const way = drawing('path', { d: `M0 0H${(sign * length).toFixed(1)}`, stroke: lane.line.color, 'stroke-width': 3 });
-    return drawing('g', { transform: origin }, way,
-      ...pill(sign * (length + begins[0] - begins[1]) / 2, lane.line), ...numbersAt(lane, track.one, sign, sign * begins[0]),
+    const alarm = Page.alarm(way, { x: middle, y: -11, 'text-anchor': 'middle' });
+    for (const event of leaving) alarms.lanes.set(event, alarm);
+    return drawing('g', { transform: origin, 'data-event': leaving.length ? leaving[0] : null }, way,
+      ...pill(middle, lane.line), alarm.label, ...numbersAt(lane, track.one, sign, sign * begins[0]),
       ...numbersAt(lane, track.other, -sign, sign * (length - begins[1])));
   };
 
@@ -104,8 +108,10 @@
 
   const drawStation = (station, { x, base, anchor }) => {
     const [cx, cy] = graph.places.get(station);
-    const ring = drawing('circle', { class: 'ring', cx, cy, r: graph.radius.get(station) });
-    return [ring, drawing('text', { class: 'place', x, y: base, 'text-anchor': anchor }, station)];
+    const ring = drawing('circle', { class: 'ring', cx, cy, r: graph.radius.get(station), 'data-station': station });
+    const alarm = Page.alarm(ring, { x, y: base + NAME, 'data-x': x, 'text-anchor': anchor });
+    alarms.stations.set(station, alarm);
+    return [ring, drawing('text', { class: 'place', x, y: base, 'text-anchor': anchor, 'data-station': station }, station), alarm.label];
   };
 
   // The place of a name round its ring at which most room is left, of those that read as well the first.
@@ -159,12 +165,13 @@
     if (!graph || isBeyond) Page.find('netgraph').replaceChildren(draw(view));
     Page.setText(Page.find('netgraph-elided'), graph.told);
     for (const [event, number] of numbers) drawNumber(view, event, number);
+    Page.drawAlarms(view, alarms);
   };
 
   // A number is set where it is another one than was drawn, since there are many and a step changes few.
   const drawNumber = (view, event, number) => {
     const text = Page.minuteText(view, event), isChosen = event === Page.chosen;
-    const look = [text.endsWith('✕') ? 'alarm' : '', isChosen ? 'chosen' : ''].join(' ').trim(), drawn = `${text} ${look}`;
+    const look = [Page.isAlarming(view, event) ? 'alarm' : '', isChosen ? 'chosen' : ''].join(' ').trim(), drawn = `${text} ${look}`;
     if (number.drawn === drawn) return;
     number.drawn = drawn;
     number.node.textContent = text;

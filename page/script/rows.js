@@ -14,8 +14,9 @@
     row.strip.append(row.svg);
     row.time = Page.element('span', { class: 'time' });
     row.note = Page.element('span', { class: 'note' });
+    row.notes = Page.element('span', { class: 'notes' }, row.note);
     const name = Page.element('span', { class: 'name' }, place, ' ', Page.element('small', {}, kind));
-    row.node = Page.element('div', { class: 'row', 'data-row': event }, name, row.time, row.strip, row.note);
+    row.node = Page.element('div', { class: 'row', 'data-row': event }, name, row.time, row.strip, row.notes);
     return row;
   };
 
@@ -84,11 +85,22 @@
     return (isViolated ? '✕ not ' : '') + Page.windowText(window, period);
   };
 
+  const toldAt = (view, event) => {
+    const [first, ...more] = Page.conflictsAt(view, event);
+    return first ? `${first.number} ${first.short} ${more.length}` : '';
+  };
+
+  // The violated activities at the event; one that is too long for its place is whole in its title.
+  const drawBroken = (row, isBroken, conflicts) => {
+    row.node.classList.toggle('broken', isBroken);
+    row.notes.replaceChildren(row.note, ...(conflicts.length ? [Page.conflictButton('conflict', conflicts)] : []));
+  };
+
   // Draws what is new about an event.
   Page.drawRow = (row, view) => {
     const { event } = row, period = view.network.period, minutes = view.domains.get(event), window = view.network.windows.get(event);
-    const isViolated = Boolean(view.violations && view.violations.events.has(event)), isChosen = Page.chosen === event;
-    const seen = [minutes, period, window && window.first, window && window.length, view.times.get(event), isViolated, isChosen];
+    const isViolated = Page.isOutside(view, event), isChosen = Page.chosen === event, broken = toldAt(view, event);
+    const seen = [minutes, period, window && window.first, window && window.length, view.times.get(event), isViolated, isChosen, broken];
     if (row.seen && seen.every((value, place) => value === row.seen[place])) return;
     row.seen = seen;
     once(row, 'period', period, () => row.svg.setAttribute('viewBox', `0 0 ${period} 1`));
@@ -103,6 +115,7 @@
     once(row, 'ends', `${row.drawn.window} ${row.drawn.time}`, () => placeEnds(row, view.times.get(event), period));
     once(row, 'note', noteOf(window, isViolated, period), text => Page.setText(row.note, text));
     once(row, 'violated', isViolated, () => row.node.classList.toggle('alarm', isViolated));
+    once(row, 'broken', broken, () => drawBroken(row, Boolean(broken), Page.conflictsOfRow(view, event)));
     once(row, 'chosen', isChosen, () => chooseRow(row, isChosen));
     once(row, 'told', `${row.drawn.possible} ${row.drawn.window}`, () => tellStrip(row, view, window));
   };

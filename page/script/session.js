@@ -50,25 +50,25 @@
     return null;
   };
 
-  // Shows what a line would make, as a step of a drag.
-  Page.preview = line => {
-    const looked = tried([line]);
-    if (looked) show({ ...looked, times: Page.timesAfter(Page.timesNow(), [line]) });
+  // Shows what some lines would make, as a step of a drag; a title says in a planner's words what they do.
+  Page.preview = (more, title = '') => {
+    const looked = tried(more);
+    if (looked) show({ ...looked, times: Page.timesAfter(Page.timesNow(), more), title, isTried: true });
   };
 
   // Does some lines as one step, which can be undone; false where one of them is refused, and then nothing has changed.
-  Page.step = more => {
+  Page.step = (more, title = '') => {
     const looked = tried(more);
     if (!looked) {
       Page.refresh();
       return false;
     }
-    const times = Page.timesAfter(Page.timesNow(), more), made = { lines: more, times };
+    const times = Page.timesAfter(Page.timesNow(), more), made = { lines: more, times, title };
     if (present().lines.length + more.length > LINES_OF_A_BASE) made.base = Page.baseOf(looked.network, times);
     session.steps.splice(session.place, Infinity, made);
     session.place += 1;
-    Page.say(more.length === 1 ? more[0] : `${more.length} lines`);
-    show({ ...looked, times });
+    Page.say(title || (more.length === 1 ? more[0] : `${more.length} lines`));
+    show({ ...looked, times, title });
     return true;
   };
 
@@ -84,12 +84,12 @@
     Page.say(told);
     Page.refresh();
   };
-  const titleOf = lines => lines.length === 1 ? lines[0] : `${lines[0]} and ${lines.length - 1} more lines`;
+  const titleOf = ({ lines, title }) => title || (lines.length === 1 ? lines[0] : `${lines[0]} and ${lines.length - 1} more lines`);
   Page.titleOf = titleOf;
 
-  Page.undo = () => session.place && goTo(session.place - 1, `undone: ${titleOf(session.steps[session.place - 1].lines)}`);
+  Page.undo = () => session.place && goTo(session.place - 1, `undone: ${titleOf(session.steps[session.place - 1])}`);
   Page.redo = () => session.place < session.steps.length
-    && goTo(session.place + 1, `done again: ${titleOf(session.steps[session.place].lines)}`);
+    && goTo(session.place + 1, `done again: ${titleOf(session.steps[session.place])}`);
   Page.goTo = place => goTo(place, `${place} of ${session.steps.length} steps are done`);
 
   // All lines since the network was opened, of the steps that are done.

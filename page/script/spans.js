@@ -29,6 +29,18 @@
 
   Page.panel({ build, update });
 
+  // Brings the card of an activity to where it is seen, and the keys to it; one of its events is chosen first.
+  Page.showActivity = (number, event = null) => {
+    const { first, last } = Page.view.network.activities.get(number);
+    Page.bringRow(event !== null ? event : Page.chosen === last ? last : first);
+    const card = cards.get(number);
+    document.querySelectorAll('.card.chosen').forEach(each => each.classList.remove('chosen'));
+    if (!card) return;
+    card.node.classList.add('chosen');
+    card.node.scrollIntoView({ block: 'nearest' });
+    card.node.querySelector('.title button').focus({ preventScroll: true });
+  };
+
   const field = (card, name, label, make = Page.minutesField) => {
     card[name] = make({ 'aria-label': label, onchange: () => change(card) });
     return card[name];
@@ -117,7 +129,7 @@
     const before = Page.view.network.activities.get(card.number), start = minuteAt(event.clientX);
     if (handle) handle.focus({ preventScroll: true });
     event.preventDefault();
-    Page.beginDrag(event, x => spanLine(card.number, before, end, minuteAt(x) - start));
+    Page.beginDrag(event, x => [spanLine(card.number, before, end, minuteAt(x) - start)]);
   };
 
   const typed = (card, event) => {

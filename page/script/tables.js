@@ -26,14 +26,24 @@
   // The minute of an event; where it has no time and one minute alone is possible, that one in brackets.
   const cell = (view, event, name) => {
     if (event === null) return element('td', { class: name });
-    const isViolated = view.violations && view.violations.events.has(event), isHeld = view.network.windows.has(event);
-    return element('td', { class: [name, isHeld ? 'held' : '', isViolated ? 'alarm' : ''].join(' ').trim() }, Page.minuteText(view, event));
+    return element('td', lookOf(view, event, [name, view.network.windows.has(event) ? 'held' : '']), Page.minuteText(view, event));
+  };
+
+  // The look of a minute, below which its style puts what is violated there.
+  const lookOf = (view, event, words) => {
+    const conflicts = Page.conflictsOfRow(view, event), told = conflicts.length ? [`✕ ${Page.shortConflicts(conflicts)}`] : [];
+    if (Page.isOutside(view, event)) told.unshift(`not ${Page.windowText(view.network.windows.get(event), view.network.period)}`);
+    const looks = [...words, Page.isAlarming(view, event) ? 'alarm' : '', event === Page.chosen ? 'chosen' : ''];
+    return {
+      class: looks.filter(Boolean).join(' '), 'data-event': event, 'data-told': told.join('\n') || null,
+      'data-activity': conflicts.length ? conflicts[0].number : null, title: Page.toldConflicts(conflicts) || null,
+    };
   };
 
   Page.minuteText = (view, event) => {
-    const time = view.times.get(event), minutes = view.domains.get(event), isViolated = view.violations && view.violations.events.has(event);
+    const time = view.times.get(event), minutes = view.domains.get(event);
     if (time === undefined) return minutes.length === 1 ? `(${Page.bareClock(minutes[0])})` : '–';
-    return Page.bareClock(time) + (isViolated ? '✕' : '');
+    return Page.bareClock(time) + (Page.isOutside(view, event) ? '✕' : '');
   };
 
   const headOf = line => {
@@ -46,13 +56,14 @@
   const eventTable = view => {
     const head = ['Event', 'time', 'can be at', 'held'].map(text => element('th', { scope: 'col' }, text));
     const named = event => element('th', { scope: 'row' }, Page.eventName(event));
-    const rows = view.network.events.map(event => element('tr', {}, named(event), ...eventCells(view, event)));
+    const rows = view.network.events.map(event => element('tr', { 'data-event': event }, named(event), ...eventCells(view, event)));
     return element('table', { class: 'times' }, element('thead', {}, element('tr', {}, ...head)), element('tbody', {}, ...rows));
   };
 
   const eventCells = (view, event) => {
     const { period, windows } = view.network, held = windows.has(event) ? Page.windowText(windows.get(event), period) : '';
-    return [Page.minuteText(view, event), Page.domainText(view.domains.get(event), period), held].map(text => element('td', {}, text));
+    const minute = element('td', lookOf(view, event, []), Page.minuteText(view, event));
+    return [minute, ...[Page.domainText(view.domains.get(event), period), held].map(text => element('td', {}, text))];
   };
 
   const tablesOf = (view, isPrinted) => {

@@ -100,7 +100,7 @@
   Page.minutesOf = (view, train) => {
     if (!view.tensions || !view.times.has(train.events[0])) return null;
     const minutes = [view.times.get(train.events[0])];
-    for (const step of train.steps) minutes.push(minutes[minutes.length - 1] + view.tensions.get(step).tension);
+    for (const step of train.steps) minutes.push(minutes[minutes.length - 1] + Page.minutesHad(view, step));
     return minutes;
   };
 })();

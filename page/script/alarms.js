@@ -1,0 +1,37 @@
+'use strict';
+
+// What is violated in a netgraph: the way of a run and the ring of a station in red, with the minutes had and wanted.
+(() => {
+  const { drawing } = Page;
+  const LETTER = 7.2;
+
+  // What is red where something is violated, and its label.
+  Page.alarm = (shape, place) => ({ shape, label: drawing('text', { class: 'broken', ...place }), drawn: '' });
+
+  // A label below the name of a station ends within the drawing.
+  const fit = (label, text) => {
+    const { x, width } = label.ownerSVGElement.viewBox.baseVal, room = x + width - LETTER * text.length, start = Number(label.dataset.x);
+    if (label.getAttribute('text-anchor') === 'start') label.setAttribute('x', Math.min(start, room));
+  };
+
+  const draw = (alarm, conflicts) => {
+    const text = conflicts.length ? `✕ ${Page.shortConflicts(conflicts)}` : '', { shape, label } = alarm;
+    if (alarm.drawn === text) return;
+    alarm.drawn = text;
+    shape.classList.toggle('broken', Boolean(text));
+    label.replaceChildren(text, ...(text ? [drawing('title', {}, Page.toldConflicts(conflicts))] : []));
+    if (label.dataset.x) fit(label, text);
+    Page.setAttribute(label, 'data-activity', text ? conflicts[0].number : null);
+  };
+
+  // Draws what is new of alarms, of lanes by the events that leave on them, and of stations.
+  Page.drawAlarms = (view, { lanes, stations }) => {
+    const found = new Map([...lanes.values(), ...stations.values()].map(alarm => [alarm, []]));
+    for (const conflict of Page.conflictsOf(view).all) {
+      const { first, last } = conflict.activity, [from, to] = [first, last].map(event => Page.labelOf(event).station);
+      const alarm = (from !== to && lanes.get(first)) || stations.get(from) || stations.get(to);
+      if (alarm) found.get(alarm).push(conflict);
+    }
+    for (const [alarm, conflicts] of found) draw(alarm, conflicts);
+  };
+})();
