@@ -2,26 +2,21 @@
 
 // What is violated in a netgraph: the way of a run and the ring of a station in red, with the minutes had and wanted.
 (() => {
-  const { drawing } = Page;
   const LETTER = 7.2;
 
   // What is red where something is violated, and its label.
-  Page.alarm = (shape, place) => ({ shape, label: drawing('text', { class: 'broken', ...place }), drawn: '' });
-
-  // A label below the name of a station ends within the drawing.
-  const fit = (label, text) => {
-    const { x, width } = label.ownerSVGElement.viewBox.baseVal, room = x + width - LETTER * text.length, start = Number(label.dataset.x);
-    if (label.getAttribute('text-anchor') === 'start') label.setAttribute('x', Math.min(start, room));
-  };
+  Page.alarm = (shape, place) => ({ shape, label: Page.drawing('text', { class: 'broken', ...place }), x: place.x, drawn: '' });
 
   const draw = (alarm, conflicts) => {
-    const text = conflicts.length ? `✕ ${Page.shortConflicts(conflicts)}` : '', { shape, label } = alarm;
+    const text = Page.shortConflicts(conflicts).replace(' run', ''), { shape, label } = alarm;
     if (alarm.drawn === text) return;
     alarm.drawn = text;
     shape.classList.toggle('broken', Boolean(text));
-    label.replaceChildren(text, ...(text ? [drawing('title', {}, Page.toldConflicts(conflicts))] : []));
-    if (label.dataset.x) fit(label, text);
+    label.replaceChildren(text, Page.drawing('title', {}, Page.toldConflicts(conflicts)));
     Page.setAttribute(label, 'data-activity', text ? conflicts[0].number : null);
+    // Beside a station it ends within the drawing.
+    const { x, width } = label.ownerSVGElement.viewBox.baseVal;
+    if (label.getAttribute('text-anchor') === 'start') label.setAttribute('x', Math.min(alarm.x, x + width - LETTER * text.length));
   };
 
   // Draws what is new of alarms, of lanes by the events that leave on them, and of stations.

@@ -53,14 +53,15 @@
     page.append(...grid(frame), clip);
     clip.append(...possible(view, frame, line, chosen), ...view.lines.filter(each => each.name !== line.name).flatMap(each => others(view, frame, line, each)));
     clip.append(...waiting.slice(0, MOST_TURNS).flatMap(each => turn(view, frame, line, each)));
+    const reaches = [];
     for (const train of line.trains) {
       const minutes = Page.minutesOf(view, train);
       if (minutes) clip.append(...ways(frame, minutes.map((minute, place) => [minute, heightOf(frame, train.events[place])]), line.color, 2.6));
+      if (minutes) reaches.push(...train.steps.flatMap((_, place) => Page.reachOf(frame, train, minutes, place, 14)));
       page.append(...ends(view, frame, line, train));
     }
     const { ways: broken, labels } = Page.conflictMarks(view, frame);
-    clip.append(...broken);
-    if (chosen !== null) clip.append(...chosenMark(view, frame, line, chosen), ...Page.reachesOf(view, frame));
+    clip.append(...broken, ...(chosen === null ? [] : chosenMark(view, frame, line, chosen)), ...reaches);
     page.append(...labels);
     return page;
   };
@@ -115,7 +116,8 @@
     return places.slice(1).flatMap((to, place) => {
       const from = places[place];
       if (from < 0 || to < 0 || Math.abs(from - to) !== 1) return [];
-      return ways(frame, [place, place + 1].map(each => [minutes[each], heightOf(frame, train.events[each])]), '#a9b4c0', 1.4);
+      const way = ways(frame, [place, place + 1].map(each => [minutes[each], heightOf(frame, train.events[each])]), '#a9b4c0', 1.4);
+      return [...way, ...Page.reachOf(frame, train, minutes, place, 8)];
     });
   });
 
@@ -130,7 +132,7 @@
     const y = frame.heights.get(Page.labelOf(each.first).station), start = view.times.get(each.first), end = start + Page.minutesHad(view, each.number);
     const beyond = y + (y > (TOP + frame.bottom) / 2 ? TURN : -TURN);
     const made = ways(frame, [[start, y], [start, beyond], [end, beyond], [end, y]], line.color, 1.3, '3 3');
-    return made.map(way => Page.marked(way, { 'data-activity': each.number, class: 'turn' }));
+    return Page.marked(made, { 'data-activity': each.number });
   };
 
   // The minutes at which a train begins and ends, beside the ends of its way.
@@ -146,9 +148,8 @@
   const chosenMark = (view, frame, line, event) => {
     const time = view.times.get(event);
     if (time === undefined || Page.labelOf(event).line !== line.name || heightOf(frame, event) === undefined) return [];
-    const move = Page.movedIn(view), [x, y] = [frame.x(time), heightOf(frame, event)], mark = drawing('circle', { class: 'mark', cx: x, cy: y, r: 6 });
-    const told = move ? `${move.minutes < 0 ? '−' : '+'}${Math.abs(move.minutes)}` : '';
-    return told ? [mark, drawing('text', { class: 'end', x: x + 9, y: y + 16 }, told)] : [mark];
+    const [x, y] = [frame.x(time), heightOf(frame, event)], shift = Page.shiftText(view, event);
+    return [drawing('circle', { class: 'mark', cx: x, cy: y, r: 6 }), drawing('text', { class: 'end', x: x + 9, y: y + 16 }, shift)];
   };
 
   const NOTE = 'Marks along a station: the minutes at which the trains of the line can still be there, below it downwards, above it '

@@ -17,9 +17,8 @@
 
   const headOf = ({ line, train }) => {
     if (!train) return Page.element('h3', {}, 'Events');
-    const bar = Page.startBar(Page.makeBar(line, train));
-    bars.push(bar);
-    return bar.node;
+    bars.push(Page.makeBar(line, train));
+    return bars[bars.length - 1].node;
   };
 
   const build = view => {
@@ -124,7 +123,7 @@
     handle.focus({ preventScroll: true });
     event.preventDefault();
     const isTrain = handle.dataset.grip === 'now' && (event.shiftKey || event.ctrlKey || event.metaKey) && Page.trainAt(row.event);
-    if (isTrain) Page.beginMove(event, row.event, row.strip.getBoundingClientRect().width / period, Page.isFromHere(event));
+    if (isTrain) Page.beginMove(event, row.event, row.strip.clientWidth / period, Page.isFromHere(event));
     else Page.beginDrag(event, x => [line(minuteAt(x))]);
   };
 

@@ -8,7 +8,7 @@
     document.title = [session.opened.title, 'pespbench'].filter(Boolean).join(' – ');
     Page.setText(Page.find('size'), `${network.events.length} events, ${network.activities.size} activities, period ${network.period}`);
     if (view.cost === null) tell('cost', '–', view.missing, false);
-    else tell('cost', view.cost.toLocaleString('en'), Page.changeNote(view, 'cost', 'weight times slack'), false);
+    else tell('cost', view.cost.toLocaleString('en'), Page.costNote(view), false);
     tellViolated(view, Page.countViolated(view));
     tellDomains(view);
     Page.find('undo').disabled = !session.place;
@@ -20,7 +20,7 @@
 
   const tellViolated = (view, count) => {
     if (count === null) tell('violations', '–', 'no whole timetable', false);
-    else tell('violations', String(count), Page.changeNote(view, 'violations', count ? '✕ see which' : '✓ all are met'), count > 0);
+    else tell('violations', String(count), Page.violatedNote(view, count ? '✕ see which' : '✓ all are met'), count > 0);
   };
 
   const tellDomains = view => {

@@ -34,9 +34,8 @@
     const { first, last } = Page.view.network.activities.get(number);
     Page.bringRow(event !== null ? event : Page.chosen === last ? last : first);
     const card = cards.get(number);
-    document.querySelectorAll('.card.chosen').forEach(each => each.classList.remove('chosen'));
+    for (const each of cards.values()) each.node.classList.toggle('chosen', each === card);
     if (!card) return;
-    card.node.classList.add('chosen');
     card.node.scrollIntoView({ block: 'nearest' });
     card.node.querySelector('.title button').focus({ preventScroll: true });
   };

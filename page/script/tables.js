@@ -31,11 +31,10 @@
 
   // The look of a minute, below which its style puts what is violated there.
   const lookOf = (view, event, words) => {
-    const conflicts = Page.conflictsOfRow(view, event), told = conflicts.length ? [`✕ ${Page.shortConflicts(conflicts)}`] : [];
-    if (Page.isOutside(view, event)) told.unshift(`not ${Page.windowText(view.network.windows.get(event), view.network.period)}`);
+    const conflicts = Page.conflictsOfRow(view, event), told = [Page.isOutside(view, event) && Page.outsideText(view, event), Page.shortConflicts(conflicts)];
     const looks = [...words, Page.isAlarming(view, event) ? 'alarm' : '', event === Page.chosen ? 'chosen' : ''];
     return {
-      class: looks.filter(Boolean).join(' '), 'data-event': event, 'data-told': told.join('\n') || null,
+      class: looks.filter(Boolean).join(' '), 'data-event': event, 'data-told': told.filter(Boolean).join('\n') || null,
       'data-activity': conflicts.length ? conflicts[0].number : null, title: Page.toldConflicts(conflicts) || null,
     };
   };

@@ -23,7 +23,8 @@ def source(folder, name):
     for word in BREAKS:
         if word in text.lower():
             raise NotMade(f"page/{name} has {word}, which would end it inside of a page")
-    return text
+    # A browser needs no indents. No text of several lines in a script begins one of them with blanks.
+    return "".join(line.lstrip(" ") for line in text.splitlines(keepends=True))
 
 
 def part(folder, found, module):
