@@ -2,7 +2,7 @@
 
 // What is violated in a netgraph: the way of a run and the ring of a station in red, with the minutes had and wanted.
 (() => {
-  const LETTER = 7.2;
+  const PARTS = { start: 0, middle: 0.5, end: 1 }, EDGE = 4;
 
   // What is red where something is violated, and its label.
   Page.alarm = (shape, place) => ({ shape, label: Page.drawing('text', { class: 'broken', ...place }), x: place.x, drawn: '' });
@@ -14,9 +14,14 @@
     shape.classList.toggle('broken', Boolean(text));
     label.replaceChildren(text, Page.drawing('title', {}, Page.toldConflicts(conflicts)));
     Page.setAttribute(label, 'data-activity', text ? conflicts[0].number : null);
-    // Beside a station it ends within the drawing.
-    const { x, width } = label.ownerSVGElement.viewBox.baseVal;
-    if (label.getAttribute('text-anchor') === 'start') label.setAttribute('x', Math.min(alarm.x, x + width - LETTER * text.length));
+    if (label.parentNode === label.ownerSVGElement) fit(label, alarm.x);
+  };
+
+  // A label of a station lies within the drawing.
+  const fit = (label, at) => {
+    const { x, width } = label.ownerSVGElement.viewBox.baseVal, length = label.getComputedTextLength();
+    const before = length * PARTS[label.getAttribute('text-anchor')], most = x + width - length + before - EDGE;
+    label.setAttribute('x', Math.max(x + before + EDGE, Math.min(at, most)));
   };
 
   // Draws what is new of alarms, of lanes by the events that leave on them, and of stations.

@@ -45,8 +45,9 @@
     bar.whole.setAttribute('d', minutes ? pathOf(minutes, period) : '');
     bar.broken.setAttribute('d', minutes ? brokenOf(view, train, minutes) : '');
     bar.stops.setAttribute('d', known.map(time => `M${time + 0.5} 0V1`).join(''));
-    way.hidden = !known.length;
-    way.tabIndex = isChosen ? 0 : -1;
+    if (way.hidden !== !known.length) way.hidden = !known.length;
+    // Set just where it is another one: a browser lays out the page to see whether what has the keys can keep them.
+    Page.setAttribute(way, 'tabindex', isChosen ? 0 : -1);
     bar.node.classList.toggle('alarm', note.includes('✕'));
     Page.setText(bar.note, note);
     Page.tellHandle(way, first, 0, period - 1, `${Page.clock(first)} ${note}`);

@@ -57,7 +57,7 @@
     for (const train of line.trains) {
       const minutes = Page.minutesOf(view, train);
       if (minutes) clip.append(...ways(frame, minutes.map((minute, place) => [minute, heightOf(frame, train.events[place])]), line.color, 2.6));
-      if (minutes) reaches.push(...train.steps.flatMap((_, place) => Page.reachOf(frame, train, minutes, place, 14)));
+      if (minutes && !isDragged()) reaches.push(...train.steps.flatMap((_, place) => Page.reachOf(frame, train, minutes, place, 14)));
       page.append(...ends(view, frame, line, train));
     }
     const { ways: broken, labels } = Page.conflictMarks(view, frame);
@@ -65,6 +65,9 @@
     page.append(...labels);
     return page;
   };
+
+  // While something is dragged, nothing else is taken hold of.
+  const isDragged = () => document.body.classList.contains('dragging');
 
   const heightOf = (frame, event) => frame.heights.get(Page.labelOf(event).station);
   Page.heightOf = heightOf;
@@ -117,7 +120,7 @@
       const from = places[place];
       if (from < 0 || to < 0 || Math.abs(from - to) !== 1) return [];
       const way = ways(frame, [place, place + 1].map(each => [minutes[each], heightOf(frame, train.events[each])]), '#a9b4c0', 1.4);
-      return [...way, ...Page.reachOf(frame, train, minutes, place, 8)];
+      return [...way, ...(isDragged() ? [] : Page.reachOf(frame, train, minutes, place, 8))];
     });
   });
 
@@ -149,7 +152,8 @@
     const time = view.times.get(event);
     if (time === undefined || Page.labelOf(event).line !== line.name || heightOf(frame, event) === undefined) return [];
     const [x, y] = [frame.x(time), heightOf(frame, event)], shift = Page.shiftText(view, event);
-    return [drawing('circle', { class: 'mark', cx: x, cy: y, r: 6 }), drawing('text', { class: 'end', x: x + 9, y: y + 16 }, shift)];
+    const mark = drawing('circle', { class: 'mark', cx: x, cy: y, r: 6 });
+    return shift ? [mark, drawing('text', { class: 'end', x: x + 9, y: y + 16 }, shift)] : [mark];
   };
 
   const NOTE = 'Marks along a station: the minutes at which the trains of the line can still be there, below it downwards, above it '

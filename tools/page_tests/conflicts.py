@@ -1,0 +1,217 @@
+"""What is violated is seen where it is, and all that is drawn is chosen by a click and by keys."""
+
+from page_tests.keys import CODES
+from page_tests.moving import begun, piece
+from page_tests.whole import LOOK
+
+# Of the two trains a run, a dwell, a change and a headway are violated, and an event that is held.
+LINES = ["span 1 13 14", "span 2 4 6", "span 4 6 8", "span 6 4 56", "fix 4 30"]
+RED = "rgb(179, 19, 31)"
+RUN, DWELL, CHANGE, HEADWAY = "10 not 13–14", "2 not 4–6", "5 not 6–8", "3 not 4–56"
+LISTED = [
+    "✕ run of M from Ashford to Benton — has 10, wanted 13 to 14 minutes: 3 too few",
+    "✕ dwell of M to Cranley at Benton — has 2, wanted 4 to 6 minutes: 2 too few",
+    "✕ change at Benton from M to Cranley into B to Dale — has 5, wanted 6 to 8 minutes: 1 too few",
+    "✕ headway at Benton between M to Cranley and B to Dale — has 3, wanted 4 to 56 minutes: 1 too few",
+    "✕ M to Cranley arrives at Cranley — is at :32, held at :30",
+]
+TEXTS = "[...document.querySelectorAll('SELECTOR')].map(each => each.firstChild ? each.firstChild.data : '').filter(Boolean)"
+
+
+def violated(page, tab="diagram"):
+    """The two trains with what is violated, and a view beside them."""
+    begun(page, tab)
+    page.ask(f"Page.step({LINES})")
+    page.frame()
+
+
+def texts(page, selector):
+    return page.ask(TEXTS.replace("SELECTOR", selector))
+
+
+def colors(page, selector, name):
+    return set(page.ask(f"[...document.querySelectorAll('{selector}')].map(each => getComputedStyle(each).{name})"))
+
+
+def in_rows(suite, page):
+    """A row tells what ends there, and of other trains what begins there too; its time and diamond are red."""
+    violated(page)
+    for event, told, note in [
+        (1, [], ""),
+        (2, [f"✕ {RUN} run +1"], ""),
+        (3, [f"✕ {DWELL} dwell +1"], ""),
+        (4, [], "✕ not at :30"),
+        (5, [f"✕ {CHANGE} change +1"], ""),
+        (6, [], ""),
+    ]:
+        came = {"told": texts(page, f'[data-row="{event}"] .conflict'), "note": page.row(event, "note")}
+        suite.note(f"the row of {event}", {"told": told, "note": note}, came)
+        wanted = set() if event == 6 else {RED}
+        red = colors(page, f'[data-row="{event}"] .time', "color") & {RED}
+        suite.note(f"its time {event}", {"red": wanted}, {"red": red})
+    title = page.ask("document.querySelector('[data-row=\"3\"] .conflict').title")
+    suite.note("all of it", {"title": 2}, {"title": len(title.split("\n"))})
+    suite.note("the bar", {"told": "✕ not at :30"}, {"told": page.text('[data-way="1"] ~ .note')})
+
+
+def in_views(suite, page):
+    """The diagram, the netgraph, the tables and the list have the minutes had and wanted, in red."""
+    violated(page)
+    came = sorted(texts(page, "#diagram text.broken"))
+    wanted = sorted([RUN, f"{DWELL} dwell", f"{CHANGE} change", f"{HEADWAY} headway", "not at :30"])
+    suite.note("the diagram", {"told": wanted}, {"told": came})
+    ways = page.ask("[...document.querySelectorAll('#diagram path[data-activity]')].map(each => Number(each.dataset.activity))")
+    suite.note("its ways", {"they": [1, 2, 4, 6]}, {"they": ways})
+    suite.note("their colors", {"they": {RED}}, {"they": colors(page, "#diagram path[data-activity]", "stroke")})
+    suite.note("its texts", {"they": {RED}}, {"they": colors(page, "#diagram text.broken", "fill")})
+    page.press("tab-netgraph")
+    wanted = [f"✕ {DWELL} dwell +2", f"✕ {RUN}"]
+    suite.note("the netgraph", {"told": sorted(wanted)}, {"told": sorted(texts(page, "#netgraph text.broken"))})
+    suite.note("ways and rings", {"they": {RED}}, {"they": colors(page, "#netgraph :not(text).broken", "stroke")})
+    numbers = page.ask("[...document.querySelectorAll('#netgraph tspan.alarm')].map(each => Number(each.dataset.event)).sort()")
+    suite.note("its numbers", {"red": [1, 2, 3, 4, 5]}, {"red": numbers})
+    page.press("tab-tables")
+    told = "[...document.querySelectorAll('#tables td[data-told]')].map(each => [each.dataset.event, each.dataset.told])"
+    wanted = {"2": f"✕ {RUN} run +1", "3": f"✕ {DWELL} dwell +1", "4": "not at :30", "5": f"✕ {CHANGE} change +1"}
+    suite.note("the tables", wanted, dict(page.ask(told)))
+    suite.note("their color", {"it": {RED}}, {"it": colors(page, "#tables td.alarm", "color")})
+    page.press("tab-violated")
+    suite.note("the list", {"it": LISTED}, {"it": page.ask("[...document.querySelectorAll('#view-violated .violated')].map(each => each.textContent)")})
+    page.ask("Page.step(['time 1 8', 'untime 4', 'time 4 30', 'span 3 15 30', 'span 2 2 6', 'span 4 4 8', 'span 6 3 57'])")
+    told = "✕ run of M from Ashford to Benton — has 2, wanted 13 to 14 minutes: 11 too few"
+    suite.note("it follows", {"it": [told]}, {"it": page.ask("[...document.querySelectorAll('#view-violated .violated')].map(each => each.textContent)")})
+    page.ask("Page.step(['untime 4'])")
+    suite.holds("without a time nothing is known", "Not known: event 4 has no time" in page.text("#view-violated"))
+
+
+def led(page):
+    """Which event is chosen, and which activity has the keys."""
+    return page.ask("[Page.chosen, Number(document.activeElement.closest('.card.chosen')?.dataset.activity || 0)]")
+
+
+def leading(suite, page):
+    """Each thing in red leads by a click to its activity, and each line of the list, by keys too."""
+    spot = "(() => {{ const each = {0}; const {{ left, top, width, height }} = each.getBoundingClientRect(); return [left + width / 2, top + height / 2]; }})()"
+    for place, wanted in enumerate([[1, 1], [2, 2], [2, 4], [3, 6], [4, 0]]):
+        violated(page, "violated")
+        page.click(*page.middle(f"#view-violated .violated:nth-child({place + 1}) button"))
+        page.frame()
+        suite.note(f"the list, {place}", {"led": wanted}, {"led": led(page)})
+    violated(page, "violated")
+    page.ask("document.querySelector('#view-violated .violated:nth-child(3) button').focus()")
+    page.type("\n")
+    suite.note("the list by keys", {"led": [2, 4]}, {"led": led(page)})
+    for name, tab, found, wanted in [
+        ("a row", "diagram", "document.querySelector('[data-row=\"3\"] .conflict')", [3, 2]),
+        ("the row of another train", "diagram", "document.querySelector('[data-row=\"5\"] .conflict')", [5, 4]),
+        ("a text in the diagram", "diagram", "document.querySelector('#diagram text[data-activity=\"6\"]')", [3, 6]),
+        ("a held event there", "diagram", "document.querySelector('#diagram text[data-event=\"4\"].broken')", [4, 0]),
+        ("a lane", "netgraph", "document.querySelector('#netgraph g text.broken[data-activity]')", [1, 1]),
+        ("a station", "netgraph", "document.querySelector('#netgraph svg > text.broken[data-activity]')", [2, 2]),
+        ("a cell", "tables", "document.querySelector('#tables td[data-event=\"5\"]')", [5, 4]),
+    ]:
+        violated(page, tab)
+        page.ask(f"{found}.scrollIntoView({{ block: 'nearest' }})")
+        page.click(*page.ask(spot.format(found)))
+        page.frame()
+        suite.note(name, {"led": wanted}, {"led": led(page)})
+
+
+def choosing(suite, page):
+    """What is drawn is chosen by a click: ends of ways, texts, stations, other lines, lanes, numbers and cells."""
+    begun(page)
+    for name, place, wanted in [
+        ("a run at its begin", (1, 0.2), 1),
+        ("a run at its end", (1, 0.8), 2),
+        ("a dwell at its end", (2, 0.9), 3),
+        ("the last run", (3, 0.7), 4),
+    ]:
+        page.click(*piece(page, *place)[:2])
+        page.frame()
+        came = {"chosen": page.ask("Page.chosen"), "keys": page.ask("document.activeElement.id"), "lines": page.lines()}
+        suite.note(name, {"chosen": wanted, "keys": "diagram", "lines": []}, came)
+    for name, tab, selector, wanted in [
+        ("the minute at an end", "diagram", '#diagram text.end[data-event="1"]', [1]),
+        ("a station, again and again", "diagram", '#diagram [data-station="Benton"]', [5, 2, 3, 5]),
+        ("a number", "netgraph", '#netgraph tspan[data-event="4"]', [4]),
+        ("a ring", "netgraph", '#netgraph .ring[data-station="Dale"]', [6]),
+        ("the name of a station", "netgraph", '#netgraph .place[data-station="Ashford"]', [1]),
+        ("a lane", "netgraph", '#netgraph g[data-event="5"] rect', [5]),
+        ("a cell", "tables", '#tables td[data-event="3"]', [3]),
+    ]:
+        begun(page, tab)
+        page.ask("Page.choose(1)")
+        page.frame()
+        for event in wanted if len(wanted) == 1 else wanted[1:]:
+            page.click(*page.middle(selector))
+            page.frame()
+            suite.note(f"{name}: {event}", {"chosen": event, "keys": tab}, {"chosen": page.ask("Page.chosen"), "keys": page.ask("document.activeElement.id")})
+    begun(page)
+    page.ask("Page.step(['window 2 8 30'])")
+    page.frame()
+    left, top, width, _ = page.box('#diagram .can[data-event="2"]')
+    page.click(left + width * 0.8, top)
+    page.frame()
+    suite.note("a mark of what is possible", {"chosen": 2}, {"chosen": page.ask("Page.chosen")})
+
+
+def other_lines(suite, page):
+    """The way of another line in grey is chosen by a click, and its line is drawn then."""
+    page.ask("Page.openStory(Page.stories[0]); Page.showTab('diagram')")
+    page.frame()
+    page.box("#diagram svg")
+    found = page.ask("""(() => {
+        const own = new Set(Page.view.lines[0].trains.flatMap(train => train.events));
+        for (const piece of document.querySelectorAll('#diagram .reach')) {
+            const at = piece.getPointAtLength(0.3 * piece.getTotalLength()).matrixTransform(piece.getScreenCTM());
+            if (!own.has(Number(piece.dataset.event)) && document.elementFromPoint(at.x, at.y) === piece) return [at.x, at.y, Number(piece.dataset.event)];
+        }
+    })()""")
+    page.click(*found[:2])
+    page.frame()
+    came = page.ask("[Page.chosen, Page.find('line-of-diagram').value === Page.labelOf(Page.chosen).line, Page.find('line-of-diagram').value !== 'R1']")
+    suite.note("another line", {"it": [found[2], True, True]}, {"it": came})
+
+
+def all_by_keys(suite, page):
+    """In each view arrow keys go through all events, and Enter goes to the row."""
+    for tab in ("diagram", "netgraph", "tables"):
+        begun(page, tab)
+        order = page.ask("[...document.querySelectorAll('[data-row]')].map(each => Number(each.dataset.row))")
+        page.ask(f"Page.choose({order[0]}); document.querySelector('#{tab}').focus()")
+        reached = [page.ask("Page.chosen")]
+        for _ in order[1:]:
+            page.key("ArrowDown", CODES["ArrowDown"])
+            reached.append(page.ask("Page.chosen"))
+        suite.note(f"{tab}, down", {"reached": order}, {"reached": reached})
+        page.key("ArrowUp", CODES["ArrowUp"])
+        keys = page.ask("[Page.chosen, document.activeElement.id]")
+        suite.note(f"{tab}, up", {"it": [order[-2], tab]}, {"it": keys})
+        page.type("\n")
+        suite.note(f"{tab}, Enter", {"keys": str(order[-2])}, {"keys": page.ask("document.activeElement.dataset.event")})
+
+
+def fitting(suite, page):
+    """With what is violated nothing is wider than the page, and no text is cut, on wide and on small screens."""
+    for width, height in [(1360, 850), (800, 900), (390, 844)]:
+        page.resize(width, height)
+        for name, show in [("two trains", lambda: violated(page)), ("a region", lambda: moved_region(page))]:
+            show()
+            for tab in ("diagram", "netgraph", "tables", "violated"):
+                page.ask(f"Page.showTab('{tab}')")
+                page.frame()
+                suite.note(f"{width}, {name}, {tab}", {"wider": 0, "cut": []}, page.ask(LOOK))
+        wider = page.ask("Page.find('events').scrollWidth - Page.find('events').clientWidth")
+        suite.note(f"{width}, the rows", {"wider": 0}, {"wider": wider})
+    page.resize(1440, 900)
+    page.ask("Page.showTab('diagram')")
+
+
+def moved_region(page):
+    """The region with each of its trains moved by some minutes."""
+    page.ask("Page.openStory(Page.stories[0])")
+    page.ask("Page.view.trains.forEach((train, place) => Page.moveTrain(train.events[3], 2 * place - 7, place % 2 === 1))")
+    page.frame()
+
+
+GROUPS = [in_rows, in_views, leading, choosing, other_lines, all_by_keys, fitting]
