@@ -58,7 +58,7 @@
   // Tells a screen reader of the chosen event in a view.
   const tell = (holder, view) => {
     const event = Page.chosen, time = view.times.get(event), told = [time === undefined ? 'no time' : Page.clock(time), Page.shortConflicts(Page.conflictsAt(view, event))];
-    Page.setAttribute(holder, 'aria-label', `the train of ${Page.eventName(event)}`);
+    Page.setAttribute(holder, 'aria-label', event === null ? 'no event' : `the train of ${Page.eventName(event)}`);
     Page.tellHandle(holder, time || 0, 0, view.network.period - 1, told.join(' '));
   };
 

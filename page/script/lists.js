@@ -20,8 +20,8 @@
     Page.find('view-violated').replaceChildren(...items);
   };
 
-  const item = (lead, name, told) => element('p', { class: 'violated' }, '✕ ',
-    element('button', { class: 'link', onclick: lead }, name), ` — ${told}`);
+  const item = (lead, name, told) => element('p', { class: 'violated' },
+    element('button', { class: 'link', onclick: lead }, `✕ ${name}`), ` — ${told}`);
 
   const violatedActivity = ({ number, activity, told }) => item(() => Page.showActivity(number), Page.activityName(activity), told);
 
@@ -35,7 +35,7 @@
     const { steps, place } = Page.session;
     const items = steps.map((step, each) => element('li', { class: each < place ? '' : 'undone' },
       element('button', { class: 'link', onclick: () => Page.goTo(each + 1), title: 'go to the state after this step' }, Page.titleOf(step)),
-      each < place ? '' : ' (undone)'));
+      step.title ? ` — ${Page.titleOf({ lines: step.lines })}` : '', each < place ? '' : ' (undone)'));
     Page.find('steps').replaceChildren(...items);
     Page.find('no-steps').hidden = steps.length > 0;
   };

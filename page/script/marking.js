@@ -29,11 +29,14 @@
     return drawing('text', { class: 'broken', x, y: base, 'text-anchor': 'middle', ...more }, text);
   };
 
+  // The minutes over which a violated activity is drawn: what rules little out, as a headway, over the shorter way between its ends.
+  const drawnOver = ({ activity: { lower, upper }, had }, period) => 2 * (upper - lower) > period && 2 * had > period ? had - period : had;
+
   // Where a violated activity lies of which an end is an event of the line; null where none is.
-  const pointsOf = (view, frame, { activity: { first, last }, had }) => {
-    const [from, to] = [first, last].map(event => Page.heightOf(frame, event)), start = view.times.get(first);
+  const pointsOf = (view, frame, conflict) => {
+    const { first, last } = conflict.activity, [from, to] = [first, last].map(event => Page.heightOf(frame, event)), start = view.times.get(first);
     const isOwn = [first, last].some(event => Page.labelOf(event).line === frame.line.name);
-    return isOwn && (from || to) ? [[start, from || to], [start + had, to || from]] : null;
+    return isOwn && (from || to) ? [[start, from || to], [start + drawnOver(conflict, frame.period), to || from]] : null;
   };
 
   const brokenOf = (view, frame, boxes) => {

@@ -64,6 +64,12 @@ def in_views(suite, page):
     suite.note("its ways", {"they": [1, 2, 4, 6]}, {"they": ways})
     suite.note("their colors", {"they": {RED}}, {"they": colors(page, "#diagram path[data-activity]", "stroke")})
     suite.note("its texts", {"they": {RED}}, {"they": colors(page, "#diagram text.broken", "fill")})
+    # A headway the other way round is drawn between its trains, and not over the rest of the period.
+    page.ask("Page.step(['time 5 10', 'time 6 25'])")
+    way = page.ask("document.querySelector('#diagram path[data-activity=\"6\"]').getBBox().width * 60 / 754")
+    suite.note("a headway of 58", {"told": ["58 not 4–56 headway"], "minutes": 2}, {
+        "told": texts(page, '#diagram text[data-activity="6"]'), "minutes": round(way, 1)})
+    page.press("undo")
     page.press("tab-netgraph")
     wanted = [f"✕ {DWELL} dwell +2", f"✕ {RUN}"]
     suite.note("the netgraph", {"told": sorted(wanted)}, {"told": sorted(texts(page, "#netgraph text.broken"))})

@@ -178,8 +178,8 @@ def by_fields(suite, page):
     said = "M to Cranley from Benton on 1 minute later: cost 1 more; 1 violated, 1 more"
     suite.note("and what it changes", {"said": said}, {"said": page.said()})
     page.press("tab-lines")
-    title = "M to Cranley from Benton on 1 minute later"
-    suite.note("the step is listed", {"listed": title}, {"listed": page.text("#steps")})
+    listed = "M to Cranley from Benton on 1 minute later — time 3 13 and 1 more lines"
+    suite.note("the step is listed", {"listed": listed}, {"listed": page.text("#steps")})
 
 
 def held(suite, page):
