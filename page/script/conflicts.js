@@ -8,7 +8,7 @@
   // The minutes of an activity. Replies count them up from the least ones, and so tell too few by a period too many.
   Page.minutesHad = ({ network, tensions }, number) => {
     const { lower, upper } = network.activities.get(number), { tension } = tensions.get(number), less = tension - network.period;
-    return lower - less < tension - upper ? less : tension;
+    return lower - less <= tension - upper ? less : tension;
   };
 
   const conflictOf = (view, number) => {

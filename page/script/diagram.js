@@ -134,8 +134,8 @@
   const turn = (view, frame, line, each) => {
     const y = frame.heights.get(Page.labelOf(each.first).station), start = view.times.get(each.first), end = start + Page.minutesHad(view, each.number);
     const beyond = y + (y > (TOP + frame.bottom) / 2 ? TURN : -TURN);
-    const made = ways(frame, [[start, y], [start, beyond], [end, beyond], [end, y]], line.color, 1.3, '3 3');
-    return Page.marked(made, { 'data-activity': each.number });
+    const points = [[start, y], [start, beyond], [end, beyond], [end, y]];
+    return Page.marked([...ways(frame, points, line.color, 1.3, '3 3'), ...ways(frame, points, 'transparent', 9)], { 'data-activity': each.number });
   };
 
   // The minutes at which a train begins and ends, beside the ends of its way.

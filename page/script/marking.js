@@ -42,7 +42,7 @@
   const brokenOf = (view, frame, boxes) => {
     const found = Page.conflictsOf(view).all.map(conflict => ({ conflict, points: pointsOf(view, frame, conflict) })).filter(({ points }) => points);
     const ways = found.flatMap(({ conflict, points }) =>
-      Page.marked(Page.waysOf(frame, points, 'var(--alarm)', 4), { 'data-activity': conflict.number }));
+      Page.marked(Page.waysOf(frame, points, 'var(--alarm)', 4), { class: 'broken', 'data-activity': conflict.number }));
     const labels = found.slice(0, MOST_LABELS).map(({ conflict, points: [[start, from], [end, to]] }) => {
       const label = labelOf(frame, boxes, [(start + end) / 2, (from + to) / 2], conflict.isRun ? conflict.short : conflict.text, { 'data-activity': conflict.number });
       label.append(drawing('title', {}, Page.toldConflicts([conflict])));

@@ -4,10 +4,7 @@
 // without a time are left. No window stops a train: what is left is violated, and told at its place.
 (() => {
   const { element } = Page;
-  let trains = new Map(), moved = null;
-
-  // The train of an event with the event's place in it.
-  Page.trainAt = event => trains.get(event);
+  let moved = null;
 
   const begun = (event, isFromHere) => {
     const { train, place } = Page.trainAt(event), from = isFromHere ? place : 0;
@@ -62,13 +59,16 @@
     const count = Page.minutesField({ id: 'move-by', required: true, value: 1 });
     const go = sign => count.checkValidity() && Page.moveTrain(Page.chosen, sign * Page.minutesTyped(count.value) || 0, Page.find('from-here').checked);
     const button = (sign, name) => element('button', { type: 'button', id: `move-${name}`, onclick: () => go(sign) }, name);
-    return element('p', { class: 'fact' }, element('label', { for: 'move-by' }, 'move its train by'), count, 'minutes',
+    const submit = event => {
+      event.preventDefault();
+      go(1);
+    };
+    return element('form', { class: 'fact', onsubmit: submit }, element('label', { for: 'move-by' }, 'move its train by'), count, 'minutes',
       button(-1, 'earlier'), button(1, 'later'), element('label', {}, element('input', { type: 'checkbox', id: 'from-here' }), ' from here on'));
   };
 
   Page.panel({
-    build: view => {
-      trains = new Map(view.trains.flatMap(train => train.events.map((event, place) => [event, { train, place }])));
+    build: () => {
       if (!Page.find('move-by')) Page.find('move').append(form());
     },
     update: () => { Page.find('move').hidden = !Page.trainAt(Page.chosen); },

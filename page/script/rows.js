@@ -94,7 +94,7 @@
   const drawBroken = (row, isBroken, conflicts) => {
     row.node.classList.toggle('broken', isBroken);
     row.notes.replaceChildren(row.note, ...(conflicts.length ? [Page.element('button', {
-      class: 'conflict', tabindex: -1, title: Page.toldConflicts(conflicts), onclick: () => Page.showActivity(conflicts[0].number, row.event),
+      class: 'conflict', type: 'button', tabindex: Page.chosen === row.event ? 0 : -1, title: Page.toldConflicts(conflicts), onclick: () => Page.showActivity(conflicts[0].number, row.event),
     }, Page.shortConflicts(conflicts))] : []));
   };
 
@@ -130,6 +130,6 @@
 
   const chooseRow = (row, isChosen) => {
     row.node.classList.toggle('chosen', isChosen);
-    for (const handle of [row.strip, row.first, row.last, row.now]) if (handle) handle.tabIndex = isChosen ? 0 : -1;
+    for (const handle of [row.strip, row.first, row.last, row.now, row.notes.querySelector('button')]) if (handle) handle.tabIndex = isChosen ? 0 : -1;
   };
 })();

@@ -34,6 +34,15 @@
     return trains.sort((one, other) => one.events[0] - other.events[0]);
   };
 
+  const places = new WeakMap();
+
+  // The train of an event with the event's place in it.
+  Page.trainAt = event => {
+    const { trains } = Page.view;
+    if (!places.has(trains)) places.set(trains, new Map(trains.flatMap(train => train.events.map((each, place) => [each, { train, place }]))));
+    return places.get(trains).get(event);
+  };
+
   const trainFrom = (event, following) => {
     const { line, to } = Page.labelOf(event), train = { line, to, events: [event], steps: [] };
     for (let step = following.get(event); step && step.last !== event; step = following.get(step.last)) {

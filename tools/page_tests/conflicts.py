@@ -1,7 +1,7 @@
 """What is violated is seen where it is, and all that is drawn is chosen by a click and by keys."""
 
 from page_tests.keys import CODES
-from page_tests.moving import begun, piece
+from page_tests.moving import TRAINS, begun, piece
 from page_tests.whole import LOOK
 
 # Of the two trains a run, a dwell, a change and a headway are violated, and an event that is held.
@@ -51,6 +51,15 @@ def in_rows(suite, page):
         suite.note(f"its time {event}", {"red": wanted}, {"red": red})
     title = page.ask("document.querySelector('[data-row=\"3\"] .conflict').title")
     suite.note("all of it", {"title": 2}, {"title": len(title.split("\n"))})
+    page.again()
+    page.show({**TRAINS, "activities": TRAINS["activities"].replace("1; 1; 2; 10; 12", "1; 1; 2; 13; 14")})
+    came = [texts(page, f'[data-row="{event}"] .conflict') for event in (1, 2)]
+    suite.note("as it is opened", {"rows": [[], [f"✕ {RUN} run"]]}, {"rows": came})
+    page.ask("Page.showRow(2)")
+    for _ in range(2):
+        page.key("Tab", CODES["Tab"])
+    suite.note("by Tab from its row", {"at": "conflict"}, {"at": page.ask("document.activeElement.className")})
+    violated(page)
     suite.note("the bar", {"told": "✕ not at :30"}, {"told": page.text('[data-way="1"] ~ .note')})
 
 
@@ -60,9 +69,9 @@ def in_views(suite, page):
     came = sorted(texts(page, "#diagram text.broken"))
     wanted = sorted([RUN, f"{DWELL} dwell", f"{CHANGE} change", f"{HEADWAY} headway", "not at :30"])
     suite.note("the diagram", {"told": wanted}, {"told": came})
-    ways = page.ask("[...document.querySelectorAll('#diagram path[data-activity]')].map(each => Number(each.dataset.activity))")
+    ways = page.ask("[...document.querySelectorAll('#diagram path.broken')].map(each => Number(each.dataset.activity))")
     suite.note("its ways", {"they": [1, 2, 4, 6]}, {"they": ways})
-    suite.note("their colors", {"they": {RED}}, {"they": colors(page, "#diagram path[data-activity]", "stroke")})
+    suite.note("their colors", {"they": {RED}}, {"they": colors(page, "#diagram path.broken", "stroke")})
     suite.note("its texts", {"they": {RED}}, {"they": colors(page, "#diagram text.broken", "fill")})
     # A headway the other way round is drawn between its trains, and not over the rest of the period.
     page.ask("Page.step(['time 5 10', 'time 6 25'])")
@@ -90,6 +99,15 @@ def in_views(suite, page):
     suite.holds("without a time nothing is known", "Not known: event 4 has no time" in page.text("#view-violated"))
 
 
+# The middle of what is found, which of a path lies on it.
+SPOT = """(() => {{
+    const each = {0}, {{ left, top, width, height }} = each.getBoundingClientRect();
+    if (!each.getTotalLength) return [left + width / 2, top + height / 2];
+    const {{ x, y }} = each.getPointAtLength(0.5 * each.getTotalLength()).matrixTransform(each.getScreenCTM());
+    return [x, y];
+}})()"""
+
+
 def led(page):
     """Which event is chosen, and which activity has the keys."""
     return page.ask("[Page.chosen, Number(document.activeElement.closest('.card.chosen')?.dataset.activity || 0)]")
@@ -97,7 +115,6 @@ def led(page):
 
 def leading(suite, page):
     """Each thing in red leads by a click to its activity, and each line of the list, by keys too."""
-    spot = "(() => {{ const each = {0}; const {{ left, top, width, height }} = each.getBoundingClientRect(); return [left + width / 2, top + height / 2]; }})()"
     for place, wanted in enumerate([[1, 1], [2, 2], [2, 4], [3, 6], [4, 0]]):
         violated(page, "violated")
         page.click(*page.middle(f"#view-violated .violated:nth-child({place + 1}) button"))
@@ -111,16 +128,28 @@ def leading(suite, page):
         ("a row", "diagram", "document.querySelector('[data-row=\"3\"] .conflict')", [3, 2]),
         ("the row of another train", "diagram", "document.querySelector('[data-row=\"5\"] .conflict')", [5, 4]),
         ("a text in the diagram", "diagram", "document.querySelector('#diagram text[data-activity=\"6\"]')", [3, 6]),
+        ("a turn", "diagram", "document.querySelector('#diagram path[data-activity=\"7\"]')", [6, 7]),
         ("a held event there", "diagram", "document.querySelector('#diagram text[data-event=\"4\"].broken')", [4, 0]),
         ("a lane", "netgraph", "document.querySelector('#netgraph g text.broken[data-activity]')", [1, 1]),
         ("a station", "netgraph", "document.querySelector('#netgraph svg > text.broken[data-activity]')", [2, 2]),
         ("a cell", "tables", "document.querySelector('#tables td[data-event=\"5\"]')", [5, 4]),
     ]:
         violated(page, tab)
+        if name == "a turn":
+            turning(page)
         page.ask(f"{found}.scrollIntoView({{ block: 'nearest' }})")
-        page.click(*page.ask(spot.format(found)))
+        page.click(*page.ask(SPOT.format(found)))
         page.frame()
         suite.note(name, {"led": wanted}, {"led": led(page)})
+
+
+def turning(page):
+    """A train that waits at Dale, and goes back, so that the diagram draws its turn."""
+    labels = TRAINS["labels"].replace("activity;", "7; B; Benton; Dale; departure\n8; B; Benton; Benton; arrival\nactivity;") + "7; turn\n8; run\n"
+    activities = TRAINS["activities"] + "7; 6; 7; 5; 9; 1\n8; 7; 8; 15; 15; 1\n"
+    begun(page, activities=activities, labels=labels, times=TRAINS["times"] + "7; 36\n8; 51\n")
+    page.ask("Page.choose(6)")
+    page.frame()
 
 
 def choosing(suite, page):
