@@ -57,9 +57,9 @@
 
   // Tells a screen reader of the chosen event in a view.
   const tell = (holder, view) => {
-    const event = Page.chosen, time = view.times.get(event), told = [time === undefined ? 'no time' : Page.clock(time), Page.shortConflicts(Page.conflictsAt(view, event))];
+    const event = Page.chosen, time = view.times.get(event), broken = Page.shortConflicts(Page.conflictsAt(view, event));
     Page.setAttribute(holder, 'aria-label', event === null ? 'no event' : `the train of ${Page.eventName(event)}`);
-    Page.tellHandle(holder, time || 0, 0, view.network.period - 1, told.join(' '));
+    Page.tellHandle(holder, time || 0, 0, view.network.period - 1, `${time === undefined ? 'no time' : Page.clock(time)} ${broken}`);
   };
 
   Page.panel({ update: view => ['diagram', 'netgraph'].forEach(name => tell(Page.find(name), view)) });

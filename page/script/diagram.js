@@ -56,8 +56,10 @@
     const reaches = [];
     for (const train of line.trains) {
       const minutes = Page.minutesOf(view, train);
-      if (minutes) clip.append(...ways(frame, minutes.map((minute, place) => [minute, heightOf(frame, train.events[place])]), line.color, 2.6));
-      if (minutes && !isDragged()) reaches.push(...train.steps.flatMap((_, place) => Page.reachOf(frame, train, minutes, place, 14)));
+      if (minutes) {
+        clip.append(...ways(frame, minutes.map((minute, place) => [minute, heightOf(frame, train.events[place])]), line.color, 2.6));
+        if (!isDragged()) reaches.push(...train.steps.flatMap((_, place) => Page.reachOf(frame, train, minutes, place, 14)));
+      }
       page.append(...ends(view, frame, line, train));
     }
     const { ways: broken, labels } = Page.conflictMarks(view, frame);

@@ -44,7 +44,8 @@
     const ways = found.flatMap(({ conflict, points }) =>
       Page.marked(Page.waysOf(frame, points, 'var(--alarm)', 4), { class: 'broken', 'data-activity': conflict.number }));
     const labels = found.slice(0, MOST_LABELS).map(({ conflict, points: [[start, from], [end, to]] }) => {
-      const label = labelOf(frame, boxes, [(start + end) / 2, (from + to) / 2], conflict.isRun ? conflict.short : conflict.text, { 'data-activity': conflict.number });
+      const text = conflict.isRun ? conflict.short : conflict.text, middle = [(start + end) / 2, (from + to) / 2];
+      const label = labelOf(frame, boxes, middle, text, { 'data-activity': conflict.number });
       label.append(drawing('title', {}, Page.toldConflicts([conflict])));
       return label;
     });

@@ -109,7 +109,8 @@
   const drawStation = (station, { x, base, anchor }) => {
     const [cx, cy] = graph.places.get(station);
     const ring = drawing('circle', { class: 'ring', cx, cy, r: graph.radius.get(station), 'data-station': station });
-    const isAbove = base < cy - graph.radius.get(station) / 2, alarm = Page.alarm(ring, { x, y: base + (isAbove ? -NAME : NAME), 'text-anchor': anchor });
+    const isAbove = base < cy - graph.radius.get(station) / 2;
+    const alarm = Page.alarm(ring, { x, y: base + (isAbove ? -NAME : NAME), 'text-anchor': anchor });
     alarms.stations.set(station, alarm);
     return [ring, drawing('text', { class: 'place', x, y: base, 'text-anchor': anchor, 'data-station': station }, station), alarm.label];
   };

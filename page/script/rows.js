@@ -93,9 +93,12 @@
   // The violated activities at the event; one that is too long for its place is whole in its title.
   const drawBroken = (row, isBroken, conflicts) => {
     row.node.classList.toggle('broken', isBroken);
-    row.notes.replaceChildren(row.note, ...(conflicts.length ? [Page.element('button', {
-      class: 'conflict', type: 'button', tabindex: Page.chosen === row.event ? 0 : -1, title: Page.toldConflicts(conflicts), onclick: () => Page.showActivity(conflicts[0].number, row.event),
-    }, Page.shortConflicts(conflicts))] : []));
+    row.notes.replaceChildren(row.note);
+    if (!conflicts.length) return;
+    row.notes.append(Page.element('button', {
+      class: 'conflict', type: 'button', tabindex: Page.chosen === row.event ? 0 : -1, title: Page.toldConflicts(conflicts),
+      onclick: () => Page.showActivity(conflicts[0].number, row.event),
+    }, Page.shortConflicts(conflicts)));
   };
 
   // Draws what is new about an event.

@@ -43,7 +43,8 @@
 
   // The look of a minute, below which its style puts what is violated there.
   const lookOf = (view, event, words) => {
-    const conflicts = Page.conflictsOfRow(view, event), told = [Page.isOutside(view, event) && Page.outsideText(view, event), Page.shortConflicts(conflicts)];
+    const conflicts = Page.conflictsOfRow(view, event);
+    const told = [Page.isOutside(view, event) && Page.outsideText(view, event), Page.shortConflicts(conflicts)];
     const looks = [...words, Page.isAlarming(view, event) ? 'alarm' : '', event === Page.chosen ? 'chosen' : ''];
     return {
       class: looks.filter(Boolean).join(' '), 'data-event': event, 'data-told': told.filter(Boolean).join('\n') || null,

@@ -26,6 +26,7 @@ activity; kind
 }
 LATER = ["time 1 1", "time 2 11", "time 3 13", "time 4 33"]
 EARLIER = ["time 1 57", "time 2 7", "time 3 9", "time 4 29"]
+BROKEN = "[...document.querySelectorAll('#diagram text.broken')].map(each => each.firstChild.data)"
 FROM_HERE = ["time 3 13", "time 4 33"]
 
 
@@ -195,13 +196,13 @@ def held(suite, page):
         came = {
             "row": page.row(3, "note"),
             "bar": page.text('[data-way="1"] ~ .note'),
-            "diagram": page.ask("[...document.querySelectorAll('#diagram text.broken')].map(each => each.firstChild.data)"),
+            "diagram": page.ask(BROKEN),
             "ring": page.ask("document.querySelectorAll('#diagram .outside').length"),
             "said": page.said(),
         }
         said = f"M to Cranley 1 minute later: cost 5 less; 2 violated, 2 more; ✕ M to Cranley leaves Benton: {told}"
-        wanted = {"row": f"✕ {told}", "bar": f"+1 ✕ {told}", "diagram": ["2 not 3–57 headway", told], "ring": 1, "said": said}
-        suite.note(line, wanted, came)
+        wanted = {"row": f"✕ {told}", "bar": f"+1 ✕ {told}", "diagram": ["2 not 3–57 headway", told], "ring": 1}
+        suite.note(line, {**wanted, "said": said}, came)
         page.mouse("mouseReleased", x + minute, y)
         page.frame()
         suite.note("it is done all the same", {"lines": [line, *LATER]}, {"lines": page.lines()})
