@@ -30,6 +30,7 @@
     ? pathOf(minutes.slice(place, place + 2), view.network.period) : '').join('');
 
   const noteOf = (view, { events }) => {
+    if (!events.some(event => Page.isAlarming(view, event))) return Page.shiftText(view, events[0]);
     const outside = events.find(event => Page.isOutside(view, event)), broken = new Set(events.flatMap(event => Page.conflictsAt(view, event)));
     const told = outside !== undefined ? `✕ ${Page.outsideText(view, outside)}` : broken.size ? `✕ ${broken.size} violated` : '';
     return [Page.shiftText(view, events[0]), told].filter(Boolean).join(' ');

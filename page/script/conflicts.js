@@ -3,7 +3,7 @@
 // What the working timetable violates, at its place: activities with the minutes had and wanted, and events that are not where
 // they are held.
 (() => {
-  const MOST_TOLD = 12, NONE = [], known = new WeakMap();
+  const MOST_TOLD = 12, NONE = [];
 
   // The minutes of an activity. Replies count them up from the least ones, and so tell too few by a period too many.
   Page.minutesHad = ({ network, tensions }, number) => {
@@ -20,7 +20,11 @@
 
   // The violated activities of what is shown: all of them, and by each event at which one begins or ends.
   Page.conflictsOf = view => {
-    if (known.has(view)) return known.get(view);
+    if (!view.conflicts) view.conflicts = found(view);
+    return view.conflicts;
+  };
+
+  const found = view => {
     const all = view.violations ? [...view.violations.activities].map(number => conflictOf(view, number)) : [], at = new Map();
     for (const conflict of all) {
       for (const event of new Set([conflict.activity.first, conflict.activity.last])) {
@@ -28,8 +32,7 @@
         at.get(event).push(conflict);
       }
     }
-    known.set(view, { all, at });
-    return known.get(view);
+    return { all, at };
   };
 
   Page.conflictsAt = (view, event) => Page.conflictsOf(view).at.get(event) || NONE;

@@ -29,7 +29,7 @@
 
   const draw = view => {
     numbers = new Map();
-    alarms = { lanes: new Map(), stations: new Map() };
+    alarms = { lanes: new Map(), stations: new Map(), drawn: new Set() };
     graph = layOut(view);
     const labels = new Map([...graph.places.keys()].map(station => [station, labelPlace(station)]));
     const lanes = graph.tracks.flatMap(track => track.lanes.map((lane, place) => {

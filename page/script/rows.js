@@ -86,8 +86,8 @@
   };
 
   const toldAt = (view, event) => {
-    const [first, ...more] = Page.conflictsAt(view, event);
-    return first ? `${first.number} ${first.short} ${more.length}` : '';
+    const conflicts = Page.conflictsAt(view, event);
+    return conflicts.length ? `${conflicts[0].number} ${conflicts[0].short} ${conflicts.length}` : '';
   };
 
   // The violated activities at the event; one that is too long for its place is whole in its title.
