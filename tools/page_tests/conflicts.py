@@ -75,11 +75,12 @@ def in_views(suite, page):
     suite.note("their colors", {"they": {RED}}, {"they": colors(page, "#diagram path.broken", "stroke")})
     suite.note("its texts", {"they": {RED}}, {"they": colors(page, "#diagram text.broken", "fill")})
     # A headway the other way round is drawn between its trains, and not over the rest of the period.
-    page.ask("Page.step(['time 5 10', 'time 6 25'])")
-    way = page.ask("document.querySelector('#diagram path[data-activity=\"6\"]').getBBox().width * 60 / 754")
-    came = {"told": texts(page, '#diagram text[data-activity="6"]'), "minutes": round(way, 1)}
-    suite.note("a headway of 58", {"told": ["58 not 4–56 headway"], "minutes": 2}, came)
-    page.press("undo")
+    for time, had, minutes in [(10, 58, 2), (12, 0, 0)]:
+        page.ask(f"Page.step(['time 5 {time}', 'time 6 {time + 15}'])")
+        way = page.ask("document.querySelector('#diagram path[data-activity=\"6\"]').getBBox().width * 60 / 754")
+        came = {"told": texts(page, '#diagram text[data-activity="6"]'), "minutes": round(way, 1)}
+        suite.note(f"a headway of {had}", {"told": [f"{had} not 4–56 headway"], "minutes": minutes}, came)
+        page.press("undo")
     page.press("tab-netgraph")
     wanted = [f"✕ {DWELL} dwell +2", f"✕ {RUN}"]
     suite.note("the netgraph", {"told": sorted(wanted)}, {"told": sorted(texts(page, "#netgraph text.broken"))})
