@@ -5,11 +5,11 @@
 (() => {
   const MOST_TOLD = 12, NONE = [];
 
-  // The minutes of an activity. Replies count them up from the least ones, and so tell too few by a period too many: of these two
-  // what is nearer to the span, and none below zero where both are as near.
-  Page.minutesHad = ({ network, tensions }, number) => {
-    const { lower, upper } = network.activities.get(number), { tension } = tensions.get(number), less = tension - network.period;
-    return lower - less + (less < 0) <= tension - upper ? less : tension;
+  // The minutes of an activity. Replies count them up from the least ones, and so tell too few by a period too many. Where a span is
+  // below a period so is what is told; else it is that of the two which is nearer to the span.
+  Page.minutesHad = ({ network: { activities, period }, tensions }, number) => {
+    const { lower, upper } = activities.get(number), { tension } = tensions.get(number), less = tension - period;
+    return (upper < period && less >= 0) || lower - less < tension - upper ? less : tension;
   };
 
   const conflictOf = (view, number) => {

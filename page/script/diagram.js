@@ -41,8 +41,9 @@
   // The diagram of a line, and what it says of what is left out. Where times are missing, trains are not drawn, and what is still
   // possible is.
   Page.diagramOf = (view, whole, chosen = null) => {
-    const { line, told } = Page.stretchOf(whole, chosen), waiting = turnsOf(view, line), drawn = diagramOf(view, line, chosen, waiting);
-    return { drawn, told: [told, Page.elided(waiting.length, MOST_TURNS, 'turns')].filter(Boolean).join(' ') };
+    const { line, told } = Page.stretchOf(whole, chosen), waiting = turnsOf(view, line);
+    const { drawn, left } = diagramOf(view, line, chosen, waiting);
+    return { drawn, told: [told, left, Page.elided(waiting.length, MOST_TURNS, 'turns')].filter(Boolean).join(' ') };
   };
 
   const diagramOf = (view, line, chosen, waiting) => {
@@ -62,10 +63,10 @@
       }
       page.append(...ends(view, frame, line, train));
     }
-    const { ways: broken, labels } = Page.conflictMarks(view, frame);
+    const { ways: broken, labels, told } = Page.conflictMarks(view, frame);
     clip.append(...broken, ...(chosen === null ? [] : chosenMark(view, frame, line, chosen)), ...reaches);
     page.append(...labels);
-    return page;
+    return { drawn: page, left: told };
   };
 
   // While something is dragged, nothing else is taken hold of.

@@ -4,7 +4,7 @@
 // the minutes had and wanted.
 (() => {
   const { drawing } = Page;
-  const MOST_LABELS = 60, LETTER = 6.4, ROW = 13, TRIES = [0, -1, 1, -2, 2, -3, 3];
+  const MOST_BROKEN = 200, LETTER = 6.4, ROW = 13, TRIES = [0, -1, 1, -2, 2, -3, 3];
 
   Page.marked = (nodes, attributes) => {
     for (const node of nodes) for (const [name, value] of Object.entries(attributes)) node.setAttribute(name, value);
@@ -40,26 +40,27 @@
   };
 
   const brokenOf = (view, frame, boxes) => {
-    const found = Page.conflictsOf(view).all.map(conflict => ({ conflict, points: pointsOf(view, frame, conflict) })).filter(({ points }) => points);
+    const all = Page.conflictsOf(view).all.map(conflict => ({ conflict, points: pointsOf(view, frame, conflict) })).filter(({ points }) => points);
+    const found = all.slice(0, MOST_BROKEN);
     const ways = found.flatMap(({ conflict, points }) =>
       Page.marked(Page.waysOf(frame, points, 'var(--alarm)', 4), { class: 'broken', 'data-activity': conflict.number }));
-    const labels = found.slice(0, MOST_LABELS).map(({ conflict, points: [[start, from], [end, to]] }) => {
+    const labels = found.map(({ conflict, points: [[start, from], [end, to]] }) => {
       const text = conflict.isRun ? conflict.short : conflict.text, middle = [(start + end) / 2, (from + to) / 2];
       const label = labelOf(frame, boxes, middle, text, { 'data-activity': conflict.number });
       label.append(drawing('title', {}, Page.toldConflicts([conflict])));
       return label;
     });
-    return { ways, labels };
+    return { ways, labels, told: Page.elided(all.length, MOST_BROKEN, 'that are violated on the line') };
   };
 
-  // What is violated on a line: ways and rings in red, and labels.
+  // What is violated on a line: ways and rings in red, labels, and a word on what is left out.
   Page.conflictMarks = (view, frame) => {
-    const boxes = [], { ways, labels } = brokenOf(view, frame, boxes);
+    const boxes = [], { ways, labels, told } = brokenOf(view, frame, boxes);
     for (const event of frame.line.trains.flatMap(train => train.events).filter(each => Page.isOutside(view, each))) {
       const time = view.times.get(event), y = Page.heightOf(frame, event);
       ways.push(drawing('circle', { class: 'outside', cx: frame.x(time), cy: y, r: 5, 'data-event': event }));
       labels.push(labelOf(frame, boxes, [time, y], Page.outsideText(view, event), { 'data-event': event }));
     }
-    return { ways, labels };
+    return { ways, labels, told };
   };
 })();

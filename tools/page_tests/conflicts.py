@@ -110,6 +110,16 @@ SPOT = """(() => {{
 }})()"""
 
 
+def many(suite, page):
+    """Of very many that are violated some are drawn, soon, and words say so."""
+    more = "".join(f"{number}; 3; 5; 30; 40; 1\n" for number in range(100, 3_100))
+    begun(page, activities=TRAINS["activities"] + more)
+    came = {"drawn": page.ask("document.querySelectorAll('#diagram text.broken').length"), "row": texts(page, '[data-row="5"] .conflict')}
+    suite.note("in the diagram", {"drawn": 200, "row": ["✕ 3 not 30–40 activity +2999"]}, came)
+    told = "Elided: of 3,000 that are violated on the line the first 200 are shown."
+    suite.holds(told, told in page.text("#diagram-note"))
+
+
 def led(page):
     """Which event is chosen, and which activity has the keys."""
     return page.ask("[Page.chosen, Number(document.activeElement.closest('.card.chosen')?.dataset.activity || 0)]")
@@ -256,4 +266,4 @@ def moved_region(page):
     page.frame()
 
 
-GROUPS = [in_rows, in_views, leading, choosing, other_lines, all_by_keys, fitting]
+GROUPS = [in_rows, in_views, many, leading, choosing, other_lines, all_by_keys, fitting]
