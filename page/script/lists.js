@@ -1,6 +1,6 @@
 'use strict';
 
-// Two lists: what the working timetable violates, and the lines that made the state shown.
+// Two lists: what the working timetable violates, and the steps that made the state shown.
 (() => {
   const { element } = Page;
   const MOST_VIOLATED = 500;
@@ -25,8 +25,7 @@
 
   const violatedActivity = (activity, view) => {
     const { tension } = view.tensions.get(activity.number);
-    const span = Page.spanText(activity.lower, activity.upper);
-    return item(activity.first, Page.activityName(activity), `takes ${Page.minutes(tension)}, may take ${span}`);
+    return item(activity.first, Page.activityName(activity), `takes ${Page.minutes(tension)}, may take ${Page.spanText(activity.lower, activity.upper)}`);
   };
 
   const violatedEvent = (event, view) => item(event, Page.eventName(event),

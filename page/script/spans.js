@@ -75,7 +75,7 @@
     place(card.bar, card, lower, upper + 1);
     for (const [handle, value, left] of [[card.lower, lower, lower], [card.upper, upper, upper + 1]]) {
       handle.style.left = `${percent(card, left)}%`;
-      Page.tellHandle(handle, value, -1000000, 1000000, `${name}: ${Page.spanText(lower, upper)} minutes`);
+      Page.tellHandle(handle, value, -1000000, 1000000, `${name}: ${Page.spanMinutes(lower, upper)}`);
     }
     card.slack.hidden = card.tension.hidden = !taken;
     if (taken) {
@@ -84,7 +84,7 @@
     }
     card.node.classList.toggle('alarm', isViolated);
     Page.setText(card.told, toldOf(taken, isViolated, weight));
-    for (const [input, value] of [[card.least, lower], [card.most, upper], [card.weight, weight]]) {
+    for (const [input, value] of [[card.least, Page.lengthText(lower)], [card.most, Page.lengthText(upper)], [card.weight, weight]]) {
       if (document.activeElement !== input || document.body.classList.contains('dragging')) input.value = value;
     }
   };
@@ -92,7 +92,7 @@
   const toldOf = (taken, isViolated, weight) => {
     if (!taken) return 'no timetable to look at';
     const cost = weight && taken.slack ? `, costs ${(weight * taken.slack).toLocaleString('en')}` : '';
-    return `${isViolated ? '✕ not met: ' : '✓ '}takes ${Page.minutes(taken.tension)}, slack ${taken.slack}${cost}`;
+    return `${isViolated ? '✕ not met: ' : '✓ '}takes ${Page.minutes(taken.tension)}, slack ${Page.lengthText(taken.slack)}${cost}`;
   };
 
   const percent = (card, minute) => Math.min(100, Math.max(0, 100 * (minute - card.range.least) / card.range.count));

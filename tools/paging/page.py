@@ -7,6 +7,7 @@ import re
 from paging.tree import NotMade
 
 LINE = re.compile(r"^[ \t]*<!-- (?:(style|script): (\S+)|(module)) -->[ \t]*$", re.M)
+INDENTED = re.compile(r"^[ \t]+", re.M)
 POLICY = re.compile(r'<meta http-equiv="Content-Security-Policy" content="([^"]*)">')
 # What would end an inline script or style early, or hide a part of it.
 BREAKS = ["</script", "</style", "<!--"]
@@ -15,7 +16,8 @@ NOTHING = "default-src 'none'"
 
 
 def source(folder, name):
-    """A style or script of the page, which can stand inside of it."""
+    """A style or script of the page, which can stand inside of it. The blanks that begin its lines, by which no text may go over to
+    another line, are left out, since a page has more than ten thousand of them."""
     path = (folder / name).resolve()
     if folder.resolve() not in path.parents or not path.is_file():
         raise NotMade(f"page/index.html names {name}, which is no file of page/")
@@ -23,7 +25,7 @@ def source(folder, name):
     for word in BREAKS:
         if word in text.lower():
             raise NotMade(f"page/{name} has {word}, which would end it inside of a page")
-    return text
+    return INDENTED.sub("", text)
 
 
 def part(folder, found, module):

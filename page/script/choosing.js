@@ -1,0 +1,64 @@
+'use strict';
+
+// How the stations of a corridor are chosen: by name, by a click on the netgraph, or all of a line.
+(() => {
+  const { element } = Page;
+  let chips = null, more = null;
+
+  const button = (name, act) => element('button', { type: 'button', onclick: act }, name);
+
+  const lineOf = view => view.lines.find(line => line.name === Page.chosenLine) || view.lines[0];
+
+  const start = () => {
+    const holder = Page.find('corridor-stations'), finder = element('div', { class: 'finder' });
+    chips = element('ol', { 'aria-label': 'stations chosen' });
+    more = element('span', { class: 'stations' });
+    holder.replaceChildren(finder, button('On the netgraph', () => Page.showTab('netgraph')), more, chips);
+    Page.fillFinder(finder, { label: 'Station', hint: 'a name', kinds: ['station'], take: ({ value }) => Page.corridor.stations.includes(value) || Page.switchStation(value) });
+    const panel = Page.find('netgraph');
+    panel.addEventListener('click', event => clicked(event));
+    panel.addEventListener('keydown', event => {
+      if (event.key !== 'Enter' && event.key !== ' ') return;
+      if (clicked(event)) event.preventDefault();
+    });
+  };
+
+  const clicked = event => {
+    const station = event.target.closest('[data-station]');
+    if (station) Page.switchStation(station.dataset.station);
+    return Boolean(station);
+  };
+
+  const chip = station => element('li', {}, element('button', {
+    type: 'button', 'aria-label': `take ${station} out of the corridor`, onclick: () => Page.switchStation(station),
+  }, `${station} ✕`));
+
+  const updateChips = view => {
+    const { chosen } = Page.corridor, line = lineOf(view);
+    chips.replaceChildren(...chosen.map(chip));
+    more.replaceChildren(...[
+      line && line.stations.length > 1 ? button(`All of ${line.name}`, () => Page.chooseCorridor([...line.stations])) : null,
+      chosen.length > 1 ? button('Turn round', Page.turnCorridor) : null, chosen.length ? button('Clear', () => Page.chooseCorridor([])) : null,
+    ].filter(Boolean));
+  };
+
+  // The stations of the corridor on the netgraph, and a word on them above it.
+  const updateMap = () => {
+    const { stations } = Page.corridor, known = new Set(stations), told = Page.find('corridor-told');
+    document.querySelectorAll('#netgraph [data-station]').forEach(each => {
+      each.classList.toggle('on', known.has(each.dataset.station));
+      each.setAttribute('aria-pressed', known.has(each.dataset.station));
+    });
+    told.hidden = !stations.length;
+    told.replaceChildren(`Corridor: ${stations.join(' – ')} `, button('Show it', () => Page.showTab('corridor')), ' ', button('Clear', () => Page.chooseCorridor([])));
+  };
+
+  Page.panel({
+    update: view => {
+      if (Page.tab === 'corridor') updateChips(view);
+      if (Page.tab === 'netgraph') updateMap();
+    },
+  });
+
+  Page.startChoosing = start;
+})();

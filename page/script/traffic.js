@@ -1,0 +1,82 @@
+'use strict';
+
+// The diagram of the corridor: all trains of all lines on its stations, each in its line's color, after which its headway is a band.
+(() => {
+  const { drawing } = Page;
+  const NOTE = 'A band after a train: the minutes that its headways keep free. A run that passes stations is drawn straight. A click on a train chooses its event.';
+
+  // The corridor as a line, whose trains are the parts of all trains that lie on it.
+  Page.trafficOf = ({ lines }, stations) => {
+    const known = new Set(stations);
+    const trains = lines.flatMap(line => line.trains.flatMap(train => Page.piecesOf(train, known).map(piece => ({ ...piece, color: line.color }))));
+    return { name: 'the corridor', stations, trains };
+  };
+
+  // The events of a train with their minutes and heights; null where a time is missing.
+  const stopsOf = (view, frame, train) => {
+    const minutes = Page.minutesOf(view, train);
+    return minutes && train.events.map((event, place) => ({ event, minute: minutes[place], y: Page.heightOf(frame, event) }));
+  };
+
+  // The event that lies nearest to a place in a drawing.
+  const nearestTo = (frame, stops, { x, y }) => {
+    const far = stop => {
+      const minute = ((stop.minute % frame.period) + frame.period) % frame.period;
+      return Math.hypot(x - frame.x(minute), y - stop.y);
+    };
+    return stops.reduce((best, stop) => far(stop) < far(best) ? stop : best).event;
+  };
+
+  const placeOf = (event, page) => new DOMPoint(event.clientX, event.clientY).matrixTransform(page.getScreenCTM().inverse());
+
+  // A train: its way, a wider one that takes clicks, and its name at the middle of its longest run.
+  const drawTrain = (page, frame, train, stops) => {
+    const d = Page.pathsOf(frame, stops.map(({ minute, y }) => [minute, y])).join('');
+    const title = drawing('title', {}, `${Page.trainName(train)}: ${train.stations[0]} ${Page.clock(mod(stops[0].minute, frame.period))}`);
+    return drawing('g', {
+      class: train.events.includes(Page.chosen) ? 'train chosen' : 'train',
+      onclick: event => Page.showRow(nearestTo(frame, stops, placeOf(event, page)), false),
+    }, title, drawing('path', { class: 'way', d, stroke: train.color }), drawing('path', { class: 'reach', d }), ...nameOf(frame, train, stops));
+  };
+
+  const mod = (minute, period) => ((minute % period) + period) % period;
+
+  const nameOf = (frame, train, stops) => {
+    const runs = stops.slice(1).map((end, place) => [stops[place], end]).filter(([start, end]) => start.y !== end.y);
+    if (!runs.length) return [];
+    const high = ([start, end]) => Math.abs(end.y - start.y), [start, end] = runs.reduce((best, run) => high(run) > high(best) ? run : best);
+    const place = { x: frame.x(mod((start.minute + end.minute) / 2, frame.period)) + 5, y: (start.y + end.y) / 2 + (end.y > start.y ? -2 : 9) };
+    return [drawing('text', { class: 'end', fill: train.color, ...place }, Page.shortText(train.line, 10))];
+  };
+
+  const chosenMark = (frame, stops) => {
+    const stop = stops.find(({ event }) => event === Page.chosen);
+    return stop ? [drawing('circle', { class: 'mark', cx: frame.x(mod(stop.minute, frame.period)), cy: stop.y, r: 6 })] : [];
+  };
+
+  const diagramOf = (view, line) => {
+    const frame = Page.frameOf(line, view.network), name = `Distance-time diagram of the corridor ${line.stations.join(', ')}`;
+    const { page, clip } = Page.sheetOf(frame, name), free = Page.keptFree(view.network);
+    const trains = line.trains.map(train => ({ train, stops: stopsOf(view, frame, train) })).filter(({ stops }) => stops);
+    clip.append(...trains.flatMap(({ train, stops }) => Page.bandsOf(frame, train, stops, free)));
+    clip.append(...trains.map(({ train, stops }) => drawTrain(page, frame, train, stops)), ...trains.flatMap(({ stops }) => chosenMark(frame, stops)));
+    return page;
+  };
+
+  const toldOf = (view, told) => {
+    const { gaps } = Page.corridor, none = gaps.map(([one, other]) => `No train runs between ${one} and ${other}.`);
+    return [told, ...none, NOTE, view.tensions ? '' : `No train is drawn, since ${view.missing}.`].filter(Boolean).join(' ');
+  };
+
+  const update = view => {
+    if (Page.tab !== 'corridor') return;
+    const { stations } = Page.corridor, holder = Page.find('corridor'), isDrawn = stations.length > 1;
+    const { line, told } = isDrawn ? Page.stretchOf(Page.trafficOf(view, stations), Page.chosen) : { line: null, told: '' };
+    const wanted = view.lines.length ? 'Two stations or more make a corridor: type them here, or click them on the netgraph.'
+      : 'A file of labels names the lines and stations; with it a corridor is drawn here.';
+    Page.setText(Page.find('corridor-note'), isDrawn ? toldOf(view, told) : wanted);
+    holder.replaceChildren(...isDrawn ? [diagramOf(view, line)] : []);
+  };
+
+  Page.panel({ update });
+})();
