@@ -13,7 +13,7 @@
     const holder = Page.find('corridor-stations'), finder = element('div', { class: 'finder' });
     chips = element('ol', { 'aria-label': 'stations chosen' });
     more = element('span', { class: 'stations' });
-    holder.replaceChildren(finder, button('On the netgraph', () => Page.showTab('netgraph')), more, chips);
+    holder.replaceChildren(finder, chips, more, button('On the netgraph', () => Page.showTab('netgraph')));
     Page.fillFinder(finder, { label: 'Station', hint: 'a name', kinds: ['station'], take: ({ value }) => Page.corridor.stations.includes(value) || Page.switchStation(value) });
     const panel = Page.find('netgraph');
     panel.addEventListener('click', event => clicked(event));

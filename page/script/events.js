@@ -100,14 +100,21 @@
   const begin = event => {
     const row = rowOf(event.target);
     if (!row || event.button !== 0) return;
-    Page.choose(row.event);
-    if (!row.strip.contains(event.target)) return row.strip.focus({ preventScroll: true });
+    // A finger may be about to scroll: what it lies on is chosen by its click, or once it drags.
+    const isFinger = event.pointerType === 'touch';
+    if (!isFinger) Page.choose(row.event);
+    if (!row.strip.contains(event.target)) return isFinger || row.strip.focus({ preventScroll: true });
     const { period } = Page.view.network, handle = event.target.closest('[data-grip]') || row.strip;
     const shift = handle.dataset.at === undefined ? 0 : edgeShift(row, handle, event.clientX, period);
     const minuteAt = x => Page.unitAt(row.strip, x + shift, 0, period), line = lineOf(row, handle, minuteAt(event.clientX));
-    handle.focus({ preventScroll: true });
-    event.preventDefault();
-    Page.beginDrag(event, x => line(minuteAt(x)));
+    if (!isFinger) {
+      handle.focus({ preventScroll: true });
+      event.preventDefault();
+    }
+    Page.beginDrag(event, x => {
+      Page.choose(row.event);
+      return line(minuteAt(x));
+    });
   };
 
   // What holds an event, moved by a key on its strip.
@@ -154,6 +161,10 @@
     const panel = Page.find('rows');
     panel.addEventListener('pointerdown', begin);
     panel.addEventListener('keydown', typed);
+    panel.addEventListener('click', event => {
+      const row = rowOf(event.target);
+      if (row) Page.choose(row.event);
+    });
     panel.addEventListener('dblclick', event => {
       const row = rowOf(event.target);
       if (row && row.strip.contains(event.target)) letGo(row.event, event.target.dataset.grip === 'now');

@@ -19,9 +19,9 @@
 
   // All that can be found. It is gathered when something is typed first.
   const entries = ({ network, lines }) => [
-    ...[...countsOf(network.events)].map(([station, count]) => entry('station', station, station, `station, ${count} events`)),
+    ...[...countsOf(network.events)].map(([station, count]) => entry('station', station, station, count === 1 ? 'station, 1 event' : `station, ${count} events`)),
     ...lines.map(line => entry('line', line.name, line.name, `line, ${line.stations[0]} – ${line.stations[line.stations.length - 1]}`)),
-    ...network.events.map(event => entry('event', event, Page.eventName(event), `event ${event}`)),
+    ...network.events.map(event => entry('event', event, Page.eventName(event), Page.labelOf(event).station ? `event ${event}` : '')),
   ];
 
   // How well some words stand in an entry, less is better: all of the name, its begin, the begins of words, within words; null where one is missing.
@@ -57,7 +57,7 @@
   // Shows what was found, and says what it is.
   const show = ({ kind, value, name, note }) => {
     SHOW[kind](value);
-    Page.say(`${name}: ${note}`);
+    Page.say([name, note].filter(Boolean).join(': '));
   };
 
   Page.panel({ build: () => { known = null; }, update: () => {} });

@@ -6,7 +6,7 @@
   const path = (d, look) => drawing('path', { d, ...look });
   const ground = path('M0 2H24V12H0Z', { fill: 'var(--track)' });
   const MARKS = [
-    ['can be', [ground, path('M5 2H20V12H5Z', { fill: 'var(--domain)' })]],
+    ['possible', [ground, path('M5 2H20V12H5Z', { fill: 'var(--domain)' })]],
     ['held', [ground, path('M6 2H17V12H6Z', { fill: 'none', stroke: 'var(--ink)', 'stroke-width': 2 })]],
     ['time', [ground, path('M12 2L17 7L12 12L7 7Z', { fill: 'var(--time)' })]],
     ['slack', [path('M2 2H22V12H2Z', { fill: 'var(--bar)' }), path('M4 11L10 3M10 11L16 3M16 11L22 3', { stroke: 'var(--blue)', 'stroke-width': 2 })]],

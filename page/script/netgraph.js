@@ -86,7 +86,7 @@
   };
 
   const pill = (x, line) => {
-    const name = Page.shortText(line.name, LETTERS / 2), width = 9 + 7.2 * name.length;
+    const name = Page.shortText(line.name, LETTERS / 3), width = 9 + 7.2 * name.length;
     return [drawing('rect', { x: x - width / 2, y: -8.5, width, height: 17, rx: 4, fill: line.color }),
       drawing('text', { class: 'lane', x, y: 4.2, 'text-anchor': 'middle' }, name)];
   };
