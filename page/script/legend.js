@@ -15,5 +15,5 @@
   ];
 
   Page.startLegend = () => Page.find('legend').replaceChildren(...MARKS.map(([name, marks]) => Page.element('li', {},
-    drawing('svg', { viewBox: '0 0 24 14', 'aria-hidden': true }, ...marks.map(mark => mark.cloneNode())), name)));
+    drawing('svg', { viewBox: '0 0 24 14', 'aria-hidden': 'true' }, ...marks.map(mark => mark.cloneNode())), name)));
 })();

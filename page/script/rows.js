@@ -9,7 +9,7 @@
     row.was = drawing('path', { class: 'was' });
     row.possible = drawing('path', { class: 'possible' });
     row.held = drawing('path', { class: 'held' });
-    row.svg = drawing('svg', { preserveAspectRatio: 'none', 'aria-hidden': true }, row.was, row.possible, row.held);
+    row.svg = drawing('svg', { preserveAspectRatio: 'none', 'aria-hidden': 'true' }, row.was, row.possible, row.held);
     row.strip = Page.handle('strip', Page.eventName(event), { 'data-event': event });
     row.strip.append(row.svg);
     row.time = Page.element('span', { class: 'time' });

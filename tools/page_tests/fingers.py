@@ -4,6 +4,9 @@
 def touch(page, is_on=True):
     """Gives the screen fingers, or takes them away."""
     page.call("Emulation.setTouchEmulationEnabled", enabled=is_on, maxTouchPoints=1)
+    # Buttons are larger for fingers, which moves what lies below them.
+    page.until(f"matchMedia('(pointer: coarse)').matches === {str(is_on).lower()}")
+    page.frame()
 
 
 def swipe(page, places):
@@ -17,12 +20,10 @@ def swipe(page, places):
 
 def tap(page, place):
     """A finger taps."""
-    page.call("Input.synthesizeTapGesture", x=place[0], y=place[1], gestureSourceType="touch")
-    page.frame()
+    swipe(page, [place])
 
 
 def scroll(page, place, distance):
-    """A finger scrolls what lies at a place, upwards where the distance is below 0."""
-    words = {"gestureSourceType": "touch", "speed": 1600, "preventFling": True}
-    page.call("Input.synthesizeScrollGesture", x=place[0], y=place[1], yDistance=distance, **words)
-    page.frame()
+    """A finger that scrolls goes down or, where the distance is below 0, up."""
+    x, y = place
+    swipe(page, [(x, y + distance * part / 6) for part in range(7)])

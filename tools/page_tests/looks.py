@@ -9,7 +9,7 @@ from tests.harness import within
 
 TABS = ("diagram", "corridor", "netgraph", "tables", "violated", "lines", "why")
 # Words of the program and of its commands, which are none of a planner.
-FOREIGN = re.compile(r"\b(domains?|nodes?|residues?|tensions?|dump|journal|(?:lines?) of commands|more lines|a line)\b", re.I)
+FOREIGN = re.compile(r"\b(domains?|nodes?|residues?|tensions?|dump|journal|(?:lines?) of commands|more lines)\b", re.I)
 # All texts that are seen, told or shown on a pointer.
 TEXTS = """[document.body.innerText, ...[...document.querySelectorAll('[title], [aria-label], [placeholder], [aria-valuetext]')].flatMap(each =>
     ['title', 'aria-label', 'placeholder', 'aria-valuetext'].map(name => each.getAttribute(name) || ''))].join('\\n')"""
@@ -229,7 +229,7 @@ def images(suite, page):
         page.ask(f"Page.showTab('{tab}'); Page.chooseCorridor(['Gorsley', 'Inworth'])")
         suite.note(tab, {"nameless": 0}, {"nameless": page.ask(NAMELESS)})
     name = page.ask("document.querySelector('#netgraph > svg').getAttribute('aria-label')")
-    suite.note("the netgraph", {"name": "Netgraph of 14 stations and 6 lines"}, {"name": name})
+    suite.note("the netgraph", {"name": "Netgraph of 15 stations and 6 lines"}, {"name": name})
     named = page.ask("[...document.querySelectorAll('#netgraph [data-station]')].every(each => each.getAttribute('aria-label') === each.dataset.station)")
     suite.holds("its stations", named)
     page.ask("window.dispatchEvent(new Event('beforeprint'))")
