@@ -13,7 +13,7 @@
     const holder = Page.find('corridor-stations'), finder = element('div', { class: 'finder' });
     chips = element('ol', { 'aria-label': 'stations chosen' });
     more = element('span', { class: 'stations' });
-    holder.replaceChildren(finder, chips, more, button('On the netgraph', () => Page.showTab('netgraph')));
+    holder.replaceChildren(finder, chips, more, button('Netgraph', () => Page.showTab('netgraph')));
     Page.fillFinder(finder, { label: 'Station', hint: 'a name', kinds: ['station'], take: ({ value }) => Page.corridor.stations.includes(value) || Page.switchStation(value) });
     const panel = Page.find('netgraph');
     panel.addEventListener('click', event => clicked(event));
@@ -43,20 +43,22 @@
   };
 
   // The stations of the corridor on the netgraph, and a word on them above it.
-  const updateMap = () => {
+  const updateMap = view => {
     const { stations } = Page.corridor, known = new Set(stations), told = Page.find('corridor-told');
     document.querySelectorAll('#netgraph [data-station]').forEach(each => {
       each.classList.toggle('on', known.has(each.dataset.station));
       each.setAttribute('aria-pressed', known.has(each.dataset.station));
     });
-    told.hidden = !stations.length;
-    told.replaceChildren(`Corridor: ${stations.join(' – ')} `, button('Show it', () => Page.showTab('corridor')), ' ', button('Clear', () => Page.chooseCorridor([])));
+    told.hidden = !known.size && !view.lines.length;
+    const buttons = [button('Corridor', () => Page.showTab('corridor')), button('Clear', () => Page.chooseCorridor([]))];
+    buttons.forEach(each => { each.disabled = !known.size; });
+    told.replaceChildren(...buttons, element('span', {}, known.size ? stations.join(' – ') : 'A click on a station takes it in.'));
   };
 
   Page.panel({
     update: view => {
       if (Page.tab === 'corridor') updateChips(view);
-      if (Page.tab === 'netgraph') updateMap();
+      if (Page.tab === 'netgraph') updateMap(view);
     },
   });
 

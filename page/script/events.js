@@ -50,6 +50,7 @@
       mark.style.left = `${100 * (minute + 0.5) / period}%`;
       marks.push(mark);
     }
+    Page.find('events').classList.toggle('hours', period > 60);
     Page.find('events').style.setProperty('--step', `${100 * step / period}%`);
     return marks;
   };

@@ -17,9 +17,6 @@
       + 'the least. “Weight”: what each minute of slack costs. “Costs”: slack times weight.'],
   };
 
-  // A button that opens the words on a number.
-  Page.helpButton = name => Page.element('button', { type: 'button', class: 'ask', 'data-help': name }, '?');
-
   const GAP = 6;
 
   const show = button => {

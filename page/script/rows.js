@@ -101,7 +101,10 @@
     once(row, 'window', window ? `${window.first} ${window.length}` : '', () => drawHeld(row, window, period));
     once(row, 'time', view.times.get(event), time => drawTime(row, time, period));
     once(row, 'ends', `${row.drawn.window} ${row.drawn.time}`, () => placeEnds(row, view.times.get(event), period));
-    once(row, 'note', noteOf(window, isViolated, period), text => Page.setText(row.note, text));
+    once(row, 'note', noteOf(window, isViolated, period), text => {
+      Page.setText(row.note, text);
+      row.note.title = text;
+    });
     once(row, 'violated', isViolated, () => row.node.classList.toggle('alarm', isViolated));
     once(row, 'chosen', isChosen, () => chooseRow(row, isChosen));
     once(row, 'told', `${row.drawn.possible} ${row.drawn.window}`, () => tellStrip(row, view, window));

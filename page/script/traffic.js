@@ -29,24 +29,29 @@
 
   const placeOf = (event, page) => new DOMPoint(event.clientX, event.clientY).matrixTransform(page.getScreenCTM().inverse());
 
-  // A train: its way, a wider one that takes clicks, and its name at the middle of its longest run.
-  const drawTrain = (page, frame, train, stops) => {
+  // A train: its way, a wider one that takes clicks, and its name on its longest run.
+  const drawTrain = (page, frame, { train, stops }, count) => {
     const d = Page.pathsOf(frame, stops.map(({ minute, y }) => [minute, y])).join('');
     const title = drawing('title', {}, `${Page.trainName(train)}: ${train.stations[0]} ${Page.clock(mod(stops[0].minute, frame.period))}`);
     return drawing('g', {
       class: train.events.includes(Page.chosen) ? 'train chosen' : 'train',
       onclick: event => Page.showRow(nearestTo(frame, stops, placeOf(event, page)), false),
-    }, title, drawing('path', { class: 'way', d, stroke: train.color }), drawing('path', { class: 'reach', d }), ...nameOf(frame, train, stops));
+    }, title, drawing('path', { class: 'way', d, stroke: train.color }), drawing('path', { class: 'reach', d }), ...nameOf(frame, train, stops, PARTS[count % PARTS.length]));
   };
 
   const mod = (minute, period) => ((minute % period) + period) % period;
 
-  const nameOf = (frame, train, stops) => {
+  // Trains one after another have their names on other parts of their runs, since they may be on the same way.
+  const PARTS = [0.5, 0.3, 0.7];
+
+  const nameOf = (frame, train, stops, part) => {
     const runs = stops.slice(1).map((end, place) => [stops[place], end]).filter(([start, end]) => start.y !== end.y);
     if (!runs.length) return [];
     const high = ([start, end]) => Math.abs(end.y - start.y), [start, end] = runs.reduce((best, run) => high(run) > high(best) ? run : best);
-    const place = { x: frame.x(mod((start.minute + end.minute) / 2, frame.period)) + 5, y: (start.y + end.y) / 2 + (end.y > start.y ? -2 : 9) };
-    return [drawing('text', { class: 'end', fill: train.color, ...place }, Page.shortText(train.line, 10))];
+    const minute = mod(start.minute + part * (end.minute - start.minute), frame.period), isLate = minute > 0.9 * frame.period;
+    const place = { x: frame.x(minute) + (isLate ? -5 : 5), y: start.y + part * (end.y - start.y) + (end.y > start.y === isLate ? 9 : -2) };
+    const look = { class: 'end', fill: train.color, 'text-anchor': isLate ? 'end' : 'start' };
+    return [drawing('text', { ...look, ...place }, Page.shortText(train.line, 10))];
   };
 
   const chosenMark = (frame, stops) => {
@@ -59,7 +64,7 @@
     const { page, clip } = Page.sheetOf(frame, name), free = Page.keptFree(view.network);
     const trains = line.trains.map(train => ({ train, stops: stopsOf(view, frame, train) })).filter(({ stops }) => stops);
     clip.append(...trains.flatMap(({ train, stops }) => Page.bandsOf(frame, train, stops, free)));
-    clip.append(...trains.map(({ train, stops }) => drawTrain(page, frame, train, stops)), ...trains.flatMap(({ stops }) => chosenMark(frame, stops)));
+    clip.append(...trains.map((each, count) => drawTrain(page, frame, each, count)), ...trains.flatMap(({ stops }) => chosenMark(frame, stops)));
     return page;
   };
 
