@@ -2,7 +2,7 @@
 
 // How the stations of a corridor are chosen: by name, by a click on the netgraph, or all of a line.
 (() => {
-  const { element } = Page;
+  const { element } = Page, MOST_CHIPS = 40;
   let chips = null, more = null;
 
   const button = (name, act) => element('button', { type: 'button', onclick: act }, name);
@@ -14,12 +14,12 @@
     chips = element('ol', { 'aria-label': 'stations chosen' });
     more = element('span', { class: 'stations' });
     holder.replaceChildren(finder, chips, more, button('Netgraph', () => Page.showTab('netgraph')));
-    Page.fillFinder(finder, { label: 'Station', hint: 'a name', kinds: ['station'], take: ({ value }) => Page.corridor.stations.includes(value) || Page.switchStation(value) });
+    const take = ({ value }) => Page.corridor.chosen.includes(value) || Page.switchStation(value);
+    Page.fillFinder(finder, { label: 'Station', hint: 'a name', kinds: ['station'], take });
     const panel = Page.find('netgraph');
-    panel.addEventListener('click', event => clicked(event));
+    panel.addEventListener('click', clicked);
     panel.addEventListener('keydown', event => {
-      if (event.key !== 'Enter' && event.key !== ' ') return;
-      if (clicked(event)) event.preventDefault();
+      if (['Enter', ' '].includes(event.key) && clicked(event)) event.preventDefault();
     });
   };
 
@@ -35,10 +35,11 @@
 
   const updateChips = view => {
     const { chosen } = Page.corridor, line = lineOf(view);
-    chips.replaceChildren(...chosen.map(chip));
+    chips.replaceChildren(...chosen.slice(0, MOST_CHIPS).map(chip), Page.elided(chosen.length, MOST_CHIPS, 'stations'));
     more.replaceChildren(...[
       line && line.stations.length > 1 ? button(`All of ${line.name}`, () => Page.chooseCorridor([...line.stations])) : null,
-      chosen.length > 1 ? button('Turn round', Page.turnCorridor) : null, chosen.length ? button('Clear', () => Page.chooseCorridor([])) : null,
+      chosen.length > 1 ? button('Turn round', () => Page.chooseCorridor([...chosen].reverse())) : null,
+      chosen.length ? button('Clear', () => Page.chooseCorridor([])) : null,
     ].filter(Boolean));
   };
 

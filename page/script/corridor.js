@@ -17,7 +17,7 @@
     return { stations, gaps };
   };
 
-  const set = chosen => Object.assign(corridor, { chosen }, follow(chosen, Page.neighboursOf(Page.view)));
+  const set = chosen => Object.assign(corridor, { chosen }, follow(chosen, chosen.length > 1 && Page.neighboursOf(Page.view)));
 
   // Takes a station in at the end to which its way is shorter.
   const added = station => {
@@ -29,24 +29,19 @@
     return chosen.length > 1 && minutes[0] < minutes[1] ? [station, ...chosen] : [...chosen, station];
   };
 
-  const told = () => corridor.stations.length ? `The corridor: ${corridor.stations.join(' – ')}` : 'No station is in the corridor.';
-
-  const changed = chosen => {
+  Page.chooseCorridor = chosen => {
     set(chosen);
-    Page.say(told());
+    Page.say(`The corridor: ${corridor.stations.join(' – ') || 'none'}`);
     Page.draw();
   };
 
   // Takes a station in, or one that was chosen out.
   Page.switchStation = station => {
     const { chosen, stations } = corridor;
-    if (chosen.includes(station)) changed(chosen.filter(each => each !== station));
-    else if (stations.includes(station)) Page.say(`${station} is in the corridor, between the stations that were chosen.`);
-    else changed(added(station));
+    if (chosen.includes(station)) Page.chooseCorridor(chosen.filter(each => each !== station));
+    else if (stations.includes(station)) Page.say(`${station} is in the corridor, between those chosen.`);
+    else Page.chooseCorridor(added(station));
   };
-
-  Page.chooseCorridor = chosen => changed(chosen);
-  Page.turnCorridor = () => changed([...corridor.chosen].reverse());
 
   // In another network the stations stay that are there too.
   Page.panel({

@@ -24,7 +24,7 @@
   // A track by the names of its two ends.
   Page.trackOf = (one, other) => JSON.stringify(one < other ? [one, other] : [other, one]);
 
-  // Where minutes and stations lie.
+  // Where minutes and stations lie, and how many minutes each station is from the first.
   Page.frameOf = (line, network) => {
     const lengths = Page.lengthsOf([line], network), { period } = network, reached = [0];
     line.stations.slice(1).forEach((station, place) => {
@@ -32,7 +32,7 @@
     });
     const height = Math.max(LEAST_HEIGHT, TRACK * (line.stations.length - 1)), most = reached[reached.length - 1] || 1;
     const heights = new Map(line.stations.map((station, place) => [station, TOP + height * reached[place] / most]));
-    return { period, heights, bottom: TOP + height, x: minute => LEFT + (WIDTH - LEFT - RIGHT) * minute / period };
+    return { period, heights, reached, bottom: TOP + height, x: minute => LEFT + (WIDTH - LEFT - RIGHT) * minute / period };
   };
 
   // The diagram of a line, and what it says of what is left out. Where times are missing, trains are not drawn, and what is still
@@ -53,7 +53,8 @@
 
   const diagramOf = (view, line, chosen, waiting) => {
     const frame = Page.frameOf(line, view.network), { page, clip } = Page.sheetOf(frame, `Distance-time diagram of ${line.name}`);
-    clip.append(...possible(view, frame, line, chosen), ...view.lines.filter(each => each.name !== line.name).flatMap(each => others(view, frame, line, each)));
+    clip.append(...possible(view, frame, line, chosen));
+    clip.append(...view.lines.filter(each => each.name !== line.name).flatMap(each => others(view, frame, line, each)));
     clip.append(...waiting.slice(0, MOST_TURNS).flatMap(each => turn(view, frame, line, each)));
     for (const train of line.trains) {
       const minutes = Page.minutesOf(view, train);

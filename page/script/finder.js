@@ -8,15 +8,13 @@
   // Fills a holder with a field that finds some kinds; `take` is given what is chosen. The field is returned.
   Page.fillFinder = (holder, { label, hint, kinds, take }) => {
     const name = `found-${count += 1}`, list = element('ul', { role: 'listbox', id: name, 'aria-label': 'found', hidden: true });
-    const input = element('input', { role: 'combobox', 'aria-expanded': 'false', 'aria-controls': name, 'aria-autocomplete': 'list', autocomplete: 'off',
-      spellcheck: 'false', placeholder: hint, id: `${name}-field` });
+    const input = element('input', { role: 'combobox', 'aria-expanded': 'false', 'aria-controls': name, 'aria-autocomplete': 'list',
+      autocomplete: 'off', spellcheck: 'false', placeholder: hint, id: `${name}-field` });
     const finder = { input, list, name, take, kinds, found: [], at: 0 };
     input.addEventListener('input', () => look(finder));
-    input.addEventListener('focus', () => look(finder));
     input.addEventListener('blur', () => close(finder));
     input.addEventListener('keydown', event => typed(finder, event));
     // The field keeps the keys while a pointer is on the list.
-    list.addEventListener('pointerdown', event => event.preventDefault());
     list.addEventListener('mousedown', event => event.preventDefault());
     list.addEventListener('click', event => {
       const option = event.target.closest('[role=option]');

@@ -17,14 +17,14 @@
 
   const entry = (kind, value, name, note) => ({ kind, value, name, note, folded: fold(name) });
 
-  // All that can be found. It is gathered when something is typed first.
+  // All that can be found, gathered when something is typed first.
   const entries = ({ network, lines }) => [
-    ...[...countsOf(network.events)].map(([station, count]) => entry('station', station, station, count === 1 ? 'station, 1 event' : `station, ${count} events`)),
+    ...[...countsOf(network.events)].map(([name, count]) => entry('station', name, name, `station, ${count} event${count > 1 ? 's' : ''}`)),
     ...lines.map(line => entry('line', line.name, line.name, `line, ${line.stations[0]} – ${line.stations[line.stations.length - 1]}`)),
     ...network.events.map(event => entry('event', event, Page.eventName(event), Page.labelOf(event).station ? `event ${event}` : '')),
   ];
 
-  // How well some words stand in an entry, less is better: all of the name, its begin, the begins of words, within words; null where one is missing.
+  // How well some words stand in an entry, 0 best; null where one is missing.
   const rankOf = ({ kind, value, folded }, words) => {
     const text = words.join(' ');
     if (folded === text || (kind === 'event' && String(value) === text)) return 0;
@@ -38,7 +38,8 @@
     const words = fold(text).split(/\s+/).filter(Boolean);
     if (!words.length) return { found: [], more: 0 };
     known = known || entries(Page.view);
-    const ranked = known.filter(({ kind }) => kinds.includes(kind)).map(each => ({ each, rank: rankOf(each, words) })).filter(({ rank }) => rank !== null);
+    const ranked = known.filter(({ kind }) => kinds.includes(kind)).map(each => ({ each, rank: rankOf(each, words) }))
+      .filter(({ rank }) => rank !== null);
     ranked.sort((one, other) => one.rank - other.rank);
     const found = kinds.flatMap(kind => ranked.filter(({ each }) => each.kind === kind).slice(0, MOST[kind]));
     found.sort((one, other) => (other.rank === 0) - (one.rank === 0));
@@ -63,9 +64,10 @@
   Page.panel({ build: () => { known = null; }, update: () => {} });
 
   Page.startFinding = () => {
-    const input = Page.fillFinder(Page.find('finder'), { label: 'Find', hint: 'a station, a line, an event', kinds: ['station', 'line', 'event'], take: show });
+    const kinds = ['station', 'line', 'event'], hint = 'a station, a line, an event';
+    const input = Page.fillFinder(Page.find('finder'), { label: 'Find', hint, kinds, take: show });
     window.addEventListener('keydown', event => {
-      if (event.key !== '/' || event.ctrlKey || event.metaKey || event.altKey || event.target.matches('input, select') || document.querySelector('dialog[open]')) return;
+      if (event.key !== '/' || event.ctrlKey || event.target.matches('input, select') || document.querySelector('dialog[open]')) return;
       event.preventDefault();
       input.focus();
     });

@@ -6,7 +6,8 @@
     const { network } = view, { session } = Page;
     Page.setText(Page.find('title'), session.opened.title);
     document.title = [session.opened.title, 'pespbench'].filter(Boolean).join(' – ');
-    Page.setText(Page.find('size'), `${network.events.length} events, ${network.activities.size} activities, period ${Page.lengthText(network.period)}`);
+    Page.setText(Page.find('size'),
+      `${network.events.length} events, ${network.activities.size} activities, period ${Page.lengthText(network.period)}`);
     if (view.cost === null) tell('cost', '–', view.missing, false);
     else tell('cost', view.cost.toLocaleString('en'), 'weight times slack', false);
     tellViolated(Page.countViolated(view));

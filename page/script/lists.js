@@ -25,7 +25,8 @@
 
   const violatedActivity = (activity, view) => {
     const { tension } = view.tensions.get(activity.number);
-    return item(activity.first, Page.activityName(activity), `takes ${Page.minutes(tension)}, may take ${Page.spanText(activity.lower, activity.upper)}`);
+    return item(activity.first, Page.activityName(activity),
+      `takes ${Page.minutes(tension)}, may take ${Page.spanText(activity.lower, activity.upper)}`);
   };
 
   const violatedEvent = (event, view) => item(event, Page.eventName(event),

@@ -14,7 +14,8 @@
     row.strip.append(row.svg);
     row.time = Page.element('span', { class: 'time' });
     row.note = Page.element('span', { class: 'note' });
-    const name = Page.element('span', { class: 'name', title: Page.eventName(event) }, Page.element('span', {}, place), ' ', Page.element('small', {}, kind));
+    const name = Page.element('span', { class: 'name', title: Page.eventName(event) },
+      Page.element('span', {}, place), ' ', Page.element('small', {}, kind));
     row.node = Page.element('div', { class: 'row', 'data-row': event }, name, row.time, row.strip, row.note);
     return row;
   };

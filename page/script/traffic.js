@@ -3,7 +3,7 @@
 // The diagram of the corridor: all trains of all lines on its stations, each in its line's color, after which its headway is a band.
 (() => {
   const { drawing } = Page;
-  const NOTE = 'A band after a train: the minutes that its headways keep free. A run that passes stations is drawn straight. A click on a train chooses its event.';
+  const NOTE = 'A band after a train: the minutes that its headways keep free. A click on a train chooses its event.';
 
   // The corridor as a line, whose trains are the parts of all trains that lie on it.
   Page.trafficOf = ({ lines }, stations) => {
@@ -12,18 +12,30 @@
     return { name: 'the corridor', stations, trains };
   };
 
+  // A run goes along the corridor to a neighbour, or past stations if about as many minutes lie between them.
+  const isAlong = (frame, line, events, { lower }) => {
+    const [one, other] = events.map(event => line.stations.indexOf(Page.labelOf(event).station));
+    return Math.abs(one - other) < 2 || Math.abs(frame.reached[one] - frame.reached[other]) <= Page.AS_LONG * lower;
+  };
+
+  // A train without the runs that leave the corridor, as one or more trains.
+  const partsAlong = (view, frame, line, train) => {
+    const leaves = (step, place) => !isAlong(frame, line, train.events.slice(place, place + 2), view.network.activities.get(step));
+    const starts = [0, ...train.steps.flatMap((step, place) => leaves(step, place) ? [place + 1] : [])];
+    return starts.map((start, place) => Page.trainPart(train, start, starts[place + 1] || train.events.length));
+  };
+
   // The events of a train with their minutes and heights; null where a time is missing.
   const stopsOf = (view, frame, train) => {
     const minutes = Page.minutesOf(view, train);
     return minutes && train.events.map((event, place) => ({ event, minute: minutes[place], y: Page.heightOf(frame, event) }));
   };
 
+  const mod = (minute, period) => ((minute % period) + period) % period;
+
   // The event that lies nearest to a place in a drawing.
   const nearestTo = (frame, stops, { x, y }) => {
-    const far = stop => {
-      const minute = ((stop.minute % frame.period) + frame.period) % frame.period;
-      return Math.hypot(x - frame.x(minute), y - stop.y);
-    };
+    const far = stop => Math.hypot(x - frame.x(mod(stop.minute, frame.period)), y - stop.y);
     return stops.reduce((best, stop) => far(stop) < far(best) ? stop : best).event;
   };
 
@@ -36,10 +48,9 @@
     return drawing('g', {
       class: train.events.includes(Page.chosen) ? 'train chosen' : 'train',
       onclick: event => Page.showRow(nearestTo(frame, stops, placeOf(event, page)), false),
-    }, title, drawing('path', { class: 'way', d, stroke: train.color }), drawing('path', { class: 'reach', d }), ...nameOf(frame, train, stops, PARTS[count % PARTS.length]));
+    }, title, drawing('path', { class: 'way', d, stroke: train.color }), drawing('path', { class: 'reach', d }),
+    ...nameOf(frame, train, stops, PARTS[count % PARTS.length]));
   };
-
-  const mod = (minute, period) => ((minute % period) + period) % period;
 
   // Trains one after another have their names on other parts of their runs, since they may be on the same way.
   const PARTS = [0.5, 0.3, 0.7];
@@ -62,14 +73,15 @@
   const diagramOf = (view, line) => {
     const frame = Page.frameOf(line, view.network), name = `Distance-time diagram of the corridor ${line.stations.join(', ')}`;
     const { page, clip } = Page.sheetOf(frame, name), free = Page.keptFree(view.network);
-    const trains = line.trains.map(train => ({ train, stops: stopsOf(view, frame, train) })).filter(({ stops }) => stops);
+    const parts = line.trains.flatMap(train => partsAlong(view, frame, line, train));
+    const trains = parts.map(train => ({ train, stops: stopsOf(view, frame, train) })).filter(({ stops }) => stops);
     clip.append(...trains.flatMap(({ train, stops }) => Page.bandsOf(frame, train, stops, free)));
     clip.append(...trains.map((each, count) => drawTrain(page, frame, each, count)), ...trains.flatMap(({ stops }) => chosenMark(frame, stops)));
     return page;
   };
 
   const toldOf = (view, told) => {
-    const { gaps } = Page.corridor, none = gaps.map(([one, other]) => `No train runs between ${one} and ${other}.`);
+    const { gaps } = Page.corridor, none = gaps.map(([one, other]) => `No way leads on from ${one} to ${other}.`);
     return [told, ...none, NOTE, view.tensions ? '' : `No train is drawn, since ${view.missing}.`].filter(Boolean).join(' ');
   };
 

@@ -3,7 +3,8 @@
 // Ways between stations over tracks, the shortest by the least minutes of runs.
 (() => {
   // A run that passes stations at which another train stops is no track of its own, if it takes about as long as they do.
-  const MOST_PASSED = 12, AS_LONG = 1.5;
+  const MOST_PASSED = 12;
+  Page.AS_LONG = 1.5;
 
   // The stations one run away from each, with the minutes.
   Page.neighboursOf = ({ lines, network }) => {
@@ -21,7 +22,7 @@
     for (let place = first + 1; place < Math.min(stations.length, first + MOST_PASSED); place += 1) {
       sum += lengths.get(Page.trackOf(stations[place - 1], stations[place])) || 0;
       const track = Page.trackOf(station, stations[place]);
-      if (place > first + 1 && sum <= AS_LONG * lengths.get(track)) lengths.delete(track);
+      if (place > first + 1 && sum <= Page.AS_LONG * lengths.get(track)) lengths.delete(track);
     }
   });
 

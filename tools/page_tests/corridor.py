@@ -142,6 +142,10 @@ def traffic(suite, page):
     page.drag([page.grip(12, "now"), page.minute(12, 52)])
     moved = points(page, ".train.chosen .way")
     suite.note("a time that is dragged", {"way": [[[(35, "A"), (52, "C")]]]}, {"way": moved})
+    page.show(texts_of([*TRAINS[:1], ("Y", "C", [("A", 2), ("C", 8)])], []))
+    page.ask("Page.chooseCorridor(['A', 'B', 'C'])")
+    wanted = [[[(minute, station) for station, minute in TRAINS[0][2]]], [[(2, "A")]], [[(8, "C")]]]
+    suite.note("a train that runs elsewhere between two stations", {"ways": wanted}, {"ways": points(page, ".way")})
     page.show({**HOURLY, "times": ""})
     came = {"ways": points(page, ".way"), "told": "No train is drawn, since" in page.text("#corridor-note")}
     suite.note("without times", {"ways": [], "told": True}, came)
@@ -166,7 +170,7 @@ def bands(suite, page):
         suite.note(f"a span {span}", {"free": free}, {"free": page.ask("[...Page.keptFree(Page.view.network)]")})
     page.ask(f"Page.step(['span {number} 4 57']); Page.chooseCorridor(['A', 'E'])")
     came = page.ask("document.querySelectorAll('#corridor .band').length")
-    told = "No train runs between A and E." in page.text("#corridor-note")
+    told = "No way leads on from A to E." in page.text("#corridor-note")
     suite.note("where their runs are not drawn", {"bands": 2, "told": True}, {"bands": came, "told": told})
     page.ask("Page.openStory(Page.stories[0]); Page.chooseCorridor(['Gorsley', 'Inworth'])")
     came = page.ask("[...Page.keptFree(Page.view.network)].length")

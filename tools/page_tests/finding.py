@@ -80,7 +80,8 @@ def found_names(suite, page):
         ("u1 zurich", ["Ü1 to <b>Zürich</b> leaves Genève event 1", "Ü1 to <b>Zürich</b> arrives at <b>Zürich</b> event 2"]),
     ]:
         page.fill(FIELD, text)
-        suite.note(text, {"found": wanted, "markup": 0}, {"found": found(page), "markup": page.ask("document.querySelectorAll('#finder li b').length")})
+        came = {"found": found(page), "markup": page.ask("document.querySelectorAll('#finder li b').length")}
+        suite.note(text, {"found": wanted, "markup": 0}, came)
     page.show({"activities": "1; 1; 2; 3; 5; 2\n", "period": "60\n"})
     page.fill(FIELD, "2")
     suite.note("without labels", {"found": ["event 2 "]}, {"found": found(page)})
