@@ -43,14 +43,15 @@
     ].filter(Boolean));
   };
 
-  // The stations of the corridor on the netgraph, and a word on them above it.
+  // The stations of the corridor on the netgraph, and above it.
   const updateMap = view => {
     const { stations } = Page.corridor, known = new Set(stations), told = Page.find('corridor-told');
+    told.hidden = Page.tab !== 'netgraph' || !view.lines.length;
+    if (told.hidden) return;
     document.querySelectorAll('#netgraph [data-station]').forEach(each => {
       each.classList.toggle('on', known.has(each.dataset.station));
       each.setAttribute('aria-pressed', known.has(each.dataset.station));
     });
-    told.hidden = !known.size && !view.lines.length;
     const buttons = [button('Corridor', () => Page.showTab('corridor')), button('Clear', () => Page.chooseCorridor([]))];
     buttons.forEach(each => { each.disabled = !known.size; });
     told.replaceChildren(...buttons, element('span', {}, known.size ? stations.join(' – ') : 'A click on a station takes it in.'));
@@ -59,7 +60,7 @@
   Page.panel({
     update: view => {
       if (Page.tab === 'corridor') updateChips(view);
-      if (Page.tab === 'netgraph') updateMap(view);
+      updateMap(view);
     },
   });
 

@@ -53,7 +53,16 @@
     Page.showTab('diagram');
   };
 
-  const SHOW = { event: event => Page.showRow(event), station: station => Page.showRow(firstAt(station)), line: showLine };
+  // On the netgraph too, which may be larger than its view.
+  const showStation = station => {
+    Page.showRow(firstAt(station));
+    const drawn = [...document.querySelectorAll('#netgraph [data-station]')].find(each => each.dataset.station === station);
+    if (!drawn) return;
+    const panel = Page.find('view-netgraph'), [at, of] = [drawn, panel].map(each => each.getBoundingClientRect());
+    panel.scrollBy(at.left - of.left - of.width / 2, at.top - of.top - of.height / 2);
+  };
+
+  const SHOW = { event: event => Page.showRow(event), station: showStation, line: showLine };
 
   // Shows what was found, and says what it is.
   const show = ({ kind, value, name, note }) => {

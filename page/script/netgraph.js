@@ -6,7 +6,7 @@
   const { drawing } = Page;
   const WIDTH = 1020, HEIGHT = 640, MARGIN = 64, EDGE = 8, STATIONS_OF_A_PAGE = 14, LANE = 29, RING = 11;
   // What the name of a line takes of a track with some space, and what each number takes at each of its ends.
-  const ROOM = 70, NAME = 14.5, ENOUGH = 16, ROW = 13, LETTERS = 24;
+  const ROOM = 70, NAME = 14.5, ENOUGH = 16, ROW = 13, LETTERS = 24, SCALE = 0.56;
   let graph = null, numbers = new Map();
 
   // Minutes that are told with the hour are wider.
@@ -38,7 +38,9 @@
       const offset = (place - (track.lanes.length - 1) / 2) * LANE;
       return drawLane(track, lane, offset);
     }));
-    const page = drawing('svg', { viewBox: viewBox(labels), role: 'group', 'aria-label': nameOf(view) }, ...lanes);
+    const box = viewBox(labels), page = drawing('svg', { viewBox: box.join(' '), role: 'group', 'aria-label': nameOf(view) }, ...lanes);
+    // Names can be read, and where there are many the netgraph is scrolled.
+    Object.assign(page.style, { minWidth: `${SCALE * box[2]}px`, maxHeight: `max(46rem, ${SCALE * box[3]}px)` });
     for (const [station, label] of labels) page.append(drawStation(station, label));
     return page;
   };
@@ -50,7 +52,7 @@
     const ys = [...graph.places].map(([station, [, y]]) => [y, graph.radius.get(station)]);
     const left = Math.min(...spans.map(span => span[0])) - EDGE, right = Math.max(...spans.map(span => span[1])) + EDGE;
     const top = Math.min(...ys.map(([y, r]) => y - r)) - EDGE - 2 * NAME, bottom = Math.max(...ys.map(([y, r]) => y + r)) + EDGE + 2 * NAME;
-    return [left, top, right - left, bottom - top].map(Math.round).join(' ');
+    return [left, top, right - left, bottom - top].map(Math.round);
   };
 
   const drawLane = (track, lane, offset) => {
@@ -180,6 +182,7 @@
 
   const build = () => {
     graph = null;
+    Page.find('view-netgraph').scrollTo(0, 0);
     Page.find('netgraph').replaceChildren();
     Page.setText(Page.find('netgraph-elided'), '');
   };

@@ -99,8 +99,23 @@ def found_soon(suite, page):
         page.type(letter)
         suite.holds(f"{letter} in {time.monotonic() - began:.2f} s", time.monotonic() - began < 2)
     told = page.text("#finder li:last-child")
+    names = [text for text in found(page) if "station" in text]
     suite.holds(told, told.startswith("and ") and told.endswith(" more: type more"))
     page.key("Escape", 27)
+    page.press("tab-netgraph")
+    page.fill(FIELD, names[-1].split(" station")[0] + "\n")
+    station = page.ask("Page.labelOf(Page.chosen).station")
+    x, y = page.ask(
+        f"""(() => {{
+        const {{ left, top, width, height }} = document.querySelector('#netgraph [data-station="{station}"] .ring').getBoundingClientRect();
+        return [left + width / 2, top + height / 2];
+    }})()"""
+    )
+    met = page.ask(f"document.elementFromPoint({x}, {y}).closest('[data-station]')?.dataset.station")
+    suite.note("on the netgraph, which is larger than its view", {"station": station}, {"station": met})
+    size = page.ask("(text => text.getBoundingClientRect().height)(document.querySelector('#netgraph text.place'))")
+    suite.holds(f"where names are {size:.1f} points high", size >= 8)
+    page.press("tab-diagram")
 
 
 GROUPS = [found_by_typing, listed, found_names, found_soon]

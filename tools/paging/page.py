@@ -7,7 +7,6 @@ import re
 from paging.tree import NotMade
 
 LINE = re.compile(r"^[ \t]*<!-- (?:(style|script): (\S+)|(module)) -->[ \t]*$", re.M)
-INDENTED = re.compile(r"^[ \t]+", re.M)
 POLICY = re.compile(r'<meta http-equiv="Content-Security-Policy" content="([^"]*)">')
 # What would end an inline script or style early, or hide a part of it.
 BREAKS = ["</script", "</style", "<!--"]
@@ -15,9 +14,13 @@ BREAKS = ["</script", "</style", "<!--"]
 NOTHING = "default-src 'none'"
 
 
+def unindented(text):
+    """A source without the more than ten thousand blanks that begin lines, and without empty lines; no text in it may have these."""
+    return re.sub(r"^\s+", "", text, flags=re.M)
+
+
 def source(folder, name):
-    """A style or script of the page, which can stand inside of it. The blanks that begin its lines, by which no text may go over to
-    another line, are left out, since a page has more than ten thousand of them."""
+    """A style or script of the page, which can stand inside of it."""
     path = (folder / name).resolve()
     if folder.resolve() not in path.parents or not path.is_file():
         raise NotMade(f"page/index.html names {name}, which is no file of page/")
@@ -25,7 +28,7 @@ def source(folder, name):
     for word in BREAKS:
         if word in text.lower():
             raise NotMade(f"page/{name} has {word}, which would end it inside of a page")
-    return INDENTED.sub("", text)
+    return unindented(text)
 
 
 def part(folder, found, module):
@@ -56,7 +59,8 @@ def assembled(folder, module):
     """The page of the sources in a folder and of a module, as its bytes."""
     if not (folder / "index.html").is_file():
         raise NotMade("there is no page/index.html")
-    text = LINE.sub(lambda found: part(folder, found, module), (folder / "index.html").read_text())
+    index = unindented((folder / "index.html").read_text())
+    text = LINE.sub(lambda found: part(folder, found, module), index)
     if 'const PESPBENCH_MODULE = "' not in text:
         raise NotMade("page/index.html has no line <!-- module -->")
     return with_policy(text).encode()
