@@ -116,7 +116,13 @@ def hours(suite, page):
     page.key("ArrowUp", 38)
     came = {"value": page.ask("document.activeElement.value"), "line": page.lines()[-1]}
     suite.note("an arrow in a field", {"value": "1:01", "line": "span 1 61 1439"}, came)
-    page.ask("Page.openStory(Page.stories[2]); Page.showTab('diagram')")
+    round_trip = "1; 1; 2; 70; 80; 1\n2; 2; 3; 100; 130; 1\n3; 3; 1; 100; 200; 1\n"
+    page.show({"activities": round_trip, "period": "1440\n"})
+    page.press("ask-why")
+    page.until("Page.find('stop').hidden")
+    told = page.text("#reasons")
+    for wanted in ("they take 4:30 to 6:50 h, and have to take 0 or 24:00:", "4:30 h more", "-3:20 to 1:20 h in place of 1:10 to 1:20"):
+        suite.holds(wanted, wanted in told)
     page.show(texts_of([("N", "C", [("A", 1380), ("B", 20), ("B", 30), ("C", 400)])], [], 1440))
     for tab in ("diagram", "corridor", "netgraph", "tables"):
         page.ask(f"Page.showTab('{tab}'); Page.chooseCorridor(['A', 'C'])")
