@@ -101,6 +101,7 @@ def stations_chosen(suite, page):
     page.key("Enter", 13)
     page.type("\n")
     suite.note("turned", {"stations": ["Inworth", *filled[::-1]]}, {"stations": corridor(page)})
+    suite.note("the keys stay on it", {"on": "Turn round"}, {"on": page.ask("document.activeElement.textContent")})
     page.click(*page.middle("#corridor-stations li:first-of-type button"))
     page.frame()
     suite.note("one is taken out", {"stations": filled[::-1]}, {"stations": corridor(page)})
