@@ -10,7 +10,7 @@
 
   // What stays where it is, so that the keys stay on it.
   const clear = () => Page.chooseCorridor([]), chips = element('ol', { 'aria-label': 'stations chosen' }), told = element('span');
-  const all = button('', () => Page.chooseCorridor([...lineOf(Page.view).stations]));
+  const all = button('All of a line', () => Page.chooseCorridor([...lineOf(Page.view).stations]));
   const turn = button('Turn round', () => Page.chooseCorridor([...Page.corridor.chosen].reverse()));
   const none = button('Clear', clear), toMap = button('Netgraph', () => Page.showTab('netgraph'));
   const ofMap = [button('Corridor', () => Page.showTab('corridor')), button('Clear', clear)];
