@@ -12,6 +12,7 @@
     bar.svg = drawing('svg', { preserveAspectRatio: 'none', 'aria-hidden': true }, bar.whole, bar.broken, bar.stops);
     bar.way = Page.handle('way', `${name}: the whole train`, {
       'data-way': train.events[0], onpointerdown: event => begin(bar, event), onkeydown: event => typed(bar, event),
+      onclick: event => Page.isFinger(event) && Page.choose(nearest(bar, event.clientX)),
     });
     bar.way.append(bar.svg);
     bar.node = element('div', { class: 'row bar' }, element('h3', { title: name }, pill, ` to ${train.to}`), bar.way, bar.note);
@@ -65,9 +66,11 @@
   const begin = (bar, event) => {
     if (event.button !== 0) return;
     const here = nearest(bar, event.clientX);
-    Page.choose(here);
-    bar.way.focus({ preventScroll: true });
-    event.preventDefault();
+    if (!Page.isFinger(event)) {
+      Page.choose(here);
+      bar.way.focus({ preventScroll: true });
+      event.preventDefault();
+    }
     Page.beginMove(event, here, bar.way.clientWidth / Page.view.network.period, Page.isFromHere(event));
   };
 

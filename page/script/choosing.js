@@ -2,6 +2,8 @@
 
 // What is drawn in a view is chosen by a click there, and by keys: ↑ ↓ go to other events, ← → move the train of the chosen one.
 (() => {
+  const DIAGRAMS = ['diagram', 'corridor'], VIEWS = [...DIAGRAMS, 'netgraph', 'tables'];
+
   // An event at a station: that after the chosen one, so that further clicks go round.
   const eventAt = station => {
     const events = Page.view.trains.flatMap(train => train.events).filter(event => Page.labelOf(event).station === station);
@@ -21,24 +23,33 @@
   const beginsHere = ({ dataset: { event, next } }) => Number(Page.labelOf(Number(event)).kind === 'departure' ? event : next);
 
   const begin = event => {
-    const piece = event.target.closest('.reach'), holder = Page.find('diagram');
+    const piece = event.target.closest('.reach'), holder = event.currentTarget;
     if (!piece || event.button !== 0) return;
     const isFromHere = Page.isFromHere(event), here = isFromHere ? beginsHere(piece) : nearerEnd(piece, event);
-    event.preventDefault();
     // What is touched is drawn anew at each step, and a finger is followed on what stays.
     if (event.isTrusted) holder.setPointerCapture(event.pointerId);
-    Page.bringRow(here);
-    holder.focus({ preventScroll: true });
+    if (!Page.isFinger(event)) {
+      event.preventDefault();
+      lead(holder, here);
+    }
     Page.beginMove(event, here, holder.firstElementChild.getBoundingClientRect().width * Page.DIAGRAM_PART / Page.view.network.period, isFromHere);
   };
 
+  // Chooses an event, and brings the keys to the view.
+  const lead = (holder, event) => {
+    Page.bringRow(event);
+    holder.focus({ preventScroll: true });
+  };
+
+  // What a click is on; of a finger, which is followed on the view, what lies below it.
+  const clickedOn = event => Page.isFinger(event) ? document.elementFromPoint(event.clientX, event.clientY) : event.target;
+
   const clicked = event => {
-    const found = event.target.closest('[data-activity], [data-event], [data-station]');
-    if (!found || found.matches('.reach')) return;
+    const found = clickedOn(event).closest('[data-activity], [data-event], [data-station]'), holder = event.currentTarget;
+    if (!found || !holder.contains(found)) return;
     const { activity, station, event: at } = found.dataset, here = at === undefined ? null : Number(at);
     if (activity !== undefined) return Page.showActivity(Number(activity), here);
-    Page.bringRow(here === null ? eventAt(station) : here);
-    event.currentTarget.focus({ preventScroll: true });
+    lead(holder, found.matches('.reach') ? nearerEnd(found, event) : here === null ? eventAt(station) : here);
   };
 
   const ROWS = { ArrowUp: -1, ArrowDown: 1 };
@@ -58,17 +69,19 @@
   // Tells a screen reader of the chosen event in a view.
   const tell = (holder, view) => {
     const event = Page.chosen, time = view.times.get(event), broken = Page.shortConflicts(Page.conflictsAt(view, event));
-    Page.setAttribute(holder, 'aria-label', event === null ? 'no event' : `the train of ${Page.eventName(event)}`);
-    Page.tellHandle(holder, time || 0, 0, view.network.period - 1, `${time === undefined ? 'no time' : Page.clock(time)} ${broken}`);
+    const name = event === null ? 'no event' : `the train of ${Page.eventName(event)}`;
+    const told = `${time === undefined ? 'no time' : Page.clock(time)} ${broken}`, isSlider = holder.getAttribute('role') === 'slider';
+    Page.setAttribute(holder, 'aria-label', isSlider ? name : `${name} ${told}`);
+    if (isSlider) Page.tellHandle(holder, time || 0, 0, view.network.period - 1, told);
   };
 
-  Page.panel({ update: view => ['diagram', 'netgraph'].forEach(name => tell(Page.find(name), view)) });
+  Page.panel({ update: view => [...DIAGRAMS, 'netgraph'].forEach(name => tell(Page.find(name), view)) });
 
   Page.startChoosing = () => {
-    for (const name of ['diagram', 'netgraph', 'tables']) {
+    for (const name of VIEWS) {
       Page.find(name).addEventListener('click', clicked);
       Page.find(name).addEventListener('keydown', typed);
     }
-    Page.find('diagram').addEventListener('pointerdown', begin);
+    for (const name of DIAGRAMS) Page.find(name).addEventListener('pointerdown', begin);
   };
 })();

@@ -12,11 +12,14 @@
     return (upper < period && less >= 0) || lower - less < tension - upper ? less : tension;
   };
 
+  const minus = text => text.replace('-', '−');
+
   const conflictOf = (view, number) => {
     const activity = view.network.activities.get(number), { lower, upper } = activity, had = Page.minutesHad(view, number);
-    const shown = String(had).replace('-', '−'), wanted = Page.spanText(lower, upper), kind = Page.labels.kinds.get(number) || 'activity';
-    const short = `${shown} not ${wanted.replace(' to ', '–')}`, missed = had < lower ? `${lower - had} too few` : `${had - upper} too many`;
-    return { number, activity, had, short, text: `${short} ${kind}`, isRun: kind === 'run', told: `has ${shown}, wanted ${wanted} minutes: ${missed}` };
+    const kind = Page.labels.kinds.get(number) || 'activity', missed = had < lower ? lower - had : had - upper;
+    const short = `${minus(Page.lengthText(had))} not ${Page.spanText(lower, upper).replace(' to ', '–')}`;
+    const told = `takes ${minus(Page.minutes(had))}, may take ${Page.spanText(lower, upper)}: ${Page.lengthText(missed)} too ${had < lower ? 'few' : 'many'}`;
+    return { number, activity, had, short, text: `${short} ${kind}`, isRun: kind === 'run', told };
   };
 
   // The violated activities of what is shown: all of them, and by each event at which one begins or ends.

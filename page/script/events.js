@@ -52,6 +52,7 @@
       mark.style.left = `${100 * (minute + 0.5) / period}%`;
       marks.push(mark);
     }
+    Page.find('events').classList.toggle('hours', period > 60);
     Page.find('events').style.setProperty('--step', `${100 * step / period}%`);
     return marks;
   };
@@ -70,6 +71,15 @@
     if (!row) return;
     row.node.scrollIntoView({ block: 'nearest' });
     if (isFocused) row.strip.focus({ preventScroll: true });
+  };
+
+  // The same for a train, whose bar gets the keys; without times it has none.
+  Page.showBar = event => {
+    const bar = bars.find(({ train }) => train.events.includes(event));
+    Page.showRow(event, !bar || bar.way.hidden);
+    if (!bar || bar.way.hidden) return;
+    bar.node.scrollIntoView({ block: 'nearest' });
+    bar.way.focus({ preventScroll: true });
   };
 
   // The same for what is chosen elsewhere, so that nothing but the rows is scrolled.
@@ -115,16 +125,22 @@
   const begin = event => {
     const row = rowOf(event.target);
     if (!row || event.button !== 0) return;
-    Page.choose(row.event);
-    if (!row.strip.contains(event.target)) return row.strip.focus({ preventScroll: true });
+    const isFinger = Page.isFinger(event);
+    if (!isFinger) Page.choose(row.event);
+    if (!row.strip.contains(event.target)) return isFinger || row.strip.focus({ preventScroll: true });
     const { period } = Page.view.network, handle = event.target.closest('[data-grip]') || row.strip;
     const shift = handle.dataset.at === undefined ? 0 : edgeShift(row, handle, event.clientX, period);
     const minuteAt = x => Page.unitAt(row.strip, x + shift, 0, period), line = lineOf(row, handle, minuteAt(event.clientX));
-    handle.focus({ preventScroll: true });
-    event.preventDefault();
+    if (!isFinger) {
+      handle.focus({ preventScroll: true });
+      event.preventDefault();
+    }
     const isTrain = handle.dataset.grip === 'now' && (event.shiftKey || event.ctrlKey || event.metaKey) && Page.trainAt(row.event);
-    if (isTrain) Page.beginMove(event, row.event, row.strip.clientWidth / period, Page.isFromHere(event));
-    else Page.beginDrag(event, x => [line(minuteAt(x))]);
+    if (isTrain) return Page.beginMove(event, row.event, row.strip.clientWidth / period, Page.isFromHere(event));
+    Page.beginDrag(event, x => {
+      Page.choose(row.event);
+      return [line(minuteAt(x))];
+    });
   };
 
   // What holds an event, moved by a key on its strip.
@@ -176,6 +192,10 @@
     const panel = Page.find('rows');
     panel.addEventListener('pointerdown', begin);
     panel.addEventListener('keydown', typed);
+    panel.addEventListener('click', event => {
+      const row = rowOf(event.target);
+      if (row) Page.choose(row.event);
+    });
     panel.addEventListener('dblclick', event => {
       const row = rowOf(event.target);
       if (row && row.strip.contains(event.target)) letGo(row.event, event.target.dataset.grip === 'now');

@@ -55,6 +55,9 @@
   Page.minutesOfKey = event => ARROWS[event.key] || PAGES[event.key] || 0;
   Page.moveOf = event => event.ctrlKey || event.metaKey || event.altKey ? 0 : Page.minutesOfKey(event);
 
+  // A finger may be about to scroll: what it lies on is chosen by its tap, or once it drags.
+  Page.isFinger = event => event.pointerType === 'touch';
+
   // An element with the role of a slider.
   Page.handle = (name, label, more = {}) =>
     Page.element('span', { class: name, role: 'slider', tabindex: -1, 'aria-label': label, ...more });

@@ -1,6 +1,6 @@
 'use strict';
 
-// Two lists: what the working timetable violates, and the lines that made the state shown.
+// Two lists: what the working timetable violates, and the steps that made the state shown.
 (() => {
   const { element } = Page;
   const MOST_VIOLATED = 500;

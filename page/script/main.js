@@ -10,7 +10,8 @@
     return;
   }
   const views = [Page.startHead, Page.startTabs, Page.startEvents, Page.startDiagram, Page.startChoosing, Page.startLines];
-  for (const start of [...views, Page.startSearching, Page.startPrinting, Page.startOpening, Page.startSaving]) start();
+  const helps = [Page.startHelps, Page.startLegend, Page.startFinding, Page.startStations];
+  for (const start of [...views, ...helps, Page.startSearching, Page.startPrinting, Page.startOpening, Page.startSaving]) start();
   Page.openStory(Page.stories[0]);
   document.body.classList.add('ready');
   // The milliseconds since the page was asked for, when the first story is drawn.

@@ -12,10 +12,20 @@
   };
 
   // What takes hold of a train between one of its events and the next.
-  Page.reachOf = (frame, train, minutes, place, width) => {
+  const reachOf = (frame, train, minutes, place, width) => {
     const ends = [place, place + 1], [from, to] = ends.map(each => train.events[each]);
     const points = ends.map(each => [minutes[each], Page.heightOf(frame, train.events[each])]);
     return Page.marked(Page.waysOf(frame, points, 'transparent', width), { class: 'reach', 'data-event': from, 'data-next': to });
+  };
+
+  // The same of some places of a train, or of all; none while something is dragged, since nothing else is taken hold of then.
+  Page.reachesOf = (frame, train, minutes, width, places = [...train.steps.keys()]) => document.body.classList.contains('dragging') ? []
+    : places.flatMap(place => reachOf(frame, train, minutes, place, width));
+
+  // The ring of the chosen event, and by how much its train is moved.
+  Page.chosenMark = (frame, event, minute, shift) => {
+    const [x, y] = [frame.x(minute), Page.heightOf(frame, event)], ring = drawing('circle', { class: 'mark', cx: x, cy: y, r: 6 });
+    return shift ? [ring, drawing('text', { class: 'end', x: x + 9, y: y + 16 }, shift)] : [ring];
   };
 
   // A label where no other one lies, or at the last place that was tried.
@@ -32,14 +42,14 @@
   // The minutes over which a violated activity is drawn: what rules little out, as a headway, over the shorter way between its ends.
   const drawnOver = ({ activity: { lower, upper }, had }, period) => 2 * (upper - lower) > period && 2 * had > period ? had - period : had;
 
-  // Where a violated activity lies of which an end is an event of the line; null where none is.
+  // Where a violated activity lies of which an end is drawn, at one height where the other end or the run is not; null where none is.
   const pointsOf = (view, frame, conflict) => {
     const { first, last } = conflict.activity, [from, to] = [first, last].map(event => Page.heightOf(frame, event)), start = view.times.get(first);
-    const isOwn = [first, last].some(event => Page.labelOf(event).line === frame.line.name);
-    return isOwn && (from || to) ? [[start, from || to], [start + drawnOver(conflict, frame.period), to || from]] : null;
+    if (![first, last].some(event => frame.events.has(event))) return null;
+    return [[start, from || to], [start + drawnOver(conflict, frame.period), (!frame.away.has(conflict.number) && to) || from]];
   };
 
-  const brokenOf = (view, frame, boxes) => {
+  const brokenOf = (view, frame, where, boxes) => {
     const all = Page.conflictsOf(view).all.map(conflict => ({ conflict, points: pointsOf(view, frame, conflict) })).filter(({ points }) => points);
     const found = all.slice(0, MOST_BROKEN);
     const ways = found.flatMap(({ conflict, points }) =>
@@ -50,13 +60,13 @@
       label.append(drawing('title', {}, Page.toldConflicts([conflict])));
       return label;
     });
-    return { ways, labels, told: Page.elided(all.length, MOST_BROKEN, 'that are violated on the line') };
+    return { ways, labels, told: Page.elided(all.length, MOST_BROKEN, `that are violated ${where}`) };
   };
 
-  // What is violated on a line: ways and rings in red, labels, and a word on what is left out.
-  Page.conflictMarks = (view, frame) => {
-    const boxes = [], { ways, labels, told } = brokenOf(view, frame, boxes);
-    for (const event of frame.line.trains.flatMap(train => train.events).filter(each => Page.isOutside(view, each))) {
+  // What is violated in a drawing: ways and rings in red, labels, and a word on what is left out.
+  Page.conflictMarks = (view, frame, where) => {
+    const boxes = [], { ways, labels, told } = brokenOf(view, frame, where, boxes);
+    for (const event of [...frame.events].filter(each => Page.isOutside(view, each))) {
       const time = view.times.get(event), y = Page.heightOf(frame, event);
       ways.push(drawing('circle', { class: 'outside', cx: frame.x(time), cy: y, r: 5, 'data-event': event }));
       labels.push(labelOf(frame, boxes, [time, y], Page.outsideText(view, event), { 'data-event': event }));

@@ -24,7 +24,7 @@
   // By how much the train of an event is moved in the step of a drag that is shown, as `+3`; '' where it is not.
   Page.shiftText = (view, event) => {
     if (!view.isTried || !view.title || !moved.train.events.includes(event)) return '';
-    return `${moved.minutes < 0 ? '−' : '+'}${Math.abs(moved.minutes)}`;
+    return `${moved.minutes < 0 ? '−' : '+'}${Page.lengthText(Math.abs(moved.minutes))}`;
   };
 
   // With Shift, or with a box for hands that have none, a train moves from an event on.
@@ -34,6 +34,7 @@
   Page.beginMove = (start, event, width, isFromHere) => {
     begun(event, isFromHere);
     Page.beginDrag(start, x => {
+      Page.choose(event);
       moved.minutes = Math.round((x - start.clientX) / width);
       return lines();
     }, title);

@@ -6,7 +6,7 @@
   const { element } = Page;
   const KINDS = {
     activities: 'activities', fixed: 'fixed times', times: 'times', labels: 'labels', places: 'places of stations', windows: 'windows',
-    events: 'events without activities', period: 'the period', lines: 'lines of commands', nothing: 'not to be opened',
+    events: 'events without activities', period: 'the period', lines: 'commands', nothing: 'not to be opened',
   };
   // The first of these that stands in a file's name says what the file is.
   const WORDS = Object.entries({
@@ -64,7 +64,7 @@
       if (!bytes) throw new Error(`${kind} file is too long: it has more than ${Page.MOST_BYTES.toLocaleString('en')} bytes`);
       texts[kind] = new TextDecoder('utf-8', { ignoreBOM: true }).decode(bytes);
     }
-    if (texts.activities === undefined && texts.lines === undefined) throw new Error('a file of activities, or of lines of commands, is wanted');
+    if (texts.activities === undefined && texts.lines === undefined) throw new Error('a file of activities, or of commands, is wanted');
     return texts;
   };
 

@@ -9,13 +9,14 @@
     row.was = drawing('path', { class: 'was' });
     row.possible = drawing('path', { class: 'possible' });
     row.held = drawing('path', { class: 'held' });
-    row.svg = drawing('svg', { preserveAspectRatio: 'none', 'aria-hidden': true }, row.was, row.possible, row.held);
+    row.svg = drawing('svg', { preserveAspectRatio: 'none', 'aria-hidden': 'true' }, row.was, row.possible, row.held);
     row.strip = Page.handle('strip', Page.eventName(event), { 'data-event': event });
     row.strip.append(row.svg);
     row.time = Page.element('span', { class: 'time' });
     row.note = Page.element('span', { class: 'note' });
     row.notes = Page.element('span', { class: 'notes' }, row.note);
-    const name = Page.element('span', { class: 'name' }, place, ' ', Page.element('small', {}, kind));
+    const name = Page.element('span', { class: 'name', title: Page.eventName(event) },
+      Page.element('span', {}, place), ' ', Page.element('small', {}, kind));
     row.node = Page.element('div', { class: 'row', 'data-row': event }, name, row.time, row.strip, row.notes);
     return row;
   };
@@ -118,7 +119,10 @@
     once(row, 'window', window ? `${window.first} ${window.length}` : '', () => drawHeld(row, window, period));
     once(row, 'time', view.times.get(event), time => drawTime(row, time, period));
     once(row, 'ends', `${row.drawn.window} ${row.drawn.time}`, () => placeEnds(row, view.times.get(event), period));
-    once(row, 'note', noteOf(window, isViolated, period), text => Page.setText(row.note, text));
+    once(row, 'note', noteOf(window, isViolated, period), text => {
+      Page.setText(row.note, text);
+      row.note.title = text;
+    });
     once(row, 'violated', isViolated, () => row.node.classList.toggle('alarm', isViolated));
     once(row, 'broken', broken, () => drawBroken(row, Boolean(broken), Page.conflictsOfRow(view, event)));
     once(row, 'chosen', isChosen, () => chooseRow(row, isChosen));

@@ -11,7 +11,7 @@
     activities: 'for the program', fixed: 'fixed times, for the program', times: 'the working timetable, for the program',
     windows: 'windows of more than one minute', events: 'events without activities', period: 'the period', labels: 'names',
     places: 'where stations lie',
-    script: 'the network as commands, as dump tells it',
+    script: 'the network as commands',
     lines: 'the steps since the network was opened, as commands',
   };
 

@@ -86,7 +86,7 @@
     update();
   };
 
-  const BUSY = { why: 'Looking for what cannot be met together …', play: 'Playing the lines …', search: 'Searching …' };
+  const BUSY = { why: 'Looking for what cannot be met together …', play: 'Doing the commands …', search: 'Searching …' };
 
   // What is found is of the state for which it was asked, and is offered as long as that is shown.
   const isOfNow = each => {

@@ -67,7 +67,7 @@
     if (present().lines.length + more.length > LINES_OF_A_BASE) made.base = Page.baseOf(looked.network, times);
     session.steps.splice(session.place, Infinity, made);
     session.place += 1;
-    Page.say(title || (more.length === 1 ? more[0] : `${more.length} lines`));
+    Page.say(title || (more.length === 1 ? more[0] : `${more.length} commands`));
     show({ ...looked, times, title });
     return true;
   };
@@ -84,7 +84,7 @@
     Page.say(told);
     Page.refresh();
   };
-  const titleOf = ({ lines, title }) => title || (lines.length === 1 ? lines[0] : `${lines[0]} and ${lines.length - 1} more lines`);
+  const titleOf = ({ lines, title }) => title || (lines.length === 1 ? lines[0] : `${lines[0]} and ${lines.length - 1} more commands`);
   Page.titleOf = titleOf;
 
   Page.undo = () => session.place && goTo(session.place - 1, `undone: ${titleOf(session.steps[session.place - 1])}`);

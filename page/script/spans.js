@@ -78,6 +78,7 @@
   const drawCard = (card, activity, view) => {
     const taken = view.tensions && view.tensions.get(activity.number);
     const isViolated = Boolean(view.violations && view.violations.activities.has(activity.number));
+    const had = isViolated ? Page.minutesHad(view, activity.number) : taken && taken.tension;
     const drawn = JSON.stringify([activity, taken, isViolated]);
     if (card.drawn === drawn) return;
     card.drawn = drawn;
@@ -86,7 +87,7 @@
     place(card.bar, card, lower, upper + 1);
     for (const [handle, value, left] of [[card.lower, lower, lower], [card.upper, upper, upper + 1]]) {
       handle.style.left = `${percent(card, left)}%`;
-      Page.tellHandle(handle, value, -1000000, 1000000, `${name}: ${Page.spanText(lower, upper)} minutes`);
+      Page.tellHandle(handle, value, -1000000, 1000000, `${name}: ${Page.spanMinutes(lower, upper)}`);
     }
     card.slack.hidden = card.tension.hidden = !taken;
     if (taken) {
@@ -94,16 +95,18 @@
       place(card.tension, card, taken.tension, taken.tension + 1);
     }
     card.node.classList.toggle('alarm', isViolated);
-    Page.setText(card.told, toldOf(taken, isViolated, weight));
-    for (const [input, value] of [[card.least, lower], [card.most, upper], [card.weight, weight]]) {
+    Page.setText(card.told, toldOf(taken, had, isViolated, weight));
+    for (const [input, value] of [[card.least, Page.lengthText(lower)], [card.most, Page.lengthText(upper)], [card.weight, weight]]) {
       if (document.activeElement !== input || document.body.classList.contains('dragging')) input.value = value;
     }
   };
 
-  const toldOf = (taken, isViolated, weight) => {
+  // What is violated may be counted as a period more than it takes.
+  const toldOf = (taken, had, isViolated, weight) => {
     if (!taken) return 'no timetable to look at';
     const cost = weight && taken.slack ? `, costs ${(weight * taken.slack).toLocaleString('en')}` : '';
-    return `${isViolated ? '✕ not met: ' : '✓ '}takes ${Page.minutes(taken.tension)}, slack ${taken.slack}${cost}`;
+    const counted = had === taken.tension ? '' : `, counted as ${Page.lengthText(taken.tension)}`;
+    return `${isViolated ? '✕ not met: ' : '✓ '}takes ${Page.minutes(had)}${counted}, slack ${Page.lengthText(taken.slack)}${cost}`;
   };
 
   const percent = (card, minute) => Math.min(100, Math.max(0, 100 * (minute - card.range.least) / card.range.count));

@@ -104,7 +104,7 @@
     const { title } = Page.session.opened, count = Page.countViolated(view);
     const cost = view.cost === null ? view.missing : `cost ${view.cost.toLocaleString('en')}`;
     const violated = count === null ? '' : count ? `, ✕ ${count} violated` : ', nothing is violated';
-    const told = `Period ${view.network.period}: ${cost}${violated}. A frame: the event is held.`;
+    const told = `Period ${Page.lengthText(view.network.period)}: ${cost}${violated}. A frame: the event is held.`;
     return [element('h1', {}, title || 'Timetable'), element('p', {}, told)];
   };
 

@@ -2,9 +2,10 @@
 
 // Trains and lines, found from labels: a train is a chain of runs and dwells of one line with one destination.
 (() => {
-  const COLORS = ['#1b6ca8', '#b3501a', '#2e7d4f', '#8e3b8a', '#8a6800', '#0b7a7c', '#b0305c', '#5a5fc7', '#6b5b45', '#4d7c0f'];
+  // The style has so many colors of lines, other ones where it is dark.
+  const COLORS = 10;
 
-  Page.colorOf = place => COLORS[place % COLORS.length];
+  Page.colorOf = place => `var(--line-${place % COLORS})`;
 
   const isStep = ({ number, first, last }) => {
     const kind = Page.labels.kinds.get(number) || '', [from, to] = [Page.labelOf(first), Page.labelOf(last)];

@@ -9,10 +9,10 @@ LINES = ["span 1 13 14", "span 2 4 6", "span 4 6 8", "span 6 4 56", "fix 4 30"]
 RED = "rgb(179, 19, 31)"
 RUN, DWELL, CHANGE, HEADWAY = "10 not 13–14", "2 not 4–6", "5 not 6–8", "3 not 4–56"
 LISTED = [
-    "✕ run of M from Ashford to Benton — has 10, wanted 13 to 14 minutes: 3 too few",
-    "✕ dwell of M to Cranley at Benton — has 2, wanted 4 to 6 minutes: 2 too few",
-    "✕ change at Benton from M to Cranley into B to Dale — has 5, wanted 6 to 8 minutes: 1 too few",
-    "✕ headway at Benton between M to Cranley and B to Dale — has 3, wanted 4 to 56 minutes: 1 too few",
+    "✕ run of M from Ashford to Benton — takes 10 minutes, may take 13 to 14: 3 too few",
+    "✕ dwell of M to Cranley at Benton — takes 2 minutes, may take 4 to 6: 2 too few",
+    "✕ change at Benton from M to Cranley into B to Dale — takes 5 minutes, may take 6 to 8: 1 too few",
+    "✕ headway at Benton between M to Cranley and B to Dale — takes 3 minutes, may take 4 to 56: 1 too few",
     "✕ M to Cranley arrives at Cranley — is at :32, held at :30",
 ]
 ITEMS = "[...document.querySelectorAll('#view-violated .violated')].map(each => each.textContent)"
@@ -95,7 +95,7 @@ def in_views(suite, page):
     page.press("tab-violated")
     suite.note("the list", {"it": LISTED}, {"it": page.ask(ITEMS)})
     page.ask("Page.step(['time 1 8', 'untime 4', 'time 4 30', 'span 3 15 30', 'span 2 2 6', 'span 4 4 8', 'span 6 3 57'])")
-    told = "✕ run of M from Ashford to Benton — has 2, wanted 13 to 14 minutes: 11 too few"
+    told = "✕ run of M from Ashford to Benton — takes 2 minutes, may take 13 to 14: 11 too few"
     suite.note("it follows", {"it": [told]}, {"it": page.ask(ITEMS)})
     page.ask("Page.step(['untime 4'])")
     suite.holds("without a time nothing is known", "Not known: event 4 has no time" in page.text("#view-violated"))
@@ -182,8 +182,8 @@ def choosing(suite, page):
         ("the minute at an end", "diagram", '#diagram text.end[data-event="1"]', [1]),
         ("a station, again and again", "diagram", '#diagram [data-station="Benton"]', [5, 2, 3, 5]),
         ("a number", "netgraph", '#netgraph tspan[data-event="4"]', [4]),
-        ("a ring", "netgraph", '#netgraph .ring[data-station="Dale"]', [6]),
-        ("the name of a station", "netgraph", '#netgraph .place[data-station="Ashford"]', [1]),
+        ("a ring", "netgraph", '#netgraph [data-station="Dale"] .ring', [6]),
+        ("the name of a station", "netgraph", '#netgraph [data-station="Ashford"] .place', [1]),
         ("a lane", "netgraph", '#netgraph g[data-event="5"] rect', [5]),
         ("a cell", "tables", '#tables td[data-event="3"]', [3]),
     ]:

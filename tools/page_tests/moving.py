@@ -181,7 +181,7 @@ def by_fields(suite, page):
     said = "M to Cranley from Benton on 1 minute later: cost 1 more; 1 violated, 1 more"
     suite.note("and what it changes", {"said": said}, {"said": page.said()})
     page.press("tab-lines")
-    listed = "M to Cranley from Benton on 1 minute later — time 3 13 and 1 more lines"
+    listed = "M to Cranley from Benton on 1 minute later — time 3 13 and 1 more commands"
     suite.note("the step is listed", {"listed": listed}, {"listed": page.text("#steps")})
 
 

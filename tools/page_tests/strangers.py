@@ -22,7 +22,7 @@ def played(suite, page):
         state = page.state()
         page.drop(*placed(folder, {"lines": f"{LONG}adopt\n", "period": "60"}))
         came = {"stop": page.is_shown("stop"), "found": page.text("#found")}
-        suite.note("it can be stopped", {"stop": True, "found": "Playing the lines …"}, came)
+        suite.note("it can be stopped", {"stop": True, "found": "Doing the commands …"}, came)
         page.click(*page.minute(3, 20))
         page.frame()
         suite.note("the page is usable", {"chosen": 3}, {"chosen": page.ask("Page.chosen")})

@@ -14,6 +14,11 @@ BREAKS = ["</script", "</style", "<!--"]
 NOTHING = "default-src 'none'"
 
 
+def unindented(text):
+    """A source without the more than ten thousand blanks that begin lines, and without empty lines; no text in it may have these."""
+    return re.sub(r"^\s+", "", text, flags=re.M)
+
+
 def source(folder, name):
     """A style or script of the page, which can stand inside of it."""
     path = (folder / name).resolve()
@@ -23,8 +28,7 @@ def source(folder, name):
     for word in BREAKS:
         if word in text.lower():
             raise NotMade(f"page/{name} has {word}, which would end it inside of a page")
-    # A browser needs no indents. No text of several lines in a script begins one of them with blanks.
-    return "".join(line.lstrip(" ") for line in text.splitlines(keepends=True))
+    return unindented(text)
 
 
 def part(folder, found, module):
@@ -55,7 +59,8 @@ def assembled(folder, module):
     """The page of the sources in a folder and of a module, as its bytes."""
     if not (folder / "index.html").is_file():
         raise NotMade("there is no page/index.html")
-    text = LINE.sub(lambda found: part(folder, found, module), (folder / "index.html").read_text())
+    index = unindented((folder / "index.html").read_text())
+    text = LINE.sub(lambda found: part(folder, found, module), index)
     if 'const PESPBENCH_MODULE = "' not in text:
         raise NotMade("page/index.html has no line <!-- module -->")
     return with_policy(text).encode()
