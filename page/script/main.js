@@ -10,8 +10,10 @@
     return;
   }
   const views = [Page.startHead, Page.startTabs, Page.startEvents, Page.startDiagram, Page.startLines];
-  for (const start of [...views, Page.startSearching, Page.startPrinting, Page.startOpening, Page.startSaving]) start();
+  for (const start of [...views, Page.startSearching, Page.startPrinting, Page.startOpening, Page.startSaving, Page.startHanding]) start();
   Page.openStory(Page.stories[0]);
+  Page.startLinks();
+  Page.startDrafts();
   document.body.classList.add('ready');
   // The milliseconds since the page was asked for, when the first story is drawn.
   requestAnimationFrame(() => { Page.readyAfter = performance.now(); });

@@ -161,9 +161,17 @@
     for (const [event, number] of numbers) drawNumber(view, event, number);
   };
 
+  // The netgraph for paper, with no event chosen, and what it says of what is left out; the one on the screen stays.
+  Page.netgraphOf = view => {
+    const screen = { graph, numbers }, drawn = draw(view), { told } = graph;
+    for (const [event, number] of numbers) drawNumber(view, event, number, null);
+    ({ graph, numbers } = screen);
+    return { drawn, told };
+  };
+
   // A number is set where it is another one than was drawn, since there are many and a step changes few.
-  const drawNumber = (view, event, number) => {
-    const text = Page.minuteText(view, event), isChosen = event === Page.chosen;
+  const drawNumber = (view, event, number, chosen = Page.chosen) => {
+    const text = Page.minuteText(view, event), isChosen = event === chosen;
     const look = [text.endsWith('✕') ? 'alarm' : '', isChosen ? 'chosen' : ''].join(' ').trim(), drawn = `${text} ${look}`;
     if (number.drawn === drawn) return;
     number.drawn = drawn;

@@ -25,6 +25,8 @@
     Page.setText(Page.find('opening-help'), help);
   };
 
+  Page.tellOpening = tell;
+
   // Shows the dialog, which says what would be lost.
   const show = () => {
     Page.find('opening-loss').hidden = Page.isSaved();
@@ -55,14 +57,15 @@
     return element('li', {}, element('span', {}, file.name), ' ', select);
   }));
 
-  // The texts of what is listed, by their kinds. The program reads bytes, of which UTF-8 keeps the digits; a byte that is no
-  // UTF-8 is none of a number either.
+  // The texts of what is listed, by their kinds, in the form that is read here; each file is told what was converted.
   const textsListed = () => {
     const texts = {};
-    for (const { name, kind, bytes } of files.filter(file => file.kind !== 'nothing')) {
+    for (const file of files.filter(each => each.kind !== 'nothing')) {
+      const { name, kind, bytes } = file;
       if (kind in texts) throw new Error(`${name}: another file is ${KINDS[kind]} already`);
       if (!bytes) throw new Error(`${kind} file is too long: it has more than ${Page.MOST_BYTES.toLocaleString('en')} bytes`);
-      texts[kind] = new TextDecoder('utf-8', { ignoreBOM: true }).decode(bytes);
+      Object.assign(file, Page.converted(kind, bytes));
+      texts[kind] = file.text;
     }
     if (texts.activities === undefined && texts.lines === undefined) throw new Error('a file of activities, or of lines of commands, is wanted');
     return texts;
@@ -73,12 +76,17 @@
     try {
       const opening = Page.openTexts(textsListed(), title, Number(Page.find('opening-period').value));
       hide();
-      if (await opening !== false) Page.say(`opened: ${listed.filter(file => file.kind !== 'nothing').map(file => file.name).join(', ')}`);
+      if (await opening !== false) Page.say(openedWord(listed.filter(file => file.kind !== 'nothing')));
     } catch (fault) {
       tell(fault.message, Page.helpFor(fault.message, kind => listed.find(file => file.kind === kind)));
       show();
     }
   };
+
+  const openedWord = listed => [
+    `opened: ${listed.map(file => file.name).join(', ')}`,
+    ...listed.filter(file => file.told.length).map(file => `${file.name}: ${file.told.join(', ')}`),
+  ].join(' — ');
 
   const folderOf = name => name.includes('/') ? name.split('/').slice(-2)[0] : name;
 

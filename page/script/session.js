@@ -72,6 +72,18 @@
     return true;
   };
 
+  // Does steps that were done before, each as it was one; false where a line is refused, and then none of them is done.
+  Page.stepAgain = steps => {
+    const looked = tried(steps.flat());
+    if (!looked) return false;
+    let { times } = session.opened;
+    session.steps = steps.map(lines => ({ lines, times: times = Page.timesAfter(times, lines) }));
+    session.place = steps.length;
+    if (steps.flat().length > LINES_OF_A_BASE) session.steps[steps.length - 1].base = Page.baseOf(looked.network, times);
+    show({ ...looked, times });
+    return true;
+  };
+
   // Shows the present state again.
   Page.refresh = () => {
     const { base, lines } = present(), looked = looks(base, lines);

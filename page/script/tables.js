@@ -1,7 +1,7 @@
 'use strict';
 
-// The table of each line: stations down, and for each train the minutes at which it arrives and leaves across. Printing
-// gives these, with the diagram of each line.
+// The table of each line: stations down, and for each train the minutes at which it arrives and leaves across. On
+// paper the diagram of each line stands below.
 (() => {
   const { element } = Page;
 
@@ -55,7 +55,7 @@
     return [Page.minuteText(view, event), Page.domainText(view.domains.get(event), period), held].map(text => element('td', {}, text));
   };
 
-  const tablesOf = (view, isPrinted) => {
+  Page.tablesOf = (view, isPrinted) => {
     if (!view.lines.length) return [eventTable(view)];
     return view.lines.map(line => {
       const { drawn, told } = isPrinted && line.stations.length > 1 ? Page.diagramOf(view, line) : { drawn: null, told: '' };
@@ -65,21 +65,8 @@
 
   const update = view => {
     if (Page.tab !== 'tables') return;
-    Page.find('tables').replaceChildren(...tablesOf(view, false));
+    Page.find('tables').replaceChildren(...Page.tablesOf(view, false));
   };
 
   Page.panel({ update });
-
-  const summary = view => {
-    const { title } = Page.session.opened, count = Page.countViolated(view);
-    const cost = view.cost === null ? view.missing : `cost ${view.cost.toLocaleString('en')}`;
-    const violated = count === null ? '' : count ? `, ✕ ${count} violated` : ', nothing is violated';
-    const told = `Period ${view.network.period}: ${cost}${violated}. A frame: the event is held.`;
-    return [element('h1', {}, title || 'Timetable'), element('p', {}, told)];
-  };
-
-  Page.startPrinting = () => {
-    window.addEventListener('beforeprint', () => Page.find('printed').replaceChildren(...summary(Page.view), ...tablesOf(Page.view, true)));
-    window.addEventListener('afterprint', () => Page.find('printed').replaceChildren());
-  };
 })();

@@ -9,7 +9,7 @@ from page_tests.hands import TWO_TRAINS
 from tests.harness import within
 
 # The most bytes that the page may have.
-MOST_BYTES = 600_000
+MOST_BYTES = 650_000
 
 
 # Requests that a page could make; each tells whether it was sent.
