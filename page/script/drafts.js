@@ -33,7 +33,6 @@
   // Writes the draft, or takes it away where all is saved. A refusal is told once.
   const keep = () => {
     clearTimeout(waiting);
-    waiting = 0;
     if (!isKept() || !Page.session.opened) return;
     const before = fault;
     try {
@@ -41,13 +40,16 @@
       if (Page.isSaved()) store.drop(own);
       else store.write(own, draftNow());
     } catch (refusal) {
-      fault = 'No draft is kept: the browser has no room for it.';
+      fault = 'This state has no draft: the browser has no room for it.';
       if (!before) Page.sayMore(fault);
     }
+    tell();
   };
 
+  // Not while something is dragged, since a large network takes its time.
   const keepSoon = () => {
-    if (!waiting) waiting = setTimeout(keep, DELAY);
+    clearTimeout(waiting);
+    waiting = setTimeout(keep, DELAY);
   };
 
   Page.panel({ update: keepSoon });
@@ -56,7 +58,7 @@
   const draftOf = key => {
     try {
       const draft = JSON.parse(store.read(key)), { title, at, files, steps } = draft;
-      const isWhole = typeof title === 'string' && Number.isFinite(at) && Object.values(files).every(text => typeof text === 'string')
+      const isWhole = typeof title === 'string' && new Date(at).getTime() >= 0 && Object.values(files).every(text => typeof text === 'string')
         && steps.length <= MOST_STEPS && steps.every(lines => lines.length && lines.every(line => LINE.test(line)));
       return isWhole ? draft : null;
     } catch (damage) {
@@ -79,8 +81,8 @@
     const draft = draftOf(key);
     try {
       Page.openTexts(draft.files, draft.title);
-      own = key;
       if (draft.steps.length && !Page.stepAgain(draft.steps)) return;
+      own = key;
       Page.say(`the draft of “${draft.title}” is open, and not saved yet`);
     } catch (refusal) {
       Page.say(`The draft cannot be opened: ${refusal.message}.`, true);
