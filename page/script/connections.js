@@ -17,7 +17,8 @@
   const connectionsOf = view => {
     const found = [...view.network.activities.values()].filter(isConnection), at = each => view.times.get(each.first);
     const stationOf = each => Page.labelOf(each.first).station;
-    return found.sort((one, other) => stationOf(one).localeCompare(stationOf(other), 'en', { numeric: true }) || at(one) - at(other) || one.number - other.number);
+    const byName = (one, other) => stationOf(one).localeCompare(stationOf(other), 'en', { numeric: true });
+    return found.sort((one, other) => byName(one, other) || at(one) - at(other) || one.number - other.number);
   };
 
   const row = (view, each) => {

@@ -57,6 +57,8 @@
   Page.startHanding = () => {
     const name = Page.find('saving-name');
     name.addEventListener('change', nameIt);
+    // Escape leaves the name as it was.
+    Page.find('saving').addEventListener('cancel', () => { name.value = Page.session.opened.title; });
     name.addEventListener('keydown', event => {
       if (event.key !== 'Enter') return;
       nameIt();

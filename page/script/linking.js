@@ -5,7 +5,7 @@
   const MARK = '#network=';
   // The most letters of a fragment, and the most bytes that it unpacks to.
   const MOST_LETTERS = 30000, MOST_UNPACKED = 4000000;
-  const NAMED = /^[^\n]+\/(activities|fixed|windows|events|times|period|labels|places)$/;
+  const NAMED = /^[^\n/]{1,100}\/(activities|fixed|windows|events|times|period|labels|places)$/;
 
   const checkOf = bytes => Page.checksum(bytes).toString(16).padStart(8, '0');
 

@@ -10,6 +10,13 @@ from page_tests.keys import CTRL
 KEPT = "Object.keys(localStorage).filter(key => key.startsWith('pespbench-draft-')).length"
 NO_STORAGE = "Object.defineProperty(window, 'localStorage', { get() { throw new DOMException('no', 'SecurityError'); } }); 0"
 
+# Fills what the browser keeps, by ever smaller parts.
+FILLED = """for (let size = 1 << 22; size > 4; size >>= 1) {
+    try {
+        for (let place = 0; ; place += 1) localStorage.setItem(`x${size}-${place}`, 'x'.repeat(size));
+    } catch (fault) { }
+}"""
+
 
 def forget(page):
     """A page with nothing kept."""
@@ -85,7 +92,8 @@ def drafts_dropped(suite, page):
     page.frame()
     came = {"shown": page.is_shown("drafts"), "kept": page.ask(KEPT), "said": page.said()}
     suite.note("dropped", {"shown": False, "kept": 0, "said": "the draft is dropped"}, came)
-    for name, script in [("undone", "Page.undo()"), ("saved", "Page.showSaving(); Page.find('save-all').click(); Page.find('saving').close()")]:
+    saved = "Page.showSaving(); Page.find('save-all').click(); Page.find('saving').close()"
+    for name, script in [("undone", "Page.undo()"), ("saved", saved)]:
         page.drag([page.minute(1, 20), page.minute(1, 30)])
         is_kept(page)
         page.ask(script)
@@ -142,7 +150,8 @@ def drafts_strange(suite, page):
     page.click(*page.middle("#drafts .main"))
     page.frame()
     suite.note("refused", {"said": "fix 7 3 — refused 2 no event 7"}, {"said": page.said()})
-    suite.note("and nothing acts", {"acted": "undefined", "images": 0}, {"acted": page.ask("typeof hostile"), "images": page.ask("document.images.length")})
+    came = {"acted": page.ask("typeof hostile"), "images": page.ask("document.images.length")}
+    suite.note("and nothing acts", {"acted": "undefined", "images": 0}, came)
     page.ask("localStorage.clear()")
 
 
@@ -161,7 +170,7 @@ def drafts_refused(suite, page):
     page.call("Page.removeScriptToEvaluateOnNewDocument", identifier=script)
     forget(page)
     tick(page)
-    page.ask("for (let size = 1 << 22; size > 4; size >>= 1) try { for (let place = 0; ; place += 1) localStorage.setItem(`x${size}-${place}`, 'x'.repeat(size)); } catch (fault) { }")
+    page.ask(FILLED)
     page.drag([page.minute(1, 20), page.minute(1, 30)])
     page.until("Page.find('said').textContent.includes('no room')")
     word = "This state has no draft: the browser has no room for it."

@@ -14,6 +14,10 @@ from page_tests.keys import CTRL
 MOST_LETTERS, MOST_UNPACKED = 30_000, 4_000_000
 NAMES = "[Page.session.opened.title, [...Page.places], [...Page.labels.events], [...Page.labels.kinds]]"
 
+# The rows of all connections on paper.
+CONNECTIONS = """[...document.querySelectorAll('#printed .connections tbody tr')]
+    .map(row => [...row.cells].map(each => each.textContent))"""
+
 
 def fragment(data):
     """The fragment of a link that has these bytes."""
@@ -57,12 +61,21 @@ def named(suite, page):
         page.drop(*paths)
         page.until("Page.find('said').textContent.startsWith('opened')")
         suite.note("opened", {"title": "Nürnberg- draft 3-b"}, {"title": page.text("#title")})
+    page.press("save")
+    page.fill("#saving-name", "another")
+    page.key("Escape", 27)
+    page.frame()
+    came = {"title": page.text("#title"), "open": page.is_shown("saving")}
+    suite.note("left by Escape", {"title": "Nürnberg- draft 3-b", "open": False}, came)
+    page.resize(390, 844)
     for name, wanted in [("..", "network"), ("", "network"), ("a" * 120, "a" * 99), ('<b>"x"|', "b-x")]:
         page.press("save")
         page.fill("#saving-name", f" {name}")
         page.key("Tab", 9)
         page.press("saving-close")
-        suite.note(f"a name {name[:9]!r}", {"folder": wanted}, {"folder": page.ask("Page.folderName()")})
+        wide = page.ask("document.documentElement.scrollWidth - document.documentElement.clientWidth")
+        suite.note(f"a name {name[:9]!r}", {"folder": wanted, "wide": 0}, {"folder": page.ask("Page.folderName()"), "wide": wide})
+    page.resize(1440, 900)
 
 
 def links_opened(suite, page):
@@ -133,6 +146,7 @@ def links_refused(suite, page):
         ("null", fragment(b"null"), strange),
         ("other files", fragment(b'{"a/other":"1"}'), strange),
         ("no texts", fragment(b'{"a/activities":{"b":1}}'), strange),
+        ("a long name", fragment(json.dumps({f"{'a' * 101}/activities": "1; 1; 2; 3; 5; 2"}).encode()), strange),
         ("an archive in it", fragment(b'{"a/b.zip":"PK"}'), strange),
     ]
     for name, place, told in cases:
@@ -161,8 +175,8 @@ def links_refused(suite, page):
 def too_large(suite, page):
     """A network that is too large for a link is told, and gives none."""
     page.again()
-    rows = "".join(f"{number}; {number * 7919 % 50_000}; {number * 104_729 % 50_000 + 50_000}; 3; 5; {number * 31 % 997}\n" for number in range(9_000))
-    page.show({"activities": rows, "period": "60"})
+    rows = ((each, each * 7919 % 50_000, each * 104_729 % 50_000 + 50_000, each * 31 % 997) for each in range(9_000))
+    page.show({"activities": "".join("%d; %d; %d; 3; 5; %d\n" % row for row in rows), "period": "60"})
     page.press("save")
     page.press("copy-link")
     page.until("Page.find('link-told').textContent !== ''")
@@ -170,6 +184,22 @@ def too_large(suite, page):
     suite.holds(f"it is told: {told}", re.match(r"The network is too large for a link: [0-9,]+ letters, of 30,000 letters\. ", told))
     suite.note("no link", {"shown": False}, {"shown": page.is_shown("link-text")})
     page.press("saving-close")
+
+
+def link_without(suite, page):
+    """Where a browser lends no clipboard the link is copied as a selection is, and one that cannot pack says so."""
+    page.again()
+    page.ask("Object.defineProperty(navigator, 'clipboard', { value: undefined }); 0")
+    linked(page)
+    suite.holds("a selection", page.text("#link-told").startswith("Copied: a link of "))
+    page.ask("document.execCommand = () => false; 0")
+    linked(page)
+    came = {"told": page.text("#link-told")[:18], "selected": page.ask("Page.find('link-text').selectionEnd > 3000")}
+    suite.note("neither", {"told": "Copy it from here:", "selected": True}, came)
+    page.ask("window.CompressionStream = undefined")
+    linked(page)
+    suite.note("no packing", {"told": "This browser cannot pack a link."}, {"told": page.text("#link-told")})
+    page.again()
 
 
 def on_paper(suite, page):
@@ -189,7 +219,7 @@ def on_paper(suite, page):
     times = "Object.fromEntries([...Page.view.times].map(([event, time]) => [event, String(time).padStart(2, '0')]))"
     suite.note("the netgraph", page.ask(times), page.ask(numbers))
     suite.holds("no event is chosen on it", page.ask("!document.querySelector('#printed tspan.chosen')"))
-    rows = page.ask("[...document.querySelectorAll('#printed .connections tbody tr')].map(row => [...row.cells].map(each => each.textContent))")
+    rows = page.ask(CONNECTIONS)
     found = page.ask("""[...Page.view.network.activities.values()].filter(each => Page.labels.kinds.get(each.number) === 'change')
         .map(each => [each.first, each.last].map(event => String(Page.view.times.get(event)).padStart(2, '0')).concat(
             String(Page.view.tensions.get(each.number).tension), `${each.lower} to ${each.upper}`))""")
@@ -217,9 +247,9 @@ def unmet_on_paper(suite, page):
     ]:
         page.show({**texts, "times": times})
         page.ask("window.dispatchEvent(new Event('beforeprint'))")
-        rows = page.ask("[...document.querySelectorAll('#printed .connections tbody tr')].map(row => [...row.cells].map(each => each.textContent))")
+        rows = page.ask(CONNECTIONS)
         suite.note(name, {"rows": [row]}, {"rows": rows})
         page.ask("window.dispatchEvent(new Event('afterprint'))")
 
 
-GROUPS = [named, links_opened, link_asked, links_refused, too_large, on_paper, unmet_on_paper]
+GROUPS = [named, links_opened, link_asked, links_refused, too_large, link_without, on_paper, unmet_on_paper]
