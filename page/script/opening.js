@@ -83,9 +83,12 @@
     }
   };
 
+  const baseOf = ({ name }) => name.split('/').pop();
+
+  // The folder of files is told as the title.
   const openedWord = listed => [
-    `opened: ${listed.map(file => file.name).join(', ')}`,
-    ...listed.filter(file => file.told.length).map(file => `${file.name}: ${file.told.join(', ')}`),
+    `opened: ${listed.map(baseOf).join(', ')}`,
+    ...listed.filter(file => file.told.length).map(file => `${baseOf(file)}: ${file.told.join(', ')}`),
   ].join(' — ');
 
   const folderOf = name => name.includes('/') ? name.split('/').slice(-2)[0] : name;

@@ -95,6 +95,8 @@ def links_opened(suite, page):
     reload(page)
     page.until("Page.find('said').textContent.startsWith('opened')")
     suite.note("in a new page", wanted, {"state": page.state(), "names": page.ask(NAMES)})
+    said = "opened: activities, fixed, windows, events, times, period, labels, places"
+    suite.note("what is said", {"said": said}, {"said": page.said()})
     suite.note("nothing is to be saved", {"lines": [], "saved": True}, {"lines": page.lines(), "saved": page.ask("Page.isSaved()")})
     suite.holds("the address has it", page.ask("location.href") == link)
     page.show(TWO_TRAINS)
