@@ -26,8 +26,9 @@
 
   const draftNow = () => {
     const { opened, steps, place } = Page.session;
-    const files = Page.filesOf(opened.network, opened.times), done = steps.slice(0, place).map(step => step.lines);
-    return JSON.stringify({ title: opened.title, at: Date.now(), files, steps: done });
+    const files = Page.filesOf(opened.network, opened.times, opened.labels), labels = Page.labelsText(Page.labels);
+    const done = steps.slice(0, place).map(step => step.lines).filter(lines => lines.length);
+    return JSON.stringify({ title: opened.title, at: Date.now(), files, labels, steps: done });
   };
 
   // Writes the draft, or takes it away where all is saved. A refusal is told once.
@@ -57,8 +58,8 @@
   // A draft as it was written; null where a key has something else.
   const draftOf = key => {
     try {
-      const draft = JSON.parse(store.read(key)), { title, at, files, steps } = draft;
-      const isWhole = typeof title === 'string' && new Date(at).getTime() >= 0 && Object.values(files).every(text => typeof text === 'string')
+      const draft = JSON.parse(store.read(key)), { title, at, files, labels, steps } = draft;
+      const isWhole = [title, labels].every(text => typeof text === 'string') && new Date(at).getTime() >= 0 && Object.values(files).every(text => typeof text === 'string')
         && steps.length <= MOST_STEPS && steps.every(lines => lines.length && lines.every(line => LINE.test(line)));
       return isWhole ? draft : null;
     } catch (damage) {
@@ -81,7 +82,8 @@
     const draft = draftOf(key);
     try {
       Page.openTexts(draft.files, draft.title);
-      if (draft.steps.length && !Page.stepAgain(draft.steps)) return;
+      // Names alone are a step without lines.
+      if (!Page.stepAgain(draft.steps.length ? draft.steps : [[]], Page.readLabels(draft.labels))) return;
       own = key;
       Page.say(`the draft of “${draft.title}” is open, and not saved yet`);
     } catch (refusal) {

@@ -10,7 +10,7 @@
     return;
   }
   const views = [Page.startHead, Page.startTabs, Page.startEvents, Page.startDiagram, Page.startLines];
-  for (const start of [...views, Page.startSearching, Page.startPrinting, Page.startOpening, Page.startSaving, Page.startHanding]) start();
+  for (const start of [...views, Page.startSearching, Page.startPrinting, Page.startOpening, Page.startSaving, Page.startHanding, Page.startLining]) start();
   Page.openStory(Page.stories[0]);
   Page.startLinks();
   Page.startDrafts();

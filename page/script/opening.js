@@ -47,7 +47,8 @@
     const kinds = files.map(file => file.kind);
     const isClear = kinds.length > 0 && !kinds.includes('nothing') && new Set(kinds).size === kinds.length && kinds.includes('period');
     list();
-    if (isClear && !isAsked && Page.isSaved()) openListed();
+    // Names alone are added to what is open, and lose nothing.
+    if ((isClear && !isAsked && Page.isSaved()) || kinds.join() === 'labels') openListed();
     else show();
   };
 
@@ -56,6 +57,8 @@
       ...Object.entries(KINDS).map(([kind, text]) => element('option', { value: kind, selected: kind === file.kind }, text)));
     return element('li', {}, element('span', {}, file.name), ' ', select);
   }));
+
+  const isOfNames = texts => Object.keys(texts).join() === 'labels';
 
   // The texts of what is listed, by their kinds, in the form that is read here; each file is told what was converted.
   const textsListed = () => {
@@ -67,14 +70,15 @@
       Object.assign(file, Page.converted(kind, bytes));
       texts[kind] = file.text;
     }
-    if (texts.activities === undefined && texts.lines === undefined) throw new Error('a file of activities, or of lines of commands, is wanted');
+    if (texts.activities === undefined && texts.lines === undefined && !isOfNames(texts)) throw new Error('a file of activities, or of lines of commands, is wanted');
     return texts;
   };
 
   const openListed = async () => {
     const title = files.length ? folderOf(files[0].name) : '', listed = files;
     try {
-      const opening = Page.openTexts(textsListed(), title, Number(Page.find('opening-period').value));
+      const texts = textsListed(), period = Number(Page.find('opening-period').value);
+      const opening = isOfNames(texts) ? Page.addLabels(texts.labels) : Page.openTexts(texts, title, period);
       hide();
       if (await opening !== false) Page.say(openedWord(listed.filter(file => file.kind !== 'nothing')));
     } catch (fault) {

@@ -18,11 +18,11 @@
   // The files by name.
   Page.filesToSave = () => Page.filesOf(Page.view.network, Page.view.times);
 
-  Page.filesOf = (network, times) => {
+  Page.filesOf = (network, times, labels = Page.labels) => {
     const rows = Page.rowsOf(network, times), files = {};
     for (const [name, header] of Object.entries(HEADERS)) files[name] = `${header}\n${Page.rowsText(rows[name])}`;
     files.period = `period\n${network.period}\n`;
-    if (Page.labels.events.size || Page.labels.kinds.size) files.labels = Page.labelsText(Page.labels);
+    if (labels.events.size || labels.kinds.size) files.labels = Page.labelsText(labels);
     if (Page.places.size) files.places = Page.placesText(Page.places);
     return files;
   };
@@ -63,7 +63,7 @@
   Page.isSaved = () => {
     const { opened } = Page.session, given = saved.opened === opened ? saved.files : new Map();
     if (!Page.session.steps.length && !given.size) return true;
-    const before = Page.filesOf(opened.network, opened.times);
+    const before = Page.filesOf(opened.network, opened.times, opened.labels);
     return Object.entries(Page.filesToSave()).every(([name, text]) => text === (given.has(name) ? given.get(name) : before[name]));
   };
 

@@ -24,7 +24,7 @@
   // Opens a base with its labels and places, and shows it. Raises RunFault, and then nothing has changed.
   Page.open = (base, { title = '', labels = Page.noLabels(), places = new Map() } = {}) => {
     const looked = Page.lookFirst(base), { times } = looked;
-    Object.assign(session, { opened: { base, times, title, network: looked.network }, steps: [], place: 0 });
+    Object.assign(session, { opened: { base, times, title, labels, network: looked.network }, steps: [], place: 0 });
     Object.assign(Page, { labels, places, chosen: null, chosenLine: null, view: null });
     Page.forgetSearch();
     show(looked);
@@ -56,29 +56,32 @@
     if (looked) show({ ...looked, times: Page.timesAfter(Page.timesNow(), [line]) });
   };
 
-  // Does some lines as one step, which can be undone; false where one of them is refused, and then nothing has changed.
-  Page.step = more => {
+  // Does some lines as one step, with other names or without, which can be undone; false where a line is refused, and then
+  // nothing has changed.
+  Page.step = (more, labels = Page.labels) => {
     const looked = tried(more);
     if (!looked) {
       Page.refresh();
       return false;
     }
-    const times = Page.timesAfter(Page.timesNow(), more), made = { lines: more, times };
+    const times = Page.timesAfter(Page.timesNow(), more), made = { lines: more, times, labels };
     if (present().lines.length + more.length > LINES_OF_A_BASE) made.base = Page.baseOf(looked.network, times);
     session.steps.splice(session.place, Infinity, made);
     session.place += 1;
-    Page.say(more.length === 1 ? more[0] : `${more.length} lines`);
+    Page.labels = labels;
+    Page.say(more.length > 1 ? `${more.length} lines` : titleOf(more));
     show({ ...looked, times });
     return true;
   };
 
   // Does steps that were done before, each as it was one; false where a line is refused, and then none of them is done.
-  Page.stepAgain = steps => {
+  Page.stepAgain = (steps, labels) => {
     const looked = tried(steps.flat());
     if (!looked) return false;
     let { times } = session.opened;
-    session.steps = steps.map(lines => ({ lines, times: times = Page.timesAfter(times, lines) }));
+    session.steps = steps.map(lines => ({ lines, labels, times: times = Page.timesAfter(times, lines) }));
     session.place = steps.length;
+    Page.labels = labels;
     if (steps.flat().length > LINES_OF_A_BASE) session.steps[steps.length - 1].base = Page.baseOf(looked.network, times);
     show({ ...looked, times });
     return true;
@@ -93,10 +96,11 @@
   const goTo = (place, told) => {
     if (place < 0 || place > session.steps.length) return;
     session.place = place;
+    Page.labels = (place ? session.steps[place - 1] : session.opened).labels;
     Page.say(told);
     Page.refresh();
   };
-  const titleOf = lines => lines.length === 1 ? lines[0] : `${lines[0]} and ${lines.length - 1} more lines`;
+  const titleOf = lines => !lines.length ? 'a name' : lines.length === 1 ? lines[0] : `${lines[0]} and ${lines.length - 1} more lines`;
   Page.titleOf = titleOf;
 
   Page.undo = () => session.place && goTo(session.place - 1, `undone: ${titleOf(session.steps[session.place - 1].lines)}`);
@@ -119,8 +123,8 @@
 
   const show = view => {
     const before = Page.view;
-    Page.view = Object.assign(view, { lastDomains: before ? lastDomains(before) : view.domains });
-    const isBuilt = !before || !isSameShape(before.network, view.network);
+    Page.view = Object.assign(view, { labels: Page.labels, lastDomains: before ? lastDomains(before) : view.domains });
+    const isBuilt = !before || before.labels !== view.labels || !isSameShape(before.network, view.network);
     if (isBuilt) {
       view.trains = Page.trainsOf(view.network);
       view.lines = Page.linesOf(view.trains);

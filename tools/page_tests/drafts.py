@@ -81,6 +81,29 @@ def draft_kept(suite, page):
     suite.holds("and it is the draft from then on", "1 step," in page.text("#drafts p") and page.ask(KEPT) == 1)
 
 
+def draft_of_names(suite, page):
+    """Names that were given and activities that were added are in a draft, with the names alone too."""
+    for name, script, lines in [
+        ("names alone", "Page.addLabels('event\\n1; R9; Inworth; Gorsley; departure\\n')", []),
+        ("and a step", "Page.addLabels('event\\n1; R9; Inworth; Gorsley; departure\\n'); Page.step(['fix 1 30'])", ["fix 1 30"]),
+    ]:
+        forget(page)
+        tick(page)
+        page.ask(script)
+        is_kept(page)
+        page.again()
+        page.click(*page.middle("#drafts .main"))
+        page.frame()
+        came = {"name": page.text("#chosen-name"), "lines": page.lines(), "saved": page.ask("Page.isSaved()")}
+        suite.note(name, {"name": "R9 to Inworth leaves Gorsley", "lines": lines, "saved": False}, came)
+        for _ in range(1 + len(lines)):
+            page.key("z", 90, CTRL)
+        page.frame()
+        suite.note(f"{name}, undone", {"saved": True}, {"saved": page.ask("Page.isSaved()")})
+    forget(page)
+    page.ask("localStorage.clear()")
+
+
 def drafts_dropped(suite, page):
     """A draft is gone when it is dropped, when all is saved, and when no draft is to be kept."""
     forget(page)
@@ -131,15 +154,16 @@ def draft_asked(suite, page):
 def drafts_strange(suite, page):
     """What is no draft is told as such and can be dropped; nothing in one acts, and a line that is refused opens nothing."""
     forget(page)
-    base = '{"title":"<img src=x onerror=hostile=1>","at":0,"files":{"activities":"1; 1; 2; 3; 5; 2\\\\n","period":"10"},"steps":STEPS}'
+    base = '{"title":"<img src=x onerror=hostile=1>","at":0,"labels":"","files":{"activities":"1; 1; 2; 3; 5; 2\\\\n","period":"10"},"steps":STEPS}'
     unread = "A draft in this browser cannot be read."
     for name, text, told in [
         ("no JSON", "{", unread),
         ("other JSON", "[1]", unread),
-        ("no files", '{"title":"a","at":0,"steps":[]}', unread),
+        ("no files", '{"title":"a","at":0,"labels":"","steps":[]}', unread),
+        ("no labels", base.replace('"labels":"",', "").replace("STEPS", "[]"), unread),
         ("two lines in one", base.replace("STEPS", '[["fix 1 3\\\\nadd event 9"]]'), unread),
         ("a search", base.replace("STEPS", '[["adopt"]]'), unread),
-        ("a day that is none", '{"title":"a","at":1e99,"files":{},"steps":[]}', unread),
+        ("a day that is none", '{"title":"a","at":1e99,"labels":"","files":{},"steps":[]}', unread),
         ("markup", base.replace("STEPS", '[["fix 1 3"]]'), "A draft of “<img src=x onerror=hostile=1>” of "),
         ("a line that is refused", base.replace("STEPS", '[["fix 7 3"]]'), "A draft of “<img src=x onerror=hostile=1>” of "),
     ]:
@@ -184,4 +208,4 @@ def drafts_refused(suite, page):
     forget(page)
 
 
-GROUPS = [draft_kept, drafts_dropped, draft_asked, drafts_strange, drafts_refused]
+GROUPS = [draft_kept, draft_of_names, drafts_dropped, draft_asked, drafts_strange, drafts_refused]
