@@ -22,6 +22,8 @@
     const rows = [...Page.find('stops').rows].map(each => Object.fromEntries([...each.querySelectorAll('input')].map(input => [input.dataset.part, input.value.trim()])));
     const stops = rows.filter(each => each.station);
     if (stops.length < 2) throw new Error('Two stops are wanted.');
+    const again = stops.find(({ station }, place) => place && station === stops[place - 1].station);
+    if (again) throw new Error(`${again.station} follows itself.`);
     return stops.map(({ station, dwell, run }, place) => ({
       station,
       dwell: place && place < stops.length - 1 ? spanOf(dwell, `stop at ${station}`) : null,

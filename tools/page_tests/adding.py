@@ -131,6 +131,8 @@ def line_added(suite, page):
     page.fill("#line-name", "X9")
     page.fill('#stops tr:nth-child(1) [data-part="station"]', "A\n")
     suite.note("one stop", {"told": "Two stops are wanted."}, {"told": page.text("#lining-fault")})
+    page.fill('#stops tr:nth-child(2) [data-part="station"]', "A\n")
+    suite.note("one stop twice", {"told": "A follows itself."}, {"told": page.text("#lining-fault")})
     page.fill('#stops tr:nth-child(2) [data-part="station"]', "B\n")
     suite.note("no run", {"told": "run from A: wanted minutes, as 6, or 6 to 8"}, {"told": page.text("#lining-fault")})
     page.fill('#stops tr:nth-child(1) [data-part="run"]', "8-6\n")
