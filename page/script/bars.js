@@ -9,7 +9,7 @@
     const pill = element('span', { class: 'pill' }, line.name);
     pill.style.background = line.color;
     [bar.whole, bar.broken, bar.stops] = ['whole', 'broken', 'stops'].map(part => drawing('path', { class: part, stroke: line.color }));
-    bar.svg = drawing('svg', { preserveAspectRatio: 'none', 'aria-hidden': true }, bar.whole, bar.broken, bar.stops);
+    bar.svg = drawing('svg', { preserveAspectRatio: 'none', 'aria-hidden': 'true' }, bar.whole, bar.broken, bar.stops);
     bar.way = Page.handle('way', `${name}: the whole train`, {
       'data-way': train.events[0], onpointerdown: event => begin(bar, event), onkeydown: event => typed(bar, event),
       onclick: event => Page.isFinger(event) && Page.choose(nearest(bar, event.clientX)),

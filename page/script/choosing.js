@@ -24,6 +24,7 @@
 
   const begin = event => {
     const piece = event.target.closest('.reach'), holder = event.currentTarget;
+    if (!piece && Page.isFinger(event)) scroll(holder, event);
     if (!piece || event.button !== 0) return;
     const isFromHere = Page.isFromHere(event), here = isFromHere ? beginsHere(piece) : nearerEnd(piece, event);
     // What is touched is drawn anew at each step, and a finger is followed on what stays.
@@ -33,6 +34,14 @@
       lead(holder, here);
     }
     Page.beginMove(event, here, holder.firstElementChild.getBoundingClientRect().width * Page.DIAGRAM_PART / Page.view.network.period, isFromHere);
+  };
+
+  // A finger beside all trains scrolls a drawing across that is wider than its view; up and down the browser scrolls.
+  const scroll = (holder, { clientX, pointerId, isTrusted }) => {
+    const panel = holder.closest('[role=tabpanel]'), start = panel.scrollLeft + clientX, ending = new AbortController(), { signal } = ending;
+    if (isTrusted) holder.setPointerCapture(pointerId);
+    holder.addEventListener('pointermove', event => { panel.scrollLeft = start - event.clientX; }, { signal });
+    for (const name of ['pointerup', 'pointercancel']) holder.addEventListener(name, () => ending.abort(), { signal });
   };
 
   // Chooses an event, and brings the keys to the view.

@@ -33,7 +33,7 @@
       if (frame) cancelAnimationFrame(frame);
       if (frame && isDone) look();
       if (last === null) return;
-      if (isDone && last.length) Page.step(last, titleOf());
+      if (isDone && last.length) Page.step(last, { title: titleOf() });
       else Page.refresh();
     };
     const listeners = [

@@ -46,7 +46,7 @@
     begun(event, isFromHere);
     moved.minutes = minutes;
     const made = lines();
-    if (made.length) Page.step(made, title());
+    if (made.length) Page.step(made, { title: title() });
     else Page.say(`${title()}: no time changes`, true);
   };
 

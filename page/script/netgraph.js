@@ -178,9 +178,18 @@
     Page.drawAlarms(view, alarms);
   };
 
+  // The netgraph for paper, with no event chosen, and what it says of what is left out; the one on the screen stays.
+  Page.netgraphOf = view => {
+    const screen = { graph, numbers, alarms }, drawn = draw(view), { told } = graph;
+    for (const [event, number] of numbers) drawNumber(view, event, number, null);
+    Page.drawAlarms(view, alarms);
+    ({ graph, numbers, alarms } = screen);
+    return { drawn, told };
+  };
+
   // A number is set where it is another one than was drawn, since there are many and a step changes few.
-  const drawNumber = (view, event, number) => {
-    const text = Page.minuteText(view, event), isChosen = event === Page.chosen;
+  const drawNumber = (view, event, number, chosen = Page.chosen) => {
+    const text = Page.minuteText(view, event), isChosen = event === chosen;
     const look = [Page.isAlarming(view, event) ? 'alarm' : '', isChosen ? 'chosen' : ''].join(' ').trim(), drawn = `${text} ${look}`;
     if (number.drawn === drawn) return;
     number.drawn = drawn;

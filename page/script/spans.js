@@ -58,7 +58,8 @@
     card.told = element('span', { class: 'told' });
     const fields = element('div', { class: 'fields' }, element('label', {}, 'from ', field(card, 'least', `${name}: least minutes`)),
       element('label', {}, 'to ', field(card, 'most', `${name}: most minutes`)),
-      element('label', {}, 'weight ', field(card, 'weight', `${name}: cost of a minute of slack`, Page.numberField)));
+      element('label', {}, 'weight ', field(card, 'weight', `${name}: cost of a minute of slack`, Page.numberField)),
+      element('button', { class: 'drop', onclick: () => Page.dropActivity(number) }, `Drop ${Page.kindOf(number)} ${number}`));
     const title = element('button', { class: 'link', title: 'show the event at its other end', onclick: () => Page.showRow(other) }, name);
     card.node = element('div', { class: 'card', 'data-activity': number }, element('div', { class: 'title' }, title, card.told), card.track, fields);
     card.track.addEventListener('pointerdown', event => begin(card, event));
@@ -78,7 +79,7 @@
   const drawCard = (card, activity, view) => {
     const taken = view.tensions && view.tensions.get(activity.number);
     const isViolated = Boolean(view.violations && view.violations.activities.has(activity.number));
-    const had = isViolated ? Page.minutesHad(view, activity.number) : taken && taken.tension;
+    const had = taken && Page.minutesHad(view, activity.number);
     const drawn = JSON.stringify([activity, taken, isViolated]);
     if (card.drawn === drawn) return;
     card.drawn = drawn;

@@ -1,7 +1,7 @@
 'use strict';
 
-// The table of each line: stations down, and for each train the minutes at which it arrives and leaves across. Printing
-// gives these, with the diagram of each line.
+// The table of each line: stations down, and for each train the minutes at which it arrives and leaves across. On
+// paper the diagram of each line stands below.
 (() => {
   const { element } = Page;
   // The cells of what is shown, by events; null where it is to be made anew.
@@ -79,7 +79,7 @@
     return [minute, ...[Page.domainText(view.domains.get(event), period), held].map(text => element('td', {}, text))];
   };
 
-  const tablesOf = (view, isPrinted, made) => {
+  Page.tablesOf = (view, isPrinted, made = new Map()) => {
     if (!view.lines.length) return [eventTable(view)];
     const tables = view.lines.map(line => {
       const { drawn, told } = isPrinted && line.stations.length > 1 ? Page.diagramOf(view, line) : { drawn: null, told: '' };
@@ -95,21 +95,8 @@
     if (Page.tab !== 'tables') return;
     if (shown && view.lines.length) return drawCells(view, shown);
     shown = new Map();
-    Page.find('tables').replaceChildren(...tablesOf(view, false, shown));
+    Page.find('tables').replaceChildren(...Page.tablesOf(view, false, shown));
   };
 
   Page.panel({ build: () => { shown = null; }, update });
-
-  const summary = view => {
-    const { title } = Page.session.opened, count = Page.countViolated(view);
-    const cost = view.cost === null ? view.missing : `cost ${view.cost.toLocaleString('en')}`;
-    const violated = count === null ? '' : count ? `, ✕ ${count} violated` : ', nothing is violated';
-    const told = `Period ${Page.lengthText(view.network.period)}: ${cost}${violated}. A frame: the event is held.`;
-    return [element('h1', {}, title || 'Timetable'), element('p', {}, told)];
-  };
-
-  Page.startPrinting = () => {
-    window.addEventListener('beforeprint', () => Page.find('printed').replaceChildren(...summary(Page.view), ...tablesOf(Page.view, true, new Map())));
-    window.addEventListener('afterprint', () => Page.find('printed').replaceChildren());
-  };
 })();

@@ -77,7 +77,14 @@ def found_names(suite, page):
     page.show(texts_of([("Ü1", "<b>Zürich</b>", [("Genève", 0), ("<b>Zürich</b>", 10)]), *TRAINS], []))
     for text, wanted in [
         ("geneve", ["Genève station, 1 event", "Ü1 to <b>Zürich</b> leaves Genève event 1"]),
-        ("u1 zurich", ["Ü1 to <b>Zürich</b> leaves Genève event 1", "Ü1 to <b>Zürich</b> arrives at <b>Zürich</b> event 2"]),
+        (
+            "u1 zurich",
+            [
+                "Ü1 to <b>Zürich</b> train from Genève, event 1",
+                "Ü1 to <b>Zürich</b> leaves Genève event 1",
+                "Ü1 to <b>Zürich</b> arrives at <b>Zürich</b> event 2",
+            ],
+        ),
     ]:
         page.fill(FIELD, text)
         came = {"found": found(page), "markup": page.ask("document.querySelectorAll('#finder li b').length")}

@@ -172,7 +172,7 @@ def printed(suite, page):
     suite.holds(f"from 3 to 10 pages, which are {pages}", 3 <= pages <= 10)
     page.ask("window.dispatchEvent(new Event('beforeprint'))")
     came = {
-        "tables": page.ask("document.querySelectorAll('#printed table').length"),
+        "tables": page.ask("document.querySelectorAll('#printed .line table').length"),
         "diagrams": page.ask("document.querySelectorAll('#printed .line > svg').length"),
         "head": page.text("#printed h1"),
     }
