@@ -17,6 +17,18 @@
 
   const dropEvent = event => Page.step([...activitiesAt(event).map(each => `drop activity ${each.number}`), `drop event ${event}`]);
 
+  // By a key: begins at the chosen event, and leads into the fields where both are chosen.
+  Page.addHere = () => {
+    if (from === null) beginHere();
+    else if (from !== Page.chosen) Page.find('added-kind').focus();
+  };
+
+  const beginHere = () => {
+    from = Page.chosen;
+    Page.say(`From ${Page.eventName(from)}: choose the event to which it leads.`);
+    Page.draw();
+  };
+
   const valueOf = id => Page.minutesTyped(Page.find(id).value);
 
   const add = () => {
@@ -60,7 +72,7 @@
   };
 
   const adding = () => {
-    if (from === null) return button('Add an activity from here …', () => { from = Page.chosen; Page.draw(); }, { id: 'add-from' });
+    if (from === null) return button('Add an activity from here …', beginHere, { id: 'add-from' });
     if (from !== Page.chosen) return addingForm();
     return element('p', {}, `From ${Page.eventName(from)}: choose the event to which it leads, by a click. `, button('Leave', leave));
   };

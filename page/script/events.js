@@ -178,6 +178,7 @@
     else if (move) Page.step([grip ? gripLine(row.event, grip, move) : movedLine(row.event, move, event.shiftKey)]);
     else if (event.key === 'ArrowUp') Page.showRow(Page.eventBeside(row.event, -1));
     else if (event.key === 'ArrowDown') Page.showRow(Page.eventBeside(row.event, 1));
+    else if (event.key === '+') Page.addHere();
     else if (event.key === 'Delete' || event.key === 'Backspace') letGo(row.event, grip === 'now');
     else return;
     event.preventDefault();

@@ -84,6 +84,7 @@
     const isInfeasible = told.found && told.found.kind === 'infeasible';
     if (isInfeasible) Page.say('No timetable meets everything. “Why?” tells what cannot be met together.', true);
     update();
+    if (told.isDone && told.found) Page.lead(Page.find('adopt'));
   };
 
   const BUSY = { why: 'Looking for what cannot be met together …', play: 'Doing the commands …', search: 'Searching …' };

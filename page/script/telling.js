@@ -18,6 +18,7 @@
   Page.showWhy = told => {
     answer = { ...told, ...Page.present() };
     Page.draw();
+    Page.lead(document.querySelector('#reasons .mend'));
   };
 
   // The members of the kinds that are not to be changed; `fixed` are fixed times and windows.

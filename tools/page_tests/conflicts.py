@@ -81,6 +81,11 @@ def in_views(suite, page):
         came = {"told": texts(page, '#diagram text[data-activity="6"]'), "minutes": round(way, 1)}
         suite.note(f"a headway of {had}", {"told": [f"{had} not 4–56 headway"], "minutes": minutes}, came)
         page.press("undo")
+    page.ask("Page.showTab('corridor'); Page.chooseCorridor(['Ashford', 'Cranley'])")
+    page.frame()
+    suite.note("the corridor", {"told": wanted}, {"told": sorted(texts(page, "#corridor text.broken"))})
+    suite.note("its ways", {"they": {RED}}, {"they": colors(page, "#corridor path.broken", "stroke")})
+    page.ask("Page.chooseCorridor([])")
     page.press("tab-netgraph")
     wanted = [f"✕ {DWELL} dwell +2", f"✕ {RUN}"]
     suite.note("the netgraph", {"told": sorted(wanted)}, {"told": sorted(texts(page, "#netgraph text.broken"))})
@@ -92,6 +97,12 @@ def in_views(suite, page):
     wanted = {"2": f"✕ {RUN} run +1", "3": f"✕ {DWELL} dwell +1", "4": "not at :30", "5": f"✕ {CHANGE} change +1"}
     suite.note("the tables", wanted, dict(page.ask(told)))
     suite.note("their color", {"it": {RED}}, {"it": colors(page, "#tables td.alarm", "color")})
+    page.ask("window.dispatchEvent(new Event('beforeprint'))")
+    came = sorted(texts(page, "#printed .front text.broken"))
+    suite.note("on paper", {"told": sorted([f"✕ {DWELL} dwell +2", f"✕ {RUN}"]), "red": {RED}}, {"told": came, "red": colors(page, "#printed .front :not(text).broken", "stroke")})
+    takes = page.ask("[...document.querySelectorAll('#printed .connections td.alarm')].map(each => each.textContent)")
+    suite.note("its connections", {"takes": ["5 ✕"]}, {"takes": takes})
+    page.ask("window.dispatchEvent(new Event('afterprint'))")
     page.press("tab-violated")
     suite.note("the list", {"it": LISTED}, {"it": page.ask(ITEMS)})
     page.ask("Page.step(['time 1 8', 'untime 4', 'time 4 30', 'span 3 15 30', 'span 2 2 6', 'span 4 4 8', 'span 6 3 57'])")
@@ -185,10 +196,11 @@ def choosing(suite, page):
         ("a ring", "netgraph", '#netgraph [data-station="Dale"] .ring', [6]),
         ("the name of a station", "netgraph", '#netgraph [data-station="Ashford"] .place', [1]),
         ("a lane", "netgraph", '#netgraph g[data-event="5"] rect', [5]),
+        ("a station in the corridor", "corridor", '#corridor [data-station="Cranley"]', [4]),
         ("a cell", "tables", '#tables td[data-event="3"]', [3]),
     ]:
         begun(page, tab)
-        page.ask("Page.choose(1)")
+        page.ask("Page.choose(1); Page.chooseCorridor(['Ashford', 'Cranley'])")
         page.frame()
         for event in wanted if len(wanted) == 1 else wanted[1:]:
             page.click(*page.middle(selector))
@@ -226,7 +238,7 @@ def other_lines(suite, page):
 
 def all_by_keys(suite, page):
     """In each view arrow keys go through all events, and Enter goes to the row."""
-    for tab in ("diagram", "netgraph", "tables"):
+    for tab in ("diagram", "netgraph", "corridor", "tables"):
         begun(page, tab)
         order = page.ask("[...document.querySelectorAll('[data-row]')].map(each => Number(each.dataset.row))")
         page.ask(f"Page.choose({order[0]}); document.querySelector('#{tab}').focus()")
@@ -248,8 +260,8 @@ def fitting(suite, page):
         page.resize(width, height)
         for name, show in [("two trains", lambda: violated(page)), ("a region", lambda: moved_region(page))]:
             show()
-            for tab in ("diagram", "netgraph", "tables", "violated"):
-                page.ask(f"Page.showTab('{tab}')")
+            for tab in ("diagram", "corridor", "netgraph", "tables", "violated"):
+                page.ask(f"Page.showTab('{tab}'); Page.chooseCorridor(Page.view.lines[0].stations)")
                 page.frame()
                 suite.note(f"{width}, {name}, {tab}", {"wider": 0, "cut": []}, page.ask(LOOK))
         wider = page.ask("Page.find('events').scrollWidth - Page.find('events').clientWidth")

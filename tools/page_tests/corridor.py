@@ -77,6 +77,8 @@ def stations_chosen(suite, page):
     page.click(*ring(page, "Gorsley"))
     page.frame()
     suite.note("a click", {"stations": ["Gorsley"]}, {"stations": corridor(page)})
+    came = {"chosen": page.ask("Page.labelOf(Page.chosen).station"), "keys": page.ask("document.activeElement.id")}
+    suite.note("it chooses an event there too", {"chosen": "Gorsley", "keys": "netgraph"}, came)
     page.click(*ring(page, "Marden"))
     page.frame()
     filled = ["Gorsley", "Dale", "Norwood", "Kelby", "Marden"]

@@ -62,16 +62,20 @@ def draft_kept(suite, page):
     page.drag([page.grip(2, "now"), page.minute(2, 50)])
     page.key("z", 90, CTRL)
     page.drag([page.minute(3, 20), page.minute(3, 35)])
-    wanted = {"state": page.state(), "lines": page.lines(), "title": page.text("#title")}
+    page.ask("Page.moveTrain(21, 3, false)")
+    steps = "Page.session.steps.map(Page.titleOf)"
+    wanted = {"state": page.state(), "lines": page.lines(), "title": page.text("#title"), "steps": page.ask(steps)}
     page.ask("new Promise(done => setTimeout(done, 600))")
     crash(page)
     told = page.text("#drafts p")
-    suite.holds(f"offered: {told}", told.startswith("A draft of “A region of 112 events” of ") and "2 steps" in told)
+    suite.holds(f"offered: {told}", told.startswith("A draft of “A region of 112 events” of ") and "3 steps" in told)
     suite.note("nothing is opened by itself", {"lines": []}, {"lines": page.lines()})
     page.click(*page.middle("#drafts .main"))
     page.frame()
-    came = {"state": page.state(), "lines": page.lines(), "title": page.text("#title")}
+    came = {"state": page.state(), "lines": page.lines(), "title": page.text("#title"), "steps": page.ask(steps)}
     suite.note("opened", wanted, came)
+    suite.holds("a train that was moved is told as one", came["steps"][2] == "R2 to Hatton 3 minutes later")
+    page.press("undo")
     suite.note("and no longer offered", {"shown": False}, {"shown": page.is_shown("drafts")})
     suite.note("it is not saved", {"saved": False}, {"saved": page.ask("Page.isSaved()")})
     page.press("undo")

@@ -36,6 +36,23 @@ def found_by_typing(suite, page):
         suite.holds(f"{text}: its row is seen", 0 <= top <= 900 - height)
 
 
+def led_to_a_bar(suite, page):
+    """A train that is found has the keys on its bar, and arrows move it; without times they are in its first row."""
+    page.again()
+    page.type("/")
+    page.type("r3 to kelby")
+    suite.note("the first", {"it": "R3 to Kelby train from Farley, event 41"}, {"it": found(page)[0]})
+    page.type("\n")
+    came = {"bar": page.ask("Number(document.activeElement.dataset.way)"), "chosen": page.ask("Page.chosen")}
+    suite.note("its bar", {"bar": 41, "chosen": 41}, came)
+    before = page.ask("Page.view.times.get(45)")
+    page.key("ArrowRight", 39)
+    suite.note("an arrow", {"time": (before + 1) % 60}, {"time": page.ask("Page.view.times.get(45)")})
+    page.ask("Page.openTexts({ ...Page.stories[0].texts, times: '' }, 'no times')")
+    page.fill(FIELD, "r3 to kelby\n")
+    suite.note("without times", {"row": "41"}, {"row": page.ask("document.activeElement.dataset.event")})
+
+
 def listed(suite, page):
     """The list is gone through by keys, taken from by a mouse and a finger, and closed by Escape."""
     page.again()
@@ -125,4 +142,4 @@ def found_soon(suite, page):
     page.press("tab-diagram")
 
 
-GROUPS = [found_by_typing, listed, found_names, found_soon]
+GROUPS = [found_by_typing, led_to_a_bar, listed, found_names, found_soon]

@@ -1,5 +1,6 @@
 """Trains that are moved as a whole, and from an event on: by a mouse, a finger and keys."""
 
+from page_tests.fingers import scroll, swipe, tap, touch
 from page_tests.keys import CODES, CTRL, SHIFT
 
 ALT = 1
@@ -43,14 +44,14 @@ def bar(page, event=1):
     return x, y, page.box(f'[data-way="{event}"]')[2] / 60
 
 
-def piece(page, event, part=0.5):
-    """A place on the way of a train in the diagram, after an event, and the pixels of a minute there."""
-    page.box("#diagram svg")
+def piece(page, event, part=0.5, view="diagram"):
+    """A place on the way of a train in a diagram, after an event, and the pixels of a minute there."""
+    page.box(f"#{view} svg")
     x, y, width = page.ask(
         f"""(() => {{
-        const piece = document.querySelector('#diagram .reach[data-event="{event}"]');
+        const piece = document.querySelector('#{view} .reach[data-event="{event}"]');
         const {{ x, y }} = piece.getPointAtLength({part} * piece.getTotalLength()).matrixTransform(piece.getScreenCTM());
-        return [x, y, document.querySelector('#diagram svg').getBoundingClientRect().width * 754 / 880 / 60];
+        return [x, y, document.querySelector('#{view} svg').getBoundingClientRect().width * 754 / 880 / 60];
     }})()"""
     )
     return x, y, width
@@ -126,6 +127,67 @@ def ways(suite, page):
     suite.holds("Escape leaves it", page.state() == state)
 
 
+def in_corridor(suite, page):
+    """A train is dragged in a corridor too, with all others there: by a mouse, from here on, a finger and keys."""
+    begun(page, "corridor")
+    page.ask("Page.chooseCorridor(['Ashford', 'Cranley'])")
+    page.frame()
+    state = page.state()
+    for name, event, modifiers, lines in [("a run", 1, 0, LATER), ("with Shift", 3, SHIFT, FROM_HERE)]:
+        x, y, minute = piece(page, event, view="corridor")
+        page.drag([(x, y), (x + 6 * minute, y), (x + minute, y)], modifiers=modifiers)
+        suite.note(name, {"lines": lines}, {"lines": page.lines()})
+        page.press("undo")
+        suite.holds(f"{name}, undone", page.state() == state)
+    x, y, minute = piece(page, 3, 0.7, view="corridor")
+    page.drag([(x, y), (x + 4 * minute, y)], is_released=False)
+    told = page.ask("[...document.querySelectorAll('#corridor text.end')].some(each => each.textContent === '+4')")
+    broken = page.ask(BROKEN.replace("#diagram", "#corridor"))
+    suite.note("what is shown meanwhile", {"told": True, "broken": ["1 not 4–8 change"]}, {"told": told, "broken": broken[:1]})
+    page.key("Escape", 27)
+    page.mouse("mouseReleased", x, y)
+    page.frame()
+    suite.holds("Escape leaves it", page.state() == state)
+    page.touch([(x, y), (x + 3 * minute, y + 2), (x + minute, y)])
+    came = {"lines": page.lines(), "chosen": page.ask("Page.chosen")}
+    suite.note("by a finger", {"lines": LATER, "chosen": 4}, came)
+    page.press("undo")
+    page.ask("Page.find('corridor').focus()")
+    page.key("ArrowRight", CODES["ArrowRight"])
+    page.frame()
+    suite.note("by keys", {"lines": LATER}, {"lines": page.lines()})
+    page.ask("Page.chooseCorridor([]); Page.showTab('diagram')")
+
+
+def by_taps(suite, page):
+    """A finger on a train that goes up or down scrolls, a tap chooses, and beside all trains it scrolls across."""
+    begun(page)
+    page.resize(390, 800)
+    touch(page)
+    tap(page, piece(page, 1, 0.9)[:2])
+    suite.note("a tap on a way", {"chosen": 2, "lines": []}, {"chosen": page.ask("Page.chosen"), "lines": page.lines()})
+    page.ask("document.querySelector('[data-way=\"5\"]').scrollIntoView({ block: 'center' })")
+    tap(page, bar(page, 5)[:2])
+    page.frame()
+    suite.note("a tap on a bar", {"line": "B", "lines": []}, {"line": page.ask("Page.labelOf(Page.chosen).line"), "lines": page.lines()})
+    page.ask("Page.choose(1)")
+    for name, view, place in [("a way", "views", lambda: piece(page, 1)[:2]), ("a bar", "events", lambda: bar(page)[:2])]:
+        page.ask(f"Page.find('{view}').scrollIntoView({{ block: 'center' }})")
+        x, y = place()
+        before = page.ask("window.scrollY + Page.find('events').scrollTop")
+        scroll(page, (x, y), 200 if y < 500 else -200)
+        moved = abs(page.ask("window.scrollY + Page.find('events').scrollTop") - before)
+        came = {"lines": page.lines(), "chosen": page.ask("Page.chosen")}
+        suite.note(f"{name}: scrolled", {"lines": [], "chosen": 1}, came)
+        suite.holds(f"{name} scrolls by {moved}", moved > 50)
+    left, top, *_ = page.box("#diagram svg")
+    before = page.ask("Page.find('view-diagram').scrollLeft")
+    swipe(page, [(left + 300 - 20 * part, top + 12) for part in range(8)])
+    suite.note("across beside all trains", {"by": 140, "lines": []}, {"by": page.ask("Page.find('view-diagram').scrollLeft") - before, "lines": page.lines()})
+    touch(page, is_on=False)
+    page.resize(1440, 900)
+
+
 def diamonds(suite, page):
     """The diamond of an event moves its train with Ctrl, and with Shift from here on; alone it moves itself."""
     for modifiers, lines in [(0, ["time 3 13"]), (CTRL, LATER), (SHIFT, FROM_HERE), (CTRL + SHIFT, FROM_HERE)]:
@@ -149,7 +211,7 @@ def by_keys(suite, page):
         ("a diamond alone", ".strip[data-event='3'] .now", "ArrowRight", 0, ["time 3 13"]),
         *(
             (f"the {tab}", f"#{tab}", key, modifiers, lines)
-            for tab in ("diagram", "netgraph", "tables")
+            for tab in ("diagram", "netgraph", "corridor", "tables")
             for key, modifiers, lines in [("ArrowRight", 0, LATER), ("ArrowRight", SHIFT, FROM_HERE)]
         ),
     ]:
@@ -232,4 +294,4 @@ def lacking(suite, page):
     suite.note("a key there", {"lines": [], "said": said}, {"lines": page.lines(), "said": page.said()})
 
 
-GROUPS = [bars, ways, diamonds, by_keys, by_fields, held, lacking]
+GROUPS = [bars, ways, in_corridor, by_taps, diamonds, by_keys, by_fields, held, lacking]

@@ -74,10 +74,14 @@ def planners_words(suite, page):
             suite.note(f"story {story}, {tab}", {"words": []}, {"words": came})
     views = page.ask("[...document.querySelectorAll('[role=tab]')].map(each => each.textContent)")
     suite.note("views", {"they": ["Diagram", "Netgraph", "Corridor", "Tables", "Violated", "Steps", "Why"]}, {"they": views})
-    for dialog in ("opening", "saving"):
-        page.press(dialog.replace("ing", "").replace("sav", "save"))
+    page.ask("Page.showTab('tables')")
+    for button, dialog in [("open", "opening"), ("save", "saving"), ("add-line", "lining")]:
+        page.press(button)
         suite.note(dialog, {"words": []}, {"words": FOREIGN.findall(page.ask(TEXTS))})
         page.press(f"{dialog}-close")
+    page.press("add-from")
+    page.ask("Page.choose(9)")
+    suite.note("adding", {"words": []}, {"words": FOREIGN.findall(page.ask(TEXTS))})
     helps = page.ask(
         """[...document.querySelectorAll('[data-help]')].map(each => {
         each.click();

@@ -3,6 +3,7 @@
 import base64
 import hashlib
 import re
+import zlib
 
 from paging.tree import NotMade
 
@@ -17,6 +18,12 @@ NOTHING = "default-src 'none'"
 def unindented(text):
     """A source without the more than ten thousand blanks that begin lines, and without empty lines; no text in it may have these."""
     return re.sub(r"^\s+", "", text, flags=re.M)
+
+
+def packed(module):
+    """The bytes of a module by deflate without a head, the same ones each time."""
+    packer = zlib.compressobj(9, zlib.DEFLATED, -15)
+    return packer.compress(module) + packer.flush()
 
 
 def source(folder, name):
@@ -35,7 +42,7 @@ def part(folder, found, module):
     """What stands for a line of the kind `<!-- style: FILE -->`, `<!-- script: FILE -->` or `<!-- module -->`."""
     kind, name, is_module = found.groups()
     if is_module:
-        return f'<script>const PESPBENCH_MODULE = "{base64.b64encode(module).decode()}";</script>'
+        return f'<script>const PESPBENCH_MODULE = "{base64.b64encode(packed(module)).decode()}";</script>'
     return f"<{kind}>\n{source(folder, name)}</{kind}>"
 
 
@@ -71,4 +78,7 @@ def module_of(page):
     found = re.search(rb'const PESPBENCH_MODULE = "([A-Za-z0-9+/=]*)"', page)
     if not found:
         raise NotMade("there is no module in the page")
-    return base64.b64decode(found.group(1))
+    try:
+        return zlib.decompress(base64.b64decode(found.group(1)), -15)
+    except zlib.error as fault:
+        raise NotMade(f"the module in the page cannot be unpacked: {fault}") from fault

@@ -32,14 +32,14 @@ MADE_OF_IT = """<!doctype html>
 p { margin: 0 }
 </style>
 <p>A <!-- comment --> stays.</p>
-<script>const PESPBENCH_MODULE = "AGFzbQ==";</script>
+<script>const PESPBENCH_MODULE = "Y0gszgUA";</script>
 <script>
 'use strict';
 </script>
 """
 MODULE = b"\0asm"
-# By openssl, of each of the two scripts.
-NAMES = ["sha256-PfQn40Px3bBZ42FmgZ5XTzl6GwwerIyD30qSfXi78vM=", "sha256-YZwKaVawabDNvmVDMcSnBHe0D1Gx5K61vcyoQEpD0nk="]
+# By openssl, of each of the two scripts; Node packed the module.
+NAMES = ["sha256-ucCEDWFESBPBbm1ODIMALbDS0sTBScYkR9sE53sXVVk=", "sha256-YZwKaVawabDNvmVDMcSnBHe0D1Gx5K61vcyoQEpD0nk="]
 
 
 def sources(suite, name, **changed):
