@@ -71,7 +71,7 @@
       if (minutes) reaches.push(...Page.reachesOf(frame, train, minutes, 14));
       page.append(...ends(view, frame, line, train));
     }
-    const { ways: broken, labels, told } = Page.conflictMarks(view, frame, 'on the line');
+    const { ways: broken, labels, told } = Page.conflictMarks(view, frame, 'on the line', [...page.querySelectorAll('text.end')]);
     clip.append(...broken, ...(chosen === null ? [] : chosenMark(view, frame, line, chosen)), ...reaches);
     page.append(...labels);
     return { drawn: page, left: told };
@@ -157,7 +157,7 @@
     const y = Page.heightOf(frame, event), isAbove = Page.isForward(line, train) !== isFirst, edge = 0.04 * frame.period;
     const isLeft = isFirst ? time >= edge : time > frame.period - edge;
     const place = { x: frame.x(time) + (isLeft ? -5 : 5), y: y + (isAbove ? -5 : 14), 'text-anchor': isLeft ? 'end' : 'start' };
-    return drawing('text', { class: 'end', fill: line.color, 'data-event': event, ...place }, Page.bareClock(time));
+    return drawing('text', { class: 'end', style: `fill: ${line.color}`, 'data-event': event, ...place }, Page.bareClock(time));
   }).filter(Boolean);
 
   const chosenMark = (view, frame, line, event) => {

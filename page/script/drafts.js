@@ -60,7 +60,7 @@
   const draftOf = key => {
     try {
       const { title, at, files, labels, steps, titles = [] } = JSON.parse(store.read(key));
-      const isWhole = [title, labels, ...titles].every(text => typeof text === 'string') && new Date(at).getTime() >= 0 && Object.values(files).every(text => typeof text === 'string')
+      const isWhole = [title, labels, ...titles, ...Object.values(files)].every(text => typeof text === 'string') && new Date(at).getTime() >= 0
         && steps.length <= MOST_STEPS && steps.every(lines => lines.length && lines.every(line => LINE.test(line)));
       return isWhole ? { title, at, files, labels, steps: steps.map((lines, place) => ({ lines, title: titles[place] || '' })) } : null;
     } catch (damage) {

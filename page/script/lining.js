@@ -8,7 +8,8 @@
   const field = (name, label, more = {}) => element('input', { 'data-part': name, 'aria-label': label, autocomplete: 'off', ...more });
 
   const row = () => element('tr', {}, element('td', {}, field('station', 'station', { list: 'known-stations' })),
-    element('td', {}, field('dwell', 'minutes of the stop', { class: 'number', value: 1 })), element('td', {}, field('run', 'minutes to the next stop', { class: 'number' })));
+    element('td', {}, field('dwell', 'minutes of the stop', { class: 'number', value: 1 })),
+    element('td', {}, field('run', 'minutes to the next stop', { class: 'number' })));
 
   // A span as `6`, or as `6 to 8`. Raises Error.
   const spanOf = (text, what) => {
@@ -19,7 +20,8 @@
 
   // The stops that are typed; the last has no run, and neither end a dwell. Raises Error.
   const stopsTyped = () => {
-    const rows = [...Page.find('stops').rows].map(each => Object.fromEntries([...each.querySelectorAll('input')].map(input => [input.dataset.part, input.value.trim()])));
+    const valuesOf = each => [...each.querySelectorAll('input')].map(input => [input.dataset.part, input.value.trim()]);
+    const rows = [...Page.find('stops').rows].map(each => Object.fromEntries(valuesOf(each)));
     const stops = rows.filter(each => each.station);
     if (stops.length < 2) throw new Error('Two stops are wanted.');
     const again = stops.find(({ station }, place) => place && station === stops[place - 1].station);

@@ -28,6 +28,14 @@
     return shift ? [ring, drawing('text', { class: 'end', x: x + 9, y: y + 16 }, shift)] : [ring];
   };
 
+  const SIDES = { start: 0.5, middle: 0, end: -0.5 };
+
+  // About where a text lies, so that no label is put there.
+  const boxOf = text => {
+    const [x, base] = ['x', 'y'].map(name => Number(text.getAttribute(name))), width = LETTER * text.textContent.length;
+    return { x: x + SIDES[text.getAttribute('text-anchor') || 'start'] * width, base, width };
+  };
+
   // A label where no other one lies, or at the last place that was tried.
   const labelOf = (frame, boxes, [minute, y], text, more) => {
     const width = LETTER * text.length, middle = frame.x(((minute % frame.period) + frame.period) % frame.period);
@@ -63,9 +71,9 @@
     return { ways, labels, told: Page.elided(all.length, MOST_BROKEN, `that are violated ${where}`) };
   };
 
-  // What is violated in a drawing: ways and rings in red, labels, and a word on what is left out.
-  Page.conflictMarks = (view, frame, where) => {
-    const boxes = [], { ways, labels, told } = brokenOf(view, frame, where, boxes);
+  // What is violated in a drawing: ways and rings in red, labels beside some texts, and a word on what is left out.
+  Page.conflictMarks = (view, frame, where, texts) => {
+    const boxes = texts.map(boxOf), { ways, labels, told } = brokenOf(view, frame, where, boxes);
     for (const event of [...frame.events].filter(each => Page.isOutside(view, each))) {
       const time = view.times.get(event), y = Page.heightOf(frame, event);
       ways.push(drawing('circle', { class: 'outside', cx: frame.x(time), cy: y, r: 5, 'data-event': event }));

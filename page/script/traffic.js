@@ -51,7 +51,7 @@
     const high = ([start, end]) => Math.abs(end.y - start.y), [start, end] = runs.reduce((best, run) => high(run) > high(best) ? run : best);
     const minute = mod(start.minute + part * (end.minute - start.minute), frame.period), isLate = minute > 0.9 * frame.period;
     const place = { x: frame.x(minute) + (isLate ? -5 : 5), y: start.y + part * (end.y - start.y) + (end.y > start.y === isLate ? 9 : -2) };
-    const look = { class: 'end', fill: train.color, 'text-anchor': isLate ? 'end' : 'start' };
+    const look = { class: 'end', style: `fill: ${train.color}`, 'text-anchor': isLate ? 'end' : 'start' };
     return [drawing('text', { ...look, ...place }, Page.shortText(train.line, 10))];
   };
 
@@ -67,8 +67,9 @@
     const parts = line.trains.flatMap(train => partsAlong(view, frame, line, train));
     const trains = parts.map(train => ({ train, stops: stopsOf(view, frame, train) })).filter(({ stops }) => stops);
     clip.append(...trains.flatMap(({ train, stops }) => Page.bandsOf(frame, train, stops, free)));
-    const { ways, labels, told } = Page.conflictMarks(view, frame, 'in the corridor');
-    clip.append(...ways, ...trains.map((each, count) => drawTrain(frame, each, count)), ...trains.flatMap(({ stops }) => chosenMark(view, frame, stops)));
+    const drawn = trains.map((each, count) => drawTrain(frame, each, count)), names = drawn.flatMap(each => [...each.querySelectorAll('text.end')]);
+    const { ways, labels, told } = Page.conflictMarks(view, frame, 'in the corridor', names);
+    clip.append(...ways, ...drawn, ...trains.flatMap(({ stops }) => chosenMark(view, frame, stops)));
     page.append(...labels);
     return { drawn: page, left: told };
   };

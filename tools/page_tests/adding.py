@@ -120,7 +120,8 @@ def line_added(suite, page):
     line = "Page.view.lines.find(each => each.name === 'X9')"
     came = {"stations": page.ask(f"{line}.stations"), "trains": page.ask(f"{line}.trains.map(train => [train.to, train.events.length])")}
     suite.note("a line", {"stations": wanted, "trains": [["Hatton", 4], ["Ashford", 4]]}, came)
-    spans = page.ask(f"{line}.trains.map(train => train.steps.map(step => {{ const each = Page.view.network.activities.get(step); return [each.lower, each.upper, Page.labels.kinds.get(step)]; }}))")
+    span = "(({ number, lower, upper }) => [lower, upper, Page.labels.kinds.get(number)])(Page.view.network.activities.get(step))"
+    spans = page.ask(f"{line}.trains.map(train => train.steps.map(step => {span}))")
     there, back = [[6, 8, "run"], [1, 3, "dwell"], [12, 12, "run"]], [[12, 12, "run"], [1, 3, "dwell"], [6, 8, "run"]]
     suite.note("its spans", {"there": there, "back": back}, {"there": spans[0], "back": spans[1]})
     came = {"open": page.ask("Page.find('lining').open"), "size": page.text("#size"), "steps": page.ask("Page.session.steps.length")}

@@ -149,6 +149,9 @@ def traffic(suite, page):
     page.ask("Page.chooseCorridor(['A', 'B', 'C'])")
     wanted = [[[(minute, station) for station, minute in TRAINS[0][2]]], [[(2, "A")]], [[(8, "C")]]]
     suite.note("a train that runs elsewhere between two stations", {"ways": wanted}, {"ways": points(page, ".way")})
+    page.ask("Page.step(['span 4 10 12'])")
+    broken = {"ways": points(page, 'path.broken[data-activity="4"]'), "told": page.text('#corridor text.broken[data-activity="4"]')[:11]}
+    suite.note("which is violated where it leaves", {"ways": [[[(2, "A"), (8, "A")]]], "told": "6 not 10–12"}, broken)
     page.show({**HOURLY, "times": ""})
     came = {"ways": points(page, ".way"), "told": "No train is drawn, since" in page.text("#corridor-note")}
     suite.note("without times", {"ways": [], "told": True}, came)
