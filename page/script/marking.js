@@ -4,7 +4,7 @@
 // the minutes had and wanted.
 (() => {
   const { drawing } = Page;
-  const MOST_BROKEN = 200, LETTER = 6.4, ROW = 13, TRIES = [0, -1, 1, -2, 2, -3, 3];
+  const MOST_BROKEN = 200, LETTER = 7.4, ROW = 13, TRIES = [0, -1, 1, -2, 2, -3, 3];
 
   Page.marked = (nodes, attributes) => {
     for (const node of nodes) for (const [name, value] of Object.entries(attributes)) node.setAttribute(name, value);

@@ -59,6 +59,13 @@ def refused(folder):
         return f"refused: {fault}"
 
 
+def module_or_fault(text):
+    try:
+        return module_of(text.encode())
+    except NotMade as fault:
+        return str(fault)
+
+
 def page(suite):
     """A page has its styles, scripts and module in it, and its policy lets just these scripts run."""
     came = refused(sources(suite, "plain"))
@@ -68,6 +75,8 @@ def page(suite):
     wanted = POLICY.replace("script-src 'unsafe-inline'", f"script-src {names}")
     suite.note("its policy", {"policy": wanted}, {"policy": policy})
     suite.holds("its module", module_of(came.encode()) == MODULE)
+    unpacked = module_or_fault(came.replace("Y0gszgUA", "AGFzbQ=="))
+    suite.holds(f"one that is not packed: {unpacked}", str(unpacked).startswith("the module in the page cannot be unpacked"))
     table = {
         "a script that would end early": {"parts__first_js": "const text = '</SCRIPT>';\n"},
         "a style that would end early": {"look_css": "/* </style> */\n"},
