@@ -54,7 +54,7 @@
   const clickedOn = event => Page.isFinger(event) ? document.elementFromPoint(event.clientX, event.clientY) : event.target;
 
   const clicked = event => {
-    const found = clickedOn(event).closest('[data-activity], [data-event], [data-station]'), holder = event.currentTarget;
+    const found = clickedOn(event)?.closest('[data-activity], [data-event], [data-station]'), holder = event.currentTarget;
     if (!found || !holder.contains(found)) return;
     const { activity, station, event: at } = found.dataset, here = at === undefined ? null : Number(at);
     if (activity !== undefined) return Page.showActivity(Number(activity), here);
