@@ -45,8 +45,12 @@ const makePespModule = () => {
   const TOLD = 32;
   const LEAST_ROOM = 1 << 20;
 
-  // The bytes after a text in base64, compiled: this can be sent to a Worker, which starts it sooner.
-  const compile = base64 => WebAssembly.compile(Uint8Array.from(atob(base64), letter => letter.charCodeAt(0)));
+  // The module after a text in base64 that was packed by deflate, compiled: this can be sent to a Worker, which starts it sooner.
+  const compile = base64 => {
+    const packed = new Blob([Uint8Array.from(atob(base64), letter => letter.charCodeAt(0))]);
+    const bytes = packed.stream().pipeThrough(new DecompressionStream('deflate-raw'));
+    return WebAssembly.compileStreaming(new Response(bytes, { headers: { 'Content-Type': 'application/wasm' } }));
+  };
 
   const started = instance => ({ calls: instance.exports, room: LEAST_ROOM });
 

@@ -12,7 +12,7 @@
     return value;
   });
 
-  const checksum = bytes => {
+  Page.checksum = bytes => {
     let value = ~0;
     for (const byte of bytes) value = TABLE[(value ^ byte) & 255] ^ (value >>> 8);
     return ~value >>> 0;
@@ -30,7 +30,7 @@
     for (const [name, text] of Object.entries(files)) {
       const named = new TextEncoder().encode(name), bytes = new TextEncoder().encode(text);
       // Version, names in UTF-8, stored, midnight of 1 January 1980, then the checksum, both sizes and the name's length.
-      const sizes = [[checksum(bytes), 4], [bytes.length, 4], [bytes.length, 4], [named.length, 2], [0, 2]];
+      const sizes = [[Page.checksum(bytes), 4], [bytes.length, 4], [bytes.length, 4], [named.length, 2], [0, 2]];
       const common = packed([20, 2], [0x800, 2], [0, 2], [0, 2], [33, 2], ...sizes);
       push(parts, packed([0x04034b50, 4]), common, named, bytes);
       push(listed, packed([0x02014b50, 4], [20, 2]), common, packed([0, 2], [0, 2], [0, 2], [0, 4], [offset, 4]), named);
@@ -41,13 +41,13 @@
     return new Blob([...parts, ...listed, end], { type: 'application/zip' });
   };
 
-  // What was packed, or null where that is longer than a file may be: no more than that is ever unpacked.
-  const inflated = async bytes => {
+  // What was packed, or null where that is longer than it may be: no more than that is ever unpacked.
+  Page.inflated = async (bytes, most = Page.MOST_BYTES) => {
     const reader = new Blob([bytes]).stream().pipeThrough(new DecompressionStream('deflate-raw')).getReader(), parts = [];
     for (let length = 0, part = await reader.read(); !part.done; part = await reader.read()) {
       parts.push(part.value);
       length += part.value.length;
-      if (length > Page.MOST_BYTES) {
+      if (length > most) {
         await reader.cancel();
         return null;
       }
@@ -79,7 +79,7 @@
     let left = MOST_UNPACKED;
     for (const { name, method, bytes } of entriesOf(buffer)) {
       if (method !== 0 && method !== 8) throw new Error(`${name} is packed in a way that is not known here`);
-      const unpacked = method ? await inflated(bytes) : bytes;
+      const unpacked = method ? await Page.inflated(bytes) : bytes;
       left -= unpacked ? unpacked.length : Page.MOST_BYTES;
       if (left < 0) throw new Error(`its files have more than ${MOST_UNPACKED.toLocaleString('en')} bytes together`);
       files.push([name, unpacked]);

@@ -4,7 +4,7 @@
 // a station are the minutes at which its events can still be.
 (() => {
   const { drawing } = Page;
-  const WIDTH = 880, LEFT = 110, RIGHT = 16, TOP = 34, BOTTOM = 26, LEAST_HEIGHT = 190, TRACK = 48, TURN = 13;
+  const WIDTH = 880, LEFT = 110, RIGHT = 16, TOP = 34, BOTTOM = 26, LEAST_HEIGHT = 190, TRACK = 48, TURN = 13, LETTERS = 14, MOST_LETTERS = 120;
   const TURNS = ['', 'turn', 'turnaround'], MOST_TURNS = 200;
 
   // The least minutes of a run between each two neighbours, and 1 where it may take none.
@@ -21,10 +21,14 @@
     return lengths;
   };
 
+  // The part of a diagram's width that the period has.
+  Page.DIAGRAM_PART = (WIDTH - LEFT - RIGHT) / WIDTH;
+
   // A track by the names of its two ends.
   Page.trackOf = (one, other) => JSON.stringify(one < other ? [one, other] : [other, one]);
 
-  // Where minutes and stations lie.
+  // Where minutes and stations lie, how many minutes each station is from the first, and the events that are drawn, but for the steps
+  // of trains in `away`.
   Page.frameOf = (line, network) => {
     const lengths = Page.lengthsOf([line], network), { period } = network, reached = [0];
     line.stations.slice(1).forEach((station, place) => {
@@ -32,34 +36,48 @@
     });
     const height = Math.max(LEAST_HEIGHT, TRACK * (line.stations.length - 1)), most = reached[reached.length - 1] || 1;
     const heights = new Map(line.stations.map((station, place) => [station, TOP + height * reached[place] / most]));
-    return { period, heights, bottom: TOP + height, x: minute => LEFT + (WIDTH - LEFT - RIGHT) * minute / period };
+    return {
+      line, period, heights, reached, left: LEFT, right: WIDTH - RIGHT, bottom: TOP + height, x: minute => LEFT + (WIDTH - LEFT - RIGHT) * minute / period,
+      events: new Set(line.trains.flatMap(train => train.events)), away: new Set(),
+    };
   };
 
   // The diagram of a line, and what it says of what is left out. Where times are missing, trains are not drawn, and what is still
   // possible is.
   Page.diagramOf = (view, whole, chosen = null) => {
-    const { line, told } = Page.stretchOf(whole, chosen), waiting = turnsOf(view, line), drawn = diagramOf(view, line, chosen, waiting);
-    return { drawn, told: [told, Page.elided(waiting.length, MOST_TURNS, 'turns')].filter(Boolean).join(' ') };
+    const { line, told } = Page.stretchOf(whole, chosen), waiting = turnsOf(view, line);
+    const { drawn, left } = diagramOf(view, line, chosen, waiting);
+    return { drawn, told: [told, left, Page.elided(waiting.length, MOST_TURNS, 'turns')].filter(Boolean).join(' ') };
+  };
+
+  // A drawing with its grid and its name, and the part of it in which trains are.
+  Page.sheetOf = (frame, name) => {
+    const place = { x: LEFT, y: TOP - TURN - 4, width: WIDTH - LEFT - RIGHT, height: frame.bottom - TOP + 2 * TURN + 8 };
+    const clip = drawing('svg', { ...place, viewBox: Object.values(place).join(' ') });
+    const page = drawing('svg', { viewBox: `0 0 ${WIDTH} ${frame.bottom + BOTTOM}`, role: 'img', 'aria-label': name });
+    page.append(...grid(frame), clip);
+    return { page, clip };
   };
 
   const diagramOf = (view, line, chosen, waiting) => {
-    const frame = Page.frameOf(line, view.network), size = [WIDTH, frame.bottom + BOTTOM];
-    const clip = drawing('svg', { x: LEFT, y: TOP - TURN - 4, width: WIDTH - LEFT - RIGHT, height: frame.bottom - TOP + 2 * TURN + 8 });
-    clip.setAttribute('viewBox', `${LEFT} ${TOP - TURN - 4} ${WIDTH - LEFT - RIGHT} ${frame.bottom - TOP + 2 * TURN + 8}`);
-    const page = drawing('svg', { viewBox: `0 0 ${size.join(' ')}`, role: 'img', 'aria-label': `Distance-time diagram of ${line.name}` });
-    page.append(...grid(frame), clip);
-    clip.append(...possible(view, frame, line, chosen), ...view.lines.filter(each => each.name !== line.name).flatMap(each => others(view, frame, line, each)));
+    const frame = Page.frameOf(line, view.network), { page, clip } = Page.sheetOf(frame, `Distance-time diagram of ${line.name}`);
+    clip.append(...possible(view, frame, line, chosen));
+    clip.append(...view.lines.filter(each => each.name !== line.name).flatMap(each => others(view, frame, line, each)));
     clip.append(...waiting.slice(0, MOST_TURNS).flatMap(each => turn(view, frame, line, each)));
+    const reaches = [];
     for (const train of line.trains) {
       const minutes = Page.minutesOf(view, train);
-      if (minutes) clip.append(...ways(frame, minutes.map((minute, place) => [minute, heightOf(frame, train.events[place])]), line.color, 2.6));
+      if (minutes) clip.append(...ways(frame, minutes.map((minute, place) => [minute, Page.heightOf(frame, train.events[place])]), line.color, 2.6));
+      if (minutes) reaches.push(...Page.reachesOf(frame, train, minutes, 14));
       page.append(...ends(view, frame, line, train));
     }
-    if (chosen !== null) clip.append(...chosenMark(view, frame, line, chosen));
-    return page;
+    const { ways: broken, labels, told } = Page.conflictMarks(view, frame, 'on the line', [...page.querySelectorAll('text.end')]);
+    clip.append(...broken, ...(chosen === null ? [] : chosenMark(view, frame, line, chosen)), ...reaches);
+    page.append(...labels);
+    return { drawn: page, left: told };
   };
 
-  const heightOf = (frame, event) => frame.heights.get(Page.labelOf(event).station);
+  Page.heightOf = (frame, event) => frame.heights.get(Page.labelOf(event).station);
 
   const grid = frame => {
     const made = [], step = Page.stepOf(frame.period);
@@ -69,10 +87,13 @@
     }
     for (const [station, y] of frame.heights) {
       made.push(drawing('path', { class: 'station', d: `M${LEFT} ${y}H${WIDTH - RIGHT}` }));
-      made.push(drawing('text', { x: LEFT - 10, y: y + 4, 'text-anchor': 'end' }, station));
+      made.push(drawing('text', { ...placeOf(station, y), 'data-station': station }, Page.shortText(station, MOST_LETTERS)));
     }
     return made;
   };
+
+  // Where the name of a station stands: beside its line, and one that is too long for that above it.
+  const placeOf = (station, y) => station.length <= LETTERS ? { x: LEFT - 10, y: y + 4, 'text-anchor': 'end' } : { class: 'long', x: 2, y: y - 5 };
 
   // The minutes at which the events of a line can still be, where not all are possible: those of trains that go down the
   // drawing below their station, the others above; arrivals nearer to it.
@@ -81,23 +102,27 @@
     return train.events.map(event => {
       const minutes = view.domains.get(event);
       if (minutes.length === frame.period) return null;
-      const offset = side * (Page.labelOf(event).kind === 'arrival' ? 4 : 9), y = heightOf(frame, event) + offset;
+      const offset = side * (Page.labelOf(event).kind === 'arrival' ? 4 : 9), y = Page.heightOf(frame, event) + offset;
       const path = Page.runsOf(minutes).map(([first, last]) => `M${frame.x(first)} ${y}H${frame.x(last + 1)}`).join('');
-      return drawing('path', { class: event === chosen ? 'can chosen' : 'can', d: path, stroke: line.color });
+      return drawing('path', { class: event === chosen ? 'can chosen' : 'can', d: path, stroke: line.color, 'data-event': event });
     }).filter(Boolean);
   });
 
-  // A way through minutes and heights, as often as a part of it comes into the period.
-  const ways = (frame, points, color, width, dashes = null) => {
+  // The path through minutes and heights, as often as a part of it comes into the period.
+  Page.pathsOf = (frame, points) => {
     const minutes = points.map(([minute]) => minute), { period } = frame, made = [];
     const first = -Math.floor(Math.max(...minutes) / period) * period, last = -Math.floor(Math.min(...minutes) / period) * period;
     for (let shift = first; shift <= last; shift += period) {
-      const path = points.map(([minute, y]) => `${frame.x(minute + shift).toFixed(1)} ${y.toFixed(1)}`).join('L');
-      const look = { fill: 'none', stroke: color, 'stroke-width': width, 'stroke-dasharray': dashes, 'stroke-linejoin': 'round' };
-      made.push(drawing('path', { d: `M${path}`, ...look }));
+      made.push(`M${points.map(([minute, y]) => `${frame.x(minute + shift).toFixed(1)} ${y.toFixed(1)}`).join('L')}`);
     }
     return made;
   };
+
+  const ways = (frame, points, color, width, dashes = null) => Page.pathsOf(frame, points).map(d => {
+    const look = { fill: 'none', stroke: color, 'stroke-width': width, 'stroke-dasharray': dashes, 'stroke-linejoin': 'round' };
+    return drawing('path', { d, ...look });
+  });
+  Page.waysOf = ways;
 
   // The parts of another line's trains that lie on tracks of this one.
   const others = (view, frame, line, other) => other.trains.flatMap(train => {
@@ -106,7 +131,8 @@
     return places.slice(1).flatMap((to, place) => {
       const from = places[place];
       if (from < 0 || to < 0 || Math.abs(from - to) !== 1) return [];
-      return ways(frame, [place, place + 1].map(each => [minutes[each], heightOf(frame, train.events[each])]), '#a9b4c0', 1.4);
+      const way = ways(frame, [place, place + 1].map(each => [minutes[each], Page.heightOf(frame, train.events[each])]), 'var(--others)', 1.4);
+      return [...way, ...Page.reachesOf(frame, train, minutes, 8, [place])];
     });
   });
 
@@ -118,29 +144,29 @@
   });
 
   const turn = (view, frame, line, each) => {
-    const y = frame.heights.get(Page.labelOf(each.first).station), start = view.times.get(each.first), end = start + view.tensions.get(each.number).tension;
+    const y = frame.heights.get(Page.labelOf(each.first).station), start = view.times.get(each.first), end = start + Page.minutesHad(view, each.number);
     const beyond = y + (y > (TOP + frame.bottom) / 2 ? TURN : -TURN);
-    return ways(frame, [[start, y], [start, beyond], [end, beyond], [end, y]], line.color, 1.3, '3 3');
+    const points = [[start, y], [start, beyond], [end, beyond], [end, y]];
+    return Page.marked([...ways(frame, points, line.color, 1.3, '3 3'), ...ways(frame, points, 'transparent', 9)], { 'data-activity': each.number });
   };
 
   // The minutes at which a train begins and ends, beside the ends of its way.
   const ends = (view, frame, line, train) => [[train.events[0], true], [train.events[train.events.length - 1], false]].map(([event, isFirst]) => {
     const time = view.times.get(event);
     if (time === undefined) return null;
-    const y = heightOf(frame, event), isAbove = Page.isForward(line, train) !== isFirst, edge = 0.04 * frame.period;
+    const y = Page.heightOf(frame, event), isAbove = Page.isForward(line, train) !== isFirst, edge = 0.04 * frame.period;
     const isLeft = isFirst ? time >= edge : time > frame.period - edge;
     const place = { x: frame.x(time) + (isLeft ? -5 : 5), y: y + (isAbove ? -5 : 14), 'text-anchor': isLeft ? 'end' : 'start' };
-    return drawing('text', { class: 'end', fill: line.color, ...place }, Page.bareClock(time));
+    return drawing('text', { class: 'end', style: `fill: ${line.color}`, 'data-event': event, ...place }, Page.bareClock(time));
   }).filter(Boolean);
 
   const chosenMark = (view, frame, line, event) => {
     const time = view.times.get(event);
-    if (time === undefined || Page.labelOf(event).line !== line.name || heightOf(frame, event) === undefined) return [];
-    return [drawing('circle', { class: 'mark', cx: frame.x(time), cy: heightOf(frame, event), r: 6 })];
+    return time === undefined || !frame.events.has(event) ? [] : Page.chosenMark(frame, event, time, Page.shiftText(view, event));
   };
 
   const NOTE = 'Marks along a station: the minutes at which the trains of the line can still be there, below it downwards, above it '
-    + 'upwards. Grey: other lines.';
+    + 'upwards. Grey: other lines. Red: violated, with the minutes had and wanted.';
 
   const update = view => {
     if (Page.tab !== 'diagram') return;

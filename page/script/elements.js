@@ -42,6 +42,11 @@
     line.classList.toggle('alarm', isAlarm);
   };
 
+  // Brings the keys to an element where they are nowhere, since what had them went away.
+  Page.lead = node => {
+    if (node && document.activeElement === document.body) node.focus();
+  };
+
   // Says something more than what is said.
   Page.sayMore = text => Page.say([Page.find('said').textContent, text].filter(Boolean).join(' — '));
 })();

@@ -3,8 +3,10 @@
 // The events by train, with hands: what is dragged, clicked and typed on their strips.
 (() => {
   const ROWS_OF_A_BLOCK = 40;
+  // The pixels that the head of the rows takes of them.
+  const HEAD = 30;
   const rows = new Map();
-  let order = [];
+  let order = [], bars = [];
 
   const groupsOf = view => {
     const inTrains = new Set(view.trains.flatMap(train => train.events));
@@ -15,13 +17,13 @@
 
   const headOf = ({ line, train }) => {
     if (!train) return Page.element('h3', {}, 'Events');
-    const pill = Page.element('span', { class: 'pill' }, line.name);
-    pill.style.background = line.color;
-    return Page.element('h3', {}, pill, ` to ${train.to}`);
+    bars.push(Page.makeBar(line, train));
+    return bars[bars.length - 1].node;
   };
 
   const build = view => {
     rows.clear();
+    bars = [];
     const groups = groupsOf(view);
     order = groups.flatMap(group => group.events);
     for (const event of order) rows.set(event, Page.makeRow(event));
@@ -50,11 +52,15 @@
       mark.style.left = `${100 * (minute + 0.5) / period}%`;
       marks.push(mark);
     }
+    Page.find('events').classList.toggle('hours', period > 60);
     Page.find('events').style.setProperty('--step', `${100 * step / period}%`);
     return marks;
   };
 
-  const update = view => rows.forEach(row => Page.drawRow(row, view));
+  const update = view => {
+    rows.forEach(row => Page.drawRow(row, view));
+    bars.forEach(bar => Page.drawBar(bar, view));
+  };
 
   Page.panel({ build, update });
 
@@ -65,6 +71,25 @@
     if (!row) return;
     row.node.scrollIntoView({ block: 'nearest' });
     if (isFocused) row.strip.focus({ preventScroll: true });
+  };
+
+  // The same for a train, whose bar gets the keys; without times it has none.
+  Page.showBar = event => {
+    const bar = bars.find(({ train }) => train.events.includes(event));
+    Page.showRow(event, !bar || bar.way.hidden);
+    if (!bar || bar.way.hidden) return;
+    bar.node.scrollIntoView({ block: 'nearest' });
+    bar.way.focus({ preventScroll: true });
+  };
+
+  // The same for what is chosen elsewhere, so that nothing but the rows is scrolled.
+  Page.bringRow = event => {
+    Page.choose(event);
+    const row = rows.get(event), panel = Page.find('events');
+    if (!row) return;
+    const { top, bottom } = row.node.getBoundingClientRect(), seen = panel.getBoundingClientRect();
+    if (top < seen.top + HEAD) panel.scrollTop += top - seen.top - HEAD;
+    else if (bottom > seen.bottom) panel.scrollTop += bottom - seen.bottom;
   };
 
   const rowOf = node => {
@@ -100,14 +125,22 @@
   const begin = event => {
     const row = rowOf(event.target);
     if (!row || event.button !== 0) return;
-    Page.choose(row.event);
-    if (!row.strip.contains(event.target)) return row.strip.focus({ preventScroll: true });
+    const isFinger = Page.isFinger(event);
+    if (!isFinger) Page.choose(row.event);
+    if (!row.strip.contains(event.target)) return isFinger || row.strip.focus({ preventScroll: true });
     const { period } = Page.view.network, handle = event.target.closest('[data-grip]') || row.strip;
     const shift = handle.dataset.at === undefined ? 0 : edgeShift(row, handle, event.clientX, period);
     const minuteAt = x => Page.unitAt(row.strip, x + shift, 0, period), line = lineOf(row, handle, minuteAt(event.clientX));
-    handle.focus({ preventScroll: true });
-    event.preventDefault();
-    Page.beginDrag(event, x => line(minuteAt(x)));
+    if (!isFinger) {
+      handle.focus({ preventScroll: true });
+      event.preventDefault();
+    }
+    const isTrain = handle.dataset.grip === 'now' && (event.shiftKey || event.ctrlKey || event.metaKey) && Page.trainAt(row.event);
+    if (isTrain) return Page.beginMove(event, row.event, row.strip.clientWidth / period, Page.isFromHere(event));
+    Page.beginDrag(event, x => {
+      Page.choose(row.event);
+      return [line(minuteAt(x))];
+    });
   };
 
   // What holds an event, moved by a key on its strip.
@@ -128,18 +161,24 @@
     return endLine(event, window, grip, modulo(end + move, period), period);
   };
 
-  const go = (event, step) => {
+  // The event so many rows after another; that one itself where there is none.
+  Page.eventBeside = (event, step) => {
     const place = order.indexOf(event) + step;
-    if (place >= 0 && place < order.length) Page.showRow(order[place]);
+    return place >= 0 && place < order.length ? order[place] : event;
   };
+
+  // Whether a key moves the train of a row: with Ctrl or Alt, and on the diamond with Shift.
+  const isOfTrain = (event, grip) => !event.metaKey && (event.ctrlKey || event.altKey || (grip === 'now' && event.shiftKey));
 
   const typed = event => {
     const row = rowOf(event.target), move = Page.moveOf(event);
     if (!row) return;
     const { grip } = event.target.dataset;
-    if (move) Page.step([grip ? gripLine(row.event, grip, move) : movedLine(row.event, move, event.shiftKey)]);
-    else if (event.key === 'ArrowUp') go(row.event, -1);
-    else if (event.key === 'ArrowDown') go(row.event, 1);
+    if (isOfTrain(event, grip) && Page.minutesOfKey(event)) Page.moveTrain(row.event, Page.minutesOfKey(event), Page.isFromHere(event));
+    else if (move) Page.step([grip ? gripLine(row.event, grip, move) : movedLine(row.event, move, event.shiftKey)]);
+    else if (event.key === 'ArrowUp') Page.showRow(Page.eventBeside(row.event, -1));
+    else if (event.key === 'ArrowDown') Page.showRow(Page.eventBeside(row.event, 1));
+    else if (event.key === '+') Page.addHere();
     else if (event.key === 'Delete' || event.key === 'Backspace') letGo(row.event, grip === 'now');
     else return;
     event.preventDefault();
@@ -154,6 +193,10 @@
     const panel = Page.find('rows');
     panel.addEventListener('pointerdown', begin);
     panel.addEventListener('keydown', typed);
+    panel.addEventListener('click', event => {
+      const row = rowOf(event.target);
+      if (row) Page.choose(row.event);
+    });
     panel.addEventListener('dblclick', event => {
       const row = rowOf(event.target);
       if (row && row.strip.contains(event.target)) letGo(row.event, event.target.dataset.grip === 'now');

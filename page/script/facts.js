@@ -20,7 +20,7 @@
   const build = () => {
     const hold = form(event => Page.step([`window ${event} ${valueOf('hold-first')} ${valueOf('hold-length')}`]),
       element('label', { for: 'hold-first' }, 'held from'), minutes('hold-first'),
-      element('label', { for: 'hold-length' }, 'for'), minutes('hold-length'), 'minutes ',
+      element('label', { for: 'hold-length' }, 'for'), minutes('hold-length'), element('span', { id: 'hold-unit' }), ' ',
       element('button', {}, 'Hold'), element('button', { type: 'button', id: 'let-go', onclick: () => Page.letGo(Page.chosen, false) }, 'Let go'));
     const time = form(event => Page.step([`time ${event} ${valueOf('time-at')}`]),
       element('label', { for: 'time-at' }, 'time'), minutes('time-at'),
@@ -40,9 +40,10 @@
     const window = view.network.windows.get(event), time = view.times.get(event), minutes = view.domains.get(event);
     Page.setText(Page.find('chosen-name'), Page.eventName(event));
     Page.setText(Page.find('chosen-number'), Page.labelOf(event).station ? `event ${event}` : '');
-    Page.setText(Page.find('chosen-domain'), `Can be at ${Page.domainText(minutes, view.network.period)}.`);
+    Page.setText(Page.find('chosen-minutes'), `Can be at ${Page.domainText(minutes, view.network.period)}.`);
     setValue('hold-first', Page.minuteField(window ? window.first : time === undefined ? minutes[0] || 0 : time));
-    setValue('hold-length', window ? window.length : 1);
+    setValue('hold-length', Page.lengthText(window ? window.length : 1));
+    Page.setText(Page.find('hold-unit'), Page.unitText(window ? window.length : 1));
     setValue('time-at', time === undefined ? '' : Page.minuteField(time));
     Page.find('let-go').disabled = !window;
     Page.find('no-time').disabled = time === undefined;

@@ -22,7 +22,7 @@
         const move = ARROWS[event.key], minutes = Number(Page.minutesTyped(field.value) || NaN);
         if (!move || !Number.isInteger(minutes)) return;
         event.preventDefault();
-        field.value = String(minutes + move);
+        field.value = Page.lengthText(minutes + move, field.value.includes(':'));
         field.dispatchEvent(new Event('change'));
       },
     });

@@ -15,7 +15,7 @@
   const boundText = ({ bound }) => bound === undefined ? '' : `none costs less than ${bound.toLocaleString('en')}`;
 
   Page.foundText = (found, isSearching) => {
-    const count = `${found.nodes.toLocaleString('en')} nodes, ${found.seconds.toFixed(1)} s`;
+    const count = `${found.nodes.toLocaleString('en')} cases, ${found.seconds.toFixed(1)} s`;
     const told = [boundText(found), count].filter(Boolean).join('; ');
     const more = isSearching ? ' — searching on …' : found.isStopped ? ' — stopped' : '';
     const cost = found.cost === undefined ? '' : found.cost.toLocaleString('en');

@@ -11,15 +11,16 @@
     return least + Math.floor((x - left) / (width || 1) * count);
   };
 
-  // Follows a pointer that went down; `lineAt` gives the line for a place across the screen, or null.
-  Page.beginDrag = (start, lineAt) => {
+  // Follows a pointer that went down; `linesAt` gives the lines for a place across the screen, none where all stays as it was,
+  // and `titleOf` what they do in words.
+  Page.beginDrag = (start, linesAt, titleOf = () => '') => {
     let last = null, frame = 0, x = start.clientX, isMoved = false;
     const look = () => {
       frame = 0;
-      const line = lineAt(x);
-      if (line === null || line === last) return;
-      last = line;
-      Page.preview(line);
+      const lines = linesAt(x);
+      if (lines.join() === (last || []).join()) return;
+      last = lines;
+      Page.preview(lines, titleOf());
     };
     const move = event => {
       x = event.clientX;
@@ -32,7 +33,7 @@
       if (frame) cancelAnimationFrame(frame);
       if (frame && isDone) look();
       if (last === null) return;
-      if (isDone) Page.step([last]);
+      if (isDone && last.length) Page.step(last, { title: titleOf() });
       else Page.refresh();
     };
     const listeners = [
@@ -50,8 +51,12 @@
   const ARROWS = { ArrowLeft: -1, ArrowRight: 1 };
   const PAGES = { PageDown: -10, PageUp: 10 };
 
-  // By how much a key moves a handle; 0 where it moves nothing.
-  Page.moveOf = event => event.ctrlKey || event.metaKey || event.altKey ? 0 : ARROWS[event.key] || PAGES[event.key] || 0;
+  // By how many minutes a key moves what it is for, 0 where by none; and a handle, which keys with others do not move.
+  Page.minutesOfKey = event => ARROWS[event.key] || PAGES[event.key] || 0;
+  Page.moveOf = event => event.ctrlKey || event.metaKey || event.altKey ? 0 : Page.minutesOfKey(event);
+
+  // A finger may be about to scroll: what it lies on is chosen by its tap, or once it drags.
+  Page.isFinger = event => event.pointerType === 'touch';
 
   // An element with the role of a slider.
   Page.handle = (name, label, more = {}) =>

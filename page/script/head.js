@@ -1,16 +1,17 @@
 'use strict';
 
-// What is always on the screen: cost and violations, what the domains say, and what can be done next.
+// What is always on the screen: cost and violations, how many events are narrowed, and what can be done next.
 (() => {
   const update = view => {
     const { network } = view, { session } = Page;
     Page.setText(Page.find('title'), session.opened.title);
     document.title = [session.opened.title, 'pespbench'].filter(Boolean).join(' – ');
-    Page.setText(Page.find('size'), `${network.events.length} events, ${network.activities.size} activities, period ${network.period}`);
+    Page.setText(Page.find('size'),
+      `${network.events.length} events, ${network.activities.size} activities, period ${Page.lengthText(network.period)}`);
     if (view.cost === null) tell('cost', '–', view.missing, false);
-    else tell('cost', view.cost.toLocaleString('en'), 'weight times slack', false);
-    tellViolated(Page.countViolated(view));
-    tellDomains(view);
+    else tell('cost', view.cost.toLocaleString('en'), Page.costNote(view), false);
+    tellViolated(view, Page.countViolated(view));
+    tellNarrowed(view);
     Page.find('undo').disabled = !session.place;
     Page.find('redo').disabled = session.place === session.steps.length;
   };
@@ -18,15 +19,15 @@
   // How many activities and events are violated; null where the working timetable lacks a time.
   Page.countViolated = ({ violations }) => violations && violations.activities.size + violations.events.size;
 
-  const tellViolated = count => {
+  const tellViolated = (view, count) => {
     if (count === null) tell('violations', '–', 'no whole timetable', false);
-    else tell('violations', String(count), count ? '✕ see which' : '✓ all are met', count > 0);
+    else tell('violations', String(count), Page.violatedNote(view, count ? '✕ see which' : '✓ all are met'), count > 0);
   };
 
-  const tellDomains = view => {
+  const tellNarrowed = view => {
     const { events, period } = view.network, narrowed = events.filter(event => view.domains.get(event).length < period).length;
-    if (Page.isInfeasible(view)) tell('domains', 'none', '✕ no timetable meets this', true);
-    else tell('domains', String(narrowed), `of ${events.length} events narrowed`, false);
+    if (Page.isInfeasible(view)) tell('narrowed', '✕', 'no timetable meets this', true);
+    else tell('narrowed', String(narrowed), `of ${events.length} events`, false);
   };
 
   const tell = (name, value, note, isAlarm) => {
@@ -57,7 +58,7 @@
   };
 
   // One of the views on the right is shown at a time; each is drawn when it is.
-  const TABS = ['diagram', 'netgraph', 'tables', 'violated', 'lines', 'why'];
+  const TABS = ['diagram', 'netgraph', 'corridor', 'tables', 'violated', 'lines', 'why'];
   Page.tab = 'diagram';
 
   Page.showTab = name => {

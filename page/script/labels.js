@@ -32,7 +32,7 @@
     taken.set(number, part === 'event' ? { line: first, to, station, kind } : first);
   };
 
-  const quoted = field => /[;"\n\r]|^[ \t#]|[ \t]$/.test(field) ? `"${field.replace(/"/g, '""')}"` : field;
+  Page.quoted = field => /[;"\n\r]|^[ \t#]|[ \t]$/.test(field) ? `"${field.replace(/"/g, '""')}"` : field;
 
   // The file that reads as these labels.
   Page.labelsText = labels => {
@@ -40,7 +40,7 @@
     for (const [event, label] of labels.events) rows.push([String(event), label.line, label.to, label.station, label.kind]);
     if (labels.kinds.size) rows.push(['activity', 'kind']);
     for (const [activity, kind] of labels.kinds) rows.push([String(activity), kind]);
-    return rows.map(row => row.map(quoted).join(';') + '\n').join('');
+    return rows.map(row => row.map(Page.quoted).join(';') + '\n').join('');
   };
 
   const MEASURE = /^[+-]?([0-9]+[.]?[0-9]*|[.][0-9]+)([eE][+-]?[0-9]+)?$/;
@@ -59,6 +59,6 @@
   };
 
   // The file that reads as these places.
-  Page.placesText = places => ['station; x; y', ...[...places].map(([station, [x, y]]) => `${quoted(station)}; ${x}; ${y}`)]
+  Page.placesText = places => ['station; x; y', ...[...places].map(([station, [x, y]]) => `${Page.quoted(station)}; ${x}; ${y}`)]
     .map(row => `${row}\n`).join('');
 })();

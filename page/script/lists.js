@@ -1,16 +1,16 @@
 'use strict';
 
-// Two lists: what the working timetable violates, and the lines that made the state shown.
+// Two lists: what the working timetable violates, and the steps that made the state shown.
 (() => {
   const { element } = Page;
   const MOST_VIOLATED = 500;
 
   const updateViolated = view => {
     if (Page.tab !== 'violated') return;
-    const { violations, network } = view, items = [];
+    const { violations } = view, items = [];
     if (!violations) items.push(element('p', { class: 'quiet' }, `Not known: ${view.missing}.`));
     else {
-      const listed = [...[...violations.activities].map(number => () => violatedActivity(network.activities.get(number), view)),
+      const listed = [...Page.conflictsOf(view).all.map(conflict => () => violatedActivity(conflict)),
         ...[...violations.events].map(event => () => violatedEvent(event, view))];
       const told = Page.elided(listed.length, MOST_VIOLATED, 'that are violated');
       if (told) items.push(element('p', { class: 'quiet' }, told));
@@ -20,16 +20,12 @@
     Page.find('view-violated').replaceChildren(...items);
   };
 
-  const item = (event, name, told) => element('p', { class: 'violated' }, '✕ ',
-    element('button', { class: 'link', onclick: () => Page.showRow(event) }, name), ` — ${told}`);
+  const item = (lead, name, told) => element('p', { class: 'violated' },
+    element('button', { class: 'link', onclick: lead }, `✕ ${name}`), ` — ${told}`);
 
-  const violatedActivity = (activity, view) => {
-    const { tension } = view.tensions.get(activity.number);
-    const span = Page.spanText(activity.lower, activity.upper);
-    return item(activity.first, Page.activityName(activity), `takes ${Page.minutes(tension)}, may take ${span}`);
-  };
+  const violatedActivity = ({ number, activity, told }) => item(() => Page.showActivity(number), Page.activityName(activity), told);
 
-  const violatedEvent = (event, view) => item(event, Page.eventName(event),
+  const violatedEvent = (event, view) => item(() => Page.showRow(event), Page.eventName(event),
     `is at ${Page.clock(view.times.get(event))}, held ${Page.windowText(view.network.windows.get(event), view.network.period)}`);
 
   Page.panel({ update: updateViolated });
@@ -37,9 +33,9 @@
   const updateLines = () => {
     if (Page.tab !== 'lines') return;
     const { steps, place } = Page.session;
-    const items = steps.map(({ lines }, each) => element('li', { class: each < place ? '' : 'undone' },
-      element('button', { class: 'link', onclick: () => Page.goTo(each + 1), title: 'go to the state after this step' }, Page.titleOf(lines)),
-      each < place ? '' : ' (undone)'));
+    const items = steps.map((step, each) => element('li', { class: each < place ? '' : 'undone' },
+      element('button', { class: 'link', onclick: () => Page.goTo(each + 1), title: 'go to the state after this step' }, Page.titleOf(step)),
+      step.title ? ` — ${Page.titleOf({ lines: step.lines })}` : '', each < place ? '' : ' (undone)'));
     Page.find('steps').replaceChildren(...items);
     Page.find('no-steps').hidden = steps.length > 0;
   };

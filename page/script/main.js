@@ -9,9 +9,13 @@
     Page.find('cannot').show();
     return;
   }
-  const views = [Page.startHead, Page.startTabs, Page.startEvents, Page.startDiagram, Page.startLines];
-  for (const start of [...views, Page.startSearching, Page.startPrinting, Page.startOpening, Page.startSaving]) start();
+  const views = [Page.startHead, Page.startTabs, Page.startEvents, Page.startDiagram, Page.startChoosing, Page.startLines, Page.startLining];
+  const helps = [Page.startHelps, Page.startLegend, Page.startFinding, Page.startStations];
+  const files = [Page.startSearching, Page.startPrinting, Page.startOpening, Page.startSaving, Page.startHanding];
+  for (const start of [...views, ...helps, ...files]) start();
   Page.openStory(Page.stories[0]);
+  Page.startLinks();
+  Page.startDrafts();
   document.body.classList.add('ready');
   // The milliseconds since the page was asked for, when the first story is drawn.
   requestAnimationFrame(() => { Page.readyAfter = performance.now(); });

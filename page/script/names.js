@@ -36,16 +36,33 @@
     return `${kind} at ${where} ${trains[0]} ${Page.trainName(from)} ${trains[1]} ${Page.trainName(to)}`;
   };
 
-  Page.minutes = count => count === 1 ? '1 minute' : `${count} minutes`;
-  Page.spanText = (lower, upper) => lower === upper ? String(lower) : `${lower} to ${upper}`;
+  // A name in a drawing, where there is room for so many letters.
+  Page.shortText = (name, most) => name.length <= most ? name : `${name.slice(0, most - 1).trimEnd()}…`;
 
   const twoDigits = number => String(number).padStart(2, '0');
 
-  // Minutes of several hours are told with the hour, as those of a day are.
-  const isOfHours = () => Page.view.network.period > 60 && Page.view.network.period % 60 === 0;
+  // Above an hour all is told with the hour.
+  const isOfHours = () => Page.view.network.period > 60;
+
+  const hours = minutes => `${Math.floor(minutes / 60)}:${twoDigits(minutes % 60)}`;
+
+  // How long something takes: `7`, or `1:05` from an hour on.
+  const isLong = minutes => isOfHours() && Math.abs(minutes) >= 60;
+  Page.lengthText = (minutes, isHours = isLong(minutes)) => isHours ? `${minutes < 0 ? '-' : ''}${hours(Math.abs(minutes))}` : String(minutes);
+
+  // What stands after that.
+  Page.unitText = minutes => isLong(minutes) ? 'h' : minutes === 1 ? 'minute' : 'minutes';
+  Page.minutes = count => `${Page.lengthText(count)} ${Page.unitText(count)}`;
+
+  // A span, of which both ends are told as the longer one is.
+  Page.spanText = (lower, upper) => {
+    const ends = [lower, upper].map(end => Page.lengthText(end, isLong(lower) || isLong(upper)));
+    return lower === upper ? ends[0] : ends.join(' to ');
+  };
+  Page.spanMinutes = (lower, upper) => `${Page.spanText(lower, upper)} ${isLong(lower) || isLong(upper) ? 'h' : 'minutes'}`;
 
   // A minute of the period, as `:07`, or `23:41`.
-  Page.clock = minute => isOfHours() ? `${Math.floor(minute / 60)}:${twoDigits(minute % 60)}` : `:${twoDigits(minute)}`;
+  Page.clock = minute => isOfHours() ? hours(minute) : `:${twoDigits(minute)}`;
 
   // The same in a field: minutes that are not told with the hour stand there as a number.
   Page.minuteField = minute => isOfHours() ? Page.clock(minute) : String(minute);

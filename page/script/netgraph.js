@@ -6,15 +6,18 @@
   const { drawing } = Page;
   const WIDTH = 1020, HEIGHT = 640, MARGIN = 64, EDGE = 8, STATIONS_OF_A_PAGE = 14, LANE = 29, RING = 11;
   // What the name of a line takes of a track with some space, and what each number takes at each of its ends.
-  const ROOM = 70, NUMBER = 21, NAME = 14.5, ENOUGH = 16, ROW = 13;
-  let graph = null, numbers = new Map();
+  const ROOM = 70, NAME = 14.5, ENOUGH = 16, ROW = 13, LETTERS = 24, SCALE = 0.56;
+  let graph = null, numbers = new Map(), alarms = null;
+
+  // Minutes that are told with the hour are wider.
+  const numberWidth = () => Page.view.network.period > 60 ? 36 : 21;
 
   const layOut = view => {
     const { lines, network } = view, { stations, tracks, told } = Page.nearby(lines, Page.labelOf(Page.chosen).station);
     const radius = new Map(stations.map(station => [station, radiusOf(station, tracks)]));
     const known = stations.every(station => Page.places.has(station)) ? Page.places : Page.layOut(stations, Page.lengthsOf(lines, network));
     const chosen = new Map(stations.map(station => [station, [known.get(station)[0], -known.get(station)[1]]]));
-    const wanted = tracks.map(track => ({ ...track, along: ROOM + 2 * NUMBER * Page.mostNumbers(track.lanes), beside: halfWidth(track) }));
+    const wanted = tracks.map(track => ({ ...track, along: ROOM + 2 * numberWidth() * Page.mostNumbers(track.lanes), beside: halfWidth(track) }));
     const share = Math.min(1, Math.sqrt(stations.length / STATIONS_OF_A_PAGE));
     return { tracks, radius, told, places: Page.spread(chosen, wanted, radius, [(WIDTH - 2 * MARGIN) * share, (HEIGHT - 2 * MARGIN) * share]) };
   };
@@ -29,23 +32,28 @@
 
   const draw = view => {
     numbers = new Map();
+    alarms = { lanes: new Map(), stations: new Map(), drawn: new Set() };
     graph = layOut(view);
     const labels = new Map([...graph.places.keys()].map(station => [station, labelPlace(station)]));
     const lanes = graph.tracks.flatMap(track => track.lanes.map((lane, place) => {
       const offset = (place - (track.lanes.length - 1) / 2) * LANE;
       return drawLane(track, lane, offset);
     }));
-    const page = drawing('svg', { viewBox: viewBox(labels), role: 'img', 'aria-label': 'Netgraph' }, ...lanes);
+    const box = viewBox(labels), page = drawing('svg', { viewBox: box.join(' '), role: 'group', 'aria-label': nameOf(view) }, ...lanes);
+    // Names can be read, and where there are many the netgraph is scrolled.
+    Object.assign(page.style, { minWidth: `${SCALE * box[2]}px`, maxHeight: `max(46rem, ${SCALE * box[3]}px)` });
     for (const [station, label] of labels) page.append(...drawStation(station, label));
     return page;
   };
+
+  const nameOf = view => `Netgraph of ${graph.places.size} stations and ${view.lines.length} lines`;
 
   const viewBox = labels => {
     const spans = [...labels].map(([station, { x, anchor }]) => spanOf(station, x, anchor));
     const ys = [...graph.places].map(([station, [, y]]) => [y, graph.radius.get(station)]);
     const left = Math.min(...spans.map(span => span[0])) - EDGE, right = Math.max(...spans.map(span => span[1])) + EDGE;
     const top = Math.min(...ys.map(([y, r]) => y - r)) - EDGE - 2 * NAME, bottom = Math.max(...ys.map(([y, r]) => y + r)) + EDGE + 2 * NAME;
-    return [left, top, right - left, bottom - top].map(Math.round).join(' ');
+    return [left, top, right - left, bottom - top].map(Math.round);
   };
 
   const drawLane = (track, lane, offset) => {
@@ -56,11 +64,14 @@
     const origin = `translate(${(first[0] - along[1] * offset).toFixed(1)} ${(first[1] + along[0] * offset).toFixed(1)}) rotate(${turn.toFixed(1)})`;
     // No farther from its ring than leaves room for the name of the line in the middle.
     const rings = [track.one, track.other].map(station => graph.radius.get(station));
-    const most = (length - rings[0] - rings[1]) / 2 - 17 - NUMBER * Page.mostNumbers([lane]);
+    const most = (length - rings[0] - rings[1]) / 2 - 17 - numberWidth() * Page.mostNumbers([lane]);
     const begins = [track.one, track.other].map((station, end) => Math.min(clearOf(station, track, offset), rings[end] + Math.max(5, most)));
+    const leaving = [...lane.leaving.values()].flat(), middle = sign * (length + begins[0] - begins[1]) / 2;
     const way = drawing('path', { d: `M0 0H${(sign * length).toFixed(1)}`, stroke: lane.line.color, 'stroke-width': 3 });
-    return drawing('g', { transform: origin }, way,
-      ...pill(sign * (length + begins[0] - begins[1]) / 2, lane.line), ...numbersAt(lane, track.one, sign, sign * begins[0]),
+    const alarm = Page.alarm(way, { x: middle, y: -11, 'text-anchor': 'middle' });
+    for (const event of leaving) alarms.lanes.set(event, alarm);
+    return drawing('g', { transform: origin, 'data-event': leaving.length ? leaving[0] : null }, way,
+      ...pill(middle, lane.line), alarm.label, ...numbersAt(lane, track.one, sign, sign * begins[0]),
       ...numbersAt(lane, track.other, -sign, sign * (length - begins[1])));
   };
 
@@ -81,9 +92,9 @@
   };
 
   const pill = (x, line) => {
-    const width = 9 + 7.2 * line.name.length;
+    const name = Page.shortText(line.name, LETTERS / 3), width = 9 + 7.2 * name.length;
     return [drawing('rect', { x: x - width / 2, y: -8.5, width, height: 17, rx: 4, fill: line.color }),
-      drawing('text', { class: 'lane', x, y: 4.2, 'text-anchor': 'middle' }, line.name)];
+      drawing('text', { class: 'lane', x, y: 4.2, 'text-anchor': 'middle' }, name)];
   };
 
   // The minutes of a lane at one of its ends, to the right of the track as their trains go.
@@ -105,7 +116,12 @@
   const drawStation = (station, { x, base, anchor }) => {
     const [cx, cy] = graph.places.get(station);
     const ring = drawing('circle', { class: 'ring', cx, cy, r: graph.radius.get(station) });
-    return [ring, drawing('text', { class: 'place', x, y: base, 'text-anchor': anchor }, station)];
+    const text = drawing('text', { class: 'place', x, y: base, 'text-anchor': anchor }, Page.shortText(station, LETTERS));
+    const isAbove = base < cy - graph.radius.get(station) / 2;
+    const alarm = Page.alarm(ring, { x, y: base + (isAbove ? -NAME : NAME), 'text-anchor': anchor });
+    alarms.stations.set(station, alarm);
+    const more = { 'data-station': station, tabindex: 0, role: 'button', 'aria-label': station };
+    return [drawing('g', more, drawing('title', {}, station), ring, text), alarm.label];
   };
 
   // The place of a name round its ring at which most room is left, of those that read as well the first.
@@ -140,7 +156,7 @@
 
   // About where the name of a station begins and ends, from the place of its anchor.
   const spanOf = (name, x, anchor) => {
-    const width = 0.7 * NAME * name.length, left = x - width * { start: 0, middle: 0.5, end: 1 }[anchor];
+    const width = 0.7 * NAME * Math.min(LETTERS, name.length), left = x - width * { start: 0, middle: 0.5, end: 1 }[anchor];
     return [left, left + width];
   };
 
@@ -159,12 +175,22 @@
     if (!graph || isBeyond) Page.find('netgraph').replaceChildren(draw(view));
     Page.setText(Page.find('netgraph-elided'), graph.told);
     for (const [event, number] of numbers) drawNumber(view, event, number);
+    Page.drawAlarms(view, alarms);
+  };
+
+  // The netgraph for paper, with no event chosen, and what it says of what is left out; the one on the screen stays.
+  Page.netgraphOf = view => {
+    const screen = { graph, numbers, alarms }, drawn = draw(view), { told } = graph;
+    for (const [event, number] of numbers) drawNumber(view, event, number, null);
+    Page.drawAlarms(view, alarms);
+    ({ graph, numbers, alarms } = screen);
+    return { drawn, told };
   };
 
   // A number is set where it is another one than was drawn, since there are many and a step changes few.
-  const drawNumber = (view, event, number) => {
-    const text = Page.minuteText(view, event), isChosen = event === Page.chosen;
-    const look = [text.endsWith('✕') ? 'alarm' : '', isChosen ? 'chosen' : ''].join(' ').trim(), drawn = `${text} ${look}`;
+  const drawNumber = (view, event, number, chosen = Page.chosen) => {
+    const text = Page.minuteText(view, event), isChosen = event === chosen;
+    const look = [Page.isAlarming(view, event) ? 'alarm' : '', isChosen ? 'chosen' : ''].join(' ').trim(), drawn = `${text} ${look}`;
     if (number.drawn === drawn) return;
     number.drawn = drawn;
     number.node.textContent = text;
@@ -173,6 +199,7 @@
 
   const build = () => {
     graph = null;
+    Page.find('view-netgraph').scrollTo(0, 0);
     Page.find('netgraph').replaceChildren();
     Page.setText(Page.find('netgraph-elided'), '');
   };

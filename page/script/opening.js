@@ -6,7 +6,7 @@
   const { element } = Page;
   const KINDS = {
     activities: 'activities', fixed: 'fixed times', times: 'times', labels: 'labels', places: 'places of stations', windows: 'windows',
-    events: 'events without activities', period: 'the period', lines: 'lines of commands', nothing: 'not to be opened',
+    events: 'events without activities', period: 'the period', lines: 'commands', nothing: 'not to be opened',
   };
   // The first of these that stands in a file's name says what the file is.
   const WORDS = Object.entries({
@@ -24,6 +24,8 @@
     Page.setText(Page.find('opening-fault'), text);
     Page.setText(Page.find('opening-help'), help);
   };
+
+  Page.tellOpening = tell;
 
   // Shows the dialog, which says what would be lost.
   const show = () => {
@@ -45,7 +47,8 @@
     const kinds = files.map(file => file.kind);
     const isClear = kinds.length > 0 && !kinds.includes('nothing') && new Set(kinds).size === kinds.length && kinds.includes('period');
     list();
-    if (isClear && !isAsked && Page.isSaved()) openListed();
+    // Names alone are added to what is open, and lose nothing.
+    if ((isClear && !isAsked && Page.isSaved()) || kinds.join() === 'labels') openListed();
     else show();
   };
 
@@ -55,30 +58,42 @@
     return element('li', {}, element('span', {}, file.name), ' ', select);
   }));
 
-  // The texts of what is listed, by their kinds. The program reads bytes, of which UTF-8 keeps the digits; a byte that is no
-  // UTF-8 is none of a number either.
+  const isOfNames = texts => Object.keys(texts).join() === 'labels';
+
+  // The texts of what is listed, by their kinds, in the form that is read here; each file is told what was converted.
   const textsListed = () => {
     const texts = {};
-    for (const { name, kind, bytes } of files.filter(file => file.kind !== 'nothing')) {
+    for (const file of files.filter(each => each.kind !== 'nothing')) {
+      const { name, kind, bytes } = file;
       if (kind in texts) throw new Error(`${name}: another file is ${KINDS[kind]} already`);
       if (!bytes) throw new Error(`${kind} file is too long: it has more than ${Page.MOST_BYTES.toLocaleString('en')} bytes`);
-      texts[kind] = new TextDecoder('utf-8', { ignoreBOM: true }).decode(bytes);
+      Object.assign(file, Page.converted(kind, bytes));
+      texts[kind] = file.text;
     }
-    if (texts.activities === undefined && texts.lines === undefined) throw new Error('a file of activities, or of lines of commands, is wanted');
+    if (texts.activities === undefined && texts.lines === undefined && !isOfNames(texts)) throw new Error('a file of activities, or of commands, is wanted');
     return texts;
   };
 
   const openListed = async () => {
     const title = files.length ? folderOf(files[0].name) : '', listed = files;
     try {
-      const opening = Page.openTexts(textsListed(), title, Number(Page.find('opening-period').value));
+      const texts = textsListed(), period = Number(Page.find('opening-period').value);
+      const opening = isOfNames(texts) ? Page.addLabels(texts.labels) : Page.openTexts(texts, title, period);
       hide();
-      if (await opening !== false) Page.say(`opened: ${listed.filter(file => file.kind !== 'nothing').map(file => file.name).join(', ')}`);
+      if (await opening !== false) Page.say(openedWord(listed.filter(file => file.kind !== 'nothing')));
     } catch (fault) {
       tell(fault.message, Page.helpFor(fault.message, kind => listed.find(file => file.kind === kind)));
       show();
     }
   };
+
+  const baseOf = ({ name }) => name.split('/').pop();
+
+  // The folder of files is told as the title.
+  const openedWord = listed => [
+    `opened: ${listed.map(baseOf).join(', ')}`,
+    ...listed.filter(file => file.told.length).map(file => `${baseOf(file)}: ${file.told.join(', ')}`),
+  ].join(' — ');
 
   const folderOf = name => name.includes('/') ? name.split('/').slice(-2)[0] : name;
 

@@ -5,7 +5,7 @@ Page.share(Page => {
   const FIELD = /^[ \t]+|[ \t]+$/g;
 
   // The fields of the record that begins at a place, and where the next one begins.
-  const recordAt = (text, start, separator) => {
+  Page.recordAt = (text, start, separator) => {
     const fields = [];
     for (let place = start; ;) {
       let field = '';
@@ -31,7 +31,7 @@ Page.share(Page => {
     const whole = text.replace(/^\uFEFF/, ''), separator = whole.includes(';') ? ';' : ',', records = [];
     let number = 0;
     for (let place = 0; place < whole.length;) {
-      const { fields, next } = recordAt(whole, place, separator);
+      const { fields, next } = Page.recordAt(whole, place, separator);
       if (next > place + 1 && !(next === place + 2 && whole.startsWith('\r\n', place))) {
         number += 1;
         if (fields[fields.length - 1] === '') fields.pop();

@@ -9,13 +9,15 @@
     row.was = drawing('path', { class: 'was' });
     row.possible = drawing('path', { class: 'possible' });
     row.held = drawing('path', { class: 'held' });
-    row.svg = drawing('svg', { preserveAspectRatio: 'none', 'aria-hidden': true }, row.was, row.possible, row.held);
+    row.svg = drawing('svg', { preserveAspectRatio: 'none', 'aria-hidden': 'true' }, row.was, row.possible, row.held);
     row.strip = Page.handle('strip', Page.eventName(event), { 'data-event': event });
     row.strip.append(row.svg);
     row.time = Page.element('span', { class: 'time' });
     row.note = Page.element('span', { class: 'note' });
-    const name = Page.element('span', { class: 'name' }, place, ' ', Page.element('small', {}, kind));
-    row.node = Page.element('div', { class: 'row', 'data-row': event }, name, row.time, row.strip, row.note);
+    row.notes = Page.element('span', { class: 'notes' }, row.note);
+    const name = Page.element('span', { class: 'name', title: Page.eventName(event) },
+      Page.element('span', {}, place), ' ', Page.element('small', {}, kind));
+    row.node = Page.element('div', { class: 'row', 'data-row': event }, name, row.time, row.strip, row.notes);
     return row;
   };
 
@@ -84,11 +86,27 @@
     return (isViolated ? '✕ not ' : '') + Page.windowText(window, period);
   };
 
+  const toldAt = (view, event) => {
+    const conflicts = Page.conflictsAt(view, event);
+    return conflicts.length ? `${conflicts[0].number} ${conflicts[0].short} ${conflicts.length}` : '';
+  };
+
+  // The violated activities at the event; one that is too long for its place is whole in its title.
+  const drawBroken = (row, isBroken, conflicts) => {
+    row.node.classList.toggle('broken', isBroken);
+    row.notes.replaceChildren(row.note);
+    if (!conflicts.length) return;
+    row.notes.append(Page.element('button', {
+      class: 'conflict', type: 'button', tabindex: Page.chosen === row.event ? 0 : -1, title: Page.toldConflicts(conflicts),
+      onclick: () => Page.showActivity(conflicts[0].number, row.event),
+    }, Page.shortConflicts(conflicts)));
+  };
+
   // Draws what is new about an event.
   Page.drawRow = (row, view) => {
     const { event } = row, period = view.network.period, minutes = view.domains.get(event), window = view.network.windows.get(event);
-    const isViolated = Boolean(view.violations && view.violations.events.has(event)), isChosen = Page.chosen === event;
-    const seen = [minutes, period, window && window.first, window && window.length, view.times.get(event), isViolated, isChosen];
+    const isViolated = Page.isOutside(view, event), isChosen = Page.chosen === event, broken = toldAt(view, event);
+    const seen = [minutes, period, window && window.first, window && window.length, view.times.get(event), isViolated, isChosen, broken];
     if (row.seen && seen.every((value, place) => value === row.seen[place])) return;
     row.seen = seen;
     once(row, 'period', period, () => row.svg.setAttribute('viewBox', `0 0 ${period} 1`));
@@ -101,8 +119,12 @@
     once(row, 'window', window ? `${window.first} ${window.length}` : '', () => drawHeld(row, window, period));
     once(row, 'time', view.times.get(event), time => drawTime(row, time, period));
     once(row, 'ends', `${row.drawn.window} ${row.drawn.time}`, () => placeEnds(row, view.times.get(event), period));
-    once(row, 'note', noteOf(window, isViolated, period), text => Page.setText(row.note, text));
+    once(row, 'note', noteOf(window, isViolated, period), text => {
+      Page.setText(row.note, text);
+      row.note.title = text;
+    });
     once(row, 'violated', isViolated, () => row.node.classList.toggle('alarm', isViolated));
+    once(row, 'broken', broken, () => drawBroken(row, Boolean(broken), Page.conflictsOfRow(view, event)));
     once(row, 'chosen', isChosen, () => chooseRow(row, isChosen));
     once(row, 'told', `${row.drawn.possible} ${row.drawn.window}`, () => tellStrip(row, view, window));
   };
@@ -115,6 +137,6 @@
 
   const chooseRow = (row, isChosen) => {
     row.node.classList.toggle('chosen', isChosen);
-    for (const handle of [row.strip, row.first, row.last, row.now]) if (handle) handle.tabIndex = isChosen ? 0 : -1;
+    for (const handle of [row.strip, row.first, row.last, row.now, row.notes.querySelector('button')]) if (handle) handle.tabIndex = isChosen ? 0 : -1;
   };
 })();

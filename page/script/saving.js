@@ -11,18 +11,18 @@
     activities: 'for the program', fixed: 'fixed times, for the program', times: 'the working timetable, for the program',
     windows: 'windows of more than one minute', events: 'events without activities', period: 'the period', labels: 'names',
     places: 'where stations lie',
-    script: 'the network as commands, as dump tells it',
+    script: 'the network as commands',
     lines: 'the steps since the network was opened, as commands',
   };
 
   // The files by name.
-  Page.filesToSave = () => filesOf(Page.view.network, Page.view.times);
+  Page.filesToSave = () => Page.filesOf(Page.view.network, Page.view.times);
 
-  const filesOf = (network, times) => {
+  Page.filesOf = (network, times, labels = Page.labels) => {
     const rows = Page.rowsOf(network, times), files = {};
     for (const [name, header] of Object.entries(HEADERS)) files[name] = `${header}\n${Page.rowsText(rows[name])}`;
     files.period = `period\n${network.period}\n`;
-    if (Page.labels.events.size || Page.labels.kinds.size) files.labels = Page.labelsText(Page.labels);
+    if (labels.events.size || labels.kinds.size) files.labels = Page.labelsText(labels);
     if (Page.places.size) files.places = Page.placesText(Page.places);
     return files;
   };
@@ -42,8 +42,6 @@
     for (const [file, text] of Object.entries(given)) saved.files.set(file, text);
   };
 
-  const folderName = () => (Page.session.opened.title || 'network').replace(/[^A-Za-z0-9]+/g, '-').replace(/^-|-$/g, '').toLowerCase() || 'network';
-
   const row = (name, text) => {
     const save = () => give(name, new Blob([text], { type: 'text/plain' }), { [name]: text });
     return element('li', {}, element('button', { type: 'button', class: 'link', onclick: save }, name), ` — ${TOLD[name]}`);
@@ -51,10 +49,10 @@
 
   Page.showSaving = () => {
     if (saved.opened !== Page.session.opened) saved = { opened: Page.session.opened, files: new Map() };
-    const files = Page.filesToSave(), folder = folderName();
+    const files = Page.filesToSave();
     Page.find('saving-files').replaceChildren(...Object.entries({ ...files, ...linesFiles() }).map(([name, text]) => row(name, text)));
-    const placed = Object.fromEntries(Object.entries(files).map(([name, text]) => [`${folder}/${name}`, text]));
-    Page.find('save-all').onclick = () => give(`${folder}.zip`, Page.zipOf(placed), files);
+    Page.find('save-all').onclick = () => give(`${Page.folderName()}.zip`, Page.zipOf(Page.folderFiles(files)), files);
+    Page.showHanding();
     Page.find('saving').showModal();
   };
 
@@ -65,7 +63,7 @@
   Page.isSaved = () => {
     const { opened } = Page.session, given = saved.opened === opened ? saved.files : new Map();
     if (!Page.session.steps.length && !given.size) return true;
-    const before = filesOf(opened.network, opened.times);
+    const before = Page.filesOf(opened.network, opened.times, opened.labels);
     return Object.entries(Page.filesToSave()).every(([name, text]) => text === (given.has(name) ? given.get(name) : before[name]));
   };
 

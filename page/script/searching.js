@@ -84,9 +84,10 @@
     const isInfeasible = told.found && told.found.kind === 'infeasible';
     if (isInfeasible) Page.say('No timetable meets everything. “Why?” tells what cannot be met together.', true);
     update();
+    if (told.isDone && told.found) Page.lead(Page.find('adopt'));
   };
 
-  const BUSY = { why: 'Looking for what cannot be met together …', play: 'Playing the lines …', search: 'Searching …' };
+  const BUSY = { why: 'Looking for what cannot be met together …', play: 'Doing the commands …', search: 'Searching …' };
 
   // What is found is of the state for which it was asked, and is offered as long as that is shown.
   const isOfNow = each => {

@@ -24,7 +24,7 @@
   // Opens a base with its labels and places, and shows it. Raises RunFault, and then nothing has changed.
   Page.open = (base, { title = '', labels = Page.noLabels(), places = new Map() } = {}) => {
     const looked = Page.lookFirst(base), { times } = looked;
-    Object.assign(session, { opened: { base, times, title, network: looked.network }, steps: [], place: 0 });
+    Object.assign(session, { opened: { base, times, title, labels, network: looked.network }, steps: [], place: 0 });
     Object.assign(Page, { labels, places, chosen: null, chosenLine: null, view: null });
     Page.forgetSearch();
     show(looked);
@@ -50,24 +50,40 @@
     return null;
   };
 
-  // Shows what a line would make, as a step of a drag.
-  Page.preview = line => {
-    const looked = tried([line]);
-    if (looked) show({ ...looked, times: Page.timesAfter(Page.timesNow(), [line]) });
+  // Shows what some lines would make, as a step of a drag; a title says in a planner's words what they do.
+  Page.preview = (more, title = '') => {
+    const looked = tried(more);
+    if (looked) show({ ...looked, times: Page.timesAfter(Page.timesNow(), more), title, isTried: true });
   };
 
-  // Does some lines as one step, which can be undone; false where one of them is refused, and then nothing has changed.
-  Page.step = more => {
+  // Does some lines as one step, with other names or without, which can be undone; false where a line is refused, and then
+  // nothing has changed. A title says in a planner's words what they do.
+  Page.step = (more, { title = '', labels = Page.labels } = {}) => {
     const looked = tried(more);
     if (!looked) {
       Page.refresh();
       return false;
     }
-    const times = Page.timesAfter(Page.timesNow(), more), made = { lines: more, times };
+    const times = Page.timesAfter(Page.timesNow(), more), made = { lines: more, times, title, labels };
     if (present().lines.length + more.length > LINES_OF_A_BASE) made.base = Page.baseOf(looked.network, times);
     session.steps.splice(session.place, Infinity, made);
     session.place += 1;
-    Page.say(more.length === 1 ? more[0] : `${more.length} lines`);
+    Page.labels = labels;
+    Page.say(title || (more.length > 1 ? `${more.length} commands` : titleOf(made)));
+    show({ ...looked, times, title });
+    return true;
+  };
+
+  // Does steps that were done before, each with its lines and title as it was one; false where a line is refused, and then none of
+  // them is done.
+  Page.stepAgain = (steps, labels) => {
+    const all = steps.flatMap(({ lines }) => lines), looked = tried(all);
+    if (!looked) return false;
+    let { times } = session.opened;
+    session.steps = steps.map(({ lines, title }) => ({ lines, title, labels, times: times = Page.timesAfter(times, lines) }));
+    session.place = steps.length;
+    Page.labels = labels;
+    if (all.length > LINES_OF_A_BASE) session.steps[steps.length - 1].base = Page.baseOf(looked.network, times);
     show({ ...looked, times });
     return true;
   };
@@ -81,15 +97,17 @@
   const goTo = (place, told) => {
     if (place < 0 || place > session.steps.length) return;
     session.place = place;
+    Page.labels = (place ? session.steps[place - 1] : session.opened).labels;
     Page.say(told);
     Page.refresh();
   };
-  const titleOf = lines => lines.length === 1 ? lines[0] : `${lines[0]} and ${lines.length - 1} more lines`;
+  const titleOf = ({ lines, title }) =>
+    title || (!lines.length ? 'a name' : lines.length === 1 ? lines[0] : `${lines[0]} and ${lines.length - 1} more commands`);
   Page.titleOf = titleOf;
 
-  Page.undo = () => session.place && goTo(session.place - 1, `undone: ${titleOf(session.steps[session.place - 1].lines)}`);
+  Page.undo = () => session.place && goTo(session.place - 1, `undone: ${titleOf(session.steps[session.place - 1])}`);
   Page.redo = () => session.place < session.steps.length
-    && goTo(session.place + 1, `done again: ${titleOf(session.steps[session.place].lines)}`);
+    && goTo(session.place + 1, `done again: ${titleOf(session.steps[session.place])}`);
   Page.goTo = place => goTo(place, `${place} of ${session.steps.length} steps are done`);
 
   // All lines since the network was opened, of the steps that are done.
@@ -107,8 +125,8 @@
 
   const show = view => {
     const before = Page.view;
-    Page.view = Object.assign(view, { lastDomains: before ? lastDomains(before) : view.domains });
-    const isBuilt = !before || !isSameShape(before.network, view.network);
+    Page.view = Object.assign(view, { labels: Page.labels, lastDomains: before ? lastDomains(before) : view.domains });
+    const isBuilt = !before || before.labels !== view.labels || !isSameShape(before.network, view.network);
     if (isBuilt) {
       view.trains = Page.trainsOf(view.network);
       view.lines = Page.linesOf(view.trains);

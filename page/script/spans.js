@@ -29,6 +29,17 @@
 
   Page.panel({ build, update });
 
+  // Brings the card of an activity to where it is seen, and the keys to it; one of its events is chosen first.
+  Page.showActivity = (number, event = null) => {
+    const { first, last } = Page.view.network.activities.get(number);
+    Page.bringRow(event !== null ? event : Page.chosen === last ? last : first);
+    const card = cards.get(number);
+    for (const each of cards.values()) each.node.classList.toggle('chosen', each === card);
+    if (!card) return;
+    card.node.scrollIntoView({ block: 'nearest' });
+    card.node.querySelector('.title button').focus({ preventScroll: true });
+  };
+
   const field = (card, name, label, make = Page.minutesField) => {
     card[name] = make({ 'aria-label': label, onchange: () => change(card) });
     return card[name];
@@ -47,7 +58,8 @@
     card.told = element('span', { class: 'told' });
     const fields = element('div', { class: 'fields' }, element('label', {}, 'from ', field(card, 'least', `${name}: least minutes`)),
       element('label', {}, 'to ', field(card, 'most', `${name}: most minutes`)),
-      element('label', {}, 'weight ', field(card, 'weight', `${name}: cost of a minute of slack`, Page.numberField)));
+      element('label', {}, 'weight ', field(card, 'weight', `${name}: cost of a minute of slack`, Page.numberField)),
+      element('button', { class: 'drop', onclick: () => Page.dropActivity(number) }, `Drop ${Page.kindOf(number)} ${number}`));
     const title = element('button', { class: 'link', title: 'show the event at its other end', onclick: () => Page.showRow(other) }, name);
     card.node = element('div', { class: 'card', 'data-activity': number }, element('div', { class: 'title' }, title, card.told), card.track, fields);
     card.track.addEventListener('pointerdown', event => begin(card, event));
@@ -67,6 +79,7 @@
   const drawCard = (card, activity, view) => {
     const taken = view.tensions && view.tensions.get(activity.number);
     const isViolated = Boolean(view.violations && view.violations.activities.has(activity.number));
+    const had = taken && Page.minutesHad(view, activity.number);
     const drawn = JSON.stringify([activity, taken, isViolated]);
     if (card.drawn === drawn) return;
     card.drawn = drawn;
@@ -75,7 +88,7 @@
     place(card.bar, card, lower, upper + 1);
     for (const [handle, value, left] of [[card.lower, lower, lower], [card.upper, upper, upper + 1]]) {
       handle.style.left = `${percent(card, left)}%`;
-      Page.tellHandle(handle, value, -1000000, 1000000, `${name}: ${Page.spanText(lower, upper)} minutes`);
+      Page.tellHandle(handle, value, -1000000, 1000000, `${name}: ${Page.spanMinutes(lower, upper)}`);
     }
     card.slack.hidden = card.tension.hidden = !taken;
     if (taken) {
@@ -83,16 +96,18 @@
       place(card.tension, card, taken.tension, taken.tension + 1);
     }
     card.node.classList.toggle('alarm', isViolated);
-    Page.setText(card.told, toldOf(taken, isViolated, weight));
-    for (const [input, value] of [[card.least, lower], [card.most, upper], [card.weight, weight]]) {
+    Page.setText(card.told, toldOf(taken, had, isViolated, weight));
+    for (const [input, value] of [[card.least, Page.lengthText(lower)], [card.most, Page.lengthText(upper)], [card.weight, weight]]) {
       if (document.activeElement !== input || document.body.classList.contains('dragging')) input.value = value;
     }
   };
 
-  const toldOf = (taken, isViolated, weight) => {
+  // What is violated may be counted as a period more than it takes.
+  const toldOf = (taken, had, isViolated, weight) => {
     if (!taken) return 'no timetable to look at';
     const cost = weight && taken.slack ? `, costs ${(weight * taken.slack).toLocaleString('en')}` : '';
-    return `${isViolated ? '✕ not met: ' : '✓ '}takes ${Page.minutes(taken.tension)}, slack ${taken.slack}${cost}`;
+    const counted = had === taken.tension ? '' : `, counted as ${Page.lengthText(taken.tension)}`;
+    return `${isViolated ? '✕ not met: ' : '✓ '}takes ${Page.minutes(had)}${counted}, slack ${Page.lengthText(taken.slack)}${cost}`;
   };
 
   const percent = (card, minute) => Math.min(100, Math.max(0, 100 * (minute - card.range.least) / card.range.count));
@@ -117,7 +132,7 @@
     const before = Page.view.network.activities.get(card.number), start = minuteAt(event.clientX);
     if (handle) handle.focus({ preventScroll: true });
     event.preventDefault();
-    Page.beginDrag(event, x => spanLine(card.number, before, end, minuteAt(x) - start));
+    Page.beginDrag(event, x => [spanLine(card.number, before, end, minuteAt(x) - start)]);
   };
 
   const typed = (card, event) => {

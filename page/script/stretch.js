@@ -8,7 +8,7 @@
   Page.MOST_STATIONS = 349;
 
   // The parts of a train that lie in some stations, each as a train.
-  const piecesOf = (train, stations) => {
+  Page.piecesOf = (train, stations) => {
     const pieces = [];
     train.events.forEach((event, place) => {
       if (!stations.has(Page.labelOf(event).station)) return;
@@ -27,6 +27,6 @@
     const first = Math.min(Math.max(0, middle - MOST_STRETCH / 2), stations.length - MOST_STRETCH);
     const kept = stations.slice(first, first + MOST_STRETCH), known = new Set(kept);
     const told = `Elided: of ${stations.length.toLocaleString('en')} stations the ${MOST_STRETCH} about ${stations[middle]} are drawn.`;
-    return { line: { ...line, stations: kept, trains: line.trains.flatMap(train => piecesOf(train, known)) }, told };
+    return { line: { ...line, stations: kept, trains: line.trains.flatMap(train => Page.piecesOf(train, known)) }, told };
   };
 })();

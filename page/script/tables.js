@@ -1,39 +1,62 @@
 'use strict';
 
-// The table of each line: stations down, and for each train the minutes at which it arrives and leaves across. Printing
-// gives these, with the diagram of each line.
+// The table of each line: stations down, and for each train the minutes at which it arrives and leaves across. On
+// paper the diagram of each line stands below.
 (() => {
   const { element } = Page;
+  // The cells of what is shown, by events; null where it is to be made anew.
+  let shown = null;
 
-  Page.lineTable = (view, line) => {
+  const lineTable = (view, line, made) => {
     const trains = [...line.trains].sort((one, other) => Page.isForward(line, other) - Page.isForward(line, one));
     const arrow = train => Page.isForward(line, train) ? '↓' : '↑';
     const head = trains.map(train => element('th', { colspan: 2, scope: 'colgroup', class: 'begins' }, `to ${train.to} ${arrow(train)}`));
     const names = trains.flatMap(() => [element('th', { scope: 'col', class: 'begins' }, 'arr.'), element('th', { scope: 'col' }, 'dep.')]);
     const rows = line.stations.map(station => {
-      const minutes = trains.flatMap(train => cells(view, train, station));
+      const minutes = trains.flatMap(train => cells(train, station, made));
       return element('tr', {}, element('th', { scope: 'row' }, station), ...minutes);
     });
     const heads = [element('tr', {}, element('th', {}), ...head), element('tr', {}, element('th', { scope: 'col' }, 'Station'), ...names)];
     return element('table', { class: 'times' }, element('thead', {}, ...heads), element('tbody', {}, ...rows));
   };
 
-  const cells = (view, train, station) => {
+  const cells = (train, station, made) => {
     const stop = train.stops.find(each => each.station === station) || { arrival: null, departure: null };
-    return [cell(view, stop.arrival, 'begins'), cell(view, stop.departure, '')];
+    return [cell(stop.arrival, 'begins', made), cell(stop.departure, '', made)];
+  };
+
+  const cell = (event, name, made) => {
+    const node = element('td', { class: name });
+    if (event !== null) made.set(event, { node, name, drawn: '' });
+    return node;
+  };
+
+  // Draws what is new about the cell of an event.
+  const drawCell = (view, event, cell) => {
+    const look = lookOf(view, event, [cell.name, view.network.windows.has(event) ? 'held' : '']), text = Page.minuteText(view, event);
+    const drawn = `${text} ${Object.values(look).join()}`;
+    if (cell.drawn === drawn) return;
+    cell.drawn = drawn;
+    for (const [name, value] of Object.entries(look)) Page.setAttribute(cell.node, name, value);
+    Page.setText(cell.node, text);
+  };
+
+  // The look of a minute, below which its style puts what is violated there.
+  const lookOf = (view, event, words) => {
+    const conflicts = Page.conflictsOfRow(view, event);
+    const told = [Page.isOutside(view, event) && Page.outsideText(view, event), Page.shortConflicts(conflicts)];
+    const looks = [...words, Page.isAlarming(view, event) ? 'alarm' : '', event === Page.chosen ? 'chosen' : ''];
+    return {
+      class: looks.filter(Boolean).join(' '), 'data-event': event, 'data-told': told.filter(Boolean).join('\n') || null,
+      'data-activity': conflicts.length ? conflicts[0].number : null, title: Page.toldConflicts(conflicts) || null,
+    };
   };
 
   // The minute of an event; where it has no time and one minute alone is possible, that one in brackets.
-  const cell = (view, event, name) => {
-    if (event === null) return element('td', { class: name });
-    const isViolated = view.violations && view.violations.events.has(event), isHeld = view.network.windows.has(event);
-    return element('td', { class: [name, isHeld ? 'held' : '', isViolated ? 'alarm' : ''].join(' ').trim() }, Page.minuteText(view, event));
-  };
-
   Page.minuteText = (view, event) => {
-    const time = view.times.get(event), minutes = view.domains.get(event), isViolated = view.violations && view.violations.events.has(event);
+    const time = view.times.get(event), minutes = view.domains.get(event);
     if (time === undefined) return minutes.length === 1 ? `(${Page.bareClock(minutes[0])})` : '–';
-    return Page.bareClock(time) + (isViolated ? '✕' : '');
+    return Page.bareClock(time) + (Page.isOutside(view, event) ? '✕' : '');
   };
 
   const headOf = line => {
@@ -46,40 +69,34 @@
   const eventTable = view => {
     const head = ['Event', 'time', 'can be at', 'held'].map(text => element('th', { scope: 'col' }, text));
     const named = event => element('th', { scope: 'row' }, Page.eventName(event));
-    const rows = view.network.events.map(event => element('tr', {}, named(event), ...eventCells(view, event)));
+    const rows = view.network.events.map(event => element('tr', { 'data-event': event }, named(event), ...eventCells(view, event)));
     return element('table', { class: 'times' }, element('thead', {}, element('tr', {}, ...head)), element('tbody', {}, ...rows));
   };
 
   const eventCells = (view, event) => {
     const { period, windows } = view.network, held = windows.has(event) ? Page.windowText(windows.get(event), period) : '';
-    return [Page.minuteText(view, event), Page.domainText(view.domains.get(event), period), held].map(text => element('td', {}, text));
+    const minute = element('td', lookOf(view, event, []), Page.minuteText(view, event));
+    return [minute, ...[Page.domainText(view.domains.get(event), period), held].map(text => element('td', {}, text))];
   };
 
-  const tablesOf = (view, isPrinted) => {
+  Page.tablesOf = (view, isPrinted, made = new Map()) => {
     if (!view.lines.length) return [eventTable(view)];
-    return view.lines.map(line => {
+    const tables = view.lines.map(line => {
       const { drawn, told } = isPrinted && line.stations.length > 1 ? Page.diagramOf(view, line) : { drawn: null, told: '' };
-      return element('section', { class: 'line' }, headOf(line), Page.lineTable(view, line), drawn, told && element('p', {}, told));
+      return element('section', { class: 'line' }, headOf(line), lineTable(view, line, made), drawn, told && element('p', {}, told));
     });
+    drawCells(view, made);
+    return tables;
   };
+
+  const drawCells = (view, made) => made.forEach((cell, event) => drawCell(view, event, cell));
 
   const update = view => {
     if (Page.tab !== 'tables') return;
-    Page.find('tables').replaceChildren(...tablesOf(view, false));
+    if (shown && view.lines.length) return drawCells(view, shown);
+    shown = new Map();
+    Page.find('tables').replaceChildren(...Page.tablesOf(view, false, shown));
   };
 
-  Page.panel({ update });
-
-  const summary = view => {
-    const { title } = Page.session.opened, count = Page.countViolated(view);
-    const cost = view.cost === null ? view.missing : `cost ${view.cost.toLocaleString('en')}`;
-    const violated = count === null ? '' : count ? `, ✕ ${count} violated` : ', nothing is violated';
-    const told = `Period ${view.network.period}: ${cost}${violated}. A frame: the event is held.`;
-    return [element('h1', {}, title || 'Timetable'), element('p', {}, told)];
-  };
-
-  Page.startPrinting = () => {
-    window.addEventListener('beforeprint', () => Page.find('printed').replaceChildren(...summary(Page.view), ...tablesOf(Page.view, true)));
-    window.addEventListener('afterprint', () => Page.find('printed').replaceChildren());
-  };
+  Page.panel({ build: () => { shown = null; }, update });
 })();

@@ -18,6 +18,7 @@
   Page.showWhy = told => {
     answer = { ...told, ...Page.present() };
     Page.draw();
+    Page.lead(document.querySelector('#reasons .mend'));
   };
 
   // The members of the kinds that are not to be changed; `fixed` are fixed times and windows.
@@ -31,7 +32,7 @@
 
   const nameOf = ({ of, number }, network) => of === 'event' ? Page.eventName(number) : Page.activityName(network.activities.get(number));
 
-  const boundsOf = (of, bounds, period) => of === 'event' ? Page.windowText(bounds, period) : `${Page.spanText(bounds.lower, bounds.upper)} minutes`;
+  const boundsOf = (of, bounds, period) => of === 'event' ? Page.windowText(bounds, period) : Page.spanMinutes(bounds.lower, bounds.upper);
 
   // The members in the order of the circle or way, a window beside the end that it holds.
   const ordered = ({ members, shape }) => {
@@ -57,15 +58,15 @@
     if (!shape) return '';
     const [below, above] = shape.wanted, told = [below, above].filter(each => each[0] >= 0 || each === above);
     const wanted = told.map(each => Page.spanText(...each)).join(' or ');
-    const taken = Page.spanText(shape.least, shape.most);
-    return shape.isCircle ? `Once round this circle they take ${taken} minutes, and have to take ${wanted}: a whole number of periods.`
-      : `On this way from one held event to the other they take ${taken} minutes, and have to take ${wanted}.`;
+    const taken = Page.spanMinutes(shape.least, shape.most);
+    return shape.isCircle ? `Once round this circle they take ${taken}, and have to take ${wanted}: a whole number of periods.`
+      : `On this way from one held event to the other they take ${taken}, and have to take ${wanted}.`;
   };
 
   const claimText = ({ members, undecided, nodes }, network) => {
     if (!undecided.length) return members.length > 1 ? 'Without any one of them, the others have a timetable.' : '';
     const names = undecided.map(member => nameOf(member, network)).join(', ');
-    return `Searches of ${nodes.toLocaleString('en')} nodes see no conflict in the others without one of them; undecided is that without ${names}.`;
+    return `Searches of ${nodes.toLocaleString('en')} cases see no conflict in the others without one of them; undecided is that without ${names}.`;
   };
 
   const lineOf = ({ member, after }) => member.of === 'event' ? Page.windowLine(member.number, after.first, after.length)
@@ -73,7 +74,7 @@
 
   const changeOf = ({ member, after }, period) => {
     const [wanted, before] = [after, member.bounds].map(bounds => boundsOf(member.of, bounds, period));
-    return `${wanted} in place of ${before.replace(/ minutes$/, '')}`;
+    return `${wanted} in place of ${before.replace(/ (minutes|h)$/, '')}`;
   };
 
   const mendRow = (mend, network) => element('tr', {},
@@ -100,7 +101,7 @@
     if (answer.kind === 'possible') return [element('p', {}, 'A timetable meets everything, so there is no conflict.')];
     if (answer.kind === 'conflict') return conflict(answer, network);
     const nodes = answer.nodes.toLocaleString('en');
-    return [element('p', {}, `Undecided: a search of ${nodes} nodes came to no timetable, and single activities show no conflict.`)];
+    return [element('p', {}, `Undecided: a search of ${nodes} cases came to no timetable, and single activities show no conflict.`)];
   };
 
   const update = view => {

@@ -2,9 +2,10 @@
 
 // Trains and lines, found from labels: a train is a chain of runs and dwells of one line with one destination.
 (() => {
-  const COLORS = ['#1b6ca8', '#b3501a', '#2e7d4f', '#8e3b8a', '#8a6800', '#0b7a7c', '#b0305c', '#5a5fc7', '#6b5b45', '#4d7c0f'];
+  // The style has so many colors of lines, other ones where it is dark.
+  const COLORS = 10;
 
-  Page.colorOf = place => COLORS[place % COLORS.length];
+  Page.colorOf = place => `var(--line-${place % COLORS})`;
 
   const isStep = ({ number, first, last }) => {
     const kind = Page.labels.kinds.get(number) || '', [from, to] = [Page.labelOf(first), Page.labelOf(last)];
@@ -32,6 +33,15 @@
       trains.push(train);
     }
     return trains.sort((one, other) => one.events[0] - other.events[0]);
+  };
+
+  const places = new WeakMap();
+
+  // The train of an event with the event's place in it.
+  Page.trainAt = event => {
+    const { trains } = Page.view;
+    if (!places.has(trains)) places.set(trains, new Map(trains.flatMap(train => train.events.map((each, place) => [each, { train, place }]))));
+    return places.get(trains).get(event);
   };
 
   const trainFrom = (event, following) => {
@@ -100,7 +110,7 @@
   Page.minutesOf = (view, train) => {
     if (!view.tensions || !view.times.has(train.events[0])) return null;
     const minutes = [view.times.get(train.events[0])];
-    for (const step of train.steps) minutes.push(minutes[minutes.length - 1] + view.tensions.get(step).tension);
+    for (const step of train.steps) minutes.push(minutes[minutes.length - 1] + Page.minutesHad(view, step));
     return minutes;
   };
 })();

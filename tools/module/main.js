@@ -5,6 +5,7 @@
 // usage: node main.js PAGE.HTML MODULE.JS WORD..
 
 const { readFileSync } = require('node:fs');
+const { inflateRawSync } = require('node:zlib');
 const { settingsOf, wordsAreText, Refused, Help } = require('./words.js');
 const { contents, writeAll, Fault } = require('./devices.js');
 const { Lines } = require('./lines.js');
@@ -15,7 +16,7 @@ const CHECK = ['tensions', 'violations', 'cost'].map(word => Buffer.from(word));
 const moduleOf = page => {
   const found = /const PESPBENCH_MODULE = "([A-Za-z0-9+/=]*)"/.exec(readFileSync(page, 'latin1'));
   if (!found) throw new Error(`${page} has no module`);
-  return Buffer.from(found[1], 'base64');
+  return inflateRawSync(Buffer.from(found[1], 'base64'));
 };
 
 const filesOf = settings => ({

@@ -163,8 +163,8 @@ class Browser:
                     raise Failed(f"waited in vain for {condition}") from None
         raise Failed(f"waited in vain for {condition}")
 
-    def mouse(self, kind, x, y, count=1):
-        """An event of the mouse with its left button: `mousePressed`, `mouseMoved` or `mouseReleased`."""
+    def mouse(self, kind, x, y, count=1, modifiers=0):
+        """An event of the mouse with its left button: `mousePressed`, `mouseMoved` or `mouseReleased`; modifiers as of keys."""
         self.call(
             "Input.dispatchMouseEvent",
             type=kind,
@@ -173,16 +173,24 @@ class Browser:
             button="left",
             buttons=int(kind != "mouseReleased"),
             clickCount=count,
+            modifiers=modifiers,
         )
 
-    def drag(self, places, is_released=True):
+    def drag(self, places, is_released=True, modifiers=0):
         """Presses at the first of some places, and moves over the others."""
-        self.mouse("mousePressed", *places[0])
+        self.mouse("mousePressed", *places[0], modifiers=modifiers)
         for place in places[1:]:
-            self.mouse("mouseMoved", *place)
+            self.mouse("mouseMoved", *place, modifiers=modifiers)
             self.frame()
         if is_released:
-            self.mouse("mouseReleased", *places[-1])
+            self.mouse("mouseReleased", *places[-1], modifiers=modifiers)
+            self.frame()
+
+    def touch(self, places):
+        """Puts a finger down at the first of some places, and moves it over the others."""
+        for kind, place in [("touchStart", places[0]), *(("touchMove", each) for each in places[1:]), ("touchEnd", None)]:
+            points = [] if place is None else [{"x": place[0], "y": place[1]}]
+            self.call("Input.dispatchTouchEvent", type=kind, touchPoints=points)
             self.frame()
 
     def click(self, x, y, count=1):

@@ -134,7 +134,7 @@ def spans(suite, page):
     page.drag([(x, y), (x + shift, y), (x + 2 * shift, y)])
     suite.note("the whole span", {"line": "span 1 5 7"}, {"line": page.lines()[-1]})
     told = page.text('[data-activity="1"] .told')
-    suite.note("what is not met", {"told": "✕ not met: takes 13 minutes, slack 8, costs 16"}, {"told": told})
+    suite.note("what is not met", {"told": "✕ not met: takes 3 minutes, counted as 13, slack 8, costs 16"}, {"told": told})
 
 
 def undoing(suite, page):

@@ -1,8 +1,22 @@
 """A network of some 2,000 events: regions side by side, each with stations and lines of its own."""
 
+import re
+
 from pespbench.drawn import draw_region
 
 REGIONS = 19
+
+
+def with_train(texts):
+    """The same files, where the first line's trains are one of 20 events: what turns at its end dwells there."""
+    first, labels = "", []
+    for row in texts["labels"].splitlines():
+        number, *fields = [field.strip() for field in row.split(";")]
+        if number.isdigit() and len(fields) == 4 and int(number) <= 20:
+            first = first or fields[1]
+            row = "; ".join([number, fields[0], first, *fields[2:]])
+        labels.append(re.sub(r"^19; *turnaround$", "19; dwell", row))
+    return {**texts, "labels": "".join(f"{row}\n" for row in labels)}
 
 
 def texts(count=REGIONS):

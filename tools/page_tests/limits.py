@@ -42,7 +42,7 @@ def at_the_limits(suite, page):
         page.drop(*placed(folder, texts))
         page.until(OPENED)
     came = {"size": page.text("#size"), "time": page.row(1_441, "time"), "fault": page.text("#opening-fault")}
-    suite.note("opened", {"size": "1666 events, 8333 activities, period 1440", "time": "0:01", "fault": ""}, came)
+    suite.note("opened", {"size": "1666 events, 8333 activities, period 24:00", "time": "0:01", "fault": ""}, came)
     page.fill("#time-at", "6:15\n")
     came = {"lines": page.lines(), "time": page.row(1, "time")}
     suite.note("a time", {"lines": ["time 1 375"], "time": "6:15"}, came)

@@ -114,8 +114,8 @@ def refused(suite, page):
         ),
         (
             "UTF-16",
-            {"activities": "1; 1; 2; 3; 5; 2\n".encode("utf-16"), "period": "10"},
-            "activities file, record 1: field 1 is not a number",
+            {"activities": "x; 1; 2; 3; 5; 2\n1; 1; 2; 5; 3; 2\n".encode("utf-16"), "period": "10"},
+            "activities file, record 2: lower bound above upper bound",
         ),
         (
             "a name",

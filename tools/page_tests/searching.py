@@ -36,7 +36,7 @@ def optima(suite, page):
     page.until(DONE)
     suite.holds(
         "a try without nodes",
-        re.match(r"No timetable found yet \(0 nodes, .* s\); there may be one$", page.text("#found")),
+        re.match(r"No timetable found yet \(0 cases, .* s\); there may be one$", page.text("#found")),
     )
 
 

@@ -22,7 +22,7 @@ def played(suite, page):
         state = page.state()
         page.drop(*placed(folder, {"lines": f"{LONG}adopt\n", "period": "60"}))
         came = {"stop": page.is_shown("stop"), "found": page.text("#found")}
-        suite.note("it can be stopped", {"stop": True, "found": "Playing the lines …"}, came)
+        suite.note("it can be stopped", {"stop": True, "found": "Doing the commands …"}, came)
         page.click(*page.minute(3, 20))
         page.frame()
         suite.note("the page is usable", {"chosen": 3}, {"chosen": page.ask("Page.chosen")})
@@ -119,15 +119,14 @@ def trapped(suite, page):
 
 
 def helped(suite, page):
-    """A file of another form is told with what it has, and with what mends it."""
+    """A file of another form that is not converted is told with what it has, and with what mends it."""
     rows = "activity; from; to; lower; upper; weight\n1; 1; 2; 3; 5; 2\n"
     decimal = "It has decimal commas. Write whole numbers, as 2, or with a point"
     for name, data, word in [
-        ("UTF-16", rows.encode("utf-16"), "The file is UTF-16. Save it as UTF-8"),
-        ("UTF-16 without a mark", rows.encode("utf-16-le"), "The file is UTF-16. Save it as UTF-8"),
-        ("tabs", rows.replace("; ", "\t").encode(), "Tabs stand between its fields. Save it with semicolons"),
-        ("a decimal comma", rows.replace("; 2\n", "; 2,0\n").encode(), decimal),
-        ("a decimal comma among commas", b"1,1,2,3,5,2,0\n", decimal),
+        ("tabs below semicolons", f"{rows}2\t2\t1\t4\t6\t1\n".encode(), "Tabs stand between its fields. Save it with semicolons"),
+        ("two decimal commas among commas", b"1,1,2,3,0,5,2,0\n", decimal),
+        ("a decimal comma in one row", b"1,1,2,3,5,2,0\n2,2,1,4,6,1\n", decimal),
+        ("thousands", rows.replace("; 2\n", "; 1,000\n").encode(), "1,000 can be 1 or 1000. Write it without the comma."),
         ("another fault", b"1; 1; 2; 5; 3; 2\n", ""),
     ]:
         with tempfile.TemporaryDirectory() as folder:

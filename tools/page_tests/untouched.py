@@ -187,7 +187,7 @@ def compared(suite, page):
     page.press("optimum")
     page.until(DONE)
     told = page.text("#found")
-    suite.holds(f"the best of two: {told}", told.startswith("Found: cost 4, perhaps not the best (20 nodes, "))
+    suite.holds(f"the best of two: {told}", told.startswith("Found: cost 4, perhaps not the best (20 cases, "))
     page.press("optimum")
     page.ask(STAND_IN.replace("ANSWERS", f"[{worse}]"))
     page.until(DONE)

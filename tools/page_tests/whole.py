@@ -9,7 +9,7 @@ from page_tests.hands import TWO_TRAINS
 from tests.harness import within
 
 # The most bytes that the page may have.
-MOST_BYTES = 600_000
+MOST_BYTES = 650_000
 
 
 # Requests that a page could make; each tells whether it was sent.
@@ -172,7 +172,7 @@ def printed(suite, page):
     suite.holds(f"from 3 to 10 pages, which are {pages}", 3 <= pages <= 10)
     page.ask("window.dispatchEvent(new Event('beforeprint'))")
     came = {
-        "tables": page.ask("document.querySelectorAll('#printed table').length"),
+        "tables": page.ask("document.querySelectorAll('#printed .line table').length"),
         "diagrams": page.ask("document.querySelectorAll('#printed .line > svg').length"),
         "head": page.text("#printed h1"),
     }

@@ -3,6 +3,7 @@
 import base64
 import hashlib
 import re
+import zlib
 
 from paging.tree import NotMade
 
@@ -14,6 +15,17 @@ BREAKS = ["</script", "</style", "<!--"]
 NOTHING = "default-src 'none'"
 
 
+def unindented(text):
+    """A source without the more than ten thousand blanks that begin lines, and without empty lines; no text in it may have these."""
+    return re.sub(r"^\s+", "", text, flags=re.M)
+
+
+def packed(module):
+    """The bytes of a module by deflate without a head, the same ones each time."""
+    packer = zlib.compressobj(9, zlib.DEFLATED, -15)
+    return packer.compress(module) + packer.flush()
+
+
 def source(folder, name):
     """A style or script of the page, which can stand inside of it."""
     path = (folder / name).resolve()
@@ -23,14 +35,14 @@ def source(folder, name):
     for word in BREAKS:
         if word in text.lower():
             raise NotMade(f"page/{name} has {word}, which would end it inside of a page")
-    return text
+    return unindented(text)
 
 
 def part(folder, found, module):
     """What stands for a line of the kind `<!-- style: FILE -->`, `<!-- script: FILE -->` or `<!-- module -->`."""
     kind, name, is_module = found.groups()
     if is_module:
-        return f'<script>const PESPBENCH_MODULE = "{base64.b64encode(module).decode()}";</script>'
+        return f'<script>const PESPBENCH_MODULE = "{base64.b64encode(packed(module)).decode()}";</script>'
     return f"<{kind}>\n{source(folder, name)}</{kind}>"
 
 
@@ -54,7 +66,8 @@ def assembled(folder, module):
     """The page of the sources in a folder and of a module, as its bytes."""
     if not (folder / "index.html").is_file():
         raise NotMade("there is no page/index.html")
-    text = LINE.sub(lambda found: part(folder, found, module), (folder / "index.html").read_text())
+    index = unindented((folder / "index.html").read_text())
+    text = LINE.sub(lambda found: part(folder, found, module), index)
     if 'const PESPBENCH_MODULE = "' not in text:
         raise NotMade("page/index.html has no line <!-- module -->")
     return with_policy(text).encode()
@@ -65,4 +78,7 @@ def module_of(page):
     found = re.search(rb'const PESPBENCH_MODULE = "([A-Za-z0-9+/=]*)"', page)
     if not found:
         raise NotMade("there is no module in the page")
-    return base64.b64decode(found.group(1))
+    try:
+        return zlib.decompress(base64.b64decode(found.group(1)), -15)
+    except zlib.error as fault:
+        raise NotMade(f"the module in the page cannot be unpacked: {fault}") from fault

@@ -32,14 +32,14 @@ MADE_OF_IT = """<!doctype html>
 p { margin: 0 }
 </style>
 <p>A <!-- comment --> stays.</p>
-<script>const PESPBENCH_MODULE = "AGFzbQ==";</script>
+<script>const PESPBENCH_MODULE = "Y0gszgUA";</script>
 <script>
 'use strict';
 </script>
 """
 MODULE = b"\0asm"
-# By openssl, of each of the two scripts.
-NAMES = ["sha256-PfQn40Px3bBZ42FmgZ5XTzl6GwwerIyD30qSfXi78vM=", "sha256-YZwKaVawabDNvmVDMcSnBHe0D1Gx5K61vcyoQEpD0nk="]
+# By openssl, of each of the two scripts; Node packed the module.
+NAMES = ["sha256-ucCEDWFESBPBbm1ODIMALbDS0sTBScYkR9sE53sXVVk=", "sha256-YZwKaVawabDNvmVDMcSnBHe0D1Gx5K61vcyoQEpD0nk="]
 
 
 def sources(suite, name, **changed):
@@ -59,6 +59,13 @@ def refused(folder):
         return f"refused: {fault}"
 
 
+def module_or_fault(text):
+    try:
+        return module_of(text.encode())
+    except NotMade as fault:
+        return str(fault)
+
+
 def page(suite):
     """A page has its styles, scripts and module in it, and its policy lets just these scripts run."""
     came = refused(sources(suite, "plain"))
@@ -68,6 +75,8 @@ def page(suite):
     wanted = POLICY.replace("script-src 'unsafe-inline'", f"script-src {names}")
     suite.note("its policy", {"policy": wanted}, {"policy": policy})
     suite.holds("its module", module_of(came.encode()) == MODULE)
+    unpacked = module_or_fault(came.replace("Y0gszgUA", "AGFzbQ=="))
+    suite.holds(f"one that is not packed: {unpacked}", str(unpacked).startswith("the module in the page cannot be unpacked"))
     table = {
         "a script that would end early": {"parts__first_js": "const text = '</SCRIPT>';\n"},
         "a style that would end early": {"look_css": "/* </style> */\n"},

@@ -1,0 +1,51 @@
+'use strict';
+
+// Connections by station, for paper: which train passengers come from, into which they change, and how long that takes.
+(() => {
+  const { element } = Page;
+  const MOST_ROWS = 2000, NO_CONNECTIONS = ['headway', 'turn', 'turnaround', 'run', 'dwell'];
+  const HEADS = ['from', 'arrives', 'into', 'leaves', 'takes', 'may take'];
+
+  const isConnection = ({ number, first, last }) => {
+    const [from, to] = [Page.labelOf(first), Page.labelOf(last)], kind = Page.labels.kinds.get(number) || '';
+    const isChange = from.kind === 'arrival' && to.kind === 'departure' && from.station !== '' && from.station === to.station;
+    // Without a kind, a train of the same line turns.
+    return isChange && !NO_CONNECTIONS.includes(kind) && (from.line !== to.line || (kind !== '' && from.to !== to.to));
+  };
+
+  // The connections by stations, in the order of their names, and within them by the minute of arrival.
+  const connectionsOf = view => {
+    const found = [...view.network.activities.values()].filter(isConnection), at = each => view.times.get(each.first);
+    const stationOf = each => Page.labelOf(each.first).station;
+    const byName = (one, other) => stationOf(one).localeCompare(stationOf(other), 'en', { numeric: true });
+    return found.sort((one, other) => byName(one, other) || at(one) - at(other) || one.number - other.number);
+  };
+
+  const row = (view, each) => {
+    const isViolated = Boolean(view.violations && view.violations.activities.has(each.number));
+    const takes = view.tensions ? `${Page.lengthText(Page.minutesHad(view, each.number))}${isViolated ? ' ✕' : ''}` : '–';
+    const [from, to] = [each.first, each.last].map(event => Page.trainName(Page.labelOf(event)));
+    const cells = [Page.minuteText(view, each.first), to, Page.minuteText(view, each.last), takes, Page.spanText(each.lower, each.upper)];
+    return element('tr', {}, element('th', { scope: 'row' }, from), ...cells.map((text, place) =>
+      element('td', { class: isViolated && place === 3 ? 'alarm' : null }, text)));
+  };
+
+  const stationTable = (view, station, rows) => {
+    const heads = HEADS.map(text => element('th', { scope: 'col' }, text));
+    return element('section', { class: 'station' }, element('h3', {}, station), element('table', { class: 'times' },
+      element('thead', {}, element('tr', {}, ...heads)), element('tbody', {}, ...rows.map(each => row(view, each)))));
+  };
+
+  // The connections of a network as they are printed; nothing where there are none.
+  Page.connectionTables = view => {
+    const all = connectionsOf(view), stations = new Map();
+    for (const each of all.slice(0, MOST_ROWS)) {
+      const { station } = Page.labelOf(each.first);
+      stations.set(station, [...stations.get(station) || [], each]);
+    }
+    if (!stations.size) return [];
+    const told = Page.elided(all.length, MOST_ROWS, 'connections');
+    return [element('section', { class: 'connections' }, element('h2', {}, 'Connections by station'), told && element('p', {}, told),
+      ...[...stations].map(([station, rows]) => stationTable(view, station, rows)))];
+  };
+})();

@@ -1,0 +1,85 @@
+'use strict';
+
+// Stations, lines, trains and events by what is typed of their names: all words have to stand there, in any order, without accents.
+(() => {
+  const MOST = { station: 5, line: 5, train: 5, event: 8 };
+  const fold = text => text.normalize('NFD').replace(/\p{M}/gu, '').toLowerCase();
+  let known = null;
+
+  const countsOf = events => {
+    const counts = new Map();
+    for (const event of events) {
+      const { station } = Page.labelOf(event);
+      if (station) counts.set(station, (counts.get(station) || 0) + 1);
+    }
+    return counts;
+  };
+
+  const entry = (kind, value, name, note) => ({ kind, value, name, note, folded: fold(name) });
+
+  // All that can be found, gathered when something is typed first.
+  const entries = ({ network, lines, trains }) => [
+    ...[...countsOf(network.events)].map(([name, count]) => entry('station', name, name, `station, ${count} event${count > 1 ? 's' : ''}`)),
+    ...lines.map(line => entry('line', line.name, line.name, `line, ${line.stations[0]} – ${line.stations[line.stations.length - 1]}`)),
+    ...trains.map(train => entry('train', train.events[0], Page.trainName(train), `train from ${train.stations[0]}, event ${train.events[0]}`)),
+    ...network.events.map(event => entry('event', event, Page.eventName(event), Page.labelOf(event).station ? `event ${event}` : '')),
+  ];
+
+  // How well some words stand in an entry, 0 best; null where one is missing.
+  const rankOf = ({ kind, value, folded }, words) => {
+    const text = words.join(' ');
+    if (folded === text || (kind === 'event' && String(value) === text)) return 0;
+    if (!words.every(word => folded.includes(word))) return null;
+    if (folded.startsWith(text)) return 1;
+    return words.every(word => ` ${folded}`.includes(` ${word}`)) ? 2 : 3;
+  };
+
+  // What is found of each kind, the best first, and how many more there are.
+  Page.matches = (text, kinds) => {
+    const words = fold(text).split(/\s+/).filter(Boolean);
+    if (!words.length) return { found: [], more: 0 };
+    known = known || entries(Page.view);
+    const ranked = known.filter(({ kind }) => kinds.includes(kind)).map(each => ({ each, rank: rankOf(each, words) }))
+      .filter(({ rank }) => rank !== null);
+    ranked.sort((one, other) => one.rank - other.rank);
+    const found = kinds.flatMap(kind => ranked.filter(({ each }) => each.kind === kind).slice(0, MOST[kind]));
+    found.sort((one, other) => (other.rank === 0) - (one.rank === 0));
+    return { found: found.map(({ each }) => each), more: ranked.length - found.length };
+  };
+
+  const firstAt = station => Page.view.network.events.find(event => Page.labelOf(event).station === station);
+
+  const showLine = name => {
+    Page.showRow(Page.view.lines.find(line => line.name === name).trains[0].events[0]);
+    Page.showTab('diagram');
+  };
+
+  // On the netgraph too, which may be larger than its view.
+  const showStation = station => {
+    Page.showRow(firstAt(station));
+    const drawn = [...document.querySelectorAll('#netgraph [data-station]')].find(each => each.dataset.station === station);
+    if (!drawn) return;
+    const panel = Page.find('view-netgraph'), [at, of] = [drawn, panel].map(each => each.getBoundingClientRect());
+    panel.scrollBy(at.left - of.left - of.width / 2, at.top - of.top - of.height / 2);
+  };
+
+  const SHOW = { event: event => Page.showRow(event), station: showStation, line: showLine, train: event => Page.showBar(event) };
+
+  // Shows what was found, and says what it is.
+  const show = ({ kind, value, name, note }) => {
+    SHOW[kind](value);
+    Page.say([name, note].filter(Boolean).join(': '));
+  };
+
+  Page.panel({ build: () => { known = null; }, update: () => {} });
+
+  Page.startFinding = () => {
+    const kinds = ['station', 'line', 'train', 'event'], hint = 'a station, line, train or event';
+    const input = Page.fillFinder(Page.find('finder'), { label: 'Find', hint, kinds, take: show });
+    window.addEventListener('keydown', event => {
+      if (event.key !== '/' || event.ctrlKey || event.target.matches('input, select') || document.querySelector('dialog[open]')) return;
+      event.preventDefault();
+      input.focus();
+    });
+  };
+})();

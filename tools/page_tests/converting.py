@@ -1,0 +1,110 @@
+"""Files of other forms are opened, with a word on what was converted; what can be read in two ways is not."""
+
+import pathlib
+import tempfile
+
+from page_tests.hands import TWO_TRAINS
+
+HEADER = "activity; from; to; lower; upper; weight\n"
+ROW = HEADER + "1; 1; 2; 3; 5; 2\n"
+TABS = ROW.replace("; ", "\t")
+UTF_16, TABBED, POINTS = "read as UTF-16", "tabs taken as separators", "decimal commas read as points"
+NAMES = "event; line; to; station; kind\n1; Ü; Nürnberg; Fürth; departure\n2; Ü; Nürnberg; Nürnberg; arrival\n"
+
+
+def given(page, files):
+    """Drops files that exist, by their bytes, on a page that nobody has touched."""
+    page.again()
+    with tempfile.TemporaryDirectory() as folder:
+        paths = [pathlib.Path(folder) / name for name in files]
+        for path, data in zip(paths, files.values(), strict=True):
+            path.write_bytes(data if isinstance(data, bytes) else data.encode())
+        page.drop(*paths)
+
+
+def converted(suite, page):
+    """Activities in other forms are the same activity, and a word says what was converted."""
+    activity = {"number": 1, "first": 1, "last": 2, "lower": 3, "upper": 5, "weight": 2}
+    for name, data, told in [
+        ("as it is", ROW, ""),
+        ("UTF-16", ROW.encode("utf-16"), UTF_16),
+        ("UTF-16, the greater byte first", b"\xfe\xff" + ROW.encode("utf-16-be"), UTF_16),
+        ("UTF-16 without a mark", ROW.encode("utf-16-le"), UTF_16),
+        ("tabs", TABS, TABBED),
+        ("tabs after a mark, a comment and empty rows", f"\ufeff# a;\tb\n\n\t\t\n{TABS}\t\t\n", TABBED),
+        ("a spreadsheet's text", TABS.replace("\n", "\r\n").encode("utf-16"), f"{UTF_16}, {TABBED}"),
+        ("tabs and decimal commas", TABS.replace("3\t5\t2", "3,0\t5,00\t2,0"), f"{TABBED}, {POINTS}"),
+        ("decimal commas", ROW.replace("3; 5; 2", '3,0;"5,00";2,0'), POINTS),
+        ("a decimal comma among commas", "1,1,2,3,5,2,0\n", POINTS),
+        ("a decimal comma in quotes", '1,1,2,3,5,"2,0"\n', POINTS),
+        ("another column of them", ROW.replace("; ", ",").replace("3,5", "3,00,5"), POINTS),
+        ("tabs beside semicolons", ROW.replace("; ", ";\t"), ""),
+        ("tabs beside commas", ROW.replace("; ", ",\t"), ""),
+        ("Windows-1252", b"# f\xfcr\n" + ROW.encode(), "read as Windows-1252"),
+    ]:
+        given(page, {"activities": data, "period": "10"})
+        said = "opened: activities, period" + (f" — activities: {told}" if told else "")
+        came = {"said": page.said(), "activity": page.ask("Page.view.network.activities.get(1)")}
+        suite.note(name, {"said": said, "activity": activity}, came)
+
+
+def others(suite, page):
+    """Files of times, windows, names and places are converted too, each with its word."""
+    files = {
+        "activities": TWO_TRAINS["activities"].replace("; ", "\t").encode("utf-16"),
+        "times": "1; 0,0\n2; 3,0\n",
+        "windows": "2\t3\t2\n",
+        "labels": NAMES.encode("cp1252"),
+        "places": "station; x; y\nFürth; 1,5; 2,125\nNürnberg; -3; 0,25\n",
+        "period": "10\n".encode("utf-16"),
+    }
+    given(page, files)
+    words = [
+        f"activities: {UTF_16}, {TABBED}",
+        f"times: {POINTS}",
+        f"windows: {TABBED}",
+        "labels: read as Windows-1252",
+        f"places: {POINTS}",
+        f"period: {UTF_16}",
+    ]
+    came = {
+        "said": page.said().split(" — "),
+        "name": page.text("#chosen-name"),
+        "times": page.ask("[...Page.view.times]"),
+        "windows": page.ask("[...Page.view.network.windows]"),
+        "places": page.ask("[...Page.places]"),
+    }
+    wanted = {
+        "said": [f"opened: {', '.join(files)}", *words],
+        "name": "Ü to Nürnberg leaves Fürth",
+        "times": [[1, 0], [2, 3]],
+        "windows": [[2, {"first": 3, "length": 2}]],
+        "places": [["Fürth", [1.5, 2.125]], ["Nürnberg", [-3, 0.25]]],
+    }
+    suite.note("all kinds", wanted, came)
+    given(page, {**TWO_TRAINS, "labels": NAMES.replace("; ", "\t").replace("Fürth", '"F;\n""ü"""')})
+    came = {"station": page.ask("Page.labels.events.get(1).station"), "word": page.said().split(" — ")[1:]}
+    suite.note("a name in quotes", {"station": 'F;\n"ü"', "word": [f"labels: {TABBED}"]}, came)
+    saved = page.ask("Page.filesToSave().activities")
+    suite.note("what is saved is of the usual form", {"row": "1; 1; 2; 3; 5; 2"}, {"row": saved.splitlines()[1]})
+
+
+def doubtful(suite, page):
+    """What can be read in two ways, or has no whole number, is refused at its record, with what mends it."""
+    for name, data, told, word in [
+        ("thousands", f"{ROW}2; 2; 1; 4; 6; 1,000\n", "record 3: field 6 is not a number", "1,000 can be 1 or 1000."),
+        ("a fraction", f"\n{TABS}2\t2\t1\t4\t6\t1,5\n", "record 3: weight has a fraction", ""),
+        ("two columns", "1,1,2,0,0,5,0\n", "record 1: wrong number of fields", "It has decimal commas."),
+        ("a row without one", "1,1,2,3,5,2,0\n2,2,1,4,6,1\n", "record 1: wrong number of fields", "It has decimal"),
+        ("tabs in some rows", f"{ROW}2\t2\t1\t4\t6\t1\n", "record 3: wrong number of fields", "Tabs stand between"),
+        ("a row of tabs", f"{TABS}# c\n\t\nx\t2\t1\t4\t6\t1\n", "record 5: field 1 is not a number", ""),
+    ]:
+        given(page, {"activities": data, "period": "10"})
+        state, came = page.text("#title"), page.opening()
+        wanted = {"told": f"activities file, {told}", "help": word, "title": "A region of 112 events"}
+        shown = came["help"][: len(word)] if word else came["help"]
+        suite.note(name, wanted, {"told": came["told"], "help": shown, "title": state})
+    page.again()
+
+
+GROUPS = [converted, others, doubtful]

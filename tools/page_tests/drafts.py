@@ -1,0 +1,215 @@
+"""Drafts: kept in the browser where the planner says so, offered after a crash, and dropped by a click."""
+
+import os
+import signal
+import time
+
+from page_tests.hands import TWO_TRAINS
+from page_tests.keys import CTRL
+
+KEPT = "Object.keys(localStorage).filter(key => key.startsWith('pespbench-draft-')).length"
+NO_STORAGE = "Object.defineProperty(window, 'localStorage', { get() { throw new DOMException('no', 'SecurityError'); } }); 0"
+
+# Fills what the browser keeps, by ever smaller parts.
+FILLED = """for (let size = 1 << 22; size > 4; size >>= 1) {
+    try {
+        for (let place = 0; ; place += 1) localStorage.setItem(`x${size}-${place}`, 'x'.repeat(size));
+    } catch (fault) { }
+}"""
+
+
+def forget(page):
+    """A page with nothing kept."""
+    page.again()
+    page.ask("localStorage.clear()")
+    page.again()
+
+
+def tick(page):
+    """Ticks or unticks that a draft is kept, by a click."""
+    page.press("save")
+    page.press("keep-draft")
+    told = page.text("#draft-told")
+    page.press("saving-close")
+    return told
+
+
+def crash(page):
+    """Kills what draws the page, by its number, and opens the page anew."""
+    session, page._session = page._session, None
+    processes = page.call("SystemInfo.getProcessInfo")["processInfo"]
+    page._session = session
+    for process in processes:
+        if process["type"] == "renderer":
+            os.kill(process["id"], signal.SIGKILL)
+    # What is asked before the browser has seen it is never answered.
+    time.sleep(1)
+    page.again()
+
+
+def is_kept(page):
+    page.until(f"{KEPT} === 1")
+
+
+def draft_kept(suite, page):
+    """Nothing is kept before the planner says so; then what is not saved is there after a crash, with all of its steps."""
+    forget(page)
+    page.drag([page.minute(1, 20), page.minute(1, 30)])
+    page.ask("new Promise(done => setTimeout(done, 600))")
+    suite.note("before it is ticked", {"keys": 0}, {"keys": page.ask("localStorage.length")})
+    suite.holds("a word says what is kept", tick(page).startswith("It stays on this machine until it is saved or dropped"))
+    is_kept(page)
+    page.drag([page.grip(2, "now"), page.minute(2, 50)])
+    page.key("z", 90, CTRL)
+    page.drag([page.minute(3, 20), page.minute(3, 35)])
+    page.ask("Page.moveTrain(21, 3, false)")
+    steps = "Page.session.steps.map(Page.titleOf)"
+    wanted = {"state": page.state(), "lines": page.lines(), "title": page.text("#title"), "steps": page.ask(steps)}
+    page.ask("new Promise(done => setTimeout(done, 600))")
+    crash(page)
+    told = page.text("#drafts p")
+    suite.holds(f"offered: {told}", told.startswith("A draft of “A region of 112 events” of ") and "3 steps" in told)
+    suite.note("nothing is opened by itself", {"lines": []}, {"lines": page.lines()})
+    page.click(*page.middle("#drafts .main"))
+    page.frame()
+    came = {"state": page.state(), "lines": page.lines(), "title": page.text("#title"), "steps": page.ask(steps)}
+    suite.note("opened", wanted, came)
+    suite.holds("a train that was moved is told as one", came["steps"][2] == "R2 to Hatton 3 minutes later")
+    page.press("undo")
+    suite.note("and no longer offered", {"shown": False}, {"shown": page.is_shown("drafts")})
+    suite.note("it is not saved", {"saved": False}, {"saved": page.ask("Page.isSaved()")})
+    page.press("undo")
+    suite.note("its steps are undone", {"lines": ["fix 1 30"]}, {"lines": page.lines()})
+    page.ask("new Promise(done => setTimeout(done, 600))")
+    crash(page)
+    suite.holds("and it is the draft from then on", "1 step," in page.text("#drafts p") and page.ask(KEPT) == 1)
+
+
+def draft_of_names(suite, page):
+    """Names that were given and activities that were added are in a draft, with the names alone too."""
+    for name, script, lines in [
+        ("names alone", "Page.addLabels('event\\n1; R9; Inworth; Gorsley; departure\\n')", []),
+        ("and a step", "Page.addLabels('event\\n1; R9; Inworth; Gorsley; departure\\n'); Page.step(['fix 1 30'])", ["fix 1 30"]),
+    ]:
+        forget(page)
+        tick(page)
+        page.ask(script)
+        is_kept(page)
+        page.again()
+        page.click(*page.middle("#drafts .main"))
+        page.frame()
+        came = {"name": page.text("#chosen-name"), "lines": page.lines(), "saved": page.ask("Page.isSaved()")}
+        suite.note(name, {"name": "R9 to Inworth leaves Gorsley", "lines": lines, "saved": False}, came)
+        for _ in range(1 + len(lines)):
+            page.key("z", 90, CTRL)
+        page.frame()
+        suite.note(f"{name}, undone", {"saved": True}, {"saved": page.ask("Page.isSaved()")})
+    forget(page)
+    page.ask("localStorage.clear()")
+
+
+def drafts_dropped(suite, page):
+    """A draft is gone when it is dropped, when all is saved, and when no draft is to be kept."""
+    forget(page)
+    tick(page)
+    page.drag([page.minute(1, 20), page.minute(1, 30)])
+    is_kept(page)
+    page.again()
+    page.click(*page.middle("#drafts button:not(.main)"))
+    page.frame()
+    came = {"shown": page.is_shown("drafts"), "kept": page.ask(KEPT), "said": page.said()}
+    suite.note("dropped", {"shown": False, "kept": 0, "said": "the draft is dropped"}, came)
+    saved = "Page.showSaving(); Page.find('save-all').click(); Page.find('saving').close()"
+    for name, script in [("undone", "Page.undo()"), ("saved", saved)]:
+        page.drag([page.minute(1, 20), page.minute(1, 30)])
+        is_kept(page)
+        page.ask(script)
+        page.until(f"{KEPT} === 0")
+        page.again()
+        suite.note(f"{name}: nothing is offered", {"shown": False}, {"shown": page.is_shown("drafts")})
+    page.drag([page.minute(1, 20), page.minute(1, 30)])
+    is_kept(page)
+    suite.note("no draft is to be kept", {"told": ""}, {"told": tick(page)})
+    suite.note("and nothing is", {"keys": 0}, {"keys": page.ask("localStorage.length")})
+
+
+def draft_asked(suite, page):
+    """A draft is opened on work that is not saved by a second click alone; each of two pages has its own."""
+    forget(page)
+    tick(page)
+    page.drag([page.minute(1, 20), page.minute(1, 30)])
+    is_kept(page)
+    page.again()
+    page.show(TWO_TRAINS, "two trains")
+    page.drag([page.minute(1, 2), page.minute(1, 5)])
+    page.until(f"{KEPT} === 2")
+    page.click(*page.middle("#drafts .main"))
+    page.frame()
+    came = {"lines": page.lines(), "button": page.text("#drafts .main")}
+    suite.note("asked", {"lines": ["fix 1 5"], "button": "Open it, and lose what is not saved"}, came)
+    page.click(*page.middle("#drafts .main"))
+    page.frame()
+    suite.note("given up", {"lines": ["fix 1 30"]}, {"lines": page.lines()})
+    page.again()
+    told = page.ask("[...document.querySelectorAll('#drafts p')].map(each => each.textContent.split('”')[0])")
+    suite.note("both are offered", {"they": ["A draft of “A region of 112 events", "A draft of “two trains"]}, {"they": told})
+
+
+def drafts_strange(suite, page):
+    """What is no draft is told as such and can be dropped; nothing in one acts, and a line that is refused opens nothing."""
+    forget(page)
+    base = '{"title":"<img src=x onerror=hostile=1>","at":0,"labels":"","files":{"activities":"1; 1; 2; 3; 5; 2\\\\n","period":"10"},"steps":STEPS}'
+    unread = "A draft in this browser cannot be read."
+    for name, text, told in [
+        ("no JSON", "{", unread),
+        ("other JSON", "[1]", unread),
+        ("no files", '{"title":"a","at":0,"labels":"","steps":[]}', unread),
+        ("no labels", base.replace('"labels":"",', "").replace("STEPS", "[]"), unread),
+        ("two lines in one", base.replace("STEPS", '[["fix 1 3\\\\nadd event 9"]]'), unread),
+        ("a search", base.replace("STEPS", '[["adopt"]]'), unread),
+        ("a day that is none", '{"title":"a","at":1e99,"labels":"","files":{},"steps":[]}', unread),
+        ("markup", base.replace("STEPS", '[["fix 1 3"]]'), "A draft of “<img src=x onerror=hostile=1>” of "),
+        ("a line that is refused", base.replace("STEPS", '[["fix 7 3"]]'), "A draft of “<img src=x onerror=hostile=1>” of "),
+    ]:
+        page.ask(f"localStorage.clear(); localStorage.setItem('pespbench-draft-0', '{text}')")
+        page.again()
+        shown = page.text("#drafts p")
+        suite.note(name, {"told": told}, {"told": shown[: len(told)]})
+    page.click(*page.middle("#drafts .main"))
+    page.frame()
+    suite.note("refused", {"said": "fix 7 3 — refused 2 no event 7"}, {"said": page.said()})
+    came = {"acted": page.ask("typeof hostile"), "images": page.ask("document.images.length")}
+    suite.note("and nothing acts", {"acted": "undefined", "images": 0}, came)
+    page.ask("localStorage.clear()")
+
+
+def drafts_refused(suite, page):
+    """A browser that lets nothing be kept, or has no room, is told of, and the page works on."""
+    forget(page)
+    page.ask(NO_STORAGE)
+    told = tick(page)
+    came = {"told": told, "ticked": page.ask("Page.find('keep-draft').checked")}
+    suite.note("nothing may be kept", {"told": "This browser does not let the page keep anything.", "ticked": False}, came)
+    page.drag([page.minute(1, 20), page.minute(1, 30)])
+    suite.note("a step", {"lines": ["fix 1 30"]}, {"lines": page.lines()})
+    [script] = [page.call("Page.addScriptToEvaluateOnNewDocument", source=NO_STORAGE)["identifier"]]
+    page.again()
+    suite.note("from the start", {"title": "A region of 112 events"}, {"title": page.text("#title")})
+    page.call("Page.removeScriptToEvaluateOnNewDocument", identifier=script)
+    forget(page)
+    tick(page)
+    page.ask(FILLED)
+    page.drag([page.minute(1, 20), page.minute(1, 30)])
+    page.until("Page.find('said').textContent.includes('no room')")
+    word = "This state has no draft: the browser has no room for it."
+    suite.note("no room", {"said": f"fix 1 30 — {word}"}, {"said": page.said()})
+    page.drag([page.minute(1, 20), page.minute(1, 35)])
+    page.ask("new Promise(done => setTimeout(done, 600))")
+    suite.note("which is told once", {"said": "fix 1 35"}, {"said": page.said()})
+    page.press("save")
+    suite.note("and where it is chosen", {"told": word}, {"told": page.text("#draft-told")})
+    page.press("saving-close")
+    forget(page)
+
+
+GROUPS = [draft_kept, draft_of_names, drafts_dropped, draft_asked, drafts_strange, drafts_refused]

@@ -1,0 +1,29 @@
+"""A finger on the page, by real events of touch."""
+
+
+def touch(page, is_on=True):
+    """Gives the screen fingers, or takes them away."""
+    page.call("Emulation.setTouchEmulationEnabled", enabled=is_on, maxTouchPoints=1)
+    # Buttons are larger for fingers, which moves what lies below them.
+    page.until(f"matchMedia('(pointer: coarse)').matches === {str(is_on).lower()}")
+    page.frame()
+
+
+def swipe(page, places):
+    """A finger goes down at the first of some places, over the others, and up."""
+    for kind, (x, y) in [("touchStart", places[0]), *(("touchMove", place) for place in places[1:])]:
+        page.call("Input.dispatchTouchEvent", type=kind, touchPoints=[{"x": x, "y": y}])
+        page.frame()
+    page.call("Input.dispatchTouchEvent", type="touchEnd", touchPoints=[])
+    page.frame()
+
+
+def tap(page, place):
+    """A finger taps."""
+    swipe(page, [place])
+
+
+def scroll(page, place, distance):
+    """A finger that scrolls goes down or, where the distance is below 0, up."""
+    x, y = place
+    swipe(page, [(x, y + distance * part / 6) for part in range(7)])

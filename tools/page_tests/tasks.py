@@ -1,0 +1,246 @@
+"""Tasks of a planner, each done once by a mouse and once by keys, in as many steps as page/README.md tells."""
+
+import base64
+import re
+
+from page_tests.keys import CODES, CTRL, SHIFT
+from page_tests.moving import begun
+from tests.harness import TOP
+
+KEYS = {**CODES, "Escape": 27}
+DONE = "Page.find('stop').hidden"
+TIMES = "Object.fromEntries(Page.view.times)"
+VIOLATED = "Page.countViolated(Page.view)"
+
+
+class Steps:
+    """Hands that count: a drag, a click, a key, or a word that is typed is one step."""
+
+    def __init__(self, page):
+        self.page, self.count = page, 0
+
+    def drag(self, selector, minutes, width):
+        """Drags the middle of an element by some minutes; its width is so many."""
+        self.count += 1
+        x, y = self.page.middle(selector)
+        minute = self.page.box(selector)[2] / width
+        self.page.drag([(x, y), (x + minutes * minute / 2, y), (x + minutes * minute, y)])
+
+    def click(self, selector):
+        self.count += 1
+        self.page.click(*self.page.middle(selector))
+        self.page.frame()
+
+    def key(self, name, modifiers=0, times=1):
+        for _ in range(times):
+            self.count += 1
+            self.page.key(name, KEYS.get(name) or ord(name.upper()), modifiers)
+            self.page.frame()
+
+    def word(self, text):
+        """A word that is typed where the keys are; a line feed, which is Enter, is a step more."""
+        self.count += 1 + text.count("\n")
+        self.page.type(text)
+
+    def press(self, letter):
+        """A key that is a letter, or a line feed for Enter."""
+        self.count += 1
+        self.page.type(letter)
+
+    def seek(self, text):
+        """Finds a train, an event or a station by its name."""
+        self.press("/")
+        self.word(f"{text}\n")
+
+    def back(self, identifier):
+        """Goes from the field that finds back to what has an id."""
+        self.press("/")
+        for _ in range(20):
+            if self.page.ask("document.activeElement.id") == identifier:
+                return
+            self.key("Tab", SHIFT)
+        raise AssertionError(f"no way leads back to {identifier}")
+
+
+def told():
+    """The steps that the document tells, of each task by a mouse and by keys."""
+    rows = re.findall(r"^\| ([^|]+) \| (\d+) \| (\d+) \|$", (TOP / "page/README.md").read_text(), re.M)
+    return {task: [int(mouse), int(keys)] for task, mouse, keys in rows}
+
+
+def compared(suite, page, task, by_mouse, by_keys):
+    """Does a task in both ways, and compares what was made, and the steps with those told."""
+    made, counts = [], []
+    for hands in (by_mouse, by_keys):
+        page.again()
+        steps = Steps(page)
+        made.append(hands(steps))
+        counts.append(steps.count)
+    suite.note(f"{task}: steps", {"steps": told().get(task)}, {"steps": counts})
+    suite.note(f"{task}: by keys", {"made": made[0]}, {"made": made[1]})
+    return made[0]
+
+
+def shifted(suite, page):
+    """A train runs 3 minutes later; the turn that breaks is red at its place, and is mended by the train back."""
+
+    def by_mouse(steps):
+        broken = []
+        for event in (21, 31):
+            steps.drag(f'[data-way="{event}"]', 3, 60)
+            broken.append(page.ask(VIOLATED))
+        return broken, page.ask(TIMES)
+
+    def by_keys(steps):
+        broken = []
+        for name in ("R2 to Hatton", "R2 to Cranley"):
+            steps.seek(name)
+            steps.key("ArrowRight", times=3)
+            broken.append(page.ask(VIOLATED))
+        return broken, page.ask(TIMES)
+
+    page.again()
+    before = page.ask(TIMES)
+    broken, times = compared(suite, page, "shift a train by 3, mend what breaks", by_mouse, by_keys)
+    later = {str(event): (before[str(event)] + 3) % 60 for event in range(21, 41)}
+    suite.note("first a turn is violated, then nothing", {"they": [1, 0], "times": {**before, **later}}, {"they": broken, "times": times})
+
+
+def held_and_best(suite, page):
+    """A neighbour's train leaves when it has to, and the best timetable beside it is adopted."""
+
+    def best():
+        page.until("!Page.find('adopt').hidden && Page.find('stop').hidden")
+
+    def made():
+        return page.lines()[0], page.ask("String(Page.view.cost)"), page.ask(VIOLATED)
+
+    def by_mouse(steps):
+        begun(page)
+        steps.count += 1
+        page.drag([page.minute(5, 40), page.minute(5, 15)])
+        steps.click("#optimum")
+        best()
+        steps.click("#adopt")
+        return made()
+
+    def by_keys(steps):
+        begun(page)
+        steps.seek("B to Dale leaves Benton")
+        steps.key("ArrowRight")
+        steps.back("optimum")
+        steps.press("\n")
+        best()
+        steps.press("\n")
+        return made()
+
+    line, cost, violated = compared(suite, page, "hold a departure, find the best", by_mouse, by_keys)
+    suite.note("the best beside it", {"line": "fix 5 15", "cost": "5", "violated": 0}, {"line": line, "cost": cost, "violated": violated})
+
+
+def why_mended(suite, page):
+    """Why there is no timetable is asked, and mended by the first mend; then there is one."""
+
+    def asked(steps, ask, mend):
+        page.ask("Page.openStory(Page.stories[1])")
+        page.frame()
+        ask()
+        page.until("Page.find('stop').hidden && document.querySelector('#reasons .mend')", seconds=90)
+        mend()
+        page.frame()
+        return page.lines(), page.ask("Page.isInfeasible(Page.view)")
+
+    def by_mouse(steps):
+        return asked(steps, lambda: steps.click("#ask-why"), lambda: steps.click("#reasons .mend"))
+
+    def by_keys(steps):
+        def ask():
+            steps.back("ask-why")
+            steps.press("\n")
+
+        return asked(steps, ask, lambda: steps.press("\n"))
+
+    lines, is_infeasible = compared(suite, page, "learn why none exists, mend it", by_mouse, by_keys)
+    page.press("optimum")
+    page.until(DONE)
+    suite.holds("then there is one", len(lines) == 1 and not is_infeasible and "Optimum: cost" in page.text("#found"))
+
+
+def connected(suite, page):
+    """Passengers get a connection between two trains that are chosen."""
+
+    def by_mouse(steps):
+        steps.click('[data-row="4"] .name')
+        steps.click("#add-from")
+        steps.click('[data-row="9"] .name')
+        for name, text in [("kind", "change"), ("least", "3"), ("most", "8")]:
+            steps.click(f"#added-{name}")
+            steps.word(text)
+        steps.click("#add-it")
+        return page.lines(), page.ask("Page.labels.kinds.get(146)")
+
+    def by_keys(steps):
+        for event in (4, 9):
+            steps.seek(str(event))
+            steps.press("+")
+        for text in ("change", "3", "8"):
+            steps.word(text)
+            if text == "8":
+                steps.press("\n")
+            else:
+                steps.key("Tab")
+        return page.lines(), page.ask("Page.labels.kinds.get(146)")
+
+    lines, kind = compared(suite, page, "add a connection", by_mouse, by_keys)
+    suite.note("it is there", {"lines": ["add activity 146 4 9 3 8 1"], "kind": "change"}, {"lines": lines, "kind": kind})
+
+
+def handed_over(suite, page):
+    """The timetable that is shown is handed over as a link that opens elsewhere, and on paper."""
+
+    def over(act, leave, paper):
+        page.ask("Page.step(['time 1 7']); window.print = () => { window.isPrinted = true; }")
+        act()
+        page.until("Page.find('link-told').textContent !== ''")
+        link = page.ask("Page.find('link-text').value")
+        leave()
+        paper()
+        return link, page.is_shown("saving")
+
+    def by_mouse(steps):
+        def act():
+            steps.click("#save")
+            steps.click("#copy-link")
+
+        came = over(act, lambda: steps.click("#saving-close"), lambda: steps.click("#print"))
+        suite.holds("the button prints", page.ask("window.isPrinted === true"))
+        return came
+
+    def by_keys(steps):
+        def act():
+            steps.key("s", CTRL)
+            for _ in range(9):
+                if page.ask("document.activeElement.id") == "copy-link":
+                    break
+                steps.key("Tab")
+            steps.press("\n")
+
+        # The browser itself prints by Ctrl+P, where the page leaves it that key.
+        page.ask("addEventListener('keydown', event => { window.isLeft = event.key === 'p' && !event.defaultPrevented; })")
+        came = over(act, lambda: steps.key("Escape"), lambda: steps.key("p", CTRL))
+        suite.holds("the browser has its key", page.ask("window.isLeft === true"))
+        return came
+
+    link, _ = compared(suite, page, "hand over by link and paper", by_mouse, by_keys)
+    paper = base64.b64decode(page.call("Page.printToPDF", printBackground=True, preferCSSPageSize=True)["data"])
+    suite.holds("it is printed", paper.startswith(b"%PDF") and len(paper) > 10_000)
+    page.ask("Page.openStory(Page.stories[1])")
+    page.press("open")
+    page.press("opening-link")
+    page.call("Input.insertText", text=link)
+    page.type("\n")
+    page.until("Page.view.network.events.length === 112")
+    suite.note("elsewhere", {"time": 7}, {"time": page.ask("Page.view.times.get(1)")})
+
+
+GROUPS = [shifted, held_and_best, why_mended, connected, handed_over]
