@@ -160,7 +160,7 @@ EXPORTED("pesp_most_in_use") size_t pesp_most_in_use(void) {
     return most_in_use;
 }
 
-// ---- what clang may call for a copy, a comparison, or a product of 128 bits
+// ---- what clang may call for a copy, a comparison, or a product or shift of 128 bits
 
 void *memcpy(void *to, const void *from, size_t bytes) {
     for (size_t at = 0; at < bytes; at++) ((byte *)to)[at] = ((const byte *)from)[at];
@@ -202,4 +202,31 @@ __int128 __multi3(__int128 left, __int128 right) {
     u64 high = high_high + (high_low >> 32) + (low_high >> 32) + (middle >> 32);
     high += left_low * right_high + left_high * right_low;
     return (__int128)(((unsigned __int128)high << 64) | low);
+}
+
+static __int128 joined(u64 high, u64 low) {
+    return (__int128)((unsigned __int128)high << 64 | low);
+}
+
+static u64 high_of(__int128 number) {
+    return (u64)((unsigned __int128)number >> 64);
+}
+
+// By less than 128 bits.
+__int128 __ashlti3(__int128 number, int by) {
+    u64 high = high_of(number), low = (u64)number;
+    if (by & 64) return joined(low << (by & 63), 0);
+    return by ? joined(high << by | low >> (64 - by), low << by) : number;
+}
+
+__int128 __lshrti3(__int128 number, int by) {
+    u64 high = high_of(number), low = (u64)number;
+    if (by & 64) return joined(0, high >> (by & 63));
+    return by ? joined(high >> by, low >> by | high << (64 - by)) : number;
+}
+
+__int128 __ashrti3(__int128 number, int by) {
+    u64 high = high_of(number), low = (u64)number, sign = -(high >> 63);
+    if (by & 64) return joined(sign, (u64)((long)high >> (by & 63)));
+    return by ? joined((u64)((long)high >> by), low >> by | high << (64 - by)) : number;
 }
