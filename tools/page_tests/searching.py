@@ -2,10 +2,20 @@
 
 import re
 
+from measuring.network import PERIOD, Numbers, activity_rows, text_of
 from page_tests.hands import TWO_TRAINS
 from tests.harness import TOP
 
 DONE = "!Page.find('optimum').disabled"
+
+
+def long_search():
+    """Files of a network of 60 events and 180 activities that admit 20 to 39 minutes: no search of it ends soon."""
+    numbers = Numbers(7)
+    times = [numbers.below(PERIOD) for _ in range(60)]
+    rows = sorted(activity_rows(numbers, 180, times, True, (20, 20)))
+    activities = text_of((place + 1, *row) for place, (_, *row) in enumerate(rows))
+    return {"activities": activities, "period": f"{PERIOD}\n"}
 
 
 def optima(suite, page):
@@ -42,7 +52,7 @@ def optima(suite, page):
 
 def stopped(suite, page):
     """A long search leaves the page usable, and is stopped by a click; what it found is adopted. A step ends it too."""
-    page.ask("Page.openStory(Page.stories[0])")
+    page.show(long_search())
     page.press("optimum")
     page.until("!Page.find('stop').hidden && /^Found: cost/.test(Page.find('found').textContent)")
     page.ask("Page.showRow(40)")
