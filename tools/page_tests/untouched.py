@@ -5,7 +5,7 @@ import tempfile
 
 from page_tests.hands import TWO_TRAINS
 from page_tests.keys import CODES, CTRL
-from page_tests.searching import DONE
+from page_tests.searching import DONE, long_search
 
 # A Worker that gives these answers to each search, one after another, the last of which ends it.
 STAND_IN = """window.Worker = class {
@@ -161,6 +161,7 @@ def frames(suite, page):
 def edited(suite, page):
     """An edit during a search says what becomes of what was found, and its undo gives that back."""
     page.again()
+    page.show(long_search())
     page.press("optimum")
     page.until("!Page.find('stop').hidden && /^Found: cost/.test(Page.find('found').textContent)")
     page.drag([page.minute(1, 20), page.minute(1, 30)])
