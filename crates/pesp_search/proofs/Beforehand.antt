@@ -1,13 +1,13 @@
 -- A search under the cost of a member that was found beforehand answers for the bound that was given.
-use Rattle.std.proofs.Common.{◌≡◌, ℕ, ◌≤◌, Bool, true, false, Option, Some, None, IfSome, ap, sym, inl, inr, arith}
+use Rattle.std.proofs.Common.{◌≡◌, ℕ, ◌≤◌, Bool, true, false, Option, Some, None, IfSome, refl, ap, sym, inl, inr, arith}
 use Rattle.std.proofs.lemmas.Bool.{cases_lt}
 use Rattle.std.proofs.lemmas.Option.{none-some}
 use Rattle.pesp_instance.specs.Network.{Network}
 use Rattle.pesp_tension.specs.Answers.{cost_of}
 use Rattle.pesp_search.specs.declared.answer.Best.{Best}
-use Rattle.pesp_search.specs.Dived.{dive_limit, first_known, least_bound, told_best}
+use Rattle.pesp_search.specs.Beforehand.{least_bound, told_best, told_bound}
 use Rattle.pesp_search.specs.Optima.{IsBound}
-use Rattle.pesp_search.specs.Tried.{IsBestSoFar, IsFound, IsOutcome, IsWithin, MayStop}
+use Rattle.pesp_search.specs.Tried.{IsBestSoFar, IsFloor, IsFound, IsKnown, IsOutcome, IsWithin, MayStop}
 
 -- what is within a lower bound is within the given one
 within_more : (bound : Option ℕ) (low cost : ℕ) → IsWithin bound low → cost ≤ low → IsWithin bound cost
@@ -45,16 +45,6 @@ stop_more I bound limit before found is stop =
       best = best_more I bound limit before found stop.member stop.best;
     }
 
--- a timetable that was found before or by a dive is within the bound
-pub known_found : (I : Network) (bound : Option ℕ) (found dived : Option Best) → IfSome found (IsFound I bound) → IfSome dived (IsFound I bound) → IfSome (first_known found dived) (IsFound I bound)
-known_found I bound None dived first second = second
-known_found I bound (Some best) dived first second = first
-
--- with limit 0 there is none
-pub known_none : (limit : Option ℕ) (found dived : Option Best) → (limit ≡ Some 0 → found ≡ None) → (dive_limit found limit ≡ Some 0 → dived ≡ None) → limit ≡ Some 0 → first_known found dived ≡ None
-known_none limit None dived first second zero = second zero
-known_none limit (Some best) dived first second zero = absurd (none-some _ (sym (first zero)))
-
 -- where there is no such member, the bound is the given one
 pub bound_of_before : (I : Network) (bound : Option ℕ) (before : Option Best) → IsBound I bound → IfSome before (IsFound I bound) → IsBound I (least_bound bound before)
 bound_of_before I bound None is found = is
@@ -68,3 +58,26 @@ outcome_told I bound None before best true nodes found none is = is
 outcome_told I bound (Some limit) None None true nodes found none is = is
 outcome_told I bound (Some limit) None (Some best) true nodes found none is = is
 outcome_told I bound (Some limit) (Some before) best true nodes found none is = (stop_more I bound limit before best found is.0, is.1, λ zero. absurd (none-some _ (sym (none (ap Some zero)))))
+
+-- ---- the lower bound that is told
+
+-- no member costs less than it
+pub floor_told : (I : Network) (bound limit : Option ℕ) (stopped : Bool) (best : Option Best) (floor nodes : ℕ) → IsFloor I floor → IsOutcome I bound limit stopped best nodes → IsFloor I (told_bound stopped best floor)
+floor_told I bound limit false None floor nodes is told = is
+floor_told I bound limit false (Some best) floor nodes is told = told.0.least
+floor_told I bound limit true best floor nodes is told = is
+
+-- at the end the optimum costs just that
+pub exact_told : (stopped : Bool) (best : Option Best) (floor : ℕ) → stopped ≡ false → IfSome best (λ b. b.cost ≡ told_bound stopped best floor)
+exact_told stopped None floor end = tt
+exact_told stopped (Some best) floor end = rw end refl
+
+-- what is known at an end
+pub known_of_end : (I : Network) (bound limit : Option ℕ) (best : Option Best) (floor : ℕ) → IsOutcome I bound limit false best 0 → IsFloor I floor
+    → IsKnown I bound limit (record { best = best; lower_bound = told_bound false best floor; is_stopped = false }) 0
+known_of_end I bound limit best floor outcome is =
+    record {
+      outcome = outcome;
+      floor = floor_told I bound limit false best floor 0 is outcome;
+      exact = exact_told false best floor;
+    }

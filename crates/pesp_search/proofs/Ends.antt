@@ -1,8 +1,9 @@
 -- How a search ends: at a stop, or when nothing is left.
-use Rattle.std.proofs.Common.{◌≡◌, ℕ, zero, suc, ◌<◌, ◌≤◌, Bool, true, false, List, [], length, get_or, Option, Some, None, IfSome, IsSomeAnd, refl, sym, ap, subst, ◌∙◌, inl, inr, ◌⊎◌, arith}
+use Rattle.std.proofs.Common.{◌≡◌, ℕ, zero, suc, ◌<◌, ◌≤◌, Bool, true, false, List, [], length, get_or, Option, Some, None, IfSome, IsSomeAnd, Result, Ok, Err, IfOk, refl, sym, ap, subst, ◌∙◌, inl, inr, ◌⊎◌, arith}
 use Rattle.std.specs.Map.{values_of}
 use Rattle.std.proofs.lemmas.Bool.{cases_eq}
 use Rattle.std.proofs.lemmas.Option.{none-some}
+use Rattle.pesp_base.specs.declared.memory.Memory.{Memory}
 use Rattle.pesp_instance.specs.Network.{IsNetwork, Network, event_ids}
 use Rattle.pesp_domains.specs.declared.pair.Pair.{Pair}
 use Rattle.pesp_tension.specs.Answers.{cost_of}
@@ -10,6 +11,7 @@ use Rattle.pesp_tension.specs.Timetables.{Times}
 use Rattle.pesp_search.specs.declared.answer.Best.{Best}
 use Rattle.pesp_search.specs.declared.answer.Answer.{Answer}
 use Rattle.pesp_search.specs.declared.answer.Answer.TheVariants.{Infeasible, Optimal}
+use Rattle.pesp_search.specs.declared.answer.Known.{Known}
 use Rattle.pesp_search.specs.declared.answer.Tried.{Tried}
 use Rattle.pesp_search.specs.declared.answer.Tried.TheVariants.{Done, Stopped}
 use Rattle.pesp_search.specs.declared.incumbent.Incumbent.{Incumbent}
@@ -20,7 +22,7 @@ use Rattle.pesp_search.specs.Optima.{IsAnswer, IsBound, IsMember, IsOptimum, Pre
 use Rattle.pesp_search.specs.Paths.{IsDeadEnd, timetable_of}
 use Rattle.pesp_search.specs.Searching.{IsSearching, MayEnd}
 use Rattle.pesp_search.specs.Tree.{AreNodes, IsPlaceOf, IsTreeSize}
-use Rattle.pesp_search.specs.Tried.{IsBestSoFar, IsEnd, IsFound, IsOutcome, IsWithin, MayTry}
+use Rattle.pesp_search.specs.Tried.{IsBestSoFar, IsEnd, IsFound, IsKnown, IsOutcome, IsWithin, MayTry}
 use Rattle.pesp_search.proofs.Members.{before_of_precedes, full_of_member, member_in_domains, member_of_full}
 use Rattle.pesp_search.proofs.Placed.{before_decided, place_after}
 use Rattle.pesp_search.proofs.Sizes.{counted_below, size_unique}
@@ -189,6 +191,21 @@ dead_tried I bound limit (Stopped best) nodes network dead is few =
     let below = is.0.below in
     let none = size_unique I (length (event_ids I)) [] below.0 0 below.1 (dead_size I dead) in
     absurd (let less = below.2 in omega (arith, none, less))
+
+-- so what is known of it is that
+pub dead_known : (I : Network) (bound : Option ℕ) (limit : ℕ) (stopped : Bool) (best : Option Best) (nodes : ℕ) → IsNetwork I → IsDeadEnd I [] → IsOutcome I bound (Some limit) stopped best nodes → AreNodes I nodes
+    → (stopped ≡ false) × (best ≡ None) × (nodes ≡ 0)
+dead_known I bound limit false None nodes network dead is few = (refl, refl, (dead_answer I Infeasible nodes network dead is.0 few).1)
+dead_known I bound limit false (Some best) nodes network dead is few = absurd (no_member I best.times network dead is.0.member)
+dead_known I bound limit true best nodes network dead is few =
+    let below = is.0.below in
+    let none = size_unique I (length (event_ids I)) [] below.0 0 below.1 (dead_size I dead) in
+    absurd (let less = below.2 in omega (arith, none, less))
+
+pub known_dead : (I : Network) (bound : Option ℕ) (limit : ℕ) (r : Result (Known × ℕ) Memory) → IsNetwork I → IsDeadEnd I [] → IfOk r (λ k. IsKnown I bound (Some limit) k.0 k.1) → IfOk r (λ k. AreNodes I k.1)
+    → IfOk r (λ k. (k.0.is_stopped ≡ false) × (k.0.best ≡ None) × (k.1 ≡ 0))
+known_dead I bound limit (Ok k) network dead known few = dead_known I bound limit k.0.is_stopped k.0.best k.1 network dead known.outcome few
+known_dead I bound limit (Err e) network dead known few = tt
 
 -- ---- without a limit
 

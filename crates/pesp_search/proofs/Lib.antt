@@ -20,7 +20,6 @@ pub mod Placed
 pub mod Residues
 pub mod Rest
 pub mod Searching
-pub mod Seen
 pub mod Sizes
 pub mod Sought
 pub mod Timed

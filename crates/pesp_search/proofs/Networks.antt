@@ -1,19 +1,20 @@
 -- How the network of an instance and its domains is made.
-use Rattle.std.proofs.Common.{◌≡◌, ℕ, ◌+◌, ◌*◌, ◌/◌, ◌%◌, ◌<◌, ◌≤◌, Bool, true, false, List, [], ◌∷◌, ◌++◌, length, replicate, get_or, IsTrue, refl, sym, ◌∙◌, ap, subst, inl, inr, arith}
+use Rattle.std.proofs.Common.{◌≡◌, ℕ, ◌+◌, ◌*◌, ◌/◌, ◌<◌, ◌≤◌, ◌⊎◌, ◌↔◌, Bool, true, false, List, [], ◌∷◌, ◌++◌, length, replicate, get_or, IsTrue, refl, sym, ◌∙◌, ap, subst, inl, inr, arith}
 use Rattle.std.specs.List.{Contains}
 use Rattle.std.specs.List.Sorted.{IsStrictlyIncreasing}
 use Rattle.std.specs.Prelude.{slice_set}
-use Rattle.std.proofs.Math.Nat.{div-lt_iff_lt-mul, mod-add-div, mod-lt, min-le_left}
-use Rattle.std.proofs.lemmas.Bool.{cases_eq, cases_order, lt-ltb}
-use Rattle.std.proofs.lemmas.List.{ext_get_or, get_or_default, get_or-replicate, get_or-set_other, get_or-set_same, length-append, length-replicate, length-set}
+use Rattle.std.proofs.Math.Nat.{min-le_left}
+use Rattle.std.proofs.lemmas.Nat.{mul-le}
+use Rattle.std.proofs.lemmas.Bool.{cases_eq, cases_order}
+use Rattle.std.proofs.lemmas.List.{get_or_default, get_or-replicate, get_or-set_other, get_or-set_same, length-append, length-set}
 use Rattle.std.proofs.lemmas.List.Kept.{AllPairs-from_increasing}
 use Rattle.pesp_base.specs.declared.activity.Activity.{Activity}
 use Rattle.pesp_instance.specs.Network.{IsNetwork, Network, event_ids, has_event}
 use Rattle.pesp_domains.specs.declared.pair.Pair.{Pair}
-use Rattle.pesp_search_bounds.specs.Rows.{AreDomains}
+use Rattle.pesp_domains.specs.Domains.{InDomains, IsDomain, holds}
 use Rattle.pesp_search_network.specs.Arcs.{Arcs}
 use Rattle.pesp_search_graph.specs.declared.arc.Arc.{Arc}
-use Rattle.pesp_search.specs.Arcs.{AreArcsOf, IsArcOf, IsNetworkOf, tested}
+use Rattle.pesp_search.specs.Arcs.{AreArcsOf, AreDomains, IsArcOf, IsNetworkOf}
 use Rattle.pesp_search.proofs.Events.{index_of}
 
 -- ---- the index of an event
@@ -64,82 +65,93 @@ room_for_arc I ids front left a xs ok all are =
 
 -- ---- rows
 
--- the event and the residue of an index are within their limits, and stand there
-pub event_of_index : (index events width : ℕ) → 0 < width → index < events * width → index / width < events
-event_of_index index events width some within = (div-lt_iff_lt-mul some).1 within
+-- the row of an event is before that of a later one
+pub block : (p q T : ℕ) → p < q → p * T + T ≤ q * T
+block p q T h = let e = mul-le (p + 1) T q T (omega arith) (omega arith) in omega (arith, e)
 
-pub residue_of_index : (index width : ℕ) → 0 < width → index % width < width
-residue_of_index index width some = mod-lt index some
+-- a residue of an event has its place in the rows
+pub in_rows : (rows : List Bool) (index r T n : ℕ) → length rows ≡ n * T → index < n → r < T → index * T + r < length rows
+in_rows rows index r T n long within low = omega (arith, block index n T within, low, long)
 
-pub index_again : (index width : ℕ) → (index / width) * width + index % width ≡ index
-index_again index width = omega (arith, mod-add-div index width)
+-- what is known of the row of an event, which was full, while residues are forbidden: those before this one are as in the domain
+pub record IsKept (old new row : List Bool) (start T residue : ℕ) : Type 0 where
+  pub long : length new ≡ length old
+  pub kept : (r : ℕ) → r < residue → get_or new (start + r) false ≡ holds row r
+  pub full : (r : ℕ) → residue ≤ r → r < T → get_or new (start + r) false ≡ true
+  pub others : (k : ℕ) → ((k < start) ⊎ (start + T ≤ k)) → get_or new k false ≡ get_or old k false
 
--- what is known of the rows while residues are forbidden: those before the index are as the tests, and the others full
-pub record AreCopied (rows tests : List Bool) (index : ℕ) : Type 0 where
-  pub long : length rows ≡ length tests
-  pub before : (k : ℕ) → k < index → get_or rows k false ≡ get_or tests k false
-  pub full : (k : ℕ) → index ≤ k → k < length tests → get_or rows k false ≡ true
-
--- full rows before the first index
-pub copied_none : (tests : List Bool) (n : ℕ) → length tests ≡ n → AreCopied (replicate n true) tests 0
-copied_none tests n long =
+-- a residue more is in the domain
+pub kept_more : (old new row : List Bool) (start T residue : ℕ) → residue < T → IsKept old new row start T residue → holds row residue ≡ true → IsKept old new row start T (residue + 1)
+kept_more old new row start T residue below is held =
     record {
-      long = length-replicate n true ∙ sym long;
-      before = λ k less. absurd (omega (arith, less));
-      full = λ k low less. get_or-replicate n k true false (omega (arith, less, long));
-    }
-
--- one residue more is forbidden, or it has a test
-pub copied_more : (rows tests : List Bool) (index : ℕ) (test : Bool) → index < length tests → AreCopied rows tests index → get_or tests index false ≡ test → AreCopied (tested rows index test) tests (index + 1)
-copied_more rows tests index true within are is =
-    record {
-      long = are.long;
-      before = λ k less.
-          elim (cases_eq k index) [
-            | inl same ↦ rw same (are.full index (omega arith) within ∙ sym is)
-            | inr apart ↦ are.before k (omega (arith, less, apart))
+      long = is.long;
+      kept = λ r less.
+          elim (cases_eq r residue) [
+            | inl same ↦ rw same (is.full residue (omega arith) below ∙ sym held)
+            | inr apart ↦ is.kept r (omega (arith, less, apart))
           ];
-      full = λ k low less. are.full k (omega (arith, low)) less;
-    }
-copied_more rows tests index false within are is =
-    record {
-      long = length-set rows index false ∙ are.long;
-      before = λ k less.
-          elim (cases_eq k index) [
-            | inl same ↦ rw same (get_or-set_same rows index false false (omega (arith, within, are.long)) ∙ sym is)
-            | inr apart ↦ get_or-set_other rows index k false false apart ∙ are.before k (omega (arith, less, apart))
-          ];
-      full = λ k low less. get_or-set_other rows index k false false (λ e. omega (arith, low, e)) ∙ are.full k (omega (arith, low)) less;
+      full = λ r low less. is.full r (omega (arith, low)) less;
+      others = is.others;
     }
 
--- after the last index they are the tests
-pub all_copied : (rows tests : List Bool) (index : ℕ) → length tests ≤ index → AreCopied rows tests index → rows ≡ tests
-all_copied rows tests index over are = ext_get_or false rows tests are.long (λ k less. are.before k (omega (arith, less, are.long, over)))
+-- or it is forbidden
+pub forbidden_more : (old new row : List Bool) (start T residue : ℕ) → residue < T → start + residue < length new → IsKept old new row start T residue → holds row residue ≡ false
+    → IsKept old (slice_set new (start + residue) false) row start T (residue + 1)
+forbidden_more old new row start T residue below within is out =
+    record {
+      long = length-set new (start + residue) false ∙ is.long;
+      kept = λ r less.
+          elim (cases_eq r residue) [
+            | inl same ↦ rw same (get_or-set_same new (start + residue) false false within ∙ sym out)
+            | inr apart ↦ get_or-set_other new (start + residue) (start + r) false false (λ e. omega (arith, apart, e)) ∙ is.kept r (omega (arith, less, apart))
+          ];
+      full = λ r low less. get_or-set_other new (start + residue) (start + r) false false (λ e. omega (arith, low, e)) ∙ is.full r (omega (arith, low)) less;
+      others = λ k out.
+          get_or-set_other new (start + residue) k false false
+          (λ e. elim out [
+            | inl low ↦ omega (arith, low, e)
+            | inr high ↦ omega (arith, high, e, below)
+          ])
+          ∙ is.others k out;
+    }
+
+-- the rows of the first events are their domains, and all others are full
+pub record AreKept (I : Network) (pushes : List Pair) (rows : List Bool) (events n : ℕ) : Type 0 where
+  pub domains : (index r : ℕ) → index < n → r < I.period → IsTrue (get_or rows (index * I.period + r) false) ↔ InDomains I pushes (get_or (event_ids I) index 0) r
+  pub full : (index r : ℕ) → n ≤ index → index < events → r < I.period → get_or rows (index * I.period + r) false ≡ true
+
+-- all are full at first
+pub none_kept : (I : Network) (pushes : List Pair) (events : ℕ) → AreKept I pushes (replicate (events * I.period) true) events 0
+none_kept I pushes events =
+    record {
+      domains = λ index r less low. absurd (omega (arith, less));
+      full = λ index r low within less. get_or-replicate (events * I.period) (index * I.period + r) true false (omega (arith, block index events I.period within, less));
+    }
+
+-- a row more
+pub row_kept : (I : Network) (pushes : List Pair) (old new row : List Bool) (events n : ℕ) → AreKept I pushes old events n → IsDomain I pushes (get_or (event_ids I) n 0) row
+    → ((r : ℕ) → r < I.period → get_or new (n * I.period + r) false ≡ holds row r) → ((k : ℕ) → ((k < n * I.period) ⊎ (n * I.period + I.period ≤ k)) → get_or new k false ≡ get_or old k false) → AreKept I pushes new events (n + 1)
+row_kept I pushes old new row events n before domain kept others =
+    record {
+      domains = λ index r less low.
+          elim (cases_eq index n) [
+            | inl same ↦ rw same (rw (kept r low) (domain.exact r))
+            | inr apart ↦
+                let under : index < n = omega (arith, less, apart) in
+                rw (others (index * I.period + r) (inl (omega (arith, block index n I.period under, low)))) (before.domains index r under low)
+          ];
+      full = λ index r low within less. others (index * I.period + r) (inr (omega (arith, block n index I.period (omega (arith, low)), less))) ∙ before.full index r (omega (arith, low)) within less;
+    }
 
 -- ---- the whole
 
--- a network is made of its parts
-pub network_of_parts : (N : Arcs) (T n : ℕ) (xs : List Arc) (rows : List Bool) → N.period ≡ T → N.events ≡ n → N.arcs ≡ xs → N.rows ≡ rows → N ≡ record { period = T; events = n; arcs = xs; rows = rows }
-network_of_parts N T n xs rows period events arcs tests =
-    ap (λ (p : ℕ). let M : Arcs = record { period = p; events = N.events; arcs = N.arcs; rows = N.rows } in M) period
-    ∙ ap (λ (e : ℕ). let M : Arcs = record { period = T; events = e; arcs = N.arcs; rows = N.rows } in M) events
-    ∙ ap (λ (ys : List Arc). let M : Arcs = record { period = T; events = n; arcs = ys; rows = N.rows } in M) arcs
-    ∙ ap (λ (bs : List Bool). let M : Arcs = record { period = T; events = n; arcs = xs; rows = bs } in M) tests
-
 -- with an arc for each activity and the domains as rows it is the network of the instance
-pub network_is : (I : Network) (N : Arcs) (pushes : List Pair) (tests : List Bool) → pushes ≡ [] → N.period ≡ I.period → N.events ≡ length (event_ids I) → AreArcsOf (event_ids I) I.activities N.arcs
-    → N.rows ≡ tests → AreDomains I pushes tests → IsNetworkOf I N
-network_is I N pushes tests none period events arcs rows domains =
+pub network_is : (I : Network) (N : Arcs) (pushes : List Pair) → pushes ≡ [] → N.period ≡ I.period → N.events ≡ length (event_ids I) → AreArcsOf (event_ids I) I.activities N.arcs
+    → AreDomains I pushes N.rows → IsNetworkOf I N
+network_is I N pushes none period events arcs domains =
     record {
       period = period;
       events = events;
       arcs = arcs;
-      rows = λ index r within low.
-          let is = subst (λ ps. AreDomains I ps tests) none domains index r within in
-          rw (period, rows) (rw (lt-ltb r I.period low) at is);
+      rows = λ index r within low. rw period (subst (λ ps. AreDomains I ps N.rows) none domains index r within low);
     }
-
--- what stands at the index of an event and a residue stands at the index
-pub set_again : (N : Arcs) (index width : ℕ) (test : Bool) → width ≡ N.period → test ≡ false
-    → ◌≡◌ {A = Arcs} (record N { rows = slice_set N.rows ((index / width) * N.period + index % width) false }) (record N { rows = tested N.rows index test })
-set_again N index width test same none = rw (none, same, index_again index N.period) refl

@@ -4,9 +4,7 @@ use Rattle.std.specs.Prelude.{vec_capacity}
 use Rattle.std.proofs.lemmas.List.{length_push}
 use Rattle.pesp_domains.specs.declared.pair.Pair.{Pair}
 use Rattle.pesp_instance.specs.Network.{IsNetwork, Network, event_ids}
-use Rattle.pesp_search_bounds.specs.DualBounds.{AreBoundsOf}
 use Rattle.pesp_search.specs.declared.branch.Branch.{Branch}
-use Rattle.pesp_search.specs.declared.guide.Guide.{Guide}
 use Rattle.pesp_search.specs.declared.incumbent.Incumbent.{Incumbent}
 use Rattle.pesp_search.specs.declared.steps.Step.TheVariants.{Leaf, Descend}
 use Rattle.pesp_search.specs.declared.tree_search.TreeSearch.{TreeSearch}
@@ -15,14 +13,12 @@ use Rattle.pesp_search.specs.Found.{AreCut, AtLeast, IsCut, IsFirstOfUse, limit_
 use Rattle.pesp_search.specs.Nodes.{IsAt, IsNext, IsSpent, IsStuck, Nothing, full_cost}
 use Rattle.pesp_search.specs.Parts.{AreLeast, IsLeast}
 use Rattle.pesp_search.specs.Searching.{GoesOn, IsOver, IsSameNode, IsSearching, IsStepAt, IsStepDown, IsStepUp, MayEnd}
-use Rattle.pesp_search.specs.Seen.{IsSeen, SeesAlong, told_at}
 use Rattle.pesp_search.proofs.BestSoFar.{at_found, best_found, cut_spent, found_spent, spent_any}
 use Rattle.pesp_search.proofs.Costs.{known_is_cost}
 use Rattle.pesp_search.proofs.Cuts.{next_of_cut, over_of_cut, over_of_known, spent_of_cut}
 use Rattle.pesp_search.proofs.Ends.{left_first}
 use Rattle.pesp_search.proofs.Moves.{at_back, at_descend, at_end, at_start}
 use Rattle.pesp_search.proofs.Rest.{rest_back, rest_down, rest_of}
-use Rattle.pesp_search.proofs.Seen.{sees_back, sees_pop, sees_push, sees_start}
 use Rattle.pesp_search.proofs.Sizes.{counted_back, counted_descend, counted_start}
 use Rattle.pesp_search.proofs.Turns.{spent_turned}
 
@@ -39,18 +35,16 @@ more_within (Some l) nodes more within apart le = omega (arith, within, apart, l
 -- ---- the start
 
 -- a search with nothing pushed, found or counted
-pub searching_start : (I : Network) (pushes : List Pair) (state : TreeSearch) → IsNetwork I → state.events.now ≡ event_ids I → AreLeast I state.least.now → IfSome state.guide.ahead (AreBoundsOf I)
+pub searching_start : (I : Network) (pushes : List Pair) (state : TreeSearch) → IsNetwork I → state.events.now ≡ event_ids I → AreLeast I state.least.items
     → IsBranch I state.branch.times.items state.branch.cost state.branch.timetable (vec_capacity state.branch.times) → state.branch.times.items ≡ [] → pushes ≡ [] → length state.incumbent.times.items ≡ length (event_ids I)
     → state.incumbent.cost ≡ None → state.from ≡ 0 → state.nodes ≡ 0 → IsSearching I pushes state
-searching_start I pushes state network events least ahead branch start none long missing first zero =
+searching_start I pushes state network events least branch start none long missing first zero =
     record {
       network = network;
       events = events;
       least = least;
       branch = branch;
       at = rw (start, first) (at_start (AtLeast I (limit_of state.incumbent)) I pushes none);
-      guide = rw start (sees_start I state.guide.ahead ahead);
-      seen = λ later. absurd (omega (arith, later, first));
       incumbent = record { long = long; best = rw missing tt };
       counted = rw (start, first, zero) (counted_start I);
       within = rw zero (none_within state.limit);
@@ -65,10 +59,10 @@ branch_again I old new times cost front branch =
     subst (λ v. IsBranch I v.items new.cost new.timetable (vec_capacity v)) (sym times)
     (record { front = front; costs = cost ∙ branch.costs; room = branch.room })
 
--- the same holds of the same node, with what is told there and other times after the branch
+-- the same holds of the same node, with other times after the branch
 pub goes_on : (I : Network) (pushes : List Pair) (old new : TreeSearch) → IsSearching I pushes old → IsSameNode old new → IsBranch I new.branch.times.items new.branch.cost new.branch.timetable (vec_capacity new.branch.times)
-    → SeesAlong I new.guide.ahead new.branch.times.items → (0 < new.from → IsSeen I new.branch.times.items (told_at new.guide.ahead (length new.branch.times.items))) → GoesOn I pushes old new
-goes_on I pushes old new s same branch guide seen =
+    → GoesOn I pushes old new
+goes_on I pushes old new s same branch =
     record {
       searching = record {
         network = s.network;
@@ -76,8 +70,6 @@ goes_on I pushes old new s same branch guide seen =
         least = rw same.least s.least;
         branch = branch;
         at = rw (same.incumbent, same.times, same.next) s.at;
-        guide = guide;
-        seen = seen;
         incumbent = rw same.incumbent s.incumbent;
         counted = rw (same.times, same.next, same.nodes) s.counted;
         within = rw (same.limit, same.nodes) s.within;
@@ -109,24 +101,6 @@ same_with old node branch same times cost =
 pub unchanged : (I : Network) (pushes : List Pair) (state : TreeSearch) → IsSearching I pushes state → GoesOn I pushes state state
 unchanged I pushes state s = record { searching = s; bound = refl; limit = refl }
 
--- it was looked ahead from the node
-pub searching_ahead : (I : Network) (pushes : List Pair) (state : TreeSearch) (guide : Guide) → IsSearching I pushes state → SeesAlong I guide.ahead state.branch.times.items → IsSeen I state.branch.times.items (told_at guide.ahead (length state.branch.times.items))
-    → IsSearching I pushes (record state { guide = guide })
-searching_ahead I pushes state guide s along seen =
-    record {
-      network = s.network;
-      events = s.events;
-      least = s.least;
-      branch = s.branch;
-      at = s.at;
-      guide = along;
-      seen = λ _. seen;
-      incumbent = s.incumbent;
-      counted = s.counted;
-      within = s.within;
-      root = s.root;
-    }
-
 -- ---- why a node is left
 
 -- what is known of the branch has come to the limit
@@ -149,36 +123,20 @@ over_turned I pushes state s room least later = (
 
 -- ---- residues of use
 
-module _ (I : Network) (state : TreeSearch) (guide : Guide) (new : TreeSearch) where
-  -- after a look ahead and another time after the branch it is at the same node
-  pub same_ahead : IsSameNode (record state { guide = guide }) new → IsSameNode state new
-  same_ahead same = record { events = same.events; least = same.least; times = same.times; cost = same.cost; incumbent = same.incumbent; next = same.next; nodes = same.nodes; limit = same.limit }
+module _ (I : Network) (pushes : List Pair) (state new : TreeSearch) (s : IsSearching I pushes state) (same : IsSameNode state new) where
+  -- the first residue that is of use is gone down to
+  pub next_on : (first r : ℕ) → IsNext Nothing I state.branch.times.items state.from first → IsFirstOfUse I (limit_of state.incumbent) state.branch.times.items first r → IsStepAt I new (Descend r)
+  next_on first r next is = rw (same.incumbent, same.times, same.next) (next_of_cut I (limit_of state.incumbent) state.branch.times.items state.from first s.network next r is)
 
-  module _ (pushes : List Pair) (s : IsSearching I pushes state) (seen : IsSeen I state.branch.times.items (told_at guide.ahead (length state.branch.times.items))) (same : IsSameNode (record state { guide = guide }) new) (ahead : new.guide ≡ guide) where
-    told_again : IsSeen I new.branch.times.items (told_at new.guide.ahead (length new.branch.times.items))
-    told_again = rw (ahead, same.times) seen
-
-    -- and goes on
-    pub ahead_on : SeesAlong I guide.ahead state.branch.times.items → IsBranch I new.branch.times.items new.branch.cost new.branch.timetable (vec_capacity new.branch.times) → GoesOn I pushes state new
-    ahead_on along branch = goes_on I pushes state new s (same_ahead same) branch (rw (ahead, same.times) along) (λ _. told_again)
-
-    -- to the first residue that is of use
-    pub next_on : (first r : ℕ) → IsNext Nothing I state.branch.times.items state.from first → IsFirstOfUse I (limit_of state.incumbent) (told_at guide.ahead (length state.branch.times.items)) state.branch.times.items first r → IsStepAt I new (Descend r)
-    next_on first r next is = (
-      rw (same.incumbent, same.times, same.next) (next_of_cut I (limit_of state.incumbent) (told_at guide.ahead (length state.branch.times.items)) state.branch.times.items state.from first s.network seen next r is),
-      told_again,
-    )
-
-    -- or nowhere
-    pub over_on : (first : ℕ) → IsNext Nothing I state.branch.times.items state.from first → AreCut I (limit_of state.incumbent) (told_at guide.ahead (length state.branch.times.items)) state.branch.times.items first I.period → IsOver I new
-    over_on first next cut =
-        let limit = limit_of state.incumbent in
-        let path = state.branch.times.items in
-        let bound = told_at guide.ahead (length path) in
-        rw (same.incumbent, same.times, same.next, same.nodes) (
-          spent_of_cut I limit bound path state.from first s.network seen next cut,
-          left_first I pushes state s (inl (over_of_cut I limit bound path state.from first s.network seen next cut)),
-        )
+  -- or the node is left
+  pub over_on : (first : ℕ) → IsNext Nothing I state.branch.times.items state.from first → AreCut I (limit_of state.incumbent) state.branch.times.items first I.period → IsOver I new
+  over_on first next cut =
+      let limit = limit_of state.incumbent in
+      let path = state.branch.times.items in
+      rw (same.incumbent, same.times, same.next, same.nodes) (
+        spent_of_cut I limit path state.from first s.network next cut,
+        left_first I pushes state s (inl (over_of_cut I limit path state.from first s.network next cut)),
+      )
 
 -- ---- a leaf
 
@@ -201,8 +159,6 @@ module _ (I : Network) (pushes : List Pair) (state : TreeSearch) (found : Incumb
         at =
             subst (λ o. IsAt (AtLeast I (limit_by o found.bound)) I pushes state.branch.times.items state.from) (sym cost)
             (at_found I (limit_of state.incumbent) state.branch.cost pushes state.branch.times.items state.from leaf.1 s.at);
-        guide = s.guide;
-        seen = s.seen;
         incumbent = record { long = ap length times ∙ full; best = rw (cost, bound, times) best };
         counted = s.counted;
         within = s.within;
@@ -233,11 +189,9 @@ searching_down I pushes state branch r nodes s step below is_branch times more s
       events = s.events;
       least = s.least;
       branch = is_branch;
-      at = rw times (at_descend P I pushes path state.from r s.at step.0);
-      guide = rw times (sees_push I state.guide.ahead path r s.guide step.1);
-      seen = λ later. absurd (omega (arith, later));
+      at = rw times (at_descend P I pushes path state.from r s.at step);
       incumbent = s.incumbent;
-      counted = rw times (counted_descend P I path state.from r state.nodes nodes step.0 more s.counted);
+      counted = rw times (counted_descend P I path state.from r state.nodes nodes step more s.counted);
       within = more_within state.limit state.nodes nodes s.within below more;
       root = λ zero. absurd (omega (arith, zero, some));
     }
@@ -250,15 +204,12 @@ searching_up I pushes pushes' last state branch x s over is_branch times is =
     let path = branch.times.items in
     let at : IsAt P I pushes (path ++ x ∷ []) state.from = rw times at s.at in
     let spent : IsSpent P I (path ++ x ∷ []) state.from = rw times at over.0 in
-    let along : SeesAlong I state.guide.ahead (path ++ x ∷ []) = rw times at s.guide in
     record {
       network = s.network;
       events = s.events;
       least = s.least;
       branch = is_branch;
       at = at_back P I pushes pushes' last path x state.from is at spent;
-      guide = sees_pop I state.guide.ahead path x along;
-      seen = λ _. sees_back I state.guide.ahead path x along;
       incumbent = s.incumbent;
       counted = counted_back I path x state.from state.nodes (rw times at s.counted);
       within = s.within;
@@ -276,8 +227,6 @@ searching_none I pushes state branch s is_branch old new =
       least = s.least;
       branch = is_branch;
       at = rw same s.at;
-      guide = rw same s.guide;
-      seen = rw same s.seen;
       incumbent = s.incumbent;
       counted = rw same s.counted;
       within = s.within;
@@ -294,7 +243,7 @@ ended I pushes state branch s over none =
 -- less after a step down
 pub less_down : (I : Network) (pushes : List Pair) (old node new : TreeSearch) (r : ℕ) → IsSearching I pushes node → IsSameNode old node → IsStepAt I node (Descend r) → IsStepDown node new r → rest_of I new < rest_of I old
 less_down I pushes old node new r s same step below =
-    let next = step.0 in
+    let next = step in
     let depth = next.room in
     rw (below.times, below.next, ← same.times, ← same.next) (rest_down I.period (length (event_ids I) + 1) node.branch.times.items r node.from (omega (arith, depth)) next.above next.below)
 

@@ -19,7 +19,7 @@ use Rattle.pesp_search.specs.declared.seek.Sought.{Sought}
 use Rattle.pesp_search.specs.Optima.{IsBound, IsMember, IsOptimum, Precedes}
 use Rattle.pesp_search.specs.Paths.{HasEmpty, IsDeadEnd, timetable_of}
 use Rattle.pesp_search.specs.Sought.{IsCap, IsMapOf, IsSought, IsSoughtMap, best_of_map}
-use Rattle.pesp_search.specs.Tried.{IsEnd, IsFound, IsOutcome}
+use Rattle.pesp_search.specs.Tried.{IsEnd, IsFloor, IsFound, IsOutcome}
 use Rattle.pesp_search.specs.Nodes.{Before}
 use Rattle.pesp_search.proofs.Ends.{dead_size, no_member}
 use Rattle.pesp_search.proofs.Maps.{full_of_met, map_of_member, member_of_map}
@@ -94,6 +94,15 @@ pub sought_told : (I : Network) (bound : Option ℕ) (r : Result Sought Memory) 
     → IfOk r (λ (s : Sought). IsSought I bound s.is_end s.best)
 sought_told I bound (Ok s) is_end found best end is = rw (best, end) is
 sought_told I bound (Err e) is_end found best end is = tt
+
+-- what no map undercuts no member does
+pub floor_of_map : (I : Network) (N : Arcs) (floor : ℕ) → IsNetwork I → IsNetworkOf I N → IsLowerBound (IsCosted N) floor → IsFloor I floor
+floor_of_map I N floor ok of is m member = is (values_of m.entries) (cost_of I m) (costed I N m ok of member)
+
+-- and so it is told with the times
+pub sought_floor : (I : Network) (r : Result Sought Memory) (floor : ℕ) → IfOk r (λ (s : Sought). s.floor ≡ floor) → IsFloor I floor → IfOk r (λ (s : Sought). IsFloor I s.floor)
+sought_floor I (Ok s) floor same is = rw same is
+sought_floor I (Err e) floor same is = tt
 
 -- a map with a cost is one of the instance
 map_with_cost : (I : Network) (N : Arcs) (c : Candidate) → IsNetwork I → IsNetworkOf I N → IsCosted N c.map.items c.cost → IsMapOf I c

@@ -1,6 +1,7 @@
 -- The network of arcs between events by index that an instance and its domains make.
-use Rattle.std.specs.Prelude.{◌≡◌, ℕ, ◌<◌, ◌↔◌, ⊤, Bool, true, false, IsTrue, List, [], ◌∷◌, length, slice_index, slice_set}
+use Rattle.std.specs.Prelude.{◌≡◌, ℕ, ◌+◌, ◌*◌, ◌<◌, ◌↔◌, ⊤, Bool, false, IsTrue, List, [], ◌∷◌, length, slice_index, slice_index_or}
 use Rattle.pesp_base.specs.declared.activity.Activity.{Activity}
+use Rattle.pesp_domains.specs.declared.pair.Pair.{Pair}
 use Rattle.pesp_domains.specs.Domains.{InDomains}
 use Rattle.pesp_instance.specs.Network.{Network, event_ids}
 use Rattle.pesp_search_network.specs.Arcs.{Arcs, has}
@@ -22,10 +23,10 @@ AreArcsOf ids [] (arc ∷ arcs) = ⊥
 AreArcsOf ids (a ∷ activities) [] = ⊥
 AreArcsOf ids (a ∷ activities) (arc ∷ arcs) = IsArcOf ids a arc × AreArcsOf ids activities arcs
 
--- the rows without what stands at the index, where there is no test for it
-abbrev pub tested : List Bool → ℕ → Bool → List Bool
-tested rows index true = rows
-tested rows index false = slice_set rows index false
+-- the rows, a test for each residue of one event after another, are the domains
+abbrev pub AreDomains : Network → List Pair → List Bool → Type 0
+AreDomains I pushes rows =
+    (index r : ℕ) → index < length (event_ids I) → r < I.period → IsTrue (slice_index_or rows (index * I.period + r) false) ↔ InDomains I pushes (slice_index (event_ids I) index) r
 
 -- the network has the period, the events by their indices, an arc for each activity, and for each event its domain
 pub record IsNetworkOf (I : Network) (N : Arcs) : Type 0 where

@@ -1,5 +1,5 @@
 -- What a search has found so far, and what is of no use to it.
-use Rattle.std.specs.Prelude.{◌≡◌, ℕ, ◌+◌, ◌<◌, ◌≤◌, List, [], ◌∷◌, ◌++◌, length, ◌⊎◌, Option, Some, None, IfSome, IsSomeAnd, MatchOption}
+use Rattle.std.specs.Prelude.{◌≡◌, ℕ, ◌+◌, ◌<◌, ◌≤◌, List, [], ◌∷◌, ◌++◌, length, Option, Some, None, IfSome, IsSomeAnd, MatchOption}
 use Rattle.pesp_instance.specs.Network.{Network, event_ids}
 use Rattle.pesp_search.specs.declared.answer.Best.{Best}
 use Rattle.pesp_search.specs.declared.incumbent.Incumbent.{Incumbent}
@@ -44,22 +44,18 @@ IsTold I incumbent told = MatchOption told (incumbent.cost ≡ None) (λ b. (inc
 abbrev pub IsCut : Option ℕ → ℕ → Type 0
 IsCut limit cost = IsSomeAnd limit (λ l. l ≤ cost)
 
--- a residue is of no use: what is told of it, or what is known with it, has come to the limit
-abbrev pub IsOfNoUse : Network → Option ℕ → (ℕ → ℕ) → List ℕ → ℕ → Type 0
-IsOfNoUse I limit bound path s = IsCut limit (bound s) ⊎ IsCut limit (known_cost I (path ++ s ∷ []))
-
 -- each residue of the next event's domain from one on and below another is of no use
-abbrev pub AreCut : Network → Option ℕ → (ℕ → ℕ) → List ℕ → ℕ → ℕ → Type 0
-AreCut I limit bound path from to = (s : ℕ) → from ≤ s → s < to → InNext I path s → IsOfNoUse I limit bound path s
+abbrev pub AreCut : Network → Option ℕ → List ℕ → ℕ → ℕ → Type 0
+AreCut I limit path from to = (s : ℕ) → from ≤ s → s < to → InNext I path s → IsCut limit (known_cost I (path ++ s ∷ []))
 
 -- r is the first one from there on that is of use
-pub record IsFirstOfUse (I : Network) (limit : Option ℕ) (bound : ℕ → ℕ) (path : List ℕ) (from r : ℕ) : Type 0 where
+pub record IsFirstOfUse (I : Network) (limit : Option ℕ) (path : List ℕ) (from r : ℕ) : Type 0 where
   pub above : from ≤ r
   pub below : r < I.period
   pub inside : InNext I path r
-  pub of_use : IfSome limit (λ l. (bound r < l) × (known_cost I (path ++ r ∷ []) < l))
-  pub before : AreCut I limit bound path from r
+  pub of_use : IfSome limit (λ l. known_cost I (path ++ r ∷ []) < l)
+  pub before : AreCut I limit path from r
 
 -- that residue, or none where none is of use
-abbrev pub IsNextOfUse : Network → Option ℕ → (ℕ → ℕ) → List ℕ → ℕ → Option ℕ → Type 0
-IsNextOfUse I limit bound path from next = MatchOption next (AreCut I limit bound path from I.period) (IsFirstOfUse I limit bound path from)
+abbrev pub IsNextOfUse : Network → Option ℕ → List ℕ → ℕ → Option ℕ → Type 0
+IsNextOfUse I limit path from next = MatchOption next (AreCut I limit path from I.period) (IsFirstOfUse I limit path from)

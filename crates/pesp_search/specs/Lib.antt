@@ -1,13 +1,12 @@
 pub mod Arcs
+pub mod Beforehand
 pub mod Branch
-pub mod Dived
 pub mod Found
 pub mod Nodes
 pub mod Optima
 pub mod Parts
 pub mod Paths
 pub mod Searching
-pub mod Seen
 pub mod Sought
 pub mod Tree
 pub mod Tried

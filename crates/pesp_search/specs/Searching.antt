@@ -10,18 +10,15 @@ use Rattle.pesp_search.specs.Found.{AtLeast, IsIncumbent, limit_of}
 use Rattle.pesp_search.specs.Nodes.{IsAt, IsCounted, IsFull, IsNext, IsSpent}
 use Rattle.pesp_search.specs.Optima.{IsBound}
 use Rattle.pesp_search.specs.Parts.{AreLeast}
-use Rattle.pesp_search.specs.Seen.{IsSeen, SeesAlong, told_at}
 use Rattle.pesp_search.specs.Tree.{IsTreeSize}
 
--- the search stands at a node, with the pairs of its path pushed: all full times before it cost at least the limit, what sees ahead holds along the path, the incumbent is the best so far, and the nodes counted, with those that are left, are no more than the tree has
+-- the search stands at a node, with the pairs of its path pushed: all full times before it cost at least the limit, the incumbent is the best so far, and the nodes counted, with those that are left, are no more than the tree has
 pub record IsSearching (I : Network) (pushes : List Pair) (state : TreeSearch) : Type 0 where
   pub network : IsNetwork I
   pub events : state.events.now ≡ event_ids I
-  pub least : AreLeast I state.least.now
+  pub least : AreLeast I state.least.items
   pub branch : IsBranch I state.branch.times.items state.branch.cost state.branch.timetable (vec_capacity state.branch.times)
   pub at : IsAt (AtLeast I (limit_of state.incumbent)) I pushes state.branch.times.items state.from
-  pub guide : SeesAlong I state.guide.ahead state.branch.times.items
-  pub seen : 0 < state.from → IsSeen I state.branch.times.items (told_at state.guide.ahead (length state.branch.times.items))
   pub incumbent : IsIncumbent I state.incumbent
   pub counted : IsCounted I state.branch.times.items state.from state.nodes
   pub within : IfSome state.limit (λ l. state.nodes ≤ l)
@@ -33,7 +30,7 @@ pub record GoesOn (I : Network) (pushes : List Pair) (old new : TreeSearch) : Ty
   pub bound : new.incumbent.bound ≡ old.incumbent.bound
   pub limit : new.limit ≡ old.limit
 
--- it stands where it stood, with the same incumbent: what sees ahead and the times after the branch alone may be others
+-- it stands where it stood, with the same incumbent: the times after the branch alone may be others
 pub record IsSameNode (old new : TreeSearch) : Type 0 where
   pub events : new.events ≡ old.events
   pub least : new.least ≡ old.least
@@ -54,8 +51,7 @@ IsOver I state =
 -- what to do at the node: keep the times of a leaf, go down to the next residue that is of use, or back up
 abbrev pub IsStepAt : Network → TreeSearch → Step → Type 0
 IsStepAt I state Leaf = IsFull I state.branch.times.items × IfSome (limit_of state.incumbent) (λ l. state.branch.cost < l)
-IsStepAt I state (Descend r) =
-    IsNext (AtLeast I (limit_of state.incumbent)) I state.branch.times.items state.from r × IsSeen I state.branch.times.items (told_at state.guide.ahead (length state.branch.times.items))
+IsStepAt I state (Descend r) = IsNext (AtLeast I (limit_of state.incumbent)) I state.branch.times.items state.from r
 IsStepAt I state Backtrack = IsOver I state
 
 -- one time more, and all of the next event's residues yet to be tried

@@ -1,16 +1,15 @@
 //! An instance and its domains as a network of arcs between events by index.
 
-ghost use Rattle.std.specs.Prelude.{◌≡◌, ◌*◌, ◌<◌, ◌≤◌, [], IfOk, OnOk, length, slice_index};
+ghost use Rattle.std.specs.Prelude.{◌≡◌, ℕ, ◌+◌, ◌*◌, ◌<◌, ◌≤◌, ◌⊎◌, false, true, [], IfOk, OnOk, length, replicate, slice_index, slice_index_or};
 ghost use Rattle.std.specs.List.{Contains};
 ghost use Rattle.std.specs.List.Sorted.{IsStrictlyIncreasing};
-ghost use Rattle.pesp_search_bounds.specs.Rows.{AreDomains};
+ghost use Rattle.pesp_domains.specs.Domains.{holds};
 ghost use Rattle.pesp_instance.specs.Network.{IsNetwork, event_ids};
-ghost use Rattle.pesp_search.specs.Arcs.{AreArcsOf, IsArcOf, IsNetworkOf, tested};
+ghost use Rattle.pesp_search.specs.Arcs.{AreArcsOf, AreDomains, IsArcOf, IsNetworkOf};
 
-use pesp_base::{Activity, EventId, Memory, Period};
-use pesp_domains::Keeper;
+use pesp_base::{Activity, EventId, Memory};
+use pesp_domains::{Keeper, Row};
 use pesp_instance::Instance;
-use pesp_search_bounds::fill_rows;
 use pesp_search_graph::Arc;
 use pesp_search_network::Network;
 use std::alloc::Global;
@@ -59,53 +58,41 @@ fn add_arcs(network: &mut Network, instance: &Instance, events: &[EventId]) -> R
     Ok(())
 }
 
-/// Forbids the residue at an index of the rows, where there is no test for it.
-fn forbid_untested(network: &mut Network, period: Period, index: usize, test: bool)
-    requires period { network.old.period ≡ period }
-    requires index { index < network.old.events * period }
-    ensures { network.new ≡ record network.old { rows = tested network.old.rows index test } }
+/// Forbids an event, which might stand at every residue, those that are not in the row.
+fn keep_row(network: &mut Network, index: usize, row: &Row)
+    requires index { index < network.old.events }
+    requires full { (r : ℕ) → r < network.old.period
+        → slice_index_or network.old.rows (index * network.old.period + r) false ≡ true }
+    ensures same { network.new ≡ record network.old { rows = network.new.rows } }
+    ensures kept { (r : ℕ) → r < network.old.period
+        → slice_index_or network.new.rows (index * network.old.period + r) false
+        ≡ holds row.now r }
+    ensures others { (k : ℕ)
+        → ((k < index * network.old.period) ⊎ (index * network.old.period + network.old.period ≤ k))
+        → slice_index_or network.new.rows k false ≡ slice_index_or network.old.rows k false }
 {
-    if test {
-        return;
+    network.sound();
+    for residue in 0..network.period().get() {
+        if !row.holds(residue) {
+            network.forbid(index, residue);
+        }
     }
-    let width = usize::from(period.get());
-    network.forbid(index / width, (index % width) as u16);
 }
 
-/// A network without arcs, whose events may stand at the residues for which there is a test.
-fn without_arcs(
-    alloc: Global,
-    period: Period,
-    events: usize,
-    tests: &[bool],
-) -> Result<Network, Memory>
-    requires few { events ≤ 20000 }
-    requires long { length tests.now ≡ events * period }
-    ensures { IfOk result (λ network.
-        network ≡ record { period = period; events = events; arcs = []; rows = tests.now }) }
-{
-    let mut network = Network::new(alloc, period, events)?;
-    for index in 0..tests.len() {
-        forbid_untested(&mut network, period, index, tests[index]);
-    }
-    Ok(network)
-}
-
-/// For each event, for each residue, whether that is in its domain.
-fn domains_of<K: Keeper>(alloc: Global, keeper: &K, events: &[EventId]) -> Result<Vec<bool>, Memory>
-    requires network { IsNetwork (K.network keeper.now) }
+/// Forbids each event, which might stand at every residue, those that are not in its domain.
+fn keep_domains<K: Keeper>(network: &mut Network, keeper: &K, events: &[EventId])
     requires events { events.now ≡ event_ids (K.network keeper.now) }
-    ensures long { IfOk result (λ tests.
-        length tests.items ≡ length events.now * (K.network keeper.now).period) }
-    ensures domains { IfOk result (λ tests.
-        AreDomains (K.network keeper.now) (K.pushes keeper.now) tests.items) }
+    requires period { network.old.period ≡ (K.network keeper.now).period }
+    requires indices { network.old.events ≡ length events.now }
+    requires full { network.old.rows
+        ≡ replicate (network.old.events * network.old.period) true }
+    ensures same { network.new ≡ record network.old { rows = network.new.rows } }
+    ensures domains { AreDomains (K.network keeper.now) (K.pushes keeper.now) network.new.rows }
 {
-    let width = usize::from(keeper.instance().period().get());
-    let Ok(mut tests) = vec![in alloc; false; events.len() * width] else {
-        return Err(Memory);
-    };
-    fill_rows(keeper, events, &mut tests);
-    Ok(tests)
+    for (index, event) in events.iter().enumerate() {
+        let row = keeper.row(*event).unwrap();
+        keep_row(network, index, row);
+    }
 }
 
 /// The network of a keeper's instance, in which each event has its domain.
@@ -119,9 +106,8 @@ pub(crate) fn network_of<K: Keeper>(
     requires pushes { K.pushes keeper.now ≡ [] }
     ensures { IfOk result (IsNetworkOf (K.network keeper.now)) }
 {
-    let tests = domains_of(alloc, keeper, events)?;
-    let period = keeper.instance().period();
-    let mut network = without_arcs(alloc, period, events.len(), &tests)?;
+    let mut network = Network::new(alloc, keeper.instance().period(), events.len())?;
+    keep_domains(&mut network, keeper, events);
     add_arcs(&mut network, keeper.instance(), events)?;
     Ok(network)
 }

@@ -1,9 +1,9 @@
 //! What a search ends with.
 
-ghost use Rattle.std.specs.Prelude.{◌≡◌, ◌<◌, false, All, [], length};
+ghost use Rattle.std.specs.Prelude.{◌≡◌, ◌<◌, All, [], length};
 ghost use Rattle.pesp_instance.specs.Network.{IsNetwork, Network, event_ids};
+ghost use Rattle.pesp_search.specs.Beforehand.{least_bound, told_best, told_bound};
 ghost use Rattle.pesp_search.specs.Branch.{IsFront};
-ghost use Rattle.pesp_search.specs.Dived.{told_best};
 ghost use Rattle.pesp_search.specs.Found.{IsIncumbent, IsTold};
 ghost use Rattle.pesp_search.specs.Optima.{IsAnswer};
 ghost use Rattle.pesp_search.specs.Paths.{timetable_of};
@@ -11,12 +11,12 @@ ghost use Rattle.pesp_search.specs.Tried.{IsEnd};
 
 use crate::branch::put_time;
 use crate::incumbent::Incumbent;
-use crate::{Answer, Best};
+use crate::{Answer, Best, Known};
 use pesp_base::EventId;
 use pesp_instance::Instance;
 use pesp_tension::Timetable;
 
-/// What a search ends with.
+/// What a search through the tree ends with.
 #[derive(Drop)]
 pub(crate) struct Outcome {
     // None where no times within the bound were found.
@@ -71,19 +71,6 @@ pub(crate) fn best_of(
     }
 }
 
-/// What a search ends with that came to its end without a push.
-pub(crate) fn ended(best: Option<Best>) -> Outcome
-    ensures best { result.best ≡ best }
-    ensures stopped { result.is_stopped ≡ false }
-    ensures nodes { result.nodes ≡ 0 }
-{
-    Outcome {
-        best,
-        is_stopped: false,
-        nodes: 0,
-    }
-}
-
 /// The answer of a search that came to its end.
 pub(crate) fn answer_of(best: Option<Best>) -> Answer
     ensures { (I : Network) → IsEnd I best → IsAnswer I result }
@@ -97,18 +84,39 @@ pub(crate) fn answer_of(best: Option<Best>) -> Answer
     }
 }
 
-/// The outcome of a search under the cost of a timetable from beforehand, which is told where a stop found nothing.
-pub(crate) fn told(outcome: Outcome, before: Option<Best>) -> Outcome
-    ensures best { result.best ≡ told_best outcome.is_stopped outcome.best before }
-    ensures stopped { result.is_stopped ≡ outcome.is_stopped }
-    ensures nodes { result.nodes ≡ outcome.nodes }
+/// What is known with this best, where no timetable that meets everything costs less than the floor.
+pub(crate) fn known(best: Option<Best>, is_stopped: bool, floor: u64) -> Known
+    ensures best { result.best ≡ best }
+    ensures bound { result.lower_bound ≡ told_bound is_stopped best floor }
+    ensures stopped { result.is_stopped ≡ is_stopped }
+{
+    let lower_bound = match (&best, is_stopped) {
+        (Some(best), false) => best.cost,
+        _ => floor,
+    };
+    Known {
+        best,
+        lower_bound,
+        is_stopped,
+    }
+}
+
+/// The lowest cost that is known of a timetable: of the one from before, or what was given.
+pub(crate) fn lowest(bound: Option<u64>, before: &Option<Best>) -> Option<u64>
+    ensures { result ≡ least_bound bound before.now }
+{
+    match before {
+        Some(best) => Some(best.cost),
+        None => bound,
+    }
+}
+
+/// What was found under the cost of a timetable from before, which is told where a stop found nothing.
+pub(crate) fn best_told(outcome: Outcome, before: Option<Best>) -> Option<Best>
+    ensures { result ≡ told_best outcome.is_stopped outcome.best before }
 {
     if outcome.is_stopped && outcome.best.is_none() {
-        return Outcome {
-            best: before,
-            is_stopped: true,
-            nodes: outcome.nodes,
-        };
+        return before;
     }
-    outcome
+    outcome.best
 }

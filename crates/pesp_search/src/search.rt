@@ -1,24 +1,19 @@
 //! The search.
 
-ghost use Rattle.std.specs.Prelude.{◌≡◌, [], IfOk, IfSome, None, Some};
+ghost use Rattle.std.specs.Prelude.{◌≡◌, [], false, IfOk, IfSome, None, Some};
 ghost use Rattle.pesp_instance.specs.Network.{IsNetwork, event_ids};
 ghost use Rattle.pesp_search.specs.declared.answer.Answer.TheVariants as answers;
 ghost use Rattle.pesp_search.specs.declared.answer.Tried.TheVariants as attempts;
 ghost use Rattle.pesp_search.specs.Optima.{IsAnswer, IsBound};
 ghost use Rattle.pesp_search.specs.Paths.{IsDeadEnd};
 ghost use Rattle.pesp_search.specs.Tree.{AreNodes};
-ghost use Rattle.pesp_search.specs.Tried.{IsFound, IsOutcome, MayTry};
+ghost use Rattle.pesp_search.specs.Tried.{IsFloor, IsFound, IsKnown, MayTry};
 
-use crate::branch::Branch;
-use crate::dived::{dived, first_known, limit_of_dive, lowest};
-use crate::guide::Guide;
-use crate::incumbent::Incumbent;
-use crate::outcome::{Outcome, answer_of, ended, told};
-use crate::parts::least_of_parts;
-use crate::seek::seek;
+use crate::outcome::{answer_of, best_told, known, lowest};
+use crate::seek::{Sought, seek};
 use crate::steps::has_empty_row;
 use crate::tree_search::TreeSearch;
-use crate::{Answer, Best, Tried};
+use crate::{Answer, Known, Tried};
 use pesp_base::{EventId, Memory};
 use pesp_domains::Keeper;
 use pesp_instance::Instance;
@@ -40,49 +35,34 @@ fn events_of(alloc: Global, instance: &Instance) -> Result<Vec<EventId>, Memory>
     Ok(events)
 }
 
-/// Goes through the tree for what costs no more than the timetable that was found, or that a dive finds where none was. All memory
-/// is taken before the search, and so before the first node that it counts.
+/// Goes through the tree for what costs no more than the timetable that was found, if there is one.
 fn search_tree<K: Keeper>(
     alloc: Global,
     keeper: &mut K,
     events: &[EventId],
-    found: Option<Best>,
+    sought: Sought,
     bound: Option<u64>,
     limit: Option<u64>,
-) -> Result<Outcome, Memory>
+) -> Result<(Known, u64), Memory>
     requires network { IsNetwork (K.network keeper.old) }
     requires events { events.now ≡ event_ids (K.network keeper.old) }
     requires pushes { K.pushes keeper.old ≡ [] }
     requires bound { IsBound (K.network keeper.old) bound }
-    requires found { IfSome found (IsFound (K.network keeper.old) bound) }
-    requires none { limit ≡ Some 0 → found ≡ None }
-    ensures outcome { IfOk result (λ outcome.
-        IsOutcome (K.network keeper.old) bound limit outcome.is_stopped outcome.best
-        outcome.nodes) }
-    ensures nodes { IfOk result (λ outcome. AreNodes (K.network keeper.old) outcome.nodes) }
+    requires found { IfSome sought.best (IsFound (K.network keeper.old) bound) }
+    requires floor { IsFloor (K.network keeper.old) sought.floor }
+    requires none { limit ≡ Some 0 → sought.best ≡ None }
+    ensures known { IfOk result (λ r. IsKnown (K.network keeper.old) bound limit r.0 r.1) }
+    ensures nodes { IfOk result (λ r. AreNodes (K.network keeper.old) r.1) }
     ensures network { K.network keeper.new ≡ K.network keeper.old }
     ensures pushes { K.pushes keeper.new ≡ [] }
 {
-    // The events at which residue 0 alone is tried.
-    let least = least_of_parts(alloc, keeper.instance(), events)?;
-    let mut guide = Guide::new(alloc, keeper.instance(), events, limit)?;
-    let steps = limit_of_dive(&found, limit);
-    let by_dive = dived(alloc, keeper, events, &least, &mut guide, bound, steps)?;
-    let before = first_known(found, by_dive);
-    let lowest = lowest(bound, &before);
-    let branch = Branch::new(alloc, keeper.instance())?;
-    let incumbent = Incumbent::new(alloc, events.len(), lowest)?;
-    let search = TreeSearch {
-        events,
-        least: &least,
-        guide,
-        branch,
-        incumbent,
-        from: 0,
-        nodes: 0,
-        limit,
-    };
-    Ok(told(search.run(keeper), before))
+    let lowest = lowest(bound, &sought.best);
+    // All memory is taken here, before the first node: `run` has no allocator.
+    let search = TreeSearch::new(alloc, keeper, events, lowest, limit)?;
+    let outcome = search.run(keeper);
+    let (is_stopped, nodes) = (outcome.is_stopped, outcome.nodes);
+    let best = best_told(outcome, sought.best);
+    Ok((known(best, is_stopped, sought.floor), nodes))
 }
 
 /// Asks the search by cycles, and where that does not come to its end goes through the tree.
@@ -92,23 +72,21 @@ fn search_in_turn<K: Keeper>(
     events: &[EventId],
     bound: Option<u64>,
     limit: Option<u64>,
-) -> Result<Outcome, Memory>
+) -> Result<(Known, u64), Memory>
     requires network { IsNetwork (K.network keeper.old) }
     requires events { events.now ≡ event_ids (K.network keeper.old) }
     requires pushes { K.pushes keeper.old ≡ [] }
     requires bound { IsBound (K.network keeper.old) bound }
-    ensures outcome { IfOk result (λ outcome.
-        IsOutcome (K.network keeper.old) bound limit outcome.is_stopped outcome.best
-        outcome.nodes) }
-    ensures nodes { IfOk result (λ outcome. AreNodes (K.network keeper.old) outcome.nodes) }
+    ensures known { IfOk result (λ r. IsKnown (K.network keeper.old) bound limit r.0 r.1) }
+    ensures nodes { IfOk result (λ r. AreNodes (K.network keeper.old) r.1) }
     ensures network { K.network keeper.new ≡ K.network keeper.old }
     ensures pushes { K.pushes keeper.new ≡ [] }
 {
     let sought = seek(alloc, keeper, events, bound, limit)?;
     if sought.is_end {
-        return Ok(ended(sought.best));
+        return Ok((known(sought.best, false, sought.floor), 0));
     }
-    search_tree(alloc, keeper, events, sought.best, bound, limit)
+    search_tree(alloc, keeper, events, sought, bound, limit)
 }
 
 /// Looks for an empty domain, and else searches.
@@ -117,13 +95,11 @@ fn search<K: Keeper>(
     keeper: &mut K,
     bound: Option<u64>,
     limit: Option<u64>,
-) -> Result<Outcome, Memory>
+) -> Result<(Known, u64), Memory>
     requires pushes { K.pushes keeper.old ≡ [] }
     requires bound { IsBound (K.network keeper.old) bound }
-    ensures outcome { IfOk result (λ outcome.
-        IsOutcome (K.network keeper.old) bound limit outcome.is_stopped outcome.best
-        outcome.nodes) }
-    ensures nodes { IfOk result (λ outcome. AreNodes (K.network keeper.old) outcome.nodes) }
+    ensures known { IfOk result (λ r. IsKnown (K.network keeper.old) bound limit r.0 r.1) }
+    ensures nodes { IfOk result (λ r. AreNodes (K.network keeper.old) r.1) }
     ensures is_network { IsNetwork (K.network keeper.old) }
     ensures network { K.network keeper.new ≡ K.network keeper.old }
     ensures pushes { K.pushes keeper.new ≡ [] }
@@ -131,7 +107,7 @@ fn search<K: Keeper>(
     // The order in which the tree gives them their times.
     let events = events_of(alloc, keeper.instance())?;
     if has_empty_row(keeper, &events) {
-        return Ok(ended(None));
+        return Ok((known(None, false, u64::MAX), 0));
     }
     search_in_turn(alloc, keeper, &events, bound, limit)
 }
@@ -156,14 +132,36 @@ pub fn best<K: Keeper>(
     ensures network { K.network keeper.new ≡ K.network keeper.old }
     ensures pushes { K.pushes keeper.new ≡ [] }
 {
-    let outcome = search(alloc, keeper, bound, None)?;
-    Ok((answer_of(outcome.best), outcome.nodes))
+    let (known, nodes) = search(alloc, keeper, bound, None)?;
+    Ok((answer_of(known.best), nodes))
+}
+
+/// What is known of the keeper's instance when the search ends, or when as many nodes were counted as the limit.
+///
+/// It stops only where the tree has more nodes than the limit. Where some timetable that meets everything
+/// within the bound is reached by the limit in the tree without cuts, what it stops with costs no more than that one.
+/// No timetable that meets everything costs less than the lower bound, also none above the bound that is given.
+pub fn known_within<K: Keeper>(
+    alloc: Global,
+    keeper: &mut K,
+    bound: Option<u64>,
+    limit: u64,
+) -> Result<(Known, u64), Memory>
+    requires pushes { K.pushes keeper.old ≡ [] }
+    requires bound { IsBound (K.network keeper.old) bound }
+    ensures known { IfOk result (λ r. IsKnown (K.network keeper.old) bound (Some limit) r.0 r.1) }
+    ensures dead { IsDeadEnd (K.network keeper.old) []
+        → IfOk result (λ r. (r.0.is_stopped ≡ false) × (r.0.best ≡ None) × (r.1 ≡ 0)) }
+    ensures nodes { IfOk result (λ r. AreNodes (K.network keeper.old) r.1) }
+    ensures network { K.network keeper.new ≡ K.network keeper.old }
+    ensures pushes { K.pushes keeper.new ≡ [] }
+{
+    search(alloc, keeper, bound, Some(limit))
 }
 
 /// The optimum as [`best`] finds it, or what was found when as many nodes were counted as the limit.
 ///
-/// It stops only where the tree has more nodes than the limit. Where some timetable that meets everything
-/// within the bound is reached by the limit in the tree without cuts, what it stops with costs no more than that one.
+/// It stops as [`known_within`] does.
 pub fn best_within<K: Keeper>(
     alloc: Global,
     keeper: &mut K,
@@ -179,11 +177,11 @@ pub fn best_within<K: Keeper>(
     ensures network { K.network keeper.new ≡ K.network keeper.old }
     ensures pushes { K.pushes keeper.new ≡ [] }
 {
-    let outcome = search(alloc, keeper, bound, Some(limit))?;
-    let tried = if outcome.is_stopped {
-        Tried::Stopped { best: outcome.best }
+    let (known, nodes) = search(alloc, keeper, bound, Some(limit))?;
+    let tried = if known.is_stopped {
+        Tried::Stopped { best: known.best }
     } else {
-        Tried::Done(answer_of(outcome.best))
+        Tried::Done(answer_of(known.best))
     };
-    Ok((tried, outcome.nodes))
+    Ok((tried, nodes))
 }

@@ -5,7 +5,8 @@ ghost use Rattle.pesp_instance.specs.Network.{IsNetwork, event_ids};
 ghost use Rattle.pesp_search.specs.Arcs.{IsNetworkOf};
 ghost use Rattle.pesp_search.specs.Optima.{IsBound};
 ghost use Rattle.pesp_search.specs.Sought.{IsCap, IsMapOf, IsSought, IsSoughtMap, best_of_map};
-ghost use Rattle.pesp_search_least.specs.Sums.{IsLeast};
+ghost use Rattle.pesp_search.specs.Tried.{IsFloor};
+ghost use Rattle.pesp_search_least.specs.Sums.{IsLeast, IsLowerBound};
 ghost use Rattle.pesp_search_network.specs.Arcs.{IsCosted};
 
 use crate::Best;
@@ -28,6 +29,8 @@ const UNITS_OF_NODE: u64 = 20;
 pub(crate) struct Sought {
     // At the end the optimum, or none; else what was found, if anything was.
     pub(crate) best: Option<Best>,
+    // No timetable that meets everything costs less.
+    pub(crate) floor: u64,
     // Whether the search came to its end.
     pub(crate) is_end: bool,
 }
@@ -37,6 +40,8 @@ pub(crate) struct Sought {
 struct SoughtMap {
     // At the end the first map of least cost, or none; else what was found, if anything was.
     best: Option<Candidate>,
+    // No map costs less.
+    floor: u64,
     // Whether the search came to its end.
     is_end: bool,
 }
@@ -68,19 +73,20 @@ fn first_map(
 ) -> Result<SoughtMap, Memory>
     requires least { IsLeast (IsCosted network.now) candidate }
     requires room { candidate.cost + 1 < 2 ^ 64 }
-    ensures { (cap : ℕ) → candidate.cost < cap
+    ensures best { (cap : ℕ) → candidate.cost < cap
         → IfOk result (λ sought. IsSoughtMap (IsCosted network.now) cap sought.is_end sought.best) }
+    ensures floor { IfOk result (λ sought. sought.floor ≡ candidate.cost) }
 {
-    match first(alloc, network, candidate, budget)? {
-        First::Done(best) => Ok(SoughtMap {
-            best: Some(best),
-            is_end: true,
-        }),
-        First::Spent(best) => Ok(SoughtMap {
-            best: Some(best),
-            is_end: false,
-        }),
-    }
+    let floor = candidate.cost;
+    let (best, is_end) = match first(alloc, network, candidate, budget)? {
+        First::Done(best) => (best, true),
+        First::Spent(best) => (best, false),
+    };
+    Ok(SoughtMap {
+        best: Some(best),
+        floor,
+        is_end,
+    })
 }
 
 /// The first map of least cost, where some cost is below the cap.
@@ -90,16 +96,20 @@ fn seek_map(
     cap: u64,
     budget: &mut Budget,
 ) -> Result<SoughtMap, Memory>
-    ensures { IfOk result (λ sought. IsSoughtMap (IsCosted network.now) cap sought.is_end sought.best) }
+    ensures best { IfOk result (λ sought.
+        IsSoughtMap (IsCosted network.now) cap sought.is_end sought.best) }
+    ensures floor { IfOk result (λ sought. IsLowerBound (IsCosted network.now) sought.floor) }
 {
     match network.least(alloc, &ByCycles, Limits { floor: 0, cap }, budget)? {
         Outcome::Found(candidate) => first_map(alloc, network, candidate, budget),
         Outcome::NoneBelow => Ok(SoughtMap {
             best: None,
+            floor: cap,
             is_end: true,
         }),
-        Outcome::Spent { best, .. } => Ok(SoughtMap {
+        Outcome::Spent { best, lower_bound } => Ok(SoughtMap {
             best,
+            floor: lower_bound.min(cap),
             is_end: false,
         }),
     }
@@ -138,16 +148,18 @@ fn with_times(
     requires map { IfSome sought.best (IsMapOf instance.now) }
     ensures best { IfOk result (λ timed.
         timed.best ≡ option_map (best_of_map instance.now) sought.best) }
+    ensures floor { IfOk result (λ timed. timed.floor ≡ sought.floor) }
     ensures end { IfOk result (λ timed. timed.is_end ≡ sought.is_end) }
 {
-    let is_end = sought.is_end;
-    match sought.best {
-        Some(candidate) => Ok(Sought {
-            best: Some(best_of_map(alloc, instance, events, candidate)?),
-            is_end,
-        }),
-        None => Ok(Sought { best: None, is_end }),
-    }
+    let best = match sought.best {
+        Some(candidate) => Some(best_of_map(alloc, instance, events, candidate)?),
+        None => None,
+    };
+    Ok(Sought {
+        best,
+        floor: sought.floor,
+        is_end: sought.is_end,
+    })
 }
 
 /// What the search by cycles comes to; with limit 0, or where there are too many cycles, it is not begun.
@@ -164,11 +176,13 @@ pub(crate) fn seek<K: Keeper>(
     requires bound { IsBound (K.network keeper.now) bound }
     ensures sought { IfOk result (λ sought.
         IsSought (K.network keeper.now) bound sought.is_end sought.best) }
+    ensures floor { IfOk result (λ sought. IsFloor (K.network keeper.now) sought.floor) }
     ensures none { limit ≡ Some 0
         → IfOk result (λ sought. (sought.is_end ≡ false) × (sought.best ≡ None)) }
 {
     let nothing = Sought {
         best: None,
+        floor: 0,
         is_end: false,
     };
     if limit == Some(0) {

@@ -1,23 +1,24 @@
 //! The search through the tree: depth first, with backtracking, and pruned where the lower bound reaches the incumbent's cost.
 
-ghost use Rattle.std.specs.Prelude.{◌≡◌, ◌≢◌, ◌+◌, ◌-◌, ◌^◌, ◌<◌, min, [], true, false, Some, IfSome, length, vec_capacity};
+ghost use Rattle.std.specs.Prelude.{◌≡◌, ◌≢◌, ◌+◌, ◌-◌, ◌^◌, ◌<◌, min, [], true, false, Some, IfOk, IfSome, length, vec_capacity};
+ghost use Rattle.pesp_instance.specs.Network.{IsNetwork, event_ids};
 ghost use Rattle.pesp_search.specs.Branch.{IsBranch};
 ghost use Rattle.pesp_search.specs.Found.{IsNextOfUse, limit_of};
 ghost use Rattle.pesp_search.specs.Nodes.{IsNext, Nothing};
 ghost use Rattle.pesp_search.specs.Optima.{IsBound};
 ghost use Rattle.pesp_search.specs.Searching.{GoesOn, IsOver, IsSameNode, IsSearching, IsStepAt, IsStepDown, IsStepUp, MayEnd};
-ghost use Rattle.pesp_search.specs.Seen.{told_at};
 ghost use Rattle.pesp_search.specs.Tree.{AreNodes};
 ghost use Rattle.pesp_search.specs.Tried.{IsOutcome};
 ghost use Rattle.pesp_search.specs.declared.steps.Step.TheVariants as steps;
 
 use crate::branch::Branch;
-use crate::guide::Guide;
 use crate::incumbent::Incumbent;
 use crate::outcome::{Outcome, best_of};
+use crate::parts::least_of_parts;
 use crate::steps::{Step, is_zero_enough, left_to_do};
-use pesp_base::EventId;
+use pesp_base::{EventId, Memory};
 use pesp_domains::Keeper;
+use std::alloc::Global;
 
 /// A search through the tree, in the order of events and residues, which leaves out what is of no use.
 ///
@@ -27,9 +28,7 @@ pub(crate) struct TreeSearch<'a> {
     // Those of the instance, ascending: the order in which they are given their times.
     pub(crate) events: &'a [EventId],
     // Marks the events, by index, at which residue 0 alone is tried.
-    pub(crate) least: &'a [bool],
-    // What it told at each node of the path is a lower bound still.
-    pub(crate) guide: Guide,
+    pub(crate) least: Vec<bool>,
     // The path to the node at which the search stands: its times are pushed, and no others.
     pub(crate) branch: Branch,
     // The best of all times before the node.
@@ -64,25 +63,53 @@ fn unwind<K: Keeper>(keeper: &mut K, depth: usize)
     }
 }
 
+impl<'a> TreeSearch<'a> {
+    /// A search before its first node. All its memory is taken here.
+    pub(crate) fn new<K: Keeper>(
+        alloc: Global,
+        keeper: &K,
+        events: &'a [EventId],
+        bound: Option<u64>,
+        limit: Option<u64>,
+    ) -> Result<TreeSearch<'a>, Memory>
+        requires network { IsNetwork (K.network keeper.now) }
+        requires events { events.now ≡ event_ids (K.network keeper.now) }
+        requires pushes { K.pushes keeper.now ≡ [] }
+        ensures searching { IfOk result (IsSearching (K.network keeper.now) []) }
+        ensures bound { IfOk result (λ search. search.incumbent.bound ≡ bound) }
+        ensures limit { IfOk result (λ search. search.limit ≡ limit) }
+    {
+        let instance = keeper.instance();
+        let least = least_of_parts(alloc, instance, events)?;
+        let branch = Branch::new(alloc, instance)?;
+        let incumbent = Incumbent::new(alloc, events.len(), bound)?;
+        Ok(TreeSearch {
+            events,
+            least,
+            branch,
+            incumbent,
+            from: 0,
+            nodes: 0,
+            limit,
+        })
+    }
+}
+
 impl TreeSearch<'_> {
-    /// The first residue of the next event's domain, from one on, that is of use by what is told of it and by the known
-    /// cost with it.
+    /// The first residue of the next event's domain, from one on, with which the known cost is below the limit.
     fn next_of_use<K: Keeper>(&mut self, keeper: &K, first: u16) -> Option<u16>
         requires searching { IsSearching (K.network keeper.now) (K.pushes keeper.now) self.old }
         requires room { length self.old.branch.times.items < length self.old.events.now }
         ensures same { IsSameNode self.old self.new }
-        ensures guide { self.new.guide ≡ self.old.guide }
         ensures branch { IsBranch (K.network keeper.now) self.new.branch.times.items
             self.new.branch.cost self.new.branch.timetable (vec_capacity self.new.branch.times) }
         ensures next { IsNextOfUse (K.network keeper.now) (limit_of self.old.incumbent)
-            (told_at self.old.guide.ahead (length self.old.branch.times.items))
             self.old.branch.times.items first result }
     {
-        let depth = self.branch.times.len();
-        let event = self.events[depth];
+        let event = self.events[self.branch.times.len()];
         let row = keeper.row(event)?;
         for residue in first..keeper.instance().period().get() {
-            if row.holds(residue) && !self.incumbent.cuts(self.guide.bound(depth, residue)) {
+            if row.holds(residue) {
                 let cost = self.branch.cost_with(keeper.instance(), event, residue);
                 if !self.incumbent.cuts(cost) {
                     return Some(residue);
@@ -101,12 +128,9 @@ impl TreeSearch<'_> {
         ensures same { IsSameNode self.old self.new }
         ensures step { IsStepAt (K.network keeper.now) self.new result }
     {
-        let depth = self.branch.times.len();
-        if is_zero_enough(self.least, depth, self.from) {
+        if is_zero_enough(&self.least, self.branch.times.len(), self.from) {
             return Step::Backtrack;
         }
-        self.guide
-            .arrive(keeper, self.events, &self.branch.times, self.from);
         match self.next_of_use(keeper, first) {
             Some(residue) => Step::Descend(residue),
             None => Step::Backtrack,

@@ -1,10 +1,12 @@
 -- An empty domain, or what the search in turn tells.
-use Rattle.std.proofs.Common.{[], refl, ap, ◌∙◌}
+use Rattle.std.proofs.Common.{[], None, refl, ap, ◌∙◌}
 use Rattle.std.proofs.lemmas.Result.{IfOk-from_err}
 use Rattle.pesp_instance.specs.Network.{event_ids}
 use Rattle.pesp_search.specs.Paths.{IsDeadEnd}
+use Rattle.pesp_search.proofs.Beforehand.{known_of_end}
 use Rattle.pesp_search.proofs.Sizes.{no_nodes}
 use Rattle.pesp_search.proofs.Sought.{dead_of_empty, dead_outcome}
+use Rattle.pesp_search.proofs.Ends.{no_member}
 use Rattle.pesp_search.proofs.search.search.Goals as goal
 
 pub has_empty_row-requires : goal.has_empty_row-requires
@@ -24,14 +26,16 @@ search_in_turn-requires-clause-bound g c = c.requires.bound
 
 -- ---- an empty domain
 
-pub returns-then-has_empty_row-clause-outcome : goal.returns-then-has_empty_row-clause-outcome
-returns-then-has_empty_row-clause-outcome g c =
+pub returns-then-has_empty_row-clause-known : goal.returns-then-has_empty_row-clause-known
+returns-then-has_empty_row-clause-known g c =
     let I = g.K.Keeper.network c.args.keeper.now in
+    let network = rw c.instance.ensures at c.events_of.ensures.network in
     let dead : IsDeadEnd I [] = dead_of_empty I (g.K.Keeper.pushes c.args.keeper.now) c.requires.pushes (c.has_empty_row.ensures.dead c.if-has_empty_row.true) in
-    rw (c.ended.ensures.best, c.ended.ensures.stopped, c.ended.ensures.nodes) (dead_outcome I c.args.bound c.args.limit (rw c.instance.ensures at c.events_of.ensures.network) dead)
+    rw (c.known.ensures.best, c.known.ensures.bound, c.known.ensures.stopped)
+    (known_of_end I c.args.bound c.args.limit None _ (dead_outcome I c.args.bound c.args.limit network dead) (λ m member. absurd (no_member I m network dead member)))
 
 pub returns-then-has_empty_row-clause-nodes : goal.returns-then-has_empty_row-clause-nodes
-returns-then-has_empty_row-clause-nodes g c = rw c.ended.ensures.nodes (no_nodes (g.K.Keeper.network c.args.keeper.now))
+returns-then-has_empty_row-clause-nodes g c = no_nodes (g.K.Keeper.network c.args.keeper.now)
 
 pub returns-then-has_empty_row-clause-is_network : goal.returns-then-has_empty_row-clause-is_network
 returns-then-has_empty_row-clause-is_network g c = rw c.instance.ensures at c.events_of.ensures.network
@@ -44,8 +48,8 @@ returns-then-has_empty_row-clause-pushes g c = c.requires.pushes
 
 -- ---- what the search told
 
-pub returns-clause-outcome : goal.returns-clause-outcome
-returns-clause-outcome g c = c.search_in_turn.ensures.outcome
+pub returns-clause-known : goal.returns-clause-known
+returns-clause-known g c = c.search_in_turn.ensures.known
 
 pub returns-clause-nodes : goal.returns-clause-nodes
 returns-clause-nodes g c = c.search_in_turn.ensures.nodes
@@ -61,8 +65,8 @@ returns-clause-pushes g c = c.search_in_turn.ensures.pushes
 
 -- ---- want of memory
 
-pub returns-in_err-events-clause-outcome : goal.returns-in_err-events-clause-outcome
-returns-in_err-events-clause-outcome g c = IfOk-from_err c.from_residual.result _ c.from_residual.ensures.0
+pub returns-in_err-events-clause-known : goal.returns-in_err-events-clause-known
+returns-in_err-events-clause-known g c = IfOk-from_err c.from_residual.result _ c.from_residual.ensures.0
 
 pub returns-in_err-events-clause-nodes : goal.returns-in_err-events-clause-nodes
 returns-in_err-events-clause-nodes g c = IfOk-from_err c.from_residual.result _ c.from_residual.ensures.0

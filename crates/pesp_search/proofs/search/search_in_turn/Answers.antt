@@ -3,6 +3,7 @@ use Rattle.std.proofs.Common.{sym, subst, ◌∙◌}
 use Rattle.std.proofs.lemmas.Bool.{false≢true}
 use Rattle.std.proofs.lemmas.Result.{IfOk-from_err}
 use Rattle.pesp_search.specs.Sought.{IsSought}
+use Rattle.pesp_search.proofs.Beforehand.{known_of_end}
 use Rattle.pesp_search.proofs.Sizes.{no_nodes}
 use Rattle.pesp_search.proofs.Sought.{ended_outcome, found_of_sought}
 use Rattle.pesp_search.proofs.search.search_in_turn.Goals as goal
@@ -21,16 +22,16 @@ seek-requires-clause-pushes g c = c.requires.pushes
 pub seek-requires-clause-bound : goal.seek-requires-clause-bound
 seek-requires-clause-bound g c = c.requires.bound
 
-pub returns-then-sought-clause-outcome : goal.returns-then-sought-clause-outcome
-returns-then-sought-clause-outcome g c =
+pub returns-then-sought-clause-known : goal.returns-then-sought-clause-known
+returns-then-sought-clause-known g c =
     let I = g.K.Keeper.network c.args.keeper.now in
     let sought = c.in_ok-sought.sought in
     let end = subst (λ b. IsSought I c.args.bound b sought.best) c.if-sought.true c.in_ok-sought.ensures.sought in
-    rw (c.ended.ensures.best, c.ended.ensures.stopped, c.ended.ensures.nodes)
-    (ended_outcome I c.args.bound c.args.limit sought.best end (λ zero. false≢true (sym (c.in_ok-sought.ensures.none zero).0 ∙ c.if-sought.true)))
+    let outcome = ended_outcome I c.args.bound c.args.limit sought.best end (λ zero. false≢true (sym (c.in_ok-sought.ensures.none zero).0 ∙ c.if-sought.true)) in
+    rw (c.known.ensures.best, c.known.ensures.bound, c.known.ensures.stopped) (known_of_end I c.args.bound c.args.limit sought.best sought.floor outcome c.in_ok-sought.ensures.floor)
 
 pub returns-then-sought-clause-nodes : goal.returns-then-sought-clause-nodes
-returns-then-sought-clause-nodes g c = rw c.ended.ensures.nodes (no_nodes (g.K.Keeper.network c.args.keeper.now))
+returns-then-sought-clause-nodes g c = no_nodes (g.K.Keeper.network c.args.keeper.now)
 
 -- ---- the tree
 
@@ -54,16 +55,19 @@ search_tree-requires-clause-found g c =
 pub search_tree-requires-clause-none : goal.search_tree-requires-clause-none
 search_tree-requires-clause-none g c zero = (c.in_ok-sought.ensures.none zero).1
 
-pub returns-clause-outcome : goal.returns-clause-outcome
-returns-clause-outcome g c = c.search_tree.ensures.outcome
+pub search_tree-requires-clause-floor : goal.search_tree-requires-clause-floor
+search_tree-requires-clause-floor g c = c.in_ok-sought.ensures.floor
+
+pub returns-clause-known : goal.returns-clause-known
+returns-clause-known g c = c.search_tree.ensures.known
 
 pub returns-clause-nodes : goal.returns-clause-nodes
 returns-clause-nodes g c = c.search_tree.ensures.nodes
 
 -- ---- out of memory
 
-pub returns-in_err-sought-clause-outcome : goal.returns-in_err-sought-clause-outcome
-returns-in_err-sought-clause-outcome g c = IfOk-from_err c.from_residual.result _ c.from_residual.ensures.0
+pub returns-in_err-sought-clause-known : goal.returns-in_err-sought-clause-known
+returns-in_err-sought-clause-known g c = IfOk-from_err c.from_residual.result _ c.from_residual.ensures.0
 
 pub returns-in_err-sought-clause-nodes : goal.returns-in_err-sought-clause-nodes
 returns-in_err-sought-clause-nodes g c = IfOk-from_err c.from_residual.result _ c.from_residual.ensures.0

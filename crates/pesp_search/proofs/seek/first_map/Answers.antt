@@ -2,5 +2,5 @@
 use Rattle.std.proofs.Common.{rules}
 use Rattle.pesp_search.proofs.seek.first_map.Goals as goal
 
-pub returns-in-Done : goal.returns-in-Done
-returns-in-Done c = search rules
+pub returns-clause-best : goal.returns-clause-best
+returns-clause-best c = search rules

@@ -11,7 +11,7 @@ pub push_fix-requires-clause-event : goal.push_fix-requires-clause-event
 push_fix-requires-clause-event g c =
     let I = g.K.Keeper.network c.args.keeper.now in
     let path = c.args.self.now.branch.times.items in
-    let room = c.requires.step.0.room in
+    let room = c.requires.step.room in
     rw (event_there I c.args.self.now.events.now c.len.result (length path) c.index-self-len.result c.requires.searching.events (omega (arith, c.len.ensures)) room) (index_has_event I (length path) room)
 
 pub push_fix-requires-clause-free : goal.push_fix-requires-clause-free
@@ -20,7 +20,7 @@ push_fix-requires-clause-free g c r is =
     let s = c.requires.searching in
     let state = c.args.self.now in
     let path = state.branch.times.items in
-    let room = c.requires.step.0.room in
+    let room = c.requires.step.room in
     let item = event_there I state.events.now c.len.result (length path) c.index-self-len.result s.events (omega (arith, c.len.ensures)) room in
     at_free (AtLeast I (limit_of state.incumbent)) I (g.K.Keeper.pushes c.args.keeper.now) path state.from s.network s.at room r (rw item at is)
 
@@ -29,7 +29,7 @@ push-requires-clause-next g c =
     let I = g.K.Keeper.network c.args.keeper.now in
     let path = c.args.self.now.branch.times.items in
     rw (c.instance.ensures, c.push_fix.ensures.network)
-    (event_there I c.args.self.now.events.now c.len.result (length path) c.index-self-len.result c.requires.searching.events (omega (arith, c.len.ensures)) c.requires.step.0.room)
+    (event_there I c.args.self.now.events.now c.len.result (length path) c.index-self-len.result c.requires.searching.events (omega (arith, c.len.ensures)) c.requires.step.room)
 
 pub returns-clause-searching : goal.returns-clause-searching
 returns-clause-searching g c =
@@ -38,7 +38,7 @@ returns-clause-searching g c =
     let state = c.args.self.now in
     let path = state.branch.times.items in
     let nodes = c.saturating_add-self.result in
-    let item = event_there I state.events.now c.len.result (length path) c.index-self-len.result s.events (omega (arith, c.len.ensures)) c.requires.step.0.room in
+    let item = event_there I state.events.now c.len.result (length path) c.index-self-len.result s.events (omega (arith, c.len.ensures)) c.requires.step.room in
     rw (c.push_fix.ensures.pushes, item)
     (record {
       searching =

@@ -1,5 +1,0 @@
-pub mod Arcs
-pub mod DualBounds
-pub mod Ends
-pub mod Rows
-pub mod Tables
