@@ -1,5 +1,5 @@
 -- Residues that are left out before they are pushed: what is known with them has come to the limit.
-use Rattle.std.proofs.Common.{◌≡◌, ℕ, ◌+◌, ◌<◌, ◌≤◌, ◌↔◌, Bool, IsTrue, List, [], ◌∷◌, ◌++◌, length, get_or, slice_index, Option, Some, None, IsSomeAnd, IfSome, refl, sym, subst, inl, inr, arith}
+use Rattle.std.proofs.Common.{◌≡◌, ℕ, ◌+◌, ◌<◌, ◌≤◌, ◌↔◌, Bool, IsTrue, List, [], ◌∷◌, ◌++◌, length, get_or, slice_index, Option, Some, None, IsSomeAnd, refl, sym, subst, inl, inr, arith}
 use Rattle.std.proofs.lemmas.Bool.{cases_eq, cases_lt}
 use Rattle.pesp_instance.specs.Network.{IsNetwork, Network, event_ids}
 use Rattle.pesp_domains.specs.declared.pair.Pair.{Pair}

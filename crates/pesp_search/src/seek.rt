@@ -151,14 +151,19 @@ fn with_times(
     ensures floor { IfOk result (λ timed. timed.floor ≡ sought.floor) }
     ensures end { IfOk result (λ timed. timed.is_end ≡ sought.is_end) }
 {
-    let best = match sought.best {
+    let SoughtMap {
+        best,
+        floor,
+        is_end,
+    } = sought;
+    let best = match best {
         Some(candidate) => Some(best_of_map(alloc, instance, events, candidate)?),
         None => None,
     };
     Ok(Sought {
         best,
-        floor: sought.floor,
-        is_end: sought.is_end,
+        floor,
+        is_end,
     })
 }
 

@@ -1,7 +1,7 @@
 -- One row more is a domain.
-use Rattle.std.proofs.Common.{◌≡◌, ◌<◌, IsTrue, get_or, length, ap, sym, subst, ◌∙◌, arith}
+use Rattle.std.proofs.Common.{◌≡◌, ◌<◌, get_or, length, ap, subst, ◌∙◌, arith}
 use Rattle.std.proofs.lemmas.List.{get_or_read}
-use Rattle.pesp_instance.specs.Network.{event_ids, has_event}
+use Rattle.pesp_instance.specs.Network.{event_ids}
 use Rattle.pesp_search_network.specs.Arcs.{Arcs}
 use Rattle.pesp_search.proofs.Networks.{row_kept}
 use Rattle.pesp_search.proofs.Timed.{index_has_event}

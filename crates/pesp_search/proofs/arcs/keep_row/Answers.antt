@@ -1,7 +1,5 @@
 -- A residue more is in the row, or forbidden.
-use Rattle.std.proofs.Common.{◌≡◌, ◌<◌, ◌*◌, refl, sym, ap, ◌∙◌, arith}
-use Rattle.pesp_search_network.specs.Arcs.{Arcs}
-use Rattle.pesp_search.proofs.Networks.{forbidden_more, in_rows, kept_more}
+use Rattle.std.proofs.Common.{refl, arith}
 use Rattle.pesp_search.proofs.arcs.keep_row.Goals as goal
 
 pub loop-residue-init : goal.loop-residue-init

@@ -1,5 +1,4 @@
 -- What the search knows is told as it came.
-use Rattle.std.proofs.Common.{◌≡◌, Ok, Err, Result}
 use Rattle.pesp_search.proofs.Ends.{known_dead}
 use Rattle.pesp_search.proofs.search.known_within.Goals as goal
 

@@ -1,5 +1,5 @@
 -- What is told under the cost of a timetable from before is told for the given bound.
-use Rattle.std.proofs.Common.{◌≡◌, refl, sym, ap, ◌∙◌, Some, None, IfSome, length}
+use Rattle.std.proofs.Common.{refl}
 use Rattle.std.proofs.lemmas.Result.{IfOk-from_err}
 use Rattle.pesp_search.specs.Tried.{IsOutcome}
 use Rattle.pesp_search.proofs.Beforehand.{bound_of_before, exact_told, floor_told, outcome_told}
@@ -15,7 +15,7 @@ pub new-requires-clause-pushes : goal.new-requires-clause-pushes
 new-requires-clause-pushes g c = c.requires.pushes
 
 pub run-outcome-requires : goal.run-outcome-requires
-run-outcome-requires g c = rw c.requires.pushes c.in_ok-search.ensures.searching
+run-outcome-requires g c = record { searching = rw c.requires.pushes c.in_ok-search.ensures.searching }
 
 pub returns-clause-known : goal.returns-clause-known
 returns-clause-known g c =

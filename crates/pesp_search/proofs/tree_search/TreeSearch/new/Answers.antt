@@ -1,6 +1,5 @@
 -- A search before its first node stands at the root.
 use Rattle.std.proofs.Common.{refl, ap, sym, ◌∙◌, length}
-use Rattle.std.proofs.lemmas.Result.{IfOk-from_err}
 use Rattle.pesp_instance.specs.Network.{event_ids}
 use Rattle.pesp_search.proofs.Searching.{searching_start}
 use Rattle.pesp_search.proofs.tree_search.TreeSearch.new.Goals as goal

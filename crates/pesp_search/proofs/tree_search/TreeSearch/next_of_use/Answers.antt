@@ -1,5 +1,5 @@
 -- One residue after another is asked for what is known with it.
-use Rattle.std.proofs.Common.{◌≡◌, ◌<◌, ◌++◌, ◌∷◌, [], get_or, refl, sym, ap, ◌∙◌, arith, false, length}
+use Rattle.std.proofs.Common.{◌≡◌, ◌<◌, ◌++◌, ◌∷◌, [], get_or, sym, ap, ◌∙◌, arith, false, length}
 use Rattle.std.proofs.lemmas.Bool.{MatchBool-at_false, MatchBool-at_true, false≢true}
 use Rattle.pesp_instance.specs.Network.{event_ids, has_event}
 use Rattle.pesp_search.specs.Branch.{IsFront}

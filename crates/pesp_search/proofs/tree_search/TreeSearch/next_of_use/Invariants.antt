@@ -1,5 +1,4 @@
 -- Each residue so far is of no use, and of the search only times after the branch have changed.
-use Rattle.std.proofs.Common.{◌≡◌}
 use Rattle.pesp_search.specs.Branch.{IsFront}
 use Rattle.pesp_search.specs.Found.{AreCut, limit_of}
 use Rattle.pesp_search.specs.Searching.{IsSameNode}
