@@ -19,8 +19,10 @@ FORMS = {
     "CountKeeper::from_instance": rb"NoRoom\n",
     "best": rb"Memory\n",
     "best_within": rb"Memory\n",
+    "known_within": rb"Memory\n",
     "best in the tree": rb"Memory\n",
     "best_within in the tree": rb"Memory\n",
+    "known_within in the tree": rb"Memory\n",
 }
 # Cases of calls that take no memory.
 QUIET = " without memory"

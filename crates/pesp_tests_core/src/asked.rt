@@ -24,6 +24,8 @@ pub(crate) enum Step<'a> {
     Infeasible(Option<u64>),
     /// A search that may visit so many nodes, and how it goes.
     Within(u64, Outcome<'a>),
+    /// What is known after so many nodes: the cost of the best, if any, the lower bound, and whether it stopped.
+    Known(u64, Option<u64>, u64, bool),
 }
 
 /// How a search within a limit goes.
@@ -143,6 +145,20 @@ fn assert_within<K: Keeper>(
     assert_outcome(rt, &tried, outcome, message);
 }
 
+fn assert_known<K: Keeper>(
+    rt: &(impl Abort + AllocGlobal),
+    kept: &mut Unpushed<K>,
+    limit: u64,
+    wanted: (Option<u64>, u64, bool),
+    message: &str,
+) {
+    let known = kept.known(rt, limit);
+    let cost = known.best.as_ref().map(|best| best.cost);
+    same(rt, cost, wanted.0, message);
+    same(rt, known.lower_bound, wanted.1, message);
+    same(rt, known.is_stopped, wanted.2, message);
+}
+
 fn take<K: Keeper>(
     rt: &(impl Abort + AllocGlobal),
     kept: &mut Unpushed<K>,
@@ -154,6 +170,9 @@ fn take<K: Keeper>(
         Step::Best(cost, times) => assert_best(rt, kept, cost, times, message),
         Step::Infeasible(nodes) => assert_infeasible(rt, kept, nodes, message),
         Step::Within(limit, outcome) => assert_within(rt, kept, limit, outcome, message),
+        Step::Known(limit, cost, bound, is_stopped) => {
+            assert_known(rt, kept, limit, (cost, bound, is_stopped), message);
+        }
     }
 }
 

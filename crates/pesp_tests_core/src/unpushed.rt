@@ -7,7 +7,7 @@ use pesp_base::Period;
 use pesp_counts::CountKeeper;
 use pesp_domains::Keeper;
 use pesp_instance::{Edit, Instance};
-use pesp_search::{Answer, Tried, best, best_within};
+use pesp_search::{Answer, Known, Tried, best, best_within, known_within};
 use std::marker::Model;
 use std::process::Abort;
 
@@ -99,6 +99,14 @@ impl<K: Keeper> Unpushed<K> {
     pub(crate) fn tried(&mut self, rt: &(impl Abort + AllocGlobal), limit: u64) -> (Tried, u64) {
         let tried = best_within(rt.alloc(), &mut self.keeper, None, limit);
         tried.ok().expect(rt, "memory")
+    }
+
+    /// What is known after a search within a limit.
+    pub(crate) fn known(&mut self, rt: &(impl Abort + AllocGlobal), limit: u64) -> Known {
+        let known = known_within(rt.alloc(), &mut self.keeper, None, limit);
+        let (known, nodes) = known.ok().expect(rt, "memory");
+        hold(rt, nodes <= limit, "no more nodes than the limit");
+        known
     }
 
     /// The same, with the optimum's own cost as the bound.

@@ -42,7 +42,7 @@ pub(crate) fn two(alloc: Global) -> Option<Instance> {
 /// The same with so many activities that there are too many cycles, and the tree alone is searched.
 pub(crate) fn dense(alloc: Global) -> Option<Instance> {
     let mut instance = two(alloc)?;
-    for number in 3..405 {
+    for number in 3..1_005 {
         instance
             .apply(&Edit::AddActivity(activity(number, 1, 2)?))
             .ok()?;

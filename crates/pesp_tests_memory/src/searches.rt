@@ -7,17 +7,24 @@ use crate::counting::Counting;
 use crate::{made, showing, telling};
 use pesp_domains::Keeper;
 use pesp_instance::Instance;
-use pesp_search::{Tried, best, best_within};
+use pesp_search::{Known, Tried, best, best_within, known_within};
 use std::alloc::Global;
 use std::marker::Model;
 
-/// A keeper with nothing pushed, and how many nodes its search may have, where there is a limit.
+/// What is asked, with how many nodes the search may have.
+#[derive(Clone, Copy)]
+enum Asked {
+    Best,
+    Within(u64),
+    Known(u64),
+}
+
+/// A keeper with nothing pushed, and what its search is asked.
 #[derive(Drop)]
 struct Searched {
     // Nothing is pushed on it.
     keeper: Counting,
-    // None where the search goes to its end.
-    limit: Option<u64>,
+    asked: Asked,
 }
 
 impl Model for Searched {
@@ -72,6 +79,29 @@ fn find_within(rt: &impl Print, alloc: Global, keeper: &mut Counting, limit: u64
     }
 }
 
+fn tell_known(rt: &impl Print, known: &Known) {
+    telling::stopped(rt, &known.best);
+    showing::line(rt, &known.lower_bound);
+    showing::line(rt, &known.is_stopped);
+}
+
+fn find_known(rt: &impl Print, alloc: Global, keeper: &mut Counting, limit: u64) -> bool
+    requires { keeper.old.keeper.pushes ≡ [] }
+    ensures { keeper.new.keeper.pushes ≡ [] }
+{
+    match known_within(alloc, keeper, None, limit) {
+        Ok((known, nodes)) => {
+            tell_known(rt, &known);
+            showing::line(rt, &nodes);
+            false
+        }
+        Err(refusal) => {
+            showing::line(rt, &refusal);
+            true
+        }
+    }
+}
+
 impl Call for Searched {
     fn show<R: Print>(&self, rt: &R) {
         telling::keeper(rt, &self.keeper);
@@ -79,36 +109,42 @@ impl Call for Searched {
     }
 
     fn make<R: Print + AllocGlobal>(&mut self, rt: &R) -> bool {
-        match self.limit {
-            None => find(rt, rt.alloc(), &mut self.keeper),
-            Some(limit) => find_within(rt, rt.alloc(), &mut self.keeper, limit),
+        match self.asked {
+            Asked::Best => find(rt, rt.alloc(), &mut self.keeper),
+            Asked::Within(limit) => find_within(rt, rt.alloc(), &mut self.keeper, limit),
+            Asked::Known(limit) => find_known(rt, rt.alloc(), &mut self.keeper, limit),
         }
     }
 }
 
-fn try_case<R: Print + AllocGlobal>(rt: &R, instance: Instance, limit: Option<u64>) -> Option<()> {
+fn try_case<R: Print + AllocGlobal>(rt: &R, instance: Instance, asked: Asked) -> Option<()> {
     let keeper = Counting::from_instance(rt.alloc(), instance).ok()?;
-    try_and_drop(rt, Searched { keeper, limit });
+    try_and_drop(rt, Searched { keeper, asked });
     Some(())
 }
 
 /// By cycles, which end the search of so small an instance before anything is pushed.
 fn try_cycles<R: Print + AllocGlobal>(rt: &R, words: &[String]) -> Option<()> {
-    for (name, limit) in [("best", None), ("best_within", Some(1))] {
+    for (name, asked) in [
+        ("best", Asked::Best),
+        ("best_within", Asked::Within(1)),
+        ("known_within", Asked::Known(1)),
+    ] {
         if is_asked(rt, words, name) {
-            try_case(rt, made::two(rt.alloc())?, limit)?;
+            try_case(rt, made::two(rt.alloc())?, asked)?;
         }
     }
     Some(())
 }
 
 fn try_tree<R: Print + AllocGlobal>(rt: &R, words: &[String]) -> Option<()> {
-    for (name, limit) in [
-        ("best in the tree", None),
-        ("best_within in the tree", Some(1)),
+    for (name, asked) in [
+        ("best in the tree", Asked::Best),
+        ("best_within in the tree", Asked::Within(1)),
+        ("known_within in the tree", Asked::Known(1)),
     ] {
         if is_asked(rt, words, name) {
-            try_case(rt, made::dense(rt.alloc())?, limit)?;
+            try_case(rt, made::dense(rt.alloc())?, asked)?;
         }
     }
     Some(())
