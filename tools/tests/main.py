@@ -8,12 +8,12 @@ import signal
 import tempfile
 import time
 
-from tests import arguments, checks, commands, devices, dialogue, documents, drawing, embedded, examples, files, installing, layout, module_program
-from tests import package, packaging, page_module, quick_model, rows, scripts, shelves, solvers, sources, start_script, strangers, streams, unproved
+from tests import arguments, checks, commands, devices, dialogue, documents, drawing, embedded, examples, files, installing, layout
+from tests import limited, module_program, package, packaging, page_module, quick_model, rows, scripts, shelves, solvers, sources, start_script, strangers, streams, unproved
 from tests import written
 from tests.harness import PROGRAM, Suite
 
-TOPICS = [examples, commands, quick_model, dialogue, streams, arguments, files, rows, checks, devices, scripts, drawing, documents]
+TOPICS = [examples, commands, quick_model, dialogue, streams, limited, arguments, files, rows, checks, devices, scripts, drawing, documents]
 TOPICS += [start_script, unproved, shelves, strangers, packaging, installing, package, embedded, layout, page_module, module_program, written]
 TOPICS += [sources, solvers]
 # A group takes a few seconds; this is the most where it names nothing else.

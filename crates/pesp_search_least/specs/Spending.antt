@@ -1,5 +1,5 @@
 -- What is left of a budget.
-use Rattle.std.specs.Prelude.{◌≡◌, ℕ, ◌<◌, ◌≤◌, ◌-◌, Option, Some, None, IsSomeAnd}
+use Rattle.std.specs.Prelude.{◌≡◌, ℕ, ◌<◌, ◌≤◌, ◌-◌, min, Option, Some, None, IsSomeAnd}
 
 -- what is left after so many units, where there is a limit
 abbrev pub after : Option ℕ → ℕ → Option ℕ
@@ -15,3 +15,8 @@ OnlySpends (Some left) new = IsSomeAnd new (λ n. n ≤ left)
 abbrev pub SpendsUnit : Option ℕ → Option ℕ → Type 0
 SpendsUnit None new = new ≡ None
 SpendsUnit (Some left) new = IsSomeAnd new (λ n. n < left)
+
+-- so many units of what is left, or all of it
+abbrev pub part_of : Option ℕ → ℕ → ℕ
+part_of None units = units
+part_of (Some left) units = min left units

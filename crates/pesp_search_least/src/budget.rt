@@ -1,7 +1,7 @@
 //! How much work a search may do.
 
 ghost use Rattle.std.specs.Prelude.{◌≡◌, None, Some, true, ◌↔◌, IsTrue};
-ghost use Rattle.pesp_search_least.specs.Spending.{OnlySpends, after};
+ghost use Rattle.pesp_search_least.specs.Spending.{OnlySpends, after, part_of};
 
 /// Units of work that are left. Each expansion of a node spends one, and a relaxation spends more as it works.
 #[derive(Drop)]
@@ -23,6 +23,17 @@ impl Budget {
         ensures { result.left ≡ Some units }
     {
         Budget { left: Some(units) }
+    }
+
+    /// So many units of it, or all that are left: what is done with them is still to be spent.
+    pub fn part(&self, units: u64) -> Budget
+        ensures { result.left ≡ Some (part_of self.now.left units) }
+    {
+        let part = match self.left {
+            Some(left) => left.min(units),
+            None => units,
+        };
+        Budget { left: Some(part) }
     }
 
     /// Whether nothing is left.
