@@ -1,0 +1,61 @@
+//! A plain program beside the proved one, for tools/measure: the same files, options, algorithms and replies, and no proof.
+//! It has the commands that are measured beside, no cost that is kept, and periods that fit in a byte.
+
+mod bench;
+mod counts;
+mod files;
+mod network;
+mod replies;
+
+use std::fs::{self, File};
+use std::io::{self, BufRead, Write};
+use std::os::fd::AsFd;
+use std::process::ExitCode;
+
+/// Answers each line of standard input before it reads the next.
+fn serve(mut bench: bench::Bench, output: &mut File) -> io::Result<()> {
+    let (mut input, mut line, mut text) = (io::stdin().lock(), Vec::new(), Vec::new());
+    while input.read_until(b'\n', &mut line)? > 0 {
+        bench.reply(&line, &mut text);
+        output.write_all(&text)?;
+        (line.clear(), text.clear());
+    }
+    Ok(())
+}
+
+fn run() -> Result<(), String> {
+    let (mut period, mut is_check, mut files) = (60, false, [Vec::new(), Vec::new(), Vec::new()]);
+    let mut words = std::env::args().skip(1);
+    while let Some(word) = words.next() {
+        let place = ["--activities", "--fixed", "--times"].iter().position(|name| *name == word);
+        match word.as_str() {
+            "--check" => is_check = true,
+            "--period" => period = words.next().and_then(|word| word.parse::<u8>().ok()).ok_or("no period")?,
+            _ => {
+                let path = if place.is_some() { words.next().ok_or("no path")? } else { word };
+                files[place.unwrap_or(0)] = fs::read(&path).map_err(|why| format!("{path}: {why}"))?;
+            }
+        }
+    }
+    let network = files::read(period.into(), &files)?;
+    drop(files);
+    let mut output = io::stdout().as_fd().try_clone_to_owned().map(File::from).map_err(|why| why.to_string())?;
+    let done = if is_check {
+        let mut text = Vec::new();
+        replies::put_check(&network, &mut text);
+        output.write_all(&text)
+    } else {
+        serve(bench::Bench::new(network), &mut output)
+    };
+    done.map_err(|why| why.to_string())
+}
+
+fn main() -> ExitCode {
+    match run() {
+        Ok(()) => ExitCode::SUCCESS,
+        Err(fault) => {
+            eprintln!("plain: {fault}");
+            ExitCode::FAILURE
+        }
+    }
+}
