@@ -3,7 +3,7 @@
 use crate::counts::Domains;
 use crate::files::{BOUND, Limits, NUMBER, WEIGHT, number_between};
 use crate::network::{Activity, Network, Window};
-use crate::replies::{put, put_line, put_tensions};
+use crate::replies::{put_line, put_number, put_tensions};
 
 const TIME: Limits = (0, 65_535);
 const MOST_ACTIVITIES: usize = 100_000;
@@ -36,7 +36,7 @@ fn bounds(lower: i64, upper: i64) -> Result<[i32; 2], String> {
 }
 
 fn is_blank(byte: &u8) -> bool {
-    matches!(byte, b' ' | b'\t' | b'\r' | b'\n')
+    *byte <= b' ' && matches!(byte, b' ' | b'\t' | b'\r' | b'\n')
 }
 
 impl Bench {
@@ -62,8 +62,7 @@ impl Bench {
 
     fn unfix(&mut self, [number]: [i64; 1]) -> Done {
         let event = self.event(number)?;
-        let is_fixed = self.network.events[event as usize].window.is_some();
-        ensure(is_fixed, || format!("refused 9 event {number} is not fixed"))?;
+        ensure(self.network.events[event as usize].window.is_some(), || format!("refused 9 event {number} is not fixed"))?;
         self.replace_window(event, None)
     }
 
@@ -118,9 +117,15 @@ impl Bench {
     }
 
     fn put_domain(&self, text: &mut Vec<u8>, place: u32) {
-        put(text, b"", self.network.events[place as usize].number.into());
+        put_number(text, self.network.events[place as usize].number.into());
         text.push(b':');
-        self.domains.row(place).for_each(|residue| put(text, b" ", residue.into()));
+        for residue in self.domains.row(place) {
+            text.push(b' ');
+            if residue >= 10 {
+                text.push(b'0' + (residue / 10) as u8);
+            }
+            text.push(b'0' + (residue % 10) as u8);
+        }
         text.push(b'\n');
     }
 
@@ -140,10 +145,7 @@ impl Bench {
             [b"span", ..] => self.set_span(numbers(words, 1, [NUMBER, BOUND, BOUND])?)?,
             [b"weight", ..] => self.set_weight(numbers(words, 1, [NUMBER, WEIGHT])?)?,
             [b"ends", ..] => self.set_ends(numbers(words, 1, [NUMBER; 3])?)?,
-            [b"domain", ..] => {
-                let [event] = numbers(words, 1, [NUMBER])?;
-                self.put_domain(text, self.event(event)?)
-            }
+            [b"domain", ..] => self.put_domain(text, numbers(words, 1, [NUMBER]).and_then(|[event]| self.event(event))?),
             [b"domains", ..] => numbers(words, 1, []).map(|[]| self.put_domains(text))?,
             [b"tensions", ..] => numbers(words, 1, []).and_then(|[]| put_tensions(&self.network, text).map(|_| ()))?,
             _ => return Err("fault unknown command".to_string()),

@@ -97,7 +97,8 @@ impl Domains {
         self.spread(network, true, recounted);
         limited.into_iter().for_each(|place| self.limit(network, place as usize));
         recounted.into_iter().for_each(|slot| self.recount(network, slot));
-        for (place, residue) in std::mem::take(&mut self.back) {
+        for at in 0..self.back.len() {
+            let (place, residue) = self.back[at];
             for end in &network.events[place as usize].ends {
                 self.sift(place as usize, *end, 1 << residue);
             }

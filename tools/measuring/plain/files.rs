@@ -1,4 +1,4 @@
-//! The network of three files. A faulty record is named, and its fault is not; quotes, and weights with a point, are faults.
+//! The network of three files. That a row is faulty is told, and no more; quotes, and weights with a point, are faults.
 
 use crate::network::{Activity, Network, Window, find};
 
@@ -54,18 +54,13 @@ fn cut_record<'a>(text: &mut &'a [u8], separator: u8, fields: &mut Vec<&'a [u8]>
 /// Takes each row of a file, to the first faulty one.
 fn take_rows(name: &str, bytes: &[u8], mut take: impl FnMut(&[&[u8]]) -> Option<()>) -> Result<(), String> {
     let separator = if bytes.contains(&b';') { b';' } else { b',' };
-    let (mut rest, mut fields, mut count, mut is_begun) = (bytes, Vec::new(), 0, false);
-    while let [byte, after @ ..] = rest {
-        if matches!(byte, b'\n' | b'\r') {
-            rest = after;
-            continue;
-        }
+    let (mut rest, mut fields, mut is_begun) = (bytes, Vec::new(), false);
+    while !rest.is_empty() {
         cut_record(&mut rest, separator, &mut fields);
-        count += 1;
         // A blank record is skipped as a comment is.
         let first = fields.first().map_or(b'#', |field| field.first().copied().unwrap_or_default());
         if first != b'#' && (is_begun || !first.is_ascii_alphabetic()) {
-            take(&fields).ok_or_else(|| format!("{name} file, record {count} is faulty"))?;
+            take(&fields).ok_or_else(|| format!("{name} file: a row is faulty"))?;
         }
         is_begun |= first != b'#';
     }

@@ -10,31 +10,35 @@ mod replies;
 use std::fs::{self, File};
 use std::io::{self, BufRead, Write};
 use std::os::fd::AsFd;
-use std::process::ExitCode;
 
 /// Answers each line of standard input before it reads the next.
 fn serve(mut bench: bench::Bench, output: &mut File) -> io::Result<()> {
     let (mut input, mut line, mut text) = (io::stdin().lock(), Vec::new(), Vec::new());
-    while input.read_until(b'\n', &mut line)? > 0 {
-        bench.reply(&line, &mut text);
+    while let held @ [_, ..] = input.fill_buf()? {
+        if let Some(long) = held.iter().position(|byte| *byte == b'\n') {
+            bench.reply(&held[..long], &mut text);
+            input.consume(long + 1);
+        } else {
+            input.read_until(b'\n', &mut line)?;
+            bench.reply(&line, &mut text);
+        }
         output.write_all(&text)?;
         (line.clear(), text.clear());
     }
     Ok(())
 }
 
-fn run() -> Result<(), String> {
+fn main() -> Result<(), String> {
     let (mut period, mut is_check, mut files) = (60, false, [Vec::new(), Vec::new(), Vec::new()]);
     let mut words = std::env::args().skip(1);
     while let Some(word) = words.next() {
-        let place = ["--activities", "--fixed", "--times"].iter().position(|name| *name == word);
+        let contents = |path: Option<String>| fs::read(path.unwrap_or_default()).map_err(|why| why.to_string());
         match word.as_str() {
             "--check" => is_check = true,
             "--period" => period = words.next().and_then(|word| word.parse::<u8>().ok()).ok_or("no period")?,
-            _ => {
-                let path = if place.is_some() { words.next().ok_or("no path")? } else { word };
-                files[place.unwrap_or(0)] = fs::read(&path).map_err(|why| format!("{path}: {why}"))?;
-            }
+            "--fixed" => files[1] = contents(words.next())?,
+            "--times" => files[2] = contents(words.next())?,
+            _ => files[0] = contents(Some(word))?,
         }
     }
     let network = files::read(period.into(), &files)?;
@@ -48,14 +52,4 @@ fn run() -> Result<(), String> {
         serve(bench::Bench::new(network), &mut output)
     };
     done.map_err(|why| why.to_string())
-}
-
-fn main() -> ExitCode {
-    match run() {
-        Ok(()) => ExitCode::SUCCESS,
-        Err(fault) => {
-            eprintln!("plain: {fault}");
-            ExitCode::FAILURE
-        }
-    }
 }

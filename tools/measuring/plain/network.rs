@@ -74,7 +74,6 @@ pub fn find<T>(items: &[T], number: u32, number_of: impl Fn(&T) -> u32) -> Resul
     }
 }
 
-#[derive(Default)]
 pub struct Network {
     pub period: u16,
     /// By rising numbers.

@@ -2,20 +2,28 @@
 
 use crate::network::{Activity, Event, Network};
 
-/// Puts a text and a number.
-pub fn put(text: &mut Vec<u8>, before: &[u8], number: u64) {
-    text.extend_from_slice(before);
-    let (mut digits, mut at, mut rest) = ([0; 20], 20, number);
-    while at == 20 || rest > 0 {
+/// Writes a number at the end of a text and a word before it, and tells how much of the text is left.
+fn write_back<const N: usize>(text: &mut [u8], word: &[u8; N], number: u64) -> usize {
+    let (mut at, mut rest) = (text.len(), number);
+    while at == text.len() || rest > 0 {
         at -= 1;
-        digits[at] = b'0' + (rest % 10) as u8;
+        text[at] = b'0' + (rest % 10) as u8;
         rest /= 10;
     }
+    text[at - N..at].copy_from_slice(word);
+    at - N
+}
+
+pub fn put_number(text: &mut Vec<u8>, number: u64) {
+    let mut digits = [0; 20];
+    let at = write_back(&mut digits, b"", number);
     text.extend_from_slice(&digits[at..]);
 }
 
-pub fn put_line(text: &mut Vec<u8>, before: &[u8], number: u64) {
-    put(text, before, number);
+/// Puts a word and a number, and ends the line.
+pub fn put_line(text: &mut Vec<u8>, word: &[u8], number: u64) {
+    text.extend_from_slice(word);
+    put_number(text, number);
     text.push(b'\n');
 }
 
@@ -38,9 +46,12 @@ pub fn put_tensions(network: &Network, text: &mut Vec<u8>) -> Result<(u64, Vec<u
         let activity = &network.activities[*slot as usize];
         let slack = slack(network, activity);
         let tension = activity.bounds[0] + i32::from(slack);
-        put(text, b"", (*number).into());
-        put(text, if tension < 0 { b" -" } else { b" " }, tension.unsigned_abs().into());
-        put_line(text, b" ", slack.into());
+        let mut line = [b'\n'; 40];
+        let at = write_back(&mut line[..39], b" ", slack.into());
+        let (rest, size) = (&mut line[..at], tension.unsigned_abs().into());
+        let at = if tension < 0 { write_back(rest, b" -", size) } else { write_back(rest, b" ", size) };
+        let at = write_back(&mut line[..at], b"", (*number).into());
+        text.extend_from_slice(&line[at..]);
         if tension > activity.bounds[1] {
             unmet.push(*number);
         }
