@@ -53,8 +53,8 @@ impl Domains {
         for (activity, counts) in network.activities.iter().zip(counts.chunks_mut(2 * period)) {
             counts.fill(activity.width as u8);
         }
-        let (counted, trail, back, sums) = (rows.clone(), Vec::new(), Vec::new(), vec![0; 3 * period + 1]);
-        let mut domains = Domains { period, counts, rows, counted, trail, back, sums };
+        let (counted, trail, sums) = (rows.clone(), Vec::with_capacity(places * period), vec![0; 3 * period + 1]);
+        let mut domains = Domains { period, counts, rows, counted, trail, back: Vec::new(), sums };
         (0..places).for_each(|place| domains.limit(network, place));
         domains.spread(network, false, None);
         domains

@@ -93,7 +93,7 @@ impl Network {
         numbers.dedup();
         activities.sort_unstable_by_key(|activity| activity.number);
         let slots: BTreeMap<u32, u32> = activities.iter().map(|activity| activity.number).zip(0..).collect();
-        let events = numbers.into_iter().map(|number| Event { number, window: None, time: None, ends: Vec::new() });
+        let events = numbers.into_iter().map(|number| Event { number, window: None, time: None, ends: Vec::with_capacity(16) });
         let mut network = Network { period, events: events.collect(), slots, activities, free: Vec::new() };
         for slot in 0..network.activities.len() {
             let [from, to] = network.activities[slot].events;
