@@ -13,7 +13,7 @@ pub struct Bench {
     domains: Domains,
 }
 
-/// What is left of a command: nothing, or the reply that refuses it.
+/// Nothing, or the reply that says why a command is not done.
 type Done = Result<(), String>;
 
 fn ensure(holds: bool, why: impl Fn() -> String) -> Done {
@@ -76,7 +76,7 @@ impl Bench {
 
     fn add_activity(&mut self, [number, from, to, lower, upper, weight]: [i64; 6]) -> Done {
         let bounds = bounds(lower, upper)?;
-        ensure(self.activity(number).is_err(), || format!("refused 5 activity {number} exists"))?;
+        ensure(!self.network.slots.contains_key(&(number as u32)), || format!("refused 5 activity {number} exists"))?;
         let events = [self.event(from)?, self.event(to)?];
         ensure(self.network.slots.len() < MOST_ACTIVITIES, || "refused 8 too many activities".to_string())?;
         let activity = Activity::new(number as u32, events, self.network.period, bounds, weight as u32);
