@@ -31,8 +31,7 @@ fn numbers<const N: usize>(words: &[&[u8]], own: usize, limits: [Limits; N]) -> 
 }
 
 fn bounds(lower: i64, upper: i64) -> Result<[i32; 2], String> {
-    ensure(lower <= upper, || "fault lower bound above upper bound".to_string())?;
-    Ok([lower as i32, upper as i32])
+    ensure(lower <= upper, || "fault lower bound above upper bound".to_string()).map(|()| [lower as i32, upper as i32])
 }
 
 fn is_blank(byte: &u8) -> bool {
@@ -79,8 +78,8 @@ impl Bench {
         ensure(!self.network.slots.contains_key(&(number as u32)), || format!("refused 5 activity {number} exists"))?;
         let events = [self.event(from)?, self.event(to)?];
         ensure(self.network.slots.len() < MOST_ACTIVITIES, || "refused 8 too many activities".to_string())?;
-        let activity = Activity::new(number as u32, events, self.network.period, bounds, weight as u32);
-        let slot = self.network.add_activity(activity);
+        let period = self.network.period;
+        let slot = self.network.add_activity(Activity::new(number as u32, events, period, bounds, weight as u32));
         self.domains.follow(&self.network, &[], None, Some(slot));
         Ok(())
     }

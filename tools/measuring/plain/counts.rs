@@ -90,7 +90,8 @@ impl Domains {
     /// Follows an edit: puts back what it reaches from some places, limits an event to its window, counts an activity anew,
     /// and takes out what is left without a partner.
     pub fn follow(&mut self, network: &Network, starts: &[u32], limited: Option<u32>, recounted: Option<u32>) {
-        (self.trail.clear(), self.back.clear());
+        self.trail.clear();
+        self.back.clear();
         for place in starts.iter().map(|place| *place as usize) {
             self.bring(place, network.admitted(place) & !self.rows[place]);
         }
@@ -119,11 +120,11 @@ impl Domains {
         ends.into_iter().for_each(|end| self.sift(network.look(end ^ 1).0, end, Row::MAX));
     }
 
-    /// Counts what came in, or what was taken out out, alone or with others of its event, and all that comes or goes by that.
-    /// Nothing comes along a spared activity.
+    /// Lets what came be counted, or what was taken out no more, alone or with others of its event, and all that comes or goes
+    /// by that. Nothing comes along a spared activity.
     fn spread(&mut self, network: &Network, comes: bool, spared: Option<u32>) {
         let mut at = 0;
-        while let Some((place, residue)) = if comes { &self.back } else { &self.trail }.get(at).copied() {
+        while let Some(&(place, residue)) = if comes { &self.back } else { &self.trail }.get(at) {
             let place = place as usize;
             let waits = if comes { self.rows[place] & !self.counted[place] } else { self.counted[place] & !self.rows[place] };
             if waits >> residue & 1 != 0 {

@@ -1,5 +1,5 @@
 //! A plain program beside the proved one, for tools/measure: the same files, options, algorithms and replies, and no proof.
-//! It has the commands that are measured beside, no cost that is kept, and periods that fit in a byte.
+//! It has the commands that are measured beside, no cost that is kept, and periods of less than 64.
 
 mod bench;
 mod counts;
@@ -23,7 +23,8 @@ fn serve(mut bench: bench::Bench, output: &mut File) -> io::Result<()> {
             bench.reply(&line, &mut text);
         }
         output.write_all(&text)?;
-        (line.clear(), text.clear());
+        line.clear();
+        text.clear();
     }
     Ok(())
 }
@@ -35,13 +36,13 @@ fn main() -> Result<(), String> {
         let contents = |path: Option<String>| fs::read(path.unwrap_or_default()).map_err(|why| why.to_string());
         match word.as_str() {
             "--check" => is_check = true,
-            "--period" => period = words.next().and_then(|word| word.parse::<u8>().ok()).ok_or("no period")?,
+            "--period" => period = words.next().and_then(|word| word.parse().ok()).unwrap_or_default(),
             "--fixed" => files[1] = contents(words.next())?,
             "--times" => files[2] = contents(words.next())?,
             _ => files[0] = contents(Some(word))?,
         }
     }
-    let network = files::read(period.into(), &files)?;
+    let network = (2..64).contains(&period).then(|| files::read(period, &files)).ok_or("no period")??;
     drop(files);
     let mut output = io::stdout().as_fd().try_clone_to_owned().map(File::from).map_err(|why| why.to_string())?;
     let done = if is_check {

@@ -52,9 +52,7 @@ pub fn put_tensions(network: &Network, text: &mut Vec<u8>) -> Result<(u64, Vec<u
         let at = if tension < 0 { write_back(rest, b" -", size) } else { write_back(rest, b" ", size) };
         let at = write_back(&mut line[..at], b"", (*number).into());
         text.extend_from_slice(&line[at..]);
-        if tension > activity.bounds[1] {
-            unmet.push(*number);
-        }
+        unmet.extend((tension > activity.bounds[1]).then_some(*number));
         cost += u64::from(activity.weight) * u64::from(slack);
     }
     Ok((cost, unmet))
