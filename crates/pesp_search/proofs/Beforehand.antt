@@ -7,7 +7,8 @@ use Rattle.pesp_tension.specs.Answers.{cost_of}
 use Rattle.pesp_search.specs.declared.answer.Best.{Best}
 use Rattle.pesp_search.specs.Beforehand.{least_bound, told_best, told_bound}
 use Rattle.pesp_search.specs.Optima.{IsBound}
-use Rattle.pesp_search.specs.Tried.{IsBestSoFar, IsFloor, IsFound, IsKnown, IsOutcome, IsWithin, MayStop}
+use Rattle.pesp_search.specs.Known.{IsFloor, IsKnown}
+use Rattle.pesp_search.specs.Tried.{IsBestSoFar, IsFound, IsOutcome, IsWithin, MayStop}
 
 -- what is within a lower bound is within the given one
 within_more : (bound : Option ℕ) (low cost : ℕ) → IsWithin bound low → cost ≤ low → IsWithin bound cost

@@ -22,7 +22,8 @@ use Rattle.pesp_search.specs.Optima.{IsAnswer, IsBound, IsMember, IsOptimum, Pre
 use Rattle.pesp_search.specs.Paths.{IsDeadEnd, timetable_of}
 use Rattle.pesp_search.specs.Searching.{IsSearching, MayEnd}
 use Rattle.pesp_search.specs.Tree.{AreNodes, IsPlaceOf, IsTreeSize}
-use Rattle.pesp_search.specs.Tried.{IsBestSoFar, IsEnd, IsFound, IsKnown, IsOutcome, IsWithin, MayTry}
+use Rattle.pesp_search.specs.Known.{IsKnown}
+use Rattle.pesp_search.specs.Tried.{IsBestSoFar, IsEnd, IsFound, IsOutcome, IsWithin, MayTry}
 use Rattle.pesp_search.proofs.Members.{before_of_precedes, full_of_member, member_in_domains, member_of_full}
 use Rattle.pesp_search.proofs.Placed.{before_decided, place_after}
 use Rattle.pesp_search.proofs.Sizes.{counted_below, size_unique}

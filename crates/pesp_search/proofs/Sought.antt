@@ -19,7 +19,8 @@ use Rattle.pesp_search.specs.declared.seek.Sought.{Sought}
 use Rattle.pesp_search.specs.Optima.{IsBound, IsMember, IsOptimum, Precedes}
 use Rattle.pesp_search.specs.Paths.{HasEmpty, IsDeadEnd, timetable_of}
 use Rattle.pesp_search.specs.Sought.{IsCap, IsMapOf, IsSought, IsSoughtMap, best_of_map}
-use Rattle.pesp_search.specs.Tried.{IsEnd, IsFloor, IsFound, IsOutcome}
+use Rattle.pesp_search.specs.Known.{IsFloor}
+use Rattle.pesp_search.specs.Tried.{IsEnd, IsFound, IsOutcome}
 use Rattle.pesp_search.specs.Nodes.{Before}
 use Rattle.pesp_search.proofs.Ends.{dead_size, no_member}
 use Rattle.pesp_search.proofs.Maps.{full_of_met, map_of_member, member_of_map}

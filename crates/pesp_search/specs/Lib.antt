@@ -2,6 +2,7 @@ pub mod Arcs
 pub mod Beforehand
 pub mod Branch
 pub mod Found
+pub mod Known
 pub mod Nodes
 pub mod Optima
 pub mod Parts

@@ -7,7 +7,8 @@ ghost use Rattle.pesp_search.specs.declared.answer.Tried.TheVariants as attempts
 ghost use Rattle.pesp_search.specs.Optima.{IsAnswer, IsBound};
 ghost use Rattle.pesp_search.specs.Paths.{IsDeadEnd};
 ghost use Rattle.pesp_search.specs.Tree.{AreNodes};
-ghost use Rattle.pesp_search.specs.Tried.{IsFloor, IsFound, IsKnown, MayTry};
+ghost use Rattle.pesp_search.specs.Known.{IsFloor, IsKnown};
+ghost use Rattle.pesp_search.specs.Tried.{IsFound, MayTry};
 
 use crate::outcome::{answer_of, best_told, known, lowest};
 use crate::seek::{Sought, seek};

@@ -5,7 +5,7 @@ ghost use Rattle.pesp_instance.specs.Network.{IsNetwork, event_ids};
 ghost use Rattle.pesp_search.specs.Arcs.{IsNetworkOf};
 ghost use Rattle.pesp_search.specs.Optima.{IsBound};
 ghost use Rattle.pesp_search.specs.Sought.{IsCap, IsMapOf, IsSought, IsSoughtMap, best_of_map};
-ghost use Rattle.pesp_search.specs.Tried.{IsFloor};
+ghost use Rattle.pesp_search.specs.Known.{IsFloor};
 ghost use Rattle.pesp_search_least.specs.Sums.{IsLeast, IsLowerBound};
 ghost use Rattle.pesp_search_network.specs.Arcs.{IsCosted};
 
