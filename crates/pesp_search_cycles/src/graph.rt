@@ -9,7 +9,6 @@ use crate::{Range, Walk};
 use pesp_base::{Memory, Period, Span, Weight};
 use pesp_search_basis::{cycle_count, narrow_cycles, tree_cycles, way};
 use pesp_search_graph::{Arc, Step};
-use pesp_search_least::Budget;
 use pesp_search_network::Network;
 use std::alloc::Global;
 
@@ -67,12 +66,13 @@ fn origin_arc(network: &Network, event: usize, range: Range) -> Option<Arc>
     })
 }
 
-/// Whether going through a number of ways takes at most a quarter of the budget.
-fn is_affordable(work: u64, budget: &Budget) -> bool {
-    match budget.left {
-        Some(left) => work / NUMBERS_OF_UNIT < left / 4,
-        None => true,
-    }
+/// Cycles that make up all others.
+#[derive(Clone, Copy)]
+pub(crate) enum Basis {
+    /// Those of a spanning tree, which are found at once.
+    Tree,
+    /// Narrow ones.
+    Narrow,
 }
 
 /// So many numbers in units.
@@ -191,20 +191,30 @@ impl Graph {
         Ok(walks)
     }
 
-    /// The walks that make up all others: narrow ones where the budget allows.
+    /// How many units it takes to find narrow cycles, or so; none where there are too many.
+    pub(crate) fn units_of_narrow(
+        &self,
+        alloc: Global,
+        period: Period,
+    ) -> Result<Option<u64>, Memory> {
+        if MOST_NARROW < self.cycle_count(alloc, period)? {
+            return Ok(None);
+        }
+        let ways = (self.nodes as u64).saturating_mul(self.arcs.len() as u64);
+        Ok(Some(units_of(ways.saturating_mul(16))))
+    }
+
+    /// The walks that make up all others.
     pub(crate) fn walks(
         &self,
         alloc: Global,
         period: Period,
-        budget: &Budget,
+        basis: Basis,
         work: &mut u64,
     ) -> Result<Vec<Walk>, Memory> {
-        let ways = (self.nodes as u64).saturating_mul(self.arcs.len() as u64);
-        let is_narrow = self.cycle_count(alloc, period)? <= MOST_NARROW;
-        let cycles = if is_narrow && is_affordable(ways.saturating_mul(16), budget) {
-            narrow_cycles(alloc, period, self.nodes, &self.arcs, work)?
-        } else {
-            tree_cycles(alloc, period, self.nodes, &self.arcs)?
+        let cycles = match basis {
+            Basis::Narrow => narrow_cycles(alloc, period, self.nodes, &self.arcs, work)?,
+            Basis::Tree => tree_cycles(alloc, period, self.nodes, &self.arcs)?,
         };
         self.walks_of(alloc, &cycles)
     }

@@ -9,7 +9,7 @@ ghost use Rattle.pesp_search_cycles.specs.Maps.{IsAmong};
 ghost use Rattle.pesp_search_cycles.specs.Ranges.{AreIn};
 
 use crate::graph::{Graph, units_of};
-use crate::method::walks_of;
+use crate::method::{basis_within, walks_of};
 use crate::node::Node;
 use crate::proposer::Proposer;
 use crate::residues::residue_ranges;
@@ -58,7 +58,8 @@ impl<'a> Held<'a> {
         ensures budget { OnlySpends budget.old.left budget.new.left }
     {
         let residues = residue_ranges(alloc, network)?;
-        let walks = walks_of(alloc, network, &residues, budget)?;
+        let basis = basis_within(alloc, network, &residues, budget)?;
+        let walks = walks_of(alloc, network, &residues, basis, budget)?;
         let copy = copied(alloc, &walks)?;
         let proposer = Proposer::new(alloc, &Cycles::new(alloc, network, copy)?)?;
         let Ok(mut held) = vec![in alloc; false; network.events() + 1] else {

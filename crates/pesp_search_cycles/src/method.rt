@@ -6,13 +6,13 @@ ghost use Rattle.pesp_search_least.specs.Sums.{IsLowerBound, IsOutcome, IsStop, 
 ghost use Rattle.pesp_search_network.specs.Arcs.{IsCosted, IsMet};
 ghost use Rattle.pesp_search_cycles.specs.Ranges.{AreIn};
 
-use crate::graph::{Graph, units_of};
+use crate::graph::{Basis, Graph, units_of};
 use crate::node::Node;
 use crate::proposer::Proposer;
 use crate::residues::residue_ranges;
 use crate::{Cycles, Range, Walk};
 use pesp_base::Memory;
-use pesp_search_least::{Budget, Limits, Outcome, least};
+use pesp_search_least::{Budget, Limits, Outcome, both, least, limits_after};
 use pesp_search_network::{Method, Network};
 use std::alloc::Global;
 
@@ -27,6 +27,9 @@ const MOST_ENTRIES: usize = 2_097_152;
 
 /// and what all arcs may cost at most: sums of the bound are in parts, and have 64 bits.
 const MOST_COST: u64 = 1 << 37;
+
+/// How many times as many units as narrow cycles take to be found the cycles of a tree have before them.
+const TREE_SHARE: u64 = 4;
 
 /// A search by what the slacks of a network add up to along its cycles.
 #[derive(Drop)]
@@ -55,23 +58,83 @@ pub fn is_of_use(alloc: Global, network: &Network) -> Result<bool, Memory> {
     Ok(cycles <= MOST_CYCLES && cycles.saturating_mul(numbers) <= MOST_ENTRIES)
 }
 
+/// Narrow cycles where finding them takes at most a quarter of the budget, and else those of a tree.
+pub(crate) fn basis_within(
+    alloc: Global,
+    network: &Network,
+    residues: &[Range],
+    budget: &Budget,
+) -> Result<Basis, Memory> {
+    let graph = Graph::of(alloc, network, residues)?;
+    match (graph.units_of_narrow(alloc, network.period())?, budget.left) {
+        (None, _) => Ok(Basis::Tree),
+        (Some(units), Some(left)) if left / 4 <= units => Ok(Basis::Tree),
+        (Some(_), _) => Ok(Basis::Narrow),
+    }
+}
+
 /// Walks that make up all others, and what it took to find them is spent.
 pub(crate) fn walks_of(
     alloc: Global,
     network: &Network,
     residues: &[Range],
+    basis: Basis,
     budget: &mut Budget,
 ) -> Result<Vec<Walk>, Memory>
     ensures { OnlySpends budget.old.left budget.new.left }
 {
     let graph = Graph::of(alloc, network, residues)?;
     let mut work = 0;
-    let walks = graph.walks(alloc, network.period(), budget, &mut work)?;
+    let walks = graph.walks(alloc, network.period(), basis, &mut work)?;
     budget.spend(units_of(work));
     Ok(walks)
 }
 
-/// A map of least cost among those with these residues.
+/// A map of least cost among those with these residues, by the cycles of one basis.
+fn least_by(
+    alloc: Global,
+    network: &Network,
+    residues: &[Range],
+    basis: Basis,
+    limits: Limits,
+    budget: &mut Budget,
+) -> Result<Outcome, Memory>
+    requires long { length residues.now ≡ network.now.events }
+    requires floor { IsLowerBound (IsCosted network.now) limits.floor }
+    requires all { (map : List ℕ) → IsMet network.now map → AreIn residues.now map }
+    ensures outcome { IfOk result (IsOutcome (IsCosted network.now) limits.cap) }
+    ensures spent { IfOk result (StopsWhereSpent budget.new.left) }
+    ensures budget { OnlySpends budget.old.left budget.new.left }
+    ensures stops { limits.floor < limits.cap → budget.old.left ≡ Some 0 → IfOk result IsStop }
+{
+    let walks = walks_of(alloc, network, residues, basis, budget)?;
+    let cycles = Cycles::new(alloc, network, walks)?;
+    let proposer = Proposer::new(alloc, &cycles)?;
+    let Some(root) = Node::among(alloc, &cycles, residues, proposer, true)? else {
+        return Err(Memory);
+    };
+    least(alloc, root, limits, budget)
+}
+
+/// The basis to begin with, and how many units it has until narrow cycles are taken: none where it is the only one.
+///
+/// Units do not depend on the budget, so that a larger one never does other work as far as a smaller one goes.
+fn begin_with(
+    alloc: Global,
+    network: &Network,
+    residues: &[Range],
+    budget: &Budget,
+) -> Result<(Basis, Option<u64>), Memory> {
+    let graph = Graph::of(alloc, network, residues)?;
+    match graph.units_of_narrow(alloc, network.period())? {
+        None => Ok((Basis::Tree, None)),
+        Some(_) if budget.left.is_none() => Ok((Basis::Narrow, None)),
+        Some(units) => Ok((Basis::Tree, Some(units.saturating_mul(TREE_SHARE)))),
+    }
+}
+
+/// A map of least cost among those with these residues: by the cycles of a tree at first, where units are counted, and
+/// then by narrow ones.
 fn least_among(
     alloc: Global,
     network: &Network,
@@ -87,13 +150,22 @@ fn least_among(
     ensures budget { OnlySpends budget.old.left budget.new.left }
     ensures stops { limits.floor < limits.cap → budget.old.left ≡ Some 0 → IfOk result IsStop }
 {
-    let walks = walks_of(alloc, network, residues, budget)?;
-    let cycles = Cycles::new(alloc, network, walks)?;
-    let proposer = Proposer::new(alloc, &cycles)?;
-    let Some(root) = Node::among(alloc, &cycles, residues, proposer, true)? else {
-        return Err(Memory);
+    let (basis, share) = begin_with(alloc, network, residues, budget)?;
+    let Some(units) = share else {
+        return least_by(alloc, network, residues, basis, limits, budget);
     };
-    least(alloc, root, limits, budget)
+    if budget.is_spent() {
+        return least_by(alloc, network, residues, basis, limits, budget);
+    }
+    let mut part = budget.part(units);
+    let begun = least_by(alloc, network, residues, basis, limits, &mut part)?;
+    budget.spend(units.saturating_sub(part.left.unwrap_or(0)));
+    let Outcome::Spent { best, lower_bound } = begun else {
+        return Ok(begun);
+    };
+    let left = limits_after(limits, &best, lower_bound);
+    let next = least_by(alloc, network, residues, Basis::Narrow, left, budget)?;
+    Ok(both(limits.cap, best, next))
 }
 
 impl Method for ByCycles {

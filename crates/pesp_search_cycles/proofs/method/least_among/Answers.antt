@@ -1,30 +1,20 @@
--- The first node has all maps, at their costs.
-use Rattle.std.proofs.Common.{subst}
-use Rattle.pesp_search_least.specs.Sums.{IsWithin}
-use Rattle.pesp_search_network.specs.Arcs.{Arcs, IsCosted}
-use Rattle.pesp_search_cycles.proofs.Outcomes.{ok_along}
-use Rattle.pesp_search_cycles.specs.Maps.{IsAmong, IsSummed}
-use Rattle.pesp_search_cycles.proofs.Regions.{among_costed, costed_among, within_on}
+-- What is left after a stop is searched by narrow cycles.
+use Rattle.pesp_search_least.specs.Sums.{IsOutcome}
+use Rattle.pesp_search_least.proofs.Outcomes.{both_is, both_stops, floor_after}
+use Rattle.pesp_search_network.specs.Arcs.{IsCosted}
+use Rattle.pesp_search_least.specs.declared.outcome.Outcome.TheVariants.{Spent}
 use Rattle.pesp_search_cycles.proofs.method.least_among.Goals as goal
 
-pub least-requires : goal.least-requires
-least-requires c = record {
-  floor = λ xs cost s.
-      let among : IsAmong c.in_ok-cycles.cycles.network c.args.residues.now xs cost = (rw c.in-Some.is at c.in_ok-root.ensures.within) xs cost s in
-      c.requires.floor xs cost (subst (λ (A : Arcs). IsCosted A xs cost) c.in_ok-cycles.ensures among.costed);
-}
+pub least_by-requires-3-clause-floor : goal.least_by-requires-3-clause-floor
+least_by-requires-3-clause-floor c =
+    let stop : IsOutcome (IsCosted c.args.network.now) c.args.limits.cap (Spent c.in-Spent.best c.in-Spent.lower_bound) = rw c.in-Spent.is at c.in_ok-begun.ensures.outcome in
+    rw c.limits_after-left.ensures.floor (floor_after (IsCosted c.args.network.now) c.args.limits.floor c.args.limits.cap c.in-Spent.lower_bound c.requires.floor stop.1)
 
 pub returns-clause-outcome : goal.returns-clause-outcome
 returns-clause-outcome c =
-    let A = c.args.network.now in
-    let R = c.args.residues.now in
-    let node = c.in-Some.root in
-    let sums = IsSummed node.cycles.now node.boxes in
-    let all : IsWithin (IsAmong A R) sums =
-    subst (λ (B : Arcs). IsWithin (IsAmong B R) sums) c.in_ok-cycles.ensures (rw c.in-Some.is at c.in_ok-root.ensures.all) in
-    let within : IsWithin sums (IsAmong A R) =
-    subst (λ (B : Arcs). IsWithin sums (IsAmong B R)) c.in_ok-cycles.ensures (rw c.in-Some.is at c.in_ok-root.ensures.within) in
-    ok_along sums (IsCosted A) c.args.limits.cap c.least.result
-    (within_on sums (IsAmong A R) (IsCosted A) within (among_costed A R))
-    (within_on (IsCosted A) (IsAmong A R) sums (costed_among A R c.requires.all) all)
-    c.least.ensures.outcome
+    let stop : IsOutcome (IsCosted c.args.network.now) c.args.limits.cap (Spent c.in-Spent.best c.in-Spent.lower_bound) = rw c.in-Spent.is at c.in_ok-begun.ensures.outcome in
+    rw c.both.ensures
+    (both_is (IsCosted c.args.network.now) c.args.limits.cap c.in-Spent.best c.in_ok-next.next stop.0 (rw c.limits_after-left.ensures.cap at c.in_ok-next.ensures.outcome))
+
+pub returns-clause-spent : goal.returns-clause-spent
+returns-clause-spent c = rw c.both.ensures (both_stops _ c.args.limits.cap c.in-Spent.best c.in_ok-next.next c.in_ok-next.ensures.spent)
