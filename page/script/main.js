@@ -9,7 +9,7 @@
     Page.find('cannot').show();
     return;
   }
-  const views = [Page.startHead, Page.startTabs, Page.startEvents, Page.startDiagram, Page.startChoosing, Page.startLines, Page.startLining];
+  const views = [Page.startHead, Page.startTabs, Page.startEvents, Page.startDiagram, Page.startChoosing, Page.startLines, Page.startLining, Page.startVariants];
   const helps = [Page.startHelps, Page.startLegend, Page.startFinding, Page.startStations];
   const files = [Page.startSearching, Page.startPrinting, Page.startOpening, Page.startSaving, Page.startHanding];
   for (const start of [...views, ...helps, ...files]) start();

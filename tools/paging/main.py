@@ -47,26 +47,37 @@ def difference(anew):
     return f"page/pespbench.html differs from the page made anew, in {part}; {which_is_older()}"
 
 
-def checked(anew):
+def given_module(path):
+    """The module in a file, or in a page."""
+    data = path.read_bytes()
+    return data if data.startswith(b"\0asm") else module_of(data)
+
+
+def made_by(words):
+    """What the module is made by; no tool is asked for one that is given."""
+    return f"with the module in {words.given}" if words.given else f"made by {tools()}"
+
+
+def checked(anew, made):
     """Tells whether the page that is there is the one made anew."""
     fault = difference(anew)
     print(f"FAILED {fault}" if fault else "page/pespbench.html is the page made anew, byte for byte")
-    print(f"made by {tools()}")
+    print(made)
     print(f"{int(not fault)} passed, {int(bool(fault))} failed")
     return bool(fault)
 
 
 def work(words):
-    module = words.given.read_bytes() if words.given else made_module()
+    module = given_module(words.given) if words.given else made_module()
     if words.module:
         words.module.write_bytes(module)
-        print(f"{words.module}: {len(module):,} bytes, made by {tools()}")
+        print(f"{words.module}: {len(module):,} bytes, {made_by(words)}")
         return False
     page = assembled(PAGE, module)
     if words.check:
-        return checked(page)
+        return checked(page, made_by(words))
     MADE.write_bytes(page)
-    print(f"page/pespbench.html: {len(page):,} bytes, of which {len(module):,} are the module's, made by {tools()}")
+    print(f"page/pespbench.html: {len(page):,} bytes, of which {len(module):,} are the module's, {made_by(words)}")
     return False
 
 
@@ -74,7 +85,7 @@ def main(words):
     parser = argparse.ArgumentParser(prog="tools/page", description="Makes page/pespbench.html.")
     parser.add_argument("--check", action="store_true", help="compare a page made anew with the one that is there")
     parser.add_argument("--module", type=pathlib.Path, metavar="FILE", help="make the module alone, into FILE")
-    parser.add_argument("--with", type=pathlib.Path, metavar="FILE", dest="given", help="take this module, and make none")
+    parser.add_argument("--with", type=pathlib.Path, metavar="FILE", dest="given", help="take this module, or that of this page, and make none")
     words = parser.parse_args(words)
     try:
         return work(words)
