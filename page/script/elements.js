@@ -9,7 +9,7 @@
       if (name.startsWith('on')) made.addEventListener(name.slice(2), value);
       else if (value !== null && value !== undefined && value !== false) made.setAttribute(name, value === true ? '' : value);
     }
-    made.append(...children.filter(child => child !== null && child !== undefined));
+    made.append(...children.filter(child => child !== null && child !== undefined && child !== false));
     return made;
   };
 

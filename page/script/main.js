@@ -1,7 +1,9 @@
 'use strict';
 
-// Starts the page: the program first, and then the first story, or says why it cannot start.
+// Starts the page: the program first, and then the first story, or says why it cannot start. A report is read before that.
 (async () => {
+  const told = Page.reportGiven();
+  if (told) await Page.readReport(told);
   try {
     await Page.startProgram(await PespModule.compile(PESPBENCH_MODULE));
   } catch (fault) {
@@ -13,7 +15,8 @@
   const helps = [Page.startHelps, Page.startLegend, Page.startFinding, Page.startStations];
   const files = [Page.startSearching, Page.startPrinting, Page.startOpening, Page.startSaving, Page.startHanding];
   for (const start of [...views, ...helps, ...files]) start();
-  Page.openStory(Page.stories[0]);
+  if (told) Page.openReport(told);
+  else Page.openStory(Page.stories[0]);
   Page.startLinks();
   Page.startDrafts();
   document.body.classList.add('ready');

@@ -143,7 +143,7 @@ def as_package(suite, page):
             suite.note(title, by_package(page, pathlib.Path(name)), said(page))
 
 
-def drawn(suite, page):
+def drawn_beside(suite, page):
     """The chosen line of both is in one drawing and one table, and connections with what they take in each."""
     page.again()
     keep(page, "A")
@@ -163,4 +163,4 @@ def drawn(suite, page):
     suite.note("costs and violations", {"violated": ["0", "1", "+1"], "sum": ["18,504", "18,528", "+24"]}, {"violated": figures["violated"], "sum": figures["cost in all"]})
 
 
-GROUPS = [kept, in_fields, taken, of_others, as_package, drawn]
+GROUPS = [kept, in_fields, taken, of_others, as_package, drawn_beside]
