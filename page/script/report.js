@@ -97,6 +97,8 @@
   const netgraph = view => {
     if (!view.lines.some(line => line.stations.length > 1)) return [];
     const { drawn, told } = Page.netgraphOf(view);
+    // Few stations are not drawn larger than many.
+    drawn.style.maxWidth = `min(100%, ${drawn.getAttribute('viewBox').split(' ')[2]}px)`;
     return [part('netgraph-drawn', 'Netgraph', [told, Page.NETGRAPH_NOTE].filter(Boolean).join(' '), drawn)];
   };
 

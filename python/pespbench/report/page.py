@@ -40,7 +40,7 @@ def page_text() -> str:
 
 
 def page_path() -> Path:
-    """Where the page is: as PESPBENCH_PAGE says, else beside the package as it was installed, else in the repository."""
+    """Where the page is: as PESPBENCH_PAGE says, else beside the package as it was installed, else in the repository. Raises NoPage."""
     package = Path(__file__).resolve().parents[1]
     named = os.environ.get("PESPBENCH_PAGE")
     places: List[Path] = [Path(named)] if named else [package / NAME, package.parents[1] / "page" / NAME]
