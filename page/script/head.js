@@ -58,7 +58,7 @@
   };
 
   // One of the views on the right is shown at a time; each is drawn when it is.
-  const TABS = ['diagram', 'netgraph', 'corridor', 'tables', 'compare', 'violated', 'lines', 'why'];
+  const TABS = ['diagram', 'netgraph', 'corridor', 'tables', 'compare', 'violated', 'lines', 'why', 'gains'];
   Page.tab = 'diagram';
 
   Page.showTab = name => {
