@@ -2,7 +2,7 @@
 
 // A line of two variants in one drawing and one table, and the connections that take other times in them.
 (() => {
-  const { element, drawing } = Page;
+  const { element } = Page;
   const LOOKS = [{ width: 1.8, dashes: '5 4' }, { width: 2.6, dashes: null }], MOST_ROWS = 300;
 
   const lineIn = (view, name) => view.lines.find(line => line.name === name);

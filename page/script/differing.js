@@ -5,17 +5,6 @@
   const byNumber = (one, other) => one - other;
   const both = (one, other) => [...new Set([...one, ...other])].sort(byNumber);
 
-  // Does something as if a view were shown, with other names or its own.
-  Page.within = (view, act, labels = view.labels) => {
-    const shown = { view: Page.view, labels: Page.labels };
-    Object.assign(Page, { view, labels });
-    try {
-      return act();
-    } finally {
-      Object.assign(Page, shown);
-    }
-  };
-
   const changesOf = (old, now) => [
     old.first === now.first && old.last === now.last ? '' : `from event ${now.first} to ${now.last}, was from ${old.first} to ${old.last}`,
     old.lower === now.lower && old.upper === now.upper ? ''

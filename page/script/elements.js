@@ -18,7 +18,11 @@
 
   Page.drawing = (tag, attributes = {}, ...children) => fill(document.createElementNS(SVG, tag), attributes, children);
 
+  /** @returns {any} */
   Page.find = id => document.getElementById(id);
+
+  /** @returns {any[]} */
+  Page.all = selector => [...document.querySelectorAll(selector)];
 
   // Sets a text where it is another one, since setting costs a layout.
   Page.setText = (node, text) => {
@@ -45,6 +49,12 @@
   // Brings the keys to an element where they are nowhere, since what had them went away.
   Page.lead = node => {
     if (node && document.activeElement === document.body) node.focus();
+  };
+
+  // Tells that there is something to be seen, and how many milliseconds after the page was asked for.
+  Page.tellReady = () => {
+    document.body.classList.add('ready');
+    requestAnimationFrame(() => { Page.readyAfter = performance.now(); });
   };
 
   // Says something more than what is said.

@@ -121,10 +121,10 @@
     if (Page.tab !== 'gains') return;
     if (drawn === view && isOfNow()) return;
     drawn = view;
-    const holder = find('gains'), focused = holder.contains(document.activeElement) && document.activeElement.closest('[data-gain]');
-    const at = focused && [...focused.querySelectorAll('button')].indexOf(document.activeElement), { gain } = focused ? focused.dataset : {};
+    const holder = find('gains'), /** @type {any} */ focused = document.activeElement.closest('#gains [data-gain]');
+    const at = focused ? [...focused.querySelectorAll('button')].indexOf(document.activeElement) : 0;
     holder.replaceChildren(...told(view));
-    if (focused) holder.querySelector(`[data-gain="${gain}"]`)?.querySelectorAll('button')[at]?.focus();
+    if (focused) holder.querySelector(`[data-gain="${focused.dataset.gain}"]`)?.querySelectorAll('button')[at].focus();
   };
 
   Page.panel({ build, update });

@@ -50,7 +50,7 @@
     for (const [name, act] of [['undo', Page.undo], ['redo', Page.redo]]) Page.find(name).addEventListener('click', act);
     Page.find('print').addEventListener('click', () => window.print());
     window.addEventListener('keydown', event => {
-      const key = event.key.toLowerCase(), isOfField = OF_FIELDS.includes(key) && event.target.matches(FIELDS);
+      const key = event.key.toLowerCase(), isOfField = OF_FIELDS.includes(key) && /** @type {any} */ (event.target).matches(FIELDS);
       if (!(event.ctrlKey || event.metaKey) || event.altKey || !KEYS.has(key) || isOfField) return;
       event.preventDefault();
       if (!document.querySelector('dialog[open]')) KEYS.get(key)(event);

@@ -19,7 +19,5 @@
   else Page.openStory(Page.stories[0]);
   Page.startLinks();
   Page.startDrafts();
-  document.body.classList.add('ready');
-  // The milliseconds since the page was asked for, when the first story is drawn.
-  requestAnimationFrame(() => { Page.readyAfter = performance.now(); });
+  Page.tellReady();
 })();

@@ -3,7 +3,7 @@
 // A report: what the Python package has asked the program of a network, drawn as it is printed and without hands. All numbers in it are
 // those of replies to the package; the module in this page is asked nothing until the reader wants to change something.
 (() => {
-  const { element, drawing } = Page;
+  const { element } = Page;
   const MOST_STRIPS = 2000, MOST_VIOLATED = 500;
 
   const counted = count => count.toLocaleString('en');
@@ -32,10 +32,7 @@
       tensions: told.tensions && mapOf(told.tensions, ([tension, slack]) => ({ tension, slack })), cost: told.cost === null ? null : Page.exactly(told.cost),
       violations: told.violations && { activities: new Set(told.violations.activities), events: new Set(told.violations.events) },
     };
-    view.lastDomains = view.domains;
-    Object.assign(Page, { view, labels: view.labels, places: new Map(told.places), chosen: null });
-    view.trains = Page.trainsOf(view.network);
-    view.lines = Page.linesOf(view.trains);
+    Page.readView(view, new Map(told.places));
     return view;
   };
 
@@ -136,8 +133,8 @@
     const view = Page.viewOfReport(told), work = element('button', { class: 'main', id: 'work' }, 'Work on it');
     document.title = [told.title, 'pespbench'].filter(Boolean).join(' – ');
     Page.find('printed').replaceChildren(element('p', { class: 'to-work' }, work, ' in this page, with all of the workbench.'), ...Page.reportOf(view, told));
-    document.body.classList.add('report', 'ready');
-    requestAnimationFrame(() => { Page.readyAfter = performance.now(); });
+    document.body.classList.add('report');
+    Page.tellReady();
     work.addEventListener('click', () => {
       document.body.classList.remove('report', 'ready');
       Page.find('printed').replaceChildren();
@@ -148,7 +145,6 @@
   // Opens in the workbench what a report tells.
   Page.openReport = told => {
     const { network, times, labels } = Page.viewOfReport(told), { places } = Page;
-    Page.view = null;
     Page.open(Page.baseOf(network, times), { title: told.title, labels, places });
   };
 })();

@@ -71,11 +71,14 @@
   // The ends of a frame stand where they are, but beside a diamond that lies there, on the side that is outside.
   const BESIDE = '0.8rem', NEAR = 0.05;
 
+  /** @type {[string, number][]} */
+  const SIDES = [['first', -1], ['last', 1]];
+
   const placeEnds = (row, time, period) => {
-    for (const [name, side] of [['first', -1], ['last', 1]]) {
+    for (const [name, side] of SIDES) {
       const handle = row[name];
       if (!handle || handle.hidden) continue;
-      const at = handle.dataset.at / period, middle = (time + 0.5) / period, isNear = time !== undefined && side * (middle - at) < NEAR;
+      const at = Number(handle.dataset.at) / period, middle = (time + 0.5) / period, isNear = time !== undefined && side * (middle - at) < NEAR;
       const beside = `calc(${100 * middle}% ${side < 0 ? '-' : '+'} ${BESIDE})`;
       handle.style.left = isNear ? `${side < 0 ? 'min' : 'max'}(${100 * at}%, ${beside})` : `${100 * at}%`;
     }

@@ -32,13 +32,13 @@
   };
 
   // Draws what is new about the cell of an event.
-  const drawCell = (view, event, cell) => {
-    const look = lookOf(view, event, [cell.name, view.network.windows.has(event) ? 'held' : '']), text = Page.minuteText(view, event);
+  const drawCell = (view, event, drawnAt) => {
+    const look = lookOf(view, event, [drawnAt.name, view.network.windows.has(event) ? 'held' : '']), text = Page.minuteText(view, event);
     const drawn = `${text} ${Object.values(look).join()}`;
-    if (cell.drawn === drawn) return;
-    cell.drawn = drawn;
-    for (const [name, value] of Object.entries(look)) Page.setAttribute(cell.node, name, value);
-    Page.setText(cell.node, text);
+    if (drawnAt.drawn === drawn) return;
+    drawnAt.drawn = drawn;
+    for (const [name, value] of Object.entries(look)) Page.setAttribute(drawnAt.node, name, value);
+    Page.setText(drawnAt.node, text);
   };
 
   // The look of a minute, below which its style puts what is violated there.
@@ -89,7 +89,7 @@
     return tables;
   };
 
-  const drawCells = (view, made) => made.forEach((cell, event) => drawCell(view, event, cell));
+  const drawCells = (view, made) => made.forEach((drawnAt, event) => drawCell(view, event, drawnAt));
 
   const update = view => {
     if (Page.tab !== 'tables') return;

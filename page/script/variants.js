@@ -165,8 +165,6 @@
 
   Page.panel({ update });
 
-  const isField = node => node.matches('input, select, textarea');
-
   Page.startVariants = () => {
     find('compare-hands').replaceChildren(...NAMES.map(name => button(`Take ${name} over`, () => take(name), { id: `take-${name}`, class: 'main' })),
       button('Exchange A and B', swap, { id: 'swap' }), ...NAMES.map(name => button(`Forget ${name}`, () => forget(name), { id: `forget-${name}` })));
@@ -178,7 +176,7 @@
     window.addEventListener('keydown', event => {
       const name = event.key.toUpperCase();
       if (!NAMES.includes(name) || !event.shiftKey || event.ctrlKey || event.altKey || event.metaKey) return;
-      if (isField(event.target) || document.querySelector('dialog[open]')) return;
+      if (Page.isField(event.target) || document.querySelector('dialog[open]')) return;
       event.preventDefault();
       keep(name, true);
     });
