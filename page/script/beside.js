@@ -57,13 +57,12 @@
     const lines = sides.map(({ view }) => lineIn(view, name)), trains = trainsOf(lines), [first, second] = lines.map(line => line ? line.stations : []);
     const stations = (second || []).length >= (first || []).length ? [...new Set([...second, ...first])] : [...new Set([...first, ...second])];
     const heads = trains.map(({ to }) => element('th', { colspan: 2, scope: 'colgroup', class: 'begins' }, `to ${to}`));
-    const kinds = trains.flatMap(() => [element('th', { scope: 'col', class: 'begins' }, 'arr.'), element('th', { scope: 'col' }, 'dep.')]);
-    const rows = stations.map(station => element('tr', {}, element('th', { scope: 'row' }, station), ...trains.flatMap(train => {
+    const kinds = trains.flatMap(() => [element('th', { scope: 'col', class: 'begins' }, 'arr.'), 'dep.']);
+    const rows = stations.map(station => Page.rowOf(station, trains.flatMap(train => {
       const stop = train.stops.find(each => each.station === station) || { arrival: null, departure: null };
       return [cell(sides, stop.arrival, 'begins'), cell(sides, stop.departure, '')];
     })));
-    return element('table', { class: 'times' }, element('thead', {}, element('tr', {}, element('th', {}), ...heads),
-      element('tr', {}, element('th', { scope: 'col' }, 'Station'), ...kinds)), element('tbody', {}, ...rows));
+    return Page.tableOf('times', [['', ...heads], ['Station', ...kinds]], rows);
   };
 
   // Of each connection what it takes in a side, '' where it is not there.
@@ -76,7 +75,7 @@
     const [from, to, station] = Page.within(view, () => [Page.trainName(Page.labelOf(each.first)), Page.trainName(Page.labelOf(each.last)), Page.labelOf(each.first).station]);
     const cells = [before, after].map(({ text, isViolated }) => element('td', { class: isViolated ? 'alarm' : null }, text || 'not there'));
     const more = before.had === undefined || after.had === undefined ? '' : Page.signedMinutes(after.had - before.had);
-    return element('tr', { 'data-event': each.first }, element('th', { scope: 'row' }, station), element('td', {}, from), element('td', {}, to), ...cells, element('td', {}, more));
+    return Page.rowOf(station, [from, to, ...cells, more], { 'data-event': each.first });
   };
 
   // The connections that take other times, and how many take the same.
@@ -84,10 +83,9 @@
     const taken = sides.map(takesIn), numbers = [...new Set(taken.flatMap(each => [...each.keys()]))];
     const isOther = number => (taken[0].get(number) || NONE).text !== (taken[1].get(number) || NONE).text, other = numbers.filter(isOther);
     const same = numbers.length - other.length, told = Page.elided(other.length, MOST_ROWS, 'connections');
-    const heads = ['station', 'from', 'into', ...sides.map(({ name }) => `takes in ${name}`), 'change'].map(text => element('th', { scope: 'col' }, text));
+    const heads = ['station', 'from', 'into', ...sides.map(({ name }) => `takes in ${name}`), 'change'];
     const rows = other.slice(0, MOST_ROWS).map(number => connectionRow(sides, taken, number));
     const words = other.length ? `${same} take the same in both.` : same ? `All ${same} take the same in both.` : 'There are none.';
-    const table = rows.length ? element('table', { class: 'times' }, element('thead', {}, element('tr', {}, ...heads)), element('tbody', {}, ...rows)) : null;
-    return [table, element('p', { class: 'quiet' }, [told, words].filter(Boolean).join(' '))].filter(Boolean);
+    return [rows.length ? Page.tableOf('times', heads, rows) : null, element('p', { class: 'quiet' }, [told, words].filter(Boolean).join(' '))].filter(Boolean);
   };
 })();

@@ -32,15 +32,11 @@
     const { text: takes, isViolated } = Page.takesText(view, each);
     const [from, to] = [each.first, each.last].map(event => Page.trainName(Page.labelOf(event)));
     const cells = [Page.minuteText(view, each.first), to, Page.minuteText(view, each.last), takes, Page.spanText(each.lower, each.upper)];
-    return element('tr', {}, element('th', { scope: 'row' }, from), ...cells.map((text, place) =>
-      element('td', { class: isViolated && place === 3 ? 'alarm' : null }, text)));
+    return Page.rowOf(from, cells.map((text, place) => element('td', { class: isViolated && place === 3 ? 'alarm' : null }, text)));
   };
 
-  const stationTable = (view, station, rows) => {
-    const heads = HEADS.map(text => element('th', { scope: 'col' }, text));
-    return element('section', { class: 'station' }, element('h3', {}, station), element('table', { class: 'times' },
-      element('thead', {}, element('tr', {}, ...heads)), element('tbody', {}, ...rows.map(each => row(view, each)))));
-  };
+  const stationTable = (view, station, rows) => element('section', { class: 'station' }, element('h3', {}, station),
+    Page.tableOf('times', HEADS, rows.map(each => row(view, each))));
 
   // The connections of a network as they are printed; nothing where there are none.
   Page.connectionTables = view => {

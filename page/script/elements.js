@@ -46,6 +46,17 @@
     line.classList.toggle('alarm', isAlarm);
   };
 
+  const headsOf = names => names.map(each => typeof each === 'string' ? Page.element('th', { scope: 'col' }, each) : each);
+
+  // A table of rows below one or more rows of heads, which are texts or elements.
+  Page.tableOf = (look, heads, rows) => Page.element('table', { class: look },
+    Page.element('thead', {}, ...(Array.isArray(heads[0]) ? heads : [heads]).map(names => Page.element('tr', {}, ...headsOf(names)))),
+    Page.element('tbody', {}, ...rows));
+
+  // A row of it: a name, and then cells, which are texts or elements.
+  Page.rowOf = (name, cells, more = {}) => Page.element('tr', more, Page.element('th', { scope: 'row' }, name),
+    ...cells.map(each => typeof each === 'object' ? each : Page.element('td', {}, each)));
+
   // Brings the keys to an element where they are nowhere, since what had them went away.
   Page.lead = node => {
     if (node && document.activeElement === document.body) node.focus();

@@ -110,9 +110,9 @@
     if (!before) return [element('p', {}, 'The best timetable as it is is looked for …')];
     const good = helpful(view), end = came.length === count ? '' : isEnded ? ' — stopped' : ' — asking on …';
     const none = came.length - good.length, progress = `${came.length} of ${count} asked; ${none} of them ${before.times ? 'save' : 'help'} nothing${end}`;
-    const heads = ['', before.times ? 'saves' : 'helps', 'activity', 'takes'].map(text => element('th', { scope: 'col' }, text));
+    const heads = ['', before.times ? 'saves' : 'helps', 'activity', 'takes'];
     return [element('p', {}, beforeText(before)), element('p', { class: 'quiet', id: 'gains-progress' }, progress),
-      good.length ? element('table', { class: 'rows' }, element('thead', {}, element('tr', {}, ...heads)), element('tbody', {}, ...good.slice(0, MOST_SHOWN).map(gain => row(view, gain)))) : null,
+      good.length ? Page.tableOf('rows', heads, good.slice(0, MOST_SHOWN).map(gain => row(view, gain))) : null,
       element('p', { class: 'quiet' }, Page.elided(good.length, MOST_SHOWN, 'that save something'))].filter(Boolean);
   };
 

@@ -26,26 +26,22 @@
       drawing('rect', { ...look, width: BAR, fill: 'var(--track)' }), drawing('rect', { ...look, width: BAR * part, fill: 'var(--bar-edge)' }));
   };
 
-  const headOf = names => element('thead', {}, element('tr', {}, ...names.map(text => element('th', { scope: 'col' }, text))));
-
   const row = (view, { each, cost }) => {
     const { number, lower, upper, weight } = each, taken = view.tensions && view.tensions.get(number);
     const known = taken ? [taken.tension, taken.slack].map(minutes => Page.lengthText(minutes)) : ['–', '–'];
     const isViolated = Boolean(view.violations && view.violations.activities.has(number));
     const cells = [String(number), Page.spanText(lower, upper), ...known, weight.toLocaleString('en'), taken ? cost.toLocaleString('en') : '–'];
-    return element('tr', { 'data-activity': number, class: isViolated ? 'alarm' : null }, element('th', { scope: 'row' }, Page.activityName(each)),
-      ...cells.map(text => element('td', {}, text)));
+    return Page.rowOf(Page.activityName(each), cells, { 'data-activity': number, class: isViolated ? 'alarm' : null });
   };
 
   Page.kindTables = view => {
     const kinds = kindsOf(view), total = kinds.reduce((sum, { cost }) => sum + cost, 0n);
-    const rows = kinds.map(({ name, rows: all, cost }) => element('tr', {}, element('th', { scope: 'row' }, name),
-      element('td', {}, all.length.toLocaleString('en')), element('td', {}, cost.toLocaleString('en')), element('td', {}, share(cost, total))));
+    const rows = kinds.map(({ name, rows: all, cost }) => Page.rowOf(name, [all.length.toLocaleString('en'), cost.toLocaleString('en'), element('td', {}, share(cost, total))]));
     const listed = kinds.flatMap(({ name, rows: all }) => [element('h3', {}, `${name.slice(0, 1).toUpperCase()}${name.slice(1)}`),
       element('p', { class: 'quiet' }, Page.elided(all.length, MOST_ROWS, 'activities')),
-      element('table', { class: 'times listed' }, headOf(HEADS), element('tbody', {}, ...all.slice(0, MOST_ROWS).map(each => row(view, each))))]);
+      Page.tableOf('times listed', HEADS, all.slice(0, MOST_ROWS).map(each => row(view, each)))]);
     return [element('section', { id: 'activities-by-kind', class: 'part' }, element('h2', {}, 'Activities by kind'),
       element('p', { class: 'quiet' }, 'The slack is what an activity takes above its least minutes, and its cost is weight times slack. Dearest first.'),
-      element('table', { class: 'times listed' }, headOf(['Kind', 'number', 'cost', 'share of the cost']), element('tbody', {}, ...rows)), ...listed)];
+      Page.tableOf('times listed', ['Kind', 'number', 'cost', 'share of the cost'], rows), ...listed)];
   };
 })();

@@ -2,9 +2,10 @@
 
 // Starts the page: the program first, and then the first story, or says why it cannot start. A report is read before that.
 (async () => {
-  const told = Page.reportGiven();
-  if (told) await Page.readReport(told);
+  let told = null;
   try {
+    told = Page.reportGiven();
+    if (told) await Page.readReport(told);
     await Page.startProgram(await PespModule.compile(PESPBENCH_MODULE));
   } catch (fault) {
     Page.find('cannot-why').textContent = String(fault);

@@ -65,11 +65,6 @@
 
   const part = (id, title, note, ...children) => element('section', { id, class: 'part' }, element('h2', {}, title), note && element('p', { class: 'quiet' }, note), ...children);
 
-  const rowOf = (texts, more = {}) => element('tr', more, ...texts.map((text, place) => element(place ? 'td' : 'th', place ? {} : { scope: 'row' }, text)));
-
-  const tableOf = (heads, rows) => element('table', { class: 'times listed' },
-    element('thead', {}, element('tr', {}, ...heads.map(text => element('th', { scope: 'col' }, text)))), element('tbody', {}, ...rows));
-
   // By how much an event misses its window, the nearer way.
   const offText = ({ network: { windows, period }, times }, event) => {
     const { first, length } = windows.get(event), modulo = value => ((value % period) + period) % period;
@@ -82,13 +77,13 @@
     const { period, windows } = view.network, { all } = Page.conflictsOf(view), { events } = view.violations, count = all.length + events.size;
     if (!count) return [part('violated', 'What is violated', '', element('p', {}, 'Nothing: every activity and every fixed time is met.'))];
     const rows = [
-      ...all.map(({ number, activity, had, missed }) => rowOf([Page.activityName(activity), Page.spanMinutes(activity.lower, activity.upper), Page.minutes(had), missed],
+      ...all.map(({ number, activity, had, missed }) => Page.rowOf(Page.activityName(activity), [Page.spanMinutes(activity.lower, activity.upper), Page.minutes(had), missed],
         { 'data-violated-activity': number })),
-      ...[...events].map(event => rowOf([Page.eventName(event), Page.windowText(windows.get(event), period), Page.clock(view.times.get(event)), offText(view, event)],
+      ...[...events].map(event => Page.rowOf(Page.eventName(event), [Page.windowText(windows.get(event), period), Page.clock(view.times.get(event)), offText(view, event)],
         { 'data-violated-event': event })),
     ];
     return [part('violated', 'What is violated', Page.elided(count, MOST_VIOLATED, 'that are violated'),
-      tableOf(['', 'has to take, or be', 'takes, or is', 'how far off'], rows.slice(0, MOST_VIOLATED)))];
+      Page.tableOf('times listed', ['', 'has to take, or be', 'takes, or is', 'how far off'], rows.slice(0, MOST_VIOLATED)))];
   };
 
   const netgraph = view => {

@@ -62,13 +62,12 @@
   const signed = more => more > 0 ? `+${more.toLocaleString('en')}` : more < 0 ? `−${(-more).toLocaleString('en')}` : '0';
   Page.signedMinutes = more => more > 0 ? `+${Page.lengthText(more)}` : more < 0 ? `−${Page.lengthText(-more)}` : '0';
 
-  const row = (name, one, other, more, look = null) => element('tr', { class: look }, element('th', { scope: 'row' }, name),
-    ...[one, other, more].map(text => element('td', {}, text)));
+  const row = (name, one, other, more, look = null) => Page.rowOf(name, [one, other, more], { class: look });
 
   const violatedRow = both => {
     const counts = both.map(({ view }) => Page.countViolated(view)), [before, after] = counts, cell = count => element('td', { class: count > 0 ? 'alarm' : null }, numbered(count));
     const more = counts.includes(null) ? '' : signed(after - before);
-    return element('tr', {}, element('th', { scope: 'row' }, 'violated'), ...counts.map(cell), element('td', {}, more));
+    return Page.rowOf('violated', [...counts.map(cell), more]);
   };
 
   // Cost in all and by kind, and what is violated.
@@ -77,8 +76,7 @@
       row(kind === 'in all' ? 'cost in all' : `cost of ${kind}`, one.toLocaleString('en'), other.toLocaleString('en'), signed(other - one), kind === 'in all' ? 'sum' : null));
     const unknown = costs ? [] : [row('cost in all', ...both.map(({ view }) => numbered(view.cost)), '', 'sum')];
     const sum = rows.pop(), isTitled = both[0].title !== both[1].title, heads = both.map(side => headOf(side, isTitled));
-    return element('table', { class: 'times beside' }, element('thead', {}, element('tr', {}, element('th', {}), ...heads, element('th', { scope: 'col' }, 'change'))),
-      element('tbody', {}, ...[violatedRow(both), sum, ...unknown, ...rows].filter(Boolean)));
+    return Page.tableOf('times beside', ['', ...heads, 'change'], [violatedRow(both), sum, ...unknown, ...rows].filter(Boolean));
   };
 
   // What is told of an event leads to it, where it is in the network that is shown.
