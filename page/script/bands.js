@@ -24,7 +24,10 @@
 
   const pathOf = (frame, points) => Page.pathsOf(frame, points).map(path => `${path}Z`).join('');
 
-  // Along a run from one event to the next; an end without a headway has that of the other end.
+  /** Along a run from one event to the next; an end without a headway has that of the other end.
+   * @param {object} frame
+   * @param {any[]} ends
+   * @param {number[]} minutes */
   const slanted = (frame, [start, end], [after, before]) => {
     const [first, last] = [after || before, before || after];
     return pathOf(frame, [[start.minute, start.y], [end.minute, end.y], [end.minute + last, end.y], [start.minute + first, start.y]]);

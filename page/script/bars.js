@@ -5,7 +5,7 @@
   const { element, drawing } = Page;
 
   Page.makeBar = (line, train) => {
-    const bar = { train, drawn: '', note: element('span', { class: 'note' }) }, name = Page.trainName(train);
+    const bar = { train, drawn: '', way: null, note: element('span', { class: 'note' }) }, name = Page.trainName(train);
     const pill = element('span', { class: 'pill' }, line.name);
     pill.style.background = line.color;
     [bar.whole, bar.broken, bar.stops] = ['whole', 'broken', 'stops'].map(part => drawing('path', { class: part, stroke: line.color }));

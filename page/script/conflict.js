@@ -1,7 +1,8 @@
 'use strict';
 
 // Why no timetable meets everything: a least set of members that cannot be met together, with what mends it. First what is
-// no part of the conflict is let go by halves, as long as single activities alone show an empty domain; then by searches.
+// no part of the conflict is let go by halves, as long as single activities alone show an empty domain; then by searches. The
+// Python package has the same over its session; here is the page's own, since a page can ask nothing but its module.
 Page.share(Page => {
   const FIRST_NODES = 500, MORE = 4;
 

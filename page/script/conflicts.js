@@ -16,10 +16,11 @@
 
   const conflictOf = (view, number) => {
     const activity = view.network.activities.get(number), { lower, upper } = activity, had = Page.minutesHad(view, number);
-    const kind = Page.labels.kinds.get(number) || 'activity', missed = had < lower ? lower - had : had - upper;
+    const kind = Page.labels.kinds.get(number) || 'activity', off = had < lower ? lower - had : had - upper;
+    const missed = `${Page.lengthText(off)} too ${had < lower ? 'few' : 'many'}`;
     const short = `${minus(Page.lengthText(had))} not ${Page.spanText(lower, upper).replace(' to ', '–')}`;
-    const told = `takes ${minus(Page.minutes(had))}, may take ${Page.spanText(lower, upper)}: ${Page.lengthText(missed)} too ${had < lower ? 'few' : 'many'}`;
-    return { number, activity, had, short, text: `${short} ${kind}`, isRun: kind === 'run', told };
+    const told = `takes ${minus(Page.minutes(had))}, may take ${Page.spanText(lower, upper)}: ${missed}`;
+    return { number, activity, had, missed, short, text: `${short} ${kind}`, isRun: kind === 'run', told };
   };
 
   // The violated activities of what is shown: all of them, and by each event at which one begins or ends.

@@ -14,31 +14,33 @@
   };
 
   // The connections by stations, in the order of their names, and within them by the minute of arrival.
-  const connectionsOf = view => {
+  Page.connectionsOf = view => {
     const found = [...view.network.activities.values()].filter(isConnection), at = each => view.times.get(each.first);
     const stationOf = each => Page.labelOf(each.first).station;
     const byName = (one, other) => stationOf(one).localeCompare(stationOf(other), 'en', { numeric: true });
     return found.sort((one, other) => byName(one, other) || at(one) - at(other) || one.number - other.number);
   };
 
-  const row = (view, each) => {
-    const isViolated = Boolean(view.violations && view.violations.activities.has(each.number));
-    const takes = view.tensions ? `${Page.lengthText(Page.minutesHad(view, each.number))}${isViolated ? ' ✕' : ''}` : '–';
-    const [from, to] = [each.first, each.last].map(event => Page.trainName(Page.labelOf(event)));
-    const cells = [Page.minuteText(view, each.first), to, Page.minuteText(view, each.last), takes, Page.spanText(each.lower, each.upper)];
-    return element('tr', {}, element('th', { scope: 'row' }, from), ...cells.map((text, place) =>
-      element('td', { class: isViolated && place === 3 ? 'alarm' : null }, text)));
+  // The minutes that a connection takes, and their text; nothing is known of them without a whole timetable.
+  Page.takesText = (view, { number }) => {
+    if (!view.tensions) return { text: '–', isViolated: false };
+    const had = Page.minutesHad(view, number), isViolated = view.violations.activities.has(number);
+    return { had, text: `${Page.lengthText(had)}${isViolated ? ' ✕' : ''}`, isViolated };
   };
 
-  const stationTable = (view, station, rows) => {
-    const heads = HEADS.map(text => element('th', { scope: 'col' }, text));
-    return element('section', { class: 'station' }, element('h3', {}, station), element('table', { class: 'times' },
-      element('thead', {}, element('tr', {}, ...heads)), element('tbody', {}, ...rows.map(each => row(view, each)))));
+  const row = (view, each) => {
+    const { text: takes, isViolated } = Page.takesText(view, each);
+    const [from, to] = [each.first, each.last].map(event => Page.trainName(Page.labelOf(event)));
+    const cells = [Page.minuteText(view, each.first), to, Page.minuteText(view, each.last), takes, Page.spanText(each.lower, each.upper)];
+    return Page.rowOf(from, cells.map((text, place) => element('td', { class: isViolated && place === 3 ? 'alarm' : null }, text)));
   };
+
+  const stationTable = (view, station, rows) => element('section', { class: 'station' }, element('h3', {}, station),
+    Page.tableOf('times', HEADS, rows.map(each => row(view, each))));
 
   // The connections of a network as they are printed; nothing where there are none.
   Page.connectionTables = view => {
-    const all = connectionsOf(view), stations = new Map();
+    const all = Page.connectionsOf(view), stations = new Map();
     for (const each of all.slice(0, MOST_ROWS)) {
       const { station } = Page.labelOf(each.first);
       stations.set(station, [...stations.get(station) || [], each]);

@@ -191,8 +191,5 @@
 
   Page.panel({ build, update });
 
-  Page.startDiagram = () => Page.find('line-of-diagram').addEventListener('change', event => {
-    Page.chosenLine = event.target.value;
-    Page.draw();
-  });
+  Page.startDiagram = () => Page.find('line-of-diagram').addEventListener('change', event => Page.chooseLine(event.target.value));
 })();

@@ -9,7 +9,7 @@
       if (name.startsWith('on')) made.addEventListener(name.slice(2), value);
       else if (value !== null && value !== undefined && value !== false) made.setAttribute(name, value === true ? '' : value);
     }
-    made.append(...children.filter(child => child !== null && child !== undefined));
+    made.append(...children.filter(child => child !== null && child !== undefined && child !== false));
     return made;
   };
 
@@ -18,7 +18,11 @@
 
   Page.drawing = (tag, attributes = {}, ...children) => fill(document.createElementNS(SVG, tag), attributes, children);
 
+  /** @returns {any} */
   Page.find = id => document.getElementById(id);
+
+  /** @returns {any[]} */
+  Page.all = selector => [...document.querySelectorAll(selector)];
 
   // Sets a text where it is another one, since setting costs a layout.
   Page.setText = (node, text) => {
@@ -42,9 +46,26 @@
     line.classList.toggle('alarm', isAlarm);
   };
 
+  const headsOf = names => names.map(each => typeof each === 'string' ? Page.element('th', { scope: 'col' }, each) : each);
+
+  // A table of rows below one or more rows of heads, which are texts or elements.
+  Page.tableOf = (look, heads, rows) => Page.element('table', { class: look },
+    Page.element('thead', {}, ...(Array.isArray(heads[0]) ? heads : [heads]).map(names => Page.element('tr', {}, ...headsOf(names)))),
+    Page.element('tbody', {}, ...rows));
+
+  // A row of it: a name, and then cells, which are texts or elements.
+  Page.rowOf = (name, cells, more = {}) => Page.element('tr', more, Page.element('th', { scope: 'row' }, name),
+    ...cells.map(each => typeof each === 'object' ? each : Page.element('td', {}, each)));
+
   // Brings the keys to an element where they are nowhere, since what had them went away.
   Page.lead = node => {
     if (node && document.activeElement === document.body) node.focus();
+  };
+
+  // Tells that there is something to be seen, and how many milliseconds after the page was asked for.
+  Page.tellReady = () => {
+    document.body.classList.add('ready');
+    requestAnimationFrame(() => { Page.readyAfter = performance.now(); });
   };
 
   // Says something more than what is said.

@@ -29,7 +29,7 @@
     for (const event of order) rows.set(event, Page.makeRow(event));
     Page.find('rows').replaceChildren(...groups.map(group => Page.element('section', { class: 'train' }, headOf(group), ...blocks(group.events))));
     Page.find('axis').replaceChildren(...axis(view.network.period));
-    if (!rows.has(Page.chosen)) Page.chosen = order.length ? order[0] : null;
+    Page.chooseAmong(order);
   };
 
   // Rows in blocks, of which a browser lays out those that are seen.

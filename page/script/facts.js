@@ -4,7 +4,7 @@
 (() => {
   const { element } = Page;
 
-  const minutes = id => Page.minutesField({ id, required: true });
+  const fieldOf = id => Page.minutesField({ id, required: true });
 
   const valueOf = id => Page.minutesTyped(Page.find(id).value);
 
@@ -19,11 +19,11 @@
   // The fields stay where they are, so that what is typed there is not lost when something else is drawn.
   const build = () => {
     const hold = form(event => Page.step([`window ${event} ${valueOf('hold-first')} ${valueOf('hold-length')}`]),
-      element('label', { for: 'hold-first' }, 'held from'), minutes('hold-first'),
-      element('label', { for: 'hold-length' }, 'for'), minutes('hold-length'), element('span', { id: 'hold-unit' }), ' ',
+      element('label', { for: 'hold-first' }, 'held from'), fieldOf('hold-first'),
+      element('label', { for: 'hold-length' }, 'for'), fieldOf('hold-length'), element('span', { id: 'hold-unit' }), ' ',
       element('button', {}, 'Hold'), element('button', { type: 'button', id: 'let-go', onclick: () => Page.letGo(Page.chosen, false) }, 'Let go'));
     const time = form(event => Page.step([`time ${event} ${valueOf('time-at')}`]),
-      element('label', { for: 'time-at' }, 'time'), minutes('time-at'),
+      element('label', { for: 'time-at' }, 'time'), fieldOf('time-at'),
       element('button', {}, 'Set'), element('button', { type: 'button', id: 'no-time', onclick: () => Page.letGo(Page.chosen, true) }, 'Take away'));
     Page.find('facts').replaceChildren(hold, time);
   };

@@ -10,6 +10,9 @@
     return found ? `${found[1]}${60 * Number(found[2]) + Number(found[3])}` : text.trim();
   };
 
+  /** Whether what has the keys takes letters. @param {any} node */
+  Page.isField = node => node.matches('input, select, textarea');
+
   Page.numberField = more => Page.element('input', { class: 'number', inputmode: 'numeric', autocomplete: 'off', ...more });
 
   const ARROWS = { ArrowUp: 1, ArrowDown: -1 };

@@ -43,7 +43,7 @@
       .filter(({ rank }) => rank !== null);
     ranked.sort((one, other) => one.rank - other.rank);
     const found = kinds.flatMap(kind => ranked.filter(({ each }) => each.kind === kind).slice(0, MOST[kind]));
-    found.sort((one, other) => (other.rank === 0) - (one.rank === 0));
+    found.sort((one, other) => Number(other.rank === 0) - Number(one.rank === 0));
     return { found: found.map(({ each }) => each), more: ranked.length - found.length };
   };
 
@@ -57,7 +57,7 @@
   // On the netgraph too, which may be larger than its view.
   const showStation = station => {
     Page.showRow(firstAt(station));
-    const drawn = [...document.querySelectorAll('#netgraph [data-station]')].find(each => each.dataset.station === station);
+    const drawn = Page.all('#netgraph [data-station]').find(each => each.dataset.station === station);
     if (!drawn) return;
     const panel = Page.find('view-netgraph'), [at, of] = [drawn, panel].map(each => each.getBoundingClientRect());
     panel.scrollBy(at.left - of.left - of.width / 2, at.top - of.top - of.height / 2);
@@ -77,7 +77,7 @@
     const kinds = ['station', 'line', 'train', 'event'], hint = 'a station, line, train or event';
     const input = Page.fillFinder(Page.find('finder'), { label: 'Find', hint, kinds, take: show });
     window.addEventListener('keydown', event => {
-      if (event.key !== '/' || event.ctrlKey || event.target.matches('input, select') || document.querySelector('dialog[open]')) return;
+      if (event.key !== '/' || event.ctrlKey || Page.isField(event.target) || document.querySelector('dialog[open]')) return;
       event.preventDefault();
       input.focus();
     });

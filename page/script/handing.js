@@ -9,9 +9,7 @@
 
   const nameIt = () => {
     const title = Page.find('saving-name').value.trim();
-    if (title === Page.session.opened.title) return;
-    Page.session.opened.title = title;
-    Page.draw();
+    if (title !== Page.session.opened.title) Page.nameNetwork(title);
   };
 
   // The files of a folder, by their paths in it.

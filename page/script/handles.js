@@ -36,6 +36,7 @@
       if (isDone && last.length) Page.step(last, { title: titleOf() });
       else Page.refresh();
     };
+    /** @type {[string, any][]} */
     const listeners = [
       ['pointermove', move], ['pointerup', () => end(true)], ['pointercancel', () => end(false)],
       ['keydown', event => {

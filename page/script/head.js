@@ -50,7 +50,7 @@
     for (const [name, act] of [['undo', Page.undo], ['redo', Page.redo]]) Page.find(name).addEventListener('click', act);
     Page.find('print').addEventListener('click', () => window.print());
     window.addEventListener('keydown', event => {
-      const key = event.key.toLowerCase(), isOfField = OF_FIELDS.includes(key) && event.target.matches(FIELDS);
+      const key = event.key.toLowerCase(), isOfField = OF_FIELDS.includes(key) && /** @type {any} */ (event.target).matches(FIELDS);
       if (!(event.ctrlKey || event.metaKey) || event.altKey || !KEYS.has(key) || isOfField) return;
       event.preventDefault();
       if (!document.querySelector('dialog[open]')) KEYS.get(key)(event);
@@ -58,7 +58,7 @@
   };
 
   // One of the views on the right is shown at a time; each is drawn when it is.
-  const TABS = ['diagram', 'netgraph', 'corridor', 'tables', 'violated', 'lines', 'why'];
+  const TABS = ['diagram', 'netgraph', 'corridor', 'tables', 'compare', 'violated', 'lines', 'why', 'gains'];
   Page.tab = 'diagram';
 
   Page.showTab = name => {

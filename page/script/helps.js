@@ -30,7 +30,7 @@
   };
 
   Page.startHelps = () => {
-    for (const button of document.querySelectorAll('[data-help]')) {
+    for (const button of Page.all('[data-help]')) {
       button.setAttribute('aria-label', `What is this: ${HELP[button.dataset.help][0]}`);
       button.addEventListener('click', () => show(button));
     }

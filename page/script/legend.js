@@ -5,6 +5,7 @@
   const { drawing } = Page;
   const path = (d, look) => drawing('path', { d, ...look });
   const ground = path('M0 2H24V12H0Z', { fill: 'var(--track)' });
+  /** @type {[string, any[]][]} */
   const MARKS = [
     ['possible', [ground, path('M5 2H20V12H5Z', { fill: 'var(--domain)' })]],
     ['held', [ground, path('M6 2H17V12H6Z', { fill: 'none', stroke: 'var(--ink)', 'stroke-width': 2 })]],

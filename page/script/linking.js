@@ -97,19 +97,18 @@
   };
 
   // A link that is pasted into the field of the dialog is opened, where another copy of the page made it too.
-  const pasted = async field => {
-    const { value } = field;
+  const pasted = async value => {
     if (!value.includes(MARK)) return Page.tellOpening('This is no link of this page: it has no #network= in it.');
     const isOpened = await Page.openLink(value.replace(/\s+/g, ''));
     if (!isOpened) return Page.tellOpening(Page.find('said').textContent);
-    field.value = '';
+    Page.find('opening-link').value = '';
     return null;
   };
 
   Page.startLinks = () => {
     window.addEventListener('hashchange', openAddress);
     const field = Page.find('opening-link');
-    field.addEventListener('input', () => field.value.trim() && pasted(field));
+    field.addEventListener('input', () => field.value.trim() && pasted(field.value));
     return openAddress();
   };
 })();

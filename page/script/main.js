@@ -1,22 +1,24 @@
 'use strict';
 
-// Starts the page: the program first, and then the first story, or says why it cannot start.
+// Starts the page: the program first, and then the first story, or says why it cannot start. A report is read before that.
 (async () => {
+  let told = null;
   try {
+    told = Page.reportGiven();
+    if (told) await Page.readReport(told);
     await Page.startProgram(await PespModule.compile(PESPBENCH_MODULE));
   } catch (fault) {
     Page.find('cannot-why').textContent = String(fault);
     Page.find('cannot').show();
     return;
   }
-  const views = [Page.startHead, Page.startTabs, Page.startEvents, Page.startDiagram, Page.startChoosing, Page.startLines, Page.startLining];
+  const views = [Page.startHead, Page.startTabs, Page.startEvents, Page.startDiagram, Page.startChoosing, Page.startLines, Page.startLining, Page.startVariants];
   const helps = [Page.startHelps, Page.startLegend, Page.startFinding, Page.startStations];
-  const files = [Page.startSearching, Page.startPrinting, Page.startOpening, Page.startSaving, Page.startHanding];
+  const files = [Page.startSearching, Page.startGains, Page.startPrinting, Page.startOpening, Page.startSaving, Page.startHanding];
   for (const start of [...views, ...helps, ...files]) start();
-  Page.openStory(Page.stories[0]);
+  if (told) Page.openReport(told);
+  else Page.openStory(Page.stories[0]);
   Page.startLinks();
   Page.startDrafts();
-  document.body.classList.add('ready');
-  // The milliseconds since the page was asked for, when the first story is drawn.
-  requestAnimationFrame(() => { Page.readyAfter = performance.now(); });
+  Page.tellReady();
 })();

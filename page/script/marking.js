@@ -36,7 +36,12 @@
     return { x: x + SIDES[text.getAttribute('text-anchor') || 'start'] * width, base, width };
   };
 
-  // A label where no other one lies, or at the last place that was tried.
+  /** A label where no other one lies, or at the last place that was tried.
+   * @param {any} frame
+   * @param {any[]} boxes
+   * @param {number[]} at
+   * @param {string} text
+   * @param {object} more */
   const labelOf = (frame, boxes, [minute, y], text, more) => {
     const width = LETTER * text.length, middle = frame.x(((minute % frame.period) + frame.period) % frame.period);
     const x = Math.min(frame.right - width / 2, Math.max(frame.left + width / 2, middle));

@@ -50,8 +50,9 @@
     else Page.say(`${title()}: no time changes`, true);
   };
 
-  // The events of the train that is moved that are not where they are held.
+  // The events of the train that a step moves that are not where they are held; '' after any other step.
   Page.leftText = view => {
+    if (!moved || view.title !== title()) return '';
     const left = moved.events.filter(event => Page.isOutside(view, event)), more = left.length - 1;
     return left.length ? `✕ ${Page.eventName(left[0])}: ${Page.outsideText(view, left[0])}${more ? `, and ${more} more` : ''}` : '';
   };

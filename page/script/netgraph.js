@@ -160,7 +160,10 @@
     return [left, left + width];
   };
 
-  // The distance of a spot from the straight way between two places.
+  /** The distance of a spot from the straight way between two places.
+   * @param {number[]} spot
+   * @param {number[]} start
+   * @param {number[]} end */
   const beside = ([x, y], start, end) => {
     const length = Math.hypot(end[0] - start[0], end[1] - start[1]) || 1e-9, along = [(end[0] - start[0]) / length, (end[1] - start[1]) / length];
     const at = Math.min(length, Math.max(0, (x - start[0]) * along[0] + (y - start[1]) * along[1]));

@@ -13,13 +13,13 @@
     return [element('h1', {}, title || 'Timetable'), element('p', { class: 'date' }, `Printed on ${date}`), element('p', {}, told)];
   };
 
-  const NOTE = 'Minutes stand to the right of the track as the train goes: in bold where it leaves, plain where it arrives.';
+  Page.NETGRAPH_NOTE = 'Minutes stand to the right of the track as the train goes: in bold where it leaves, plain where it arrives.';
 
   // The first page, with the netgraph where there are lines.
   const front = view => {
     if (!view.lines.length) return element('section', { class: 'front' }, ...summary(view));
     const { drawn, told } = Page.netgraphOf(view);
-    return element('section', { class: 'front wide-page' }, ...summary(view), drawn, element('p', {}, [told, NOTE].filter(Boolean).join(' ')));
+    return element('section', { class: 'front wide-page' }, ...summary(view), drawn, element('p', {}, [told, Page.NETGRAPH_NOTE].filter(Boolean).join(' ')));
   };
 
   const paper = view => [front(view), ...Page.tablesOf(view, true), ...Page.connectionTables(view)];

@@ -72,15 +72,15 @@ Page.share(Page => {
   };
 
   // A cost is a number, and a BigInt above those that a number tells exactly.
-  const exactly = text => Number.isSafeInteger(Number(text)) ? Number(text) : BigInt(text);
+  Page.exactly = text => Number.isSafeInteger(Number(text)) ? Number(text) : BigInt(text);
 
-  Page.readCost = reply => Page.isRefused(reply) ? null : exactly(reply[0].split(' ')[1]);
+  Page.readCost = reply => Page.isRefused(reply) ? null : Page.exactly(reply[0].split(' ')[1]);
 
   // What a search answers: `optimum`, `infeasible`, `stopped`, or `none` where it stopped without a timetable.
   Page.readFound = reply => {
     const words = reply[0].split(' ');
     if (words[0] === 'infeasible') return { kind: 'infeasible' };
     if (words[1] === 'none') return { kind: 'none' };
-    return { kind: words[0], cost: exactly(words[1]), times: new Map(reply.slice(1).map(numbersOf)) };
+    return { kind: words[0], cost: Page.exactly(words[1]), times: new Map(reply.slice(1).map(numbersOf)) };
   };
 });

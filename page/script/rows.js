@@ -31,6 +31,15 @@
     return `M${period} 0H${first}V1H${period}M0 0H${end - period}V1H0`;
   };
 
+  // The strip of an event without hands, as it is at present.
+  Page.stripPicture = (view, event) => {
+    const { period, windows } = view.network, time = view.times.get(event), { drawing } = Page;
+    return drawing('svg', { class: 'strip-picture', viewBox: `0 0 ${period} 1`, preserveAspectRatio: 'none', role: 'img', 'aria-label': `Possible minutes of ${Page.eventName(event)}` },
+      drawing('path', { class: 'possible', d: pathOf(view.domains.get(event)) }),
+      windows.has(event) ? drawing('path', { class: 'held', d: frameOf(windows.get(event), period) }) : null,
+      time === undefined ? null : drawing('path', { class: 'at', d: `M${time + 0.5} 0V1` }));
+  };
+
   const once = (row, name, value, draw) => {
     if (row.drawn[name] === value) return;
     row.drawn[name] = value;
@@ -62,11 +71,14 @@
   // The ends of a frame stand where they are, but beside a diamond that lies there, on the side that is outside.
   const BESIDE = '0.8rem', NEAR = 0.05;
 
+  /** @type {[string, number][]} */
+  const SIDES = [['first', -1], ['last', 1]];
+
   const placeEnds = (row, time, period) => {
-    for (const [name, side] of [['first', -1], ['last', 1]]) {
+    for (const [name, side] of SIDES) {
       const handle = row[name];
       if (!handle || handle.hidden) continue;
-      const at = handle.dataset.at / period, middle = (time + 0.5) / period, isNear = time !== undefined && side * (middle - at) < NEAR;
+      const at = Number(handle.dataset.at) / period, middle = (time + 0.5) / period, isNear = time !== undefined && side * (middle - at) < NEAR;
       const beside = `calc(${100 * middle}% ${side < 0 ? '-' : '+'} ${BESIDE})`;
       handle.style.left = isNear ? `${side < 0 ? 'min' : 'max'}(${100 * at}%, ${beside})` : `${100 * at}%`;
     }

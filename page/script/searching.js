@@ -1,7 +1,7 @@
 'use strict';
 
-// Work that a click stops, in a Worker: searches, whose best timetable is adopted by another click, why there is none, and
-// long files of lines.
+// Work that a click stops, in a Worker: searches, whose best timetable is adopted by another click, why there is none, what would
+// help, and long files of lines.
 (() => {
   // `asked` is what the Worker does now, `settle` ends the promise of what it plays, and `found` is what searches of one state
   // came to: its best timetable, and what the last search said.
@@ -44,6 +44,8 @@
     update();
   };
 
+  Page.askFor = ask;
+
   // What a base makes, as another one without lines; null where it was stopped. Rejected with the fault's text.
   Page.play = played => new Promise((done, fail) => {
     ask({ kind: 'play', played });
@@ -62,6 +64,7 @@
 
   const ended = () => {
     asked = null;
+    Page.endGains();
     if (settle) settle.done(null);
     settle = null;
   };
@@ -80,6 +83,7 @@
     else if (settle) settle[told.fault ? 'fail' : 'done'](told.fault ? new Error(told.fault) : told.base);
     else if (told.fault) Page.say(told.fault, true);
     else if (kind === 'why') Page.showWhy(told.why);
+    else if (kind === 'gains') Page.showGain(told.gain);
     if (told.isDone) ended();
     const isInfeasible = told.found && told.found.kind === 'infeasible';
     if (isInfeasible) Page.say('No timetable meets everything. “Why?” tells what cannot be met together.', true);
@@ -87,7 +91,7 @@
     if (told.isDone && told.found) Page.lead(Page.find('adopt'));
   };
 
-  const BUSY = { why: 'Looking for what cannot be met together …', play: 'Doing the commands …', search: 'Searching …' };
+  const BUSY = { why: 'Looking for what cannot be met together …', play: 'Doing the commands …', search: 'Searching …', gains: 'Asking what would help …' };
 
   // What is found is of the state for which it was asked, and is offered as long as that is shown.
   const isOfNow = each => {
@@ -104,7 +108,7 @@
     Page.setText(Page.find('adopt'), compared.adopt);
     Page.find('adopt').hidden = !isOffered;
     Page.find('stop').hidden = !asked;
-    for (const name of ['optimum', 'try', 'ask-why']) Page.find(name).disabled = Boolean(asked);
+    for (const name of ['optimum', 'try', 'ask-why', 'ask-gains']) Page.find(name).disabled = Boolean(asked);
     wasShown = isOffered;
   };
 
@@ -115,7 +119,7 @@
     if (Page.step(lines)) Page.say(`adopted: ${kind === 'optimum' ? 'the optimum' : 'the best that was found'}, cost ${cost.toLocaleString('en')}`);
   };
 
-  const ENDS = { why: 'the search for a conflict has ended with it', play: 'the opening has ended with it', search: 'the search has ended with it' };
+  const ENDS = { why: 'the search for a conflict has ended with it', play: 'the opening has ended with it', search: 'the search has ended with it', gains: 'asking what would help has ended with it' };
 
   // A step ends what was asked of the state before it, and what was found for that is there again when it is taken back.
   Page.panel({
@@ -128,7 +132,7 @@
     },
   });
 
-  const STOPPED = { why: 'stopped', play: 'the opening was stopped, and nothing has changed', search: 'the search was stopped' };
+  const STOPPED = { why: 'stopped', gains: 'stopped; what was found is listed', play: 'the opening was stopped, and nothing has changed', search: 'the search was stopped' };
 
   Page.startSearching = () => {
     Page.find('optimum').addEventListener('click', () => ask({ kind: 'search', most: 1e12 }));

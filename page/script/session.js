@@ -154,11 +154,45 @@
       return same && same.first === each.first && same.last === each.last;
     });
 
+  // Does something as if a view were shown, with other names or its own.
+  Page.within = (view, act, labels = view.labels) => {
+    const shown = { view: Page.view, labels: Page.labels };
+    Object.assign(Page, { view, labels });
+    try {
+      return act();
+    } finally {
+      Object.assign(Page, shown);
+    }
+  };
+
+  // Shows nothing but a view that no run has told, as a report has one.
+  Page.readView = (view, places) => {
+    Object.assign(Page, { view, labels: view.labels, places, chosen: null, chosenLine: null });
+    view.lastDomains = view.domains;
+    view.trains = Page.trainsOf(view.network);
+    view.lines = Page.linesOf(view.trains);
+  };
+
   Page.choose = event => {
     if (Page.chosen === event) return;
     Page.chosen = event;
     const line = Page.view.lines.find(each => each.name === Page.labelOf(event).line);
     if (line) Page.chosenLine = line.name;
+    Page.draw();
+  };
+
+  // Chooses the first of some events where the chosen one is none of them.
+  Page.chooseAmong = events => {
+    if (!events.includes(Page.chosen)) Page.chosen = events.length ? events[0] : null;
+  };
+
+  Page.chooseLine = name => {
+    Page.chosenLine = name;
+    Page.draw();
+  };
+
+  Page.nameNetwork = title => {
+    session.opened.title = title;
     Page.draw();
   };
 })();

@@ -55,7 +55,7 @@
     Page.find('corridor-told').hidden = Page.tab !== 'netgraph' || !view.lines.length;
     if (Page.tab !== 'netgraph' || (marked === stations && map === drawn)) return;
     [marked, map] = [stations, drawn];
-    for (const each of document.querySelectorAll('#netgraph [data-station]')) {
+    for (const each of Page.all('#netgraph [data-station]')) {
       each.classList.toggle('on', known.has(each.dataset.station));
       each.setAttribute('aria-pressed', known.has(each.dataset.station));
     }

@@ -11,13 +11,9 @@
     const trains = [...line.trains].sort((one, other) => Page.isForward(line, other) - Page.isForward(line, one));
     const arrow = train => Page.isForward(line, train) ? '↓' : '↑';
     const head = trains.map(train => element('th', { colspan: 2, scope: 'colgroup', class: 'begins' }, `to ${train.to} ${arrow(train)}`));
-    const names = trains.flatMap(() => [element('th', { scope: 'col', class: 'begins' }, 'arr.'), element('th', { scope: 'col' }, 'dep.')]);
-    const rows = line.stations.map(station => {
-      const minutes = trains.flatMap(train => cells(train, station, made));
-      return element('tr', {}, element('th', { scope: 'row' }, station), ...minutes);
-    });
-    const heads = [element('tr', {}, element('th', {}), ...head), element('tr', {}, element('th', { scope: 'col' }, 'Station'), ...names)];
-    return element('table', { class: 'times' }, element('thead', {}, ...heads), element('tbody', {}, ...rows));
+    const names = trains.flatMap(() => [element('th', { scope: 'col', class: 'begins' }, 'arr.'), 'dep.']);
+    const rows = line.stations.map(station => Page.rowOf(station, trains.flatMap(train => cells(train, station, made))));
+    return Page.tableOf('times', [['', ...head], ['Station', ...names]], rows);
   };
 
   const cells = (train, station, made) => {
@@ -32,13 +28,13 @@
   };
 
   // Draws what is new about the cell of an event.
-  const drawCell = (view, event, cell) => {
-    const look = lookOf(view, event, [cell.name, view.network.windows.has(event) ? 'held' : '']), text = Page.minuteText(view, event);
+  const drawCell = (view, event, drawnAt) => {
+    const look = lookOf(view, event, [drawnAt.name, view.network.windows.has(event) ? 'held' : '']), text = Page.minuteText(view, event);
     const drawn = `${text} ${Object.values(look).join()}`;
-    if (cell.drawn === drawn) return;
-    cell.drawn = drawn;
-    for (const [name, value] of Object.entries(look)) Page.setAttribute(cell.node, name, value);
-    Page.setText(cell.node, text);
+    if (drawnAt.drawn === drawn) return;
+    drawnAt.drawn = drawn;
+    for (const [name, value] of Object.entries(look)) Page.setAttribute(drawnAt.node, name, value);
+    Page.setText(drawnAt.node, text);
   };
 
   // The look of a minute, below which its style puts what is violated there.
@@ -67,16 +63,14 @@
 
   // Where there are no lines: all events, each in a row.
   const eventTable = view => {
-    const head = ['Event', 'time', 'can be at', 'held'].map(text => element('th', { scope: 'col' }, text));
-    const named = event => element('th', { scope: 'row' }, Page.eventName(event));
-    const rows = view.network.events.map(event => element('tr', { 'data-event': event }, named(event), ...eventCells(view, event)));
-    return element('table', { class: 'times' }, element('thead', {}, element('tr', {}, ...head)), element('tbody', {}, ...rows));
+    const rows = view.network.events.map(event => Page.rowOf(Page.eventName(event), eventCells(view, event), { 'data-event': event }));
+    return Page.tableOf('times', ['Event', 'time', 'can be at', 'held'], rows);
   };
 
   const eventCells = (view, event) => {
     const { period, windows } = view.network, held = windows.has(event) ? Page.windowText(windows.get(event), period) : '';
     const minute = element('td', lookOf(view, event, []), Page.minuteText(view, event));
-    return [minute, ...[Page.domainText(view.domains.get(event), period), held].map(text => element('td', {}, text))];
+    return [minute, Page.domainText(view.domains.get(event), period), held];
   };
 
   Page.tablesOf = (view, isPrinted, made = new Map()) => {
@@ -89,7 +83,7 @@
     return tables;
   };
 
-  const drawCells = (view, made) => made.forEach((cell, event) => drawCell(view, event, cell));
+  const drawCells = (view, made) => made.forEach((drawnAt, event) => drawCell(view, event, drawnAt));
 
   const update = view => {
     if (Page.tab !== 'tables') return;

@@ -91,7 +91,7 @@
     const longest = trains.reduce((best, train) => train.stations.length > best.stations.length ? train : best);
     const order = [...new Set(longest.stations)];
     for (const train of trains) {
-      let stations = [...new Set(train.stations)];
+      const stations = [...new Set(train.stations)];
       const known = stations.filter(station => order.includes(station)).map(station => order.indexOf(station));
       if (known.length && known[0] > known[known.length - 1]) stations.reverse();
       let place = 0;

@@ -1,54 +1,45 @@
-"""Events and activities in a planner's words: by stations and lines where there are labels, else by numbers.
-
-What is named here has the attributes of an event (`number`, `line`, `to`, `station`, `kind`) or of an activity
-(`number`, `first`, `last`, `kind`); a report's values have them.
-"""
+"""Events and activities in a planner's words: by stations and lines where there are labels, else by numbers."""
 
 from __future__ import annotations
 
 from dataclasses import dataclass
-from typing import Mapping, Optional, Protocol, Sequence
+from typing import Mapping
 
-from pespbench.answers import Found, Infeasible, Optimum, runs
+from pespbench.answers import Found, Infeasible, Optimum
 from pespbench.labels import EventLabel, Labels
 from pespbench.network import Activity
 from pespbench.terminal import shown
 
 
-class NamedEvent(Protocol):
-    """What is read of an event to name it."""
+@dataclass(frozen=True)
+class Named:
+    """An event with its label."""
 
-    @property
-    def number(self) -> int: ...
-    @property
-    def line(self) -> str: ...
-    @property
-    def to(self) -> str: ...
-    @property
-    def station(self) -> str: ...
-    @property
-    def kind(self) -> str: ...
+    number: int
+    line: str
+    to: str
+    station: str
+    kind: str
 
 
-class NamedActivity(Protocol):
-    """What is read of an activity to name it."""
+@dataclass(frozen=True)
+class NamedKind:
+    """An activity with its kind."""
 
-    @property
-    def number(self) -> int: ...
-    @property
-    def kind(self) -> str: ...
+    number: int
+    kind: str
 
 
 # What the line of a train does at a station, by the kind of the event.
 DONE = {"departure": "leaves", "arrival": "arrives at"}
 
 
-def train_name(event: NamedEvent) -> str:
+def train_name(event: Named) -> str:
     """The train of an event, as `R1 to Cranley`."""
     return " to ".join(filter(None, [event.line, event.to])) or "a train"
 
 
-def event_name(event: NamedEvent) -> str:
+def event_name(event: Named) -> str:
     """An event, as `R1 to Cranley leaves Benton`, or `event 7` where it has no station."""
     if not event.station:
         return f"event {event.number}"
@@ -57,7 +48,7 @@ def event_name(event: NamedEvent) -> str:
     return " ".join(filter(None, [train_name(event), event.kind, "at", event.station]))
 
 
-def activity_name(activity: NamedActivity, first: NamedEvent, last: NamedEvent) -> str:
+def activity_name(activity: NamedKind, first: Named, last: Named) -> str:
     """An activity, as `change at Benton from R1 to Cranley to R3 to Dale`, or by the numbers of its events."""
     kind = activity.kind or "activity"
     if not (first.station and last.station):
@@ -95,25 +86,11 @@ def clock(minute: int, period: int) -> str:
     return f"{minute // 60}:{minute % 60:02d}" if is_of_hours(period) else f":{minute:02d}"
 
 
-def bare_clock(minute: Optional[int], period: int) -> str:
-    """The same in a table of minutes, as `07`; a dash where there is none."""
-    return "–" if minute is None else clock(minute, period).lstrip(":")
-
-
 def window_text(first: int, length: int, period: int) -> str:
     """The minutes of a window, as `at :07` or `from :55 to :05`."""
     if length == 1:
         return f"at {clock(first, period)}"
     return f"from {clock(first, period)} to {clock((first + length - 1) % period, period)}"
-
-
-def domain_text(residues: Sequence[int], period: int) -> str:
-    """The minutes that an event can be at, as `0-3, 42-53`, or `6:15-6:20`; empty where there is none."""
-
-    def told(minute: int) -> str:
-        return clock(minute, period) if is_of_hours(period) else str(minute)
-
-    return ", ".join(told(first) if first == last else f"{told(first)}-{told(last)}" for first, last in runs(residues))
 
 
 def found_text(found: Found) -> str:
@@ -125,37 +102,6 @@ def found_text(found: Found) -> str:
     if found.cost is not None:
         return f"A timetable that meets everything costs {found.cost:,}; whether there is a better one is undecided."
     return "Whether a timetable meets everything is undecided."
-
-
-def short_name(activity: NamedActivity, first: NamedEvent, last: NamedEvent) -> str:
-    """An activity without its kind, as `Benton: R1 to Cranley → R3 to Dale`."""
-    if not (first.station and last.station):
-        return f"event {first.number} → event {last.number}"
-    if (first.line, first.to) == (last.line, last.to):
-        if first.station == last.station:
-            return f"{train_name(first)} at {first.station}"
-        return f"{first.line or train_name(first)}: {first.station} → {last.station}"
-    where = first.station if first.station == last.station else f"{first.station} → {last.station}"
-    return f"{where}: {train_name(first)} → {train_name(last)}"
-
-
-@dataclass(frozen=True)
-class Named:
-    """An event with its label."""
-
-    number: int
-    line: str
-    to: str
-    station: str
-    kind: str
-
-
-@dataclass(frozen=True)
-class NamedKind:
-    """An activity with its kind."""
-
-    number: int
-    kind: str
 
 
 class Names:

@@ -9,6 +9,7 @@ from pespbench import Bench
 from pespbench.drawn import draw_region
 from tests.common import PROGRAM
 
+NO_NODE = "nothing was drawn: there is no Node"
 VOID = {"meta", "br", "link", "img", "input", "hr"}
 
 

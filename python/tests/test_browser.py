@@ -11,13 +11,15 @@ import subprocess
 import unittest
 from pathlib import Path
 
-from pespbench.report import gather, page_of, read_places
+from pespbench.report import Content, gather, page_of, read_places
+from pespbench.report.drawing import drawn
 from tests.common import Case
-from tests.pages import Page, region_bench
+from tests.pages import NO_NODE, Page, region_bench
 
 BROWSER = shutil.which("chromium") or shutil.which("chromium-browser") or shutil.which("google-chrome")
 NO_BROWSER = "no browser was tried"
 SECONDS = 90
+POLICY = re.compile('<meta http-equiv="Content-Security-Policy"[^>]*>')
 # What a browser is asked about a page that it has laid out; the answer becomes the page's title.
 ASKED = """<script>
 const seen = [...document.querySelectorAll('svg text')].filter(text => {
@@ -25,7 +27,7 @@ const seen = [...document.querySelectorAll('svg text')].filter(text => {
   return inner.left < outer.left - 1 || inner.right > outer.right + 1 || inner.top < outer.top - 1 || inner.bottom > outer.bottom + 1;
 });
 const root = document.documentElement;
-const empty = [...document.querySelectorAll('svg, table')].filter(each => each.getBoundingClientRect().height < 2);
+const empty = [...document.querySelectorAll('#printed :is(svg, table)')].filter(each => each.getBoundingClientRect().height < 2);
 document.title = ['texts cut', seen.length, 'wider', root.scrollWidth - root.clientWidth, 'empty', empty.length].join(' ');
 </script>"""
 
@@ -36,14 +38,15 @@ class Browser(Case):
 
     def setUp(self) -> None:
         super().setUp()
-        self.text = self.page(2)
+        self.content = self.told_of(2)
+        self.text = page_of(self.content)
         self.path = self.folder / "report.html"
         self.path.write_text(self.text, encoding="utf-8")
 
-    def page(self, seed: int) -> str:
-        """The report on a region."""
+    def told_of(self, seed: int) -> Content:
+        """What the report on a region tells."""
         with region_bench(self.folder, seed) as bench:
-            return page_of(gather(bench, "A region", read_places(self.folder / "places")))
+            return gather(bench, "A region", read_places(self.folder / "places"))
 
     def browse(self, page: Path, *words: str) -> str:
         """Runs the browser on a page, and gives what it writes."""
@@ -55,7 +58,8 @@ class Browser(Case):
     def told(self, text: str, width: int) -> str:
         """What the browser says of a page at a width."""
         asked = self.folder / "asked.html"
-        asked.write_text(text.replace("</body>", f"{ASKED}</body>"), encoding="utf-8")
+        # The page's policy would let no other script run.
+        asked.write_text(POLICY.sub("", text).replace("</body>", f"{ASKED}</body>"), encoding="utf-8")
         dom = self.browse(asked, f"--window-size={width},1400", "--dump-dom")
         found = re.search("<title>(.*?)</title>", dom)
         assert found
@@ -65,10 +69,14 @@ class Browser(Case):
         # In the region of seed 4 the name of a station is the leftmost of all.
         for seed, width in ((2, 1240), (2, 700), (4, 1240)):
             with self.subTest(seed=seed, width=width):
-                self.assertEqual(self.told(self.page(seed), width), "texts cut 0 wider 0 empty 0")
+                self.assertEqual(self.told(page_of(self.told_of(seed)), width), "texts cut 0 wider 0 empty 0")
 
+    @unittest.skipUnless(shutil.which("node"), NO_NODE)
     def test_same_elements(self) -> None:
-        read, wanted = Page(self.browse(self.path, "--dump-dom")).root, Page(self.text).root
+        """The browser draws what Node does."""
+        found = re.search('<div id="printed">(.*)</div>\\s*<script type', self.browse(self.path, "--dump-dom"), re.S)
+        assert found
+        read, wanted = Page(found[1]).root, Page(drawn("report", self.content)).root
         for attribute in ("data-event", "data-domain", "data-activity", "data-violated-activity", "data-violated-event"):
             texts = [(node.attributes[attribute], node.text) for node in wanted.all(attribute)]
             self.assertEqual([(node.attributes[attribute], node.text) for node in read.all(attribute)], texts)

@@ -1,19 +1,27 @@
-"""The report: every number in it is that of a reply, and nothing in it is loaded from elsewhere."""
+"""The report: every number in it is that of a reply, and nothing in it is loaded from elsewhere. What it draws is drawn under Node."""
 
 from __future__ import annotations
 
+import json
+import os
+import shutil
 import unittest
+from unittest import mock
 
 from pespbench import Bench, EventLabel, Found, Infeasible, Labels, Stopped
 from pespbench.answers import runs
-from pespbench.report import gather, page_of, read_places
-from pespbench.report.strips import narrowed
+from pespbench.report import NoNode, NoPage, gather, netgraph_of, page_of, read_places
+from pespbench.report.drawing import drawn
+from pespbench.report.page import EMPTY, page_text
 from tests.common import EXAMPLES, PROGRAM, Case
-from tests.pages import Page, region_bench
+from tests.pages import NO_NODE, Node, Page, region_bench
+
+HAS_NODE = shutil.which("node") is not None
+NO_COMMANDS = mock.Mock(which=lambda name: None)
 
 
-class Region(Case):
-    """A report on a region, beside the replies."""
+class Content(Case):
+    """What stands in the page is what the program said."""
 
     def setUp(self) -> None:
         super().setUp()
@@ -21,19 +29,78 @@ class Region(Case):
         self.addCleanup(self.bench.close)
         self.content = gather(self.bench, "A region", read_places(self.folder / "places"))
         self.text = page_of(self.content)
-        self.page = Page(self.text).root
+
+    def test_replies(self) -> None:
+        tensions, violations = self.bench.tensions(), self.bench.violations()
+        self.assertEqual(self.content["tensions"], [[number, each.tension, each.slack] for number, each in tensions.items()])
+        self.assertEqual(self.content["violations"], {"activities": violations.activities, "events": violations.events})
+        self.assertEqual((self.content["cost"], self.content["missing"]), (str(self.bench.cost()), ""))
+        domains = {event: tuple(residues) for event, residues in self.content["domains"]}
+        self.assertEqual(domains, {event: each.residues for event, each in self.bench.domains().items() if len(each.residues) < 60})
+        self.assertEqual(dict(self.content["times"]), self.bench.times)
+
+    def test_alone(self) -> None:
+        """It is the page with the content inside, and nothing else: its policy, scripts and styles are the page's own."""
+        before, _, after = page_text().partition(EMPTY)
+        begin = EMPTY[: -len("</script>")]
+        self.assertTrue(self.text.startswith(before + begin) and self.text.endswith("</script>" + after))
+        told = self.text[len(before + begin) : -len("</script>" + after)]
+        self.assertFalse(set("<>&") & set(told))
+        self.assertTrue(told.isascii())
+        self.assertEqual(json.loads(told), json.loads(json.dumps(self.content)))
+        self.assertIn("default-src 'none'", before)
+
+    def test_same_again(self) -> None:
+        self.assertEqual(page_of(gather(self.bench, "A region", read_places(self.folder / "places"))), self.text)
+
+    def test_names_of_strangers(self) -> None:
+        name = "</style></script><script>alert('&')</script><!--"
+        labels = Labels({1: EventLabel(name, name, name, "departure"), 2: EventLabel(name, name, "Benton", "arrival")}, {1: name})
+        text = page_of(gather(self.two_trains(labels=labels, times=EXAMPLES / "two-trains/times"), name))
+        self.assertEqual([text.count(word) for word in ("<script", "</script", "<!--")], [page_text().count(word) for word in ("<script", "</script", "<!--")])
+
+    def test_no_page(self) -> None:
+        """Where the page is not found, or is another one, that is said."""
+        for name, text, told in (("missing", None, "PESPBENCH_PAGE names one"), ("other", "<p>", "no place for a report")):
+            path = self.folder / name
+            if text is not None:
+                path.write_text(text)
+            with self.subTest(name), mock.patch.dict(os.environ, {"PESPBENCH_PAGE": str(path)}), self.assertRaisesRegex(NoPage, told):
+                page_of(self.content)
+
+    def test_no_node(self) -> None:
+        with mock.patch("pespbench.report.drawing.shutil", NO_COMMANDS), self.assertRaisesRegex(NoNode, "there is no command node"):
+            netgraph_of(self.content)
+
+
+@unittest.skipUnless(HAS_NODE, NO_NODE)
+class Region(Case):
+    """A report on a region as it is drawn, beside the replies."""
+
+    def setUp(self) -> None:
+        super().setUp()
+        self.bench = region_bench(self.folder)
+        self.addCleanup(self.bench.close)
+        self.content = gather(self.bench, "A region", read_places(self.folder / "places"))
+        self.page = Page(drawn("report", self.content)).root
+
+    def minutes(self, root: Node) -> list[Node]:
+        """The elements that tell the minute of an event."""
+        return [node for node in root.all("data-event") if node.tag in ("td", "tspan") or node.attributes.get("class") == "end"]
 
     def test_times(self) -> None:
-        times = self.bench.times
-        shown = self.page.all("data-event")
+        times, outside = self.bench.times, set(self.bench.violations().events)
+        shown = self.minutes(self.page)
         self.assertEqual({node.number("data-event") for node in shown}, set(times))
         for node in shown:
-            self.assertEqual(node.text, f"{times[node.number('data-event')]:02d}")
+            event = node.number("data-event")
+            mark = "✕" if event in outside and node.tag != "text" else ""
+            self.assertEqual(node.text, f"{times[event]:02d}{mark}")
 
     def test_each_part_shows_each_event(self) -> None:
         parts = {node.attributes["id"]: node for node in self.page.all("id")}
-        for name in ("netgraph", "lines"):
-            self.assertEqual({node.number("data-event") for node in parts[name].all("data-event")}, set(self.bench.times))
+        for name in ("netgraph-drawn", "lines"):
+            self.assertEqual({node.number("data-event") for node in self.minutes(parts[name])}, set(self.bench.times))
 
     def test_domains(self) -> None:
         domains = {event: domain for event, domain in self.bench.domains().items() if len(domain.residues) < 60}
@@ -41,15 +108,15 @@ class Region(Case):
         self.assertEqual(set(shown), set(domains))
         self.assertTrue(domains)
         for event, node in shown.items():
-            self.assertEqual(node.children[1].text, domains[event].runs())
-            bars = [each for each in node.all("fill") if each.attributes["fill"] == "#8fbce6"]
             found = runs(domains[event].residues)
-            self.assertEqual([(float(each.attributes["x"]), float(each.attributes["width"])) for each in bars],
-                             [(8.0 * first, 8.0 * (last + 1 - first)) for first, last in found])  # fmt: skip
+            told = [f":{first:02d}" if first == last else f":{first:02d}–:{last:02d}" for first, last in found]
+            self.assertEqual(node.children[1].text, ", ".join(told))
+            [bars] = [each.attributes["d"] for each in node.all("d") if each.attributes.get("class") == "possible"]
+            self.assertEqual(bars, "".join(f"M{first} 0H{last + 1}V1H{first}Z" for first, last in found))
 
     def test_activities(self) -> None:
         tensions, network = self.bench.tensions(), self.bench.network
-        rows = {node.number("data-activity"): node for node in self.page.all("data-activity")}
+        rows = {node.number("data-activity"): node for node in self.page.all("data-activity") if node.tag == "tr"}
         self.assertEqual(set(rows), set(network.activities))
         for number, row in rows.items():
             each, taken = network.activities[number], tensions[number]
@@ -61,8 +128,9 @@ class Region(Case):
     def test_dearest_first(self) -> None:
         costs: dict[str, list[int]] = {}
         for row in self.page.all("data-activity"):
-            kind = self.bench.labels.kind(row.number("data-activity"))
-            costs.setdefault(kind, []).append(int(row.children[-1].text.replace(",", "")))
+            if row.tag == "tr":
+                kind = self.bench.labels.kind(row.number("data-activity"))
+                costs.setdefault(kind, []).append(int(row.children[-1].text.replace(",", "")))
         self.assertTrue(all(listed == sorted(listed, reverse=True) for listed in costs.values()))
         sums = [sum(listed) for listed in costs.values()]
         self.assertEqual(sums, sorted(sums, reverse=True))
@@ -76,49 +144,45 @@ class Region(Case):
         events = [node.number("data-violated-event") for node in self.page.all("data-violated-event")]
         self.assertEqual(events, list(violations.events))
         for number, node in activities.items():
-            self.assertEqual(node.children[2].text, f"{self.bench.tensions()[number].tension} min")
-            self.assertEqual(node.children[3].text, "1 minute too long")
+            self.assertEqual(node.children[2].text, f"{self.bench.tensions()[number].tension} minutes")
+            self.assertEqual(node.children[3].text, "1 too many")
         self.assertIn("2 minutes early", self.page.all("data-violated-event")[0].text)
 
     def test_figures(self) -> None:
         shown = {node.attributes["data-figure"]: node.children[0].text for node in self.page.all("data-figure")}
         network = self.bench.network
-        wanted = {"period in minutes": 60, "lines": 6, "trains a period": 12, "stations": 15, "events": len(network.events)}
+        wanted = {"period": 60, "lines": 6, "trains a period": 12, "stations": 15, "events": len(network.events)}
         wanted.update({"activities": len(network.activities), "violated": 2, "cost": self.bench.cost()})
         self.assertEqual(shown, {words: f"{number:,}" for words, number in wanted.items()})
 
-    def test_alone(self) -> None:
-        self.assertFalse(self.page.tags() & {"script", "link", "img", "iframe", "object"})
-        self.assertNotIn("url(", self.text)
-        self.assertNotIn("@import", self.text)
-        for node in self.page.all("href"):
-            self.assertTrue(node.attributes["href"].startswith("#"))
-        self.assertFalse(self.page.all("src"))
-
-    def test_same_again(self) -> None:
-        self.assertEqual(page_of(gather(self.bench, "A region", read_places(self.folder / "places"))), self.text)
+    def test_places(self) -> None:
+        """Stations lie as a file of places says, and else where they are laid out."""
+        rings = [[(node.attributes["cx"], node.attributes["cy"]) for node in page.all("cx") if "ring" in node.attributes["class"].split()]
+                 for page in (self.page, Page(drawn("report", gather(self.bench, "A region"))).root)]  # fmt: skip
+        self.assertEqual(len(rings[0]), 15)
+        self.assertNotEqual(*rings)
 
 
+@unittest.skipUnless(HAS_NODE, NO_NODE)
 class Others(Case):
     """Networks that lack what a region has."""
 
-    def page(self, bench: Bench) -> str:
-        """The report's text."""
+    def page(self, bench: Bench) -> Node:
+        """The report as it is drawn."""
         with bench:
-            text = page_of(gather(bench, "Two & <trains>"))
-        self.assertIn("Two &amp; &lt;trains&gt;", text)
-        Page(text)
-        return text
+            root = Page(drawn("report", gather(bench, "Two & <trains>"))).root
+        self.assertIn("Two & <trains>", root.text)
+        return root
 
     def test_without_labels(self) -> None:
-        text = self.page(Bench.open(EXAMPLES / "hourly-line/activities", times=EXAMPLES / "hourly-line/times", program=PROGRAM))
+        text = self.page(Bench.open(EXAMPLES / "hourly-line/activities", times=EXAMPLES / "hourly-line/times", program=PROGRAM)).text
         self.assertNotIn("Netgraph", text)
-        self.assertIn("event 8 → event 3", text)
-        self.assertIn("3 minutes too long", text)
+        self.assertIn("activity 32 from event 8 to event 3", text)
+        self.assertIn("3 too many", text)
 
     def test_without_times(self) -> None:
-        text = self.page(self.two_trains())
-        self.assertIn("Event 1 has no time", text)
+        text = self.page(self.two_trains()).text
+        self.assertIn("event 1 has no time", text)
         self.assertNotIn("What is violated", text)
 
     def test_headlines(self) -> None:
@@ -140,29 +204,27 @@ class Others(Case):
 
     def headline(self, bench: Bench, found: Found | None = None) -> str:
         """What is said above the figures of a report, once."""
-        page = Page(page_of(gather(bench, "Two trains", None, found))).root
+        page = Page(drawn("report", gather(bench, "Two trains", None, found))).root
         said = [node.text for node in page.all("class") if node.attributes["class"] == "headline"]
         self.assertEqual(page.text.count(said[0]) if said else 1, 1)
         return "".join(said)
 
     def test_without_anything(self) -> None:
-        self.assertIn("Activities by kind", self.page(Bench.open(None, program=PROGRAM)))
+        self.assertIn("Activities by kind", self.page(Bench.open(None, program=PROGRAM)).text)
 
     def test_names_of_strangers(self) -> None:
         name = "</style><script>alert('&')</script>"
         labels = Labels({1: EventLabel(name, name, name, "departure"), 2: EventLabel(name, name, "Benton", "arrival")}, {1: name})
-        bench = self.two_trains(labels=labels, times=EXAMPLES / "two-trains/times")
-        text = self.page(bench)
-        self.assertNotIn("script", Page(text).root.tags())
+        root = self.page(self.two_trains(labels=labels, times=EXAMPLES / "two-trains/times"))
+        self.assertNotIn("script", root.tags())
+        self.assertIn(name, root.text)
 
     def test_half_a_line(self) -> None:
         labels = Labels({1: EventLabel("M", "Benton", "Ashford", "departure")}, {1: "run"})
-        text = self.page(self.two_trains(labels=labels, times=EXAMPLES / "two-trains/times"))
-        self.assertIn("to Benton ↓", text)
+        self.assertIn("to Benton ↓", self.page(self.two_trains(labels=labels, times=EXAMPLES / "two-trains/times")).text)
 
     def test_full_domains(self) -> None:
-        bench = self.two_trains(times=EXAMPLES / "two-trains/times")
-        self.assertEqual(narrowed(gather(bench, "")), [])
+        self.assertEqual(self.page(self.two_trains(times=EXAMPLES / "two-trains/times")).all("data-domain"), [])
 
 
 if __name__ == "__main__":

@@ -4,6 +4,7 @@ from __future__ import annotations
 
 import contextlib
 import io
+import json
 import os
 import unicodedata
 import unittest
@@ -91,7 +92,8 @@ class Names(Case):
         status, told = self.typed("report", str(self.network), "--title", f"T{STEERING}")
         self.assertEqual(status, 0)
         self.is_shown(told, "net\\x1b]0;x\\x07\\x0axxxxxxxxx\\u202e.html\n")
-        self.is_shown(Path(f"{self.network.name}.html").read_text("utf-8"), f"T{WRITTEN}", f"A{WRITTEN}")
+        written = json.dumps(WRITTEN)[1:-1]
+        self.is_shown(Path(f"{self.network.name}.html").read_text("utf-8"), f"T{written}", f"A{written}")
 
     def test_faults(self) -> None:
         name = f"{self.folder}/none\x1b[2J\n\u202e"

@@ -5,14 +5,16 @@ from __future__ import annotations
 import contextlib
 import io
 import os
+import shutil
 import unittest
+from unittest import mock
 from xml.etree import ElementTree
 
 from pespbench import Bench
 from pespbench.__main__ import main
 from pespbench.drawn import draw_region
 from tests.common import EXAMPLES, PROGRAM, Case
-from tests.pages import Page
+from tests.pages import NO_NODE
 
 LINE = str(EXAMPLES / "hourly-line/activities")
 TIMES = str(EXAMPLES / "hourly-line/times")
@@ -51,16 +53,32 @@ class Words(Case):
     def test_report(self) -> None:
         draw_region(3).save(self.folder)
         files = [f"--{name}={self.folder / name}" for name in ("times", "labels", "places")]
-        output, picture = self.folder / "report.html", self.folder / "netgraph.svg"
-        words = [str(self.folder / "activities"), *files, "--title", "A region", "--netgraph", str(picture)]
+        output = self.folder / "report.html"
+        words = [str(self.folder / "activities"), *files, "--title", "A region"]
         self.assertEqual(self.typed("report", *words, "--output", str(output)), "")
         text = output.read_text(encoding="utf-8")
         self.assertEqual(self.typed("report", *words, "--output", "-"), text)
-        self.assertIn("Nothing: every activity and every fixed time is met.", text)
-        shown = Page(text).root.all("data-event")
+        self.assertIn('"violations":{"activities":[],"events":[]}', text)
+
+    @unittest.skipUnless(shutil.which("node"), NO_NODE)
+    def test_netgraph(self) -> None:
+        draw_region(3).save(self.folder)
+        (self.folder / "period").write_text("60\n")
+        output, picture = self.folder / "report.html", self.folder / "netgraph.svg"
+        self.assertEqual(self.typed("report", str(self.folder), "--output", str(output), "--netgraph", str(picture)), "")
         netgraph = ElementTree.parse(picture).getroot()
         drawn = {node.get("data-event") for node in netgraph.iter() if node.get("data-event")}
-        self.assertEqual(drawn, {node.attributes["data-event"] for node in shown})
+        self.assertEqual(drawn, {str(each.number) for each in draw_region(3).events})
+        self.assertEqual(netgraph.tag, "{http://www.w3.org/2000/svg}svg")
+        self.assertNotIn("var(", picture.read_text(encoding="utf-8"))
+
+    def test_netgraph_without_node(self) -> None:
+        """Where there is no Node the report is written, and it is said that the netgraph is not."""
+        output, picture = self.folder / "report.html", self.folder / "netgraph.svg"
+        with contextlib.redirect_stderr(io.StringIO()) as told, mock.patch("pespbench.report.drawing.shutil", mock.Mock(which=lambda name: None)):
+            self.typed("report", LINE, "--output", str(output), "--netgraph", str(picture), status=1)
+        self.assertEqual((output.exists(), picture.exists()), (True, False))
+        self.assertIn("no netgraph is drawn: it is drawn by the page's JavaScript under Node", told.getvalue())
 
     def test_report_by_default(self) -> None:
         """It goes to a file that is named after the network, which is told, and not to the terminal."""
@@ -76,7 +94,7 @@ class Words(Case):
         self.assertEqual(self.typed("report", "a line/"), "a line.html\n")
         os.chdir("a line")
         self.assertEqual(self.typed("report", "."), "a line.html\n")
-        self.assertTrue((self.folder / "a line/a line.html").read_text(encoding="utf-8").startswith("<!DOCTYPE html>"))
+        self.assertTrue((self.folder / "a line/a line.html").read_text(encoding="utf-8").startswith("<!doctype html>"))
 
     def test_places_of_a_folder(self) -> None:
         draw_region(3).save(self.folder)
@@ -84,8 +102,8 @@ class Words(Case):
         told = self.typed("report", str(self.folder), "--search", "0.01", "--output", "-")
         (self.folder / "places").unlink()
         laid_out = self.typed("report", str(self.folder), "--search", "0.01", "--output", "-")
-        self.assertIn("Netgraph", laid_out)
-        self.assertNotEqual(told.split('id="netgraph"')[1][:3_000], laid_out.split('id="netgraph"')[1][:3_000])
+        self.assertIn('"places":[]', laid_out)
+        self.assertRegex(told, r'"places":\[\["\w+",\[')
 
     def test_search(self) -> None:
         told = self.typed("report", LINE, "--search", "20", "--output", "-")

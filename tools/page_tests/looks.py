@@ -53,7 +53,7 @@ def sizes(suite, page):
         page.resize(width, height, scale)
         for name, texts in [("long names", texts_of([*WIDE, *TRAINS], [(1, 5, 3, 57)])), ("short ones", texts_of(TRAINS, []))]:
             page.show(texts, "A network with a name that is long too, as somebody has called it")
-            page.ask("Page.step(['fix 1 30'])")
+            page.ask("Page.find('keep-A').click(); Page.step(['fix 1 30', 'time 1 30'])")
             for tab in TABS:
                 page.ask(f"Page.showTab('{tab}'); Page.chooseCorridor(Page.view.lines[0].stations)")
                 page.frame()
@@ -78,7 +78,7 @@ def colors(suite, page):
         page.again()
         ground = page.ask("getComputedStyle(document.body).backgroundColor")
         suite.note(scheme, {"ground": {"light": "rgb(243, 245, 247)", "dark": "rgb(15, 19, 23)"}[scheme]}, {"ground": ground})
-        page.ask("Page.step(['fix 3 40', 'window 5 2 30']); Page.moveTrain(21, -3, false)")
+        page.ask("Page.find('keep-A').click(); Page.step(['fix 3 40', 'window 5 2 30']); Page.moveTrain(21, -3, false)")
         for tab in TABS:
             page.ask(f"Page.showTab('{tab}'); Page.chooseCorridor(['Gorsley', 'Inworth'])")
             suite.note(f"{scheme}, {tab}", {"pale": []}, {"pale": page.ask(PALE)})

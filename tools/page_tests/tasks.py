@@ -243,4 +243,38 @@ def handed_over(suite, page):
     suite.note("elsewhere", {"time": 7}, {"time": page.ask("Page.view.times.get(1)")})
 
 
-GROUPS = [shifted, held_and_best, why_mended, connected, handed_over]
+def both_ways(suite, page):
+    """A train runs earlier in one variant; both are kept and told beside each other, and the cheaper one is taken over."""
+    drawn = "[...document.querySelectorAll('#view-compare .beside .sum td')].map(each => each.textContent)"
+
+    def told():
+        return page.ask(drawn), len(page.ask("[...document.querySelectorAll('#view-compare ul li')].map(each => each.textContent)"))
+
+    def by_mouse(steps):
+        steps.click("#keep-A")
+        steps.drag('[data-way="21"]', 3, 60)
+        steps.click("#keep-B")
+        both = told()
+        steps.click("#take-A")
+        return both, page.ask(TIMES)
+
+    def by_keys(steps):
+        steps.key("A", SHIFT)
+        steps.seek("R2 to Hatton")
+        steps.key("ArrowRight", times=3)
+        steps.key("B", SHIFT)
+        both = told()
+        steps.key("Tab", times=2)
+        steps.press("\n")
+        return both, page.ask(TIMES)
+
+    page.again()
+    before = page.ask(TIMES)
+    both, times = compared(suite, page, "compare two variants", by_mouse, by_keys)
+    suite.note("both are told", {"both": (["18,504", "18,528", "+24"], 10)}, {"both": both})
+    suite.note("A is taken over", {"times": before}, {"times": times})
+    page.key("z", 90, CTRL)
+    suite.note("and given back", {"time": (before["21"] + 3) % 60}, {"time": page.ask("Page.view.times.get(21)")})
+
+
+GROUPS = [shifted, held_and_best, why_mended, connected, both_ways, handed_over]

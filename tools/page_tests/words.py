@@ -5,7 +5,7 @@ import re
 from page_tests.corridor import texts_of
 from page_tests.fingers import tap, touch
 
-TABS = ("diagram", "corridor", "netgraph", "tables", "violated", "lines", "why")
+TABS = ("diagram", "corridor", "netgraph", "tables", "compare", "violated", "lines", "why", "gains")
 # Words of the program and of its commands, which are none of a planner.
 FOREIGN = re.compile(r"\b(domains?|nodes?|residues?|tensions?|dump|journal|(?:lines?) of commands|more lines)\b", re.I)
 # All texts that are seen, told or shown on a pointer.
@@ -64,7 +64,7 @@ def planners_words(suite, page):
     page.again()
     for story in range(3):
         page.ask(f"Page.openStory(Page.stories[{story}]); document.querySelectorAll('details').forEach(each => {{ each.open = true; }})")
-        page.ask("Page.step(['fix 1 4', 'fix 2 25'])")
+        page.ask("Page.find('keep-A').click(); Page.step(['fix 1 4', 'fix 2 25'])")
         for name in ("try", "ask-why"):
             page.press(name)
             page.until("Page.find('stop').hidden", seconds=90)
@@ -73,7 +73,7 @@ def planners_words(suite, page):
             came = sorted(set(map(str.lower, FOREIGN.findall(page.ask(TEXTS)))))
             suite.note(f"story {story}, {tab}", {"words": []}, {"words": came})
     views = page.ask("[...document.querySelectorAll('[role=tab]')].map(each => each.textContent)")
-    suite.note("views", {"they": ["Diagram", "Netgraph", "Corridor", "Tables", "Violated", "Steps", "Why"]}, {"they": views})
+    suite.note("views", {"they": ["Diagram", "Netgraph", "Corridor", "Tables", "Compare", "Violated", "Steps", "Why", "What helps"]}, {"they": views})
     page.ask("Page.showTab('tables')")
     for button, dialog in [("open", "opening"), ("save", "saving"), ("add-line", "lining")]:
         page.press(button)

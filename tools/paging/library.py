@@ -9,6 +9,7 @@ import pathlib
 import shlex
 import shutil
 import tempfile
+from typing import List, Sequence
 
 from paging.tree import LIBRARY, TOP, NotMade, below, crates, run, toolchain
 
@@ -17,31 +18,31 @@ MADE = CRATE / f"out/lib{LIBRARY}.a"
 MODULE = CRATE / f"out/{LIBRARY}.bc"
 
 
-def rlib(name):
+def rlib(name: str) -> pathlib.Path:
     """A library below, as rattle has built it."""
     return TOP / "crates" / name / "out/rlib" / f"{name}.rlib"
 
 
-def changed_at(name, parts=("src", "specs")):
+def changed_at(name: str, parts: Sequence[str] = ("src", "specs")) -> float:
     """When a source of the crate was last changed, or came or went."""
     folders = [TOP / "crates" / name / part for part in parts if (TOP / "crates" / name / part).exists()]
     return max(path.stat().st_mtime for folder in folders for path in [folder, *folder.rglob("*")])
 
 
-def is_of_the_gate(name):
+def is_of_the_gate(name: str) -> bool:
     """Whether the gate has left the library, as the present sources make it; what other commands built has a stamp."""
     built = rlib(name)
     is_there = built.is_dir() and not built.with_name("stamp").exists()
     return is_there and built.stat().st_mtime >= changed_at(name, ("src", "specs", "proofs"))
 
 
-def is_built():
+def is_built() -> bool:
     """Whether the library and its module were built since a source changed."""
     last = max([(TOP / "crates.txt").stat().st_mtime, *map(changed_at, [LIBRARY, *below(LIBRARY)])])
     return all(path.is_file() and path.stat().st_mtime >= last for path in (MADE, MODULE))
 
 
-def keeping_toolchain(folder, kit):
+def keeping_toolchain(folder: pathlib.Path, kit: pathlib.Path) -> None:
     """A toolchain whose clang keeps what it is given in `folder`/kept. Rattle calls it without an environment."""
     (folder / "kept").mkdir()
     (folder / "bin").mkdir()
@@ -55,10 +56,10 @@ def keeping_toolchain(folder, kit):
     (folder / "bin/clang").chmod(0o755)
 
 
-def words_of_build(kit, folder):
+def words_of_build(kit: pathlib.Path, folder: pathlib.Path) -> List[object]:
     """As `rt lib` calls rattle."""
     known = crates()
-    words = ["--crate-name", LIBRARY, "src/lib.rt", "--extern", f"std={kit}/rlibs/std.rlib", "-L", f"dependency={kit}/rlibs"]
+    words: List[object] = ["--crate-name", LIBRARY, "src/lib.rt", "--extern", f"std={kit}/rlibs/std.rlib", "-L", f"dependency={kit}/rlibs"]
     for name in known[LIBRARY]:
         path = rlib(name) if name in known else kit / "rlibs" / f"{name}.rlib"
         words += ["--extern", f"{name}={path}"]
@@ -69,7 +70,7 @@ def words_of_build(kit, folder):
     return [*words, "--toolchain", folder, "--backend", "llvm", "-o", folder / MADE.name]
 
 
-def build():
+def build() -> None:
     """Builds the library, and keeps its module."""
     if not all(map(is_of_the_gate, below(LIBRARY))):
         run(["rt", "lib"], cwd=CRATE)
@@ -85,14 +86,14 @@ def build():
             shutil.copyfile(made, path)
 
 
-def built_library():
+def built_library() -> pathlib.Path:
     """The library, which is built where it was not since a source changed."""
     if not is_built():
         build()
     return MADE
 
 
-def built_module():
+def built_module() -> pathlib.Path:
     """Its LLVM module."""
     if not is_built():
         build()

@@ -3,23 +3,24 @@
 import argparse
 import pathlib
 import subprocess
+from typing import List, Sequence
 
 from paging.module import made_module, tools
 from paging.page import assembled, module_of
 from paging.tree import LIBRARY, MADE, PAGE, TOP, NotMade, below
 
 
-def sources():
+def sources() -> List[str]:
     """What the page is made of, by paths from the top."""
     crates = [f"crates/{name}/{part}" for name in [LIBRARY, *below(LIBRARY)] for part in ("src", "specs")]
     return ["crates.txt", "page", "tools/page", "tools/paging", *crates]
 
 
-def changed_at(paths):
+def changed_at(paths: Sequence[str]) -> float:
     """When something there was last changed: by its commit, or now where it is changed after that; 0 where it is unknown."""
-    words = ["git", "-C", TOP, "log", "-1", "--format=%ct", "--", *paths]
+    words = ["git", "-C", str(TOP), "log", "-1", "--format=%ct", "--", *paths]
     told = subprocess.run(words, capture_output=True, text=True, check=False).stdout.strip()
-    words = ["git", "-C", TOP, "status", "--porcelain", "--", *paths]
+    words = ["git", "-C", str(TOP), "status", "--porcelain", "--", *paths]
     is_changed = subprocess.run(words, capture_output=True, text=True, check=False).stdout.strip()
     if is_changed:
         files = [path for name in paths for path in ([TOP / name] if (TOP / name).is_file() else (TOP / name).rglob("*"))]
@@ -27,7 +28,7 @@ def changed_at(paths):
     return float(told or 0)
 
 
-def which_is_older():
+def which_is_older() -> str:
     page = "page/pespbench.html"
     page_at = MADE.stat().st_mtime if changed_at([page]) == 0 else changed_at([page])
     sources_at = changed_at([*sources(), f":(exclude){page}"])
@@ -36,7 +37,7 @@ def which_is_older():
     return "the page was changed after its sources, or was made by other tools than those here"
 
 
-def difference(anew):
+def difference(anew: bytes) -> str:
     """What a page has other than the one that is there; '' where they are the same."""
     if not MADE.is_file():
         return "there is no page/pespbench.html: tools/page makes it"
@@ -47,35 +48,46 @@ def difference(anew):
     return f"page/pespbench.html differs from the page made anew, in {part}; {which_is_older()}"
 
 
-def checked(anew):
+def given_module(path: pathlib.Path) -> bytes:
+    """The module in a file, or in a page."""
+    data = path.read_bytes()
+    return data if data.startswith(b"\0asm") else module_of(data)
+
+
+def made_by(words: argparse.Namespace) -> str:
+    """What the module is made by; no tool is asked for one that is given."""
+    return f"with the module in {words.given}" if words.given else f"made by {tools()}"
+
+
+def checked(anew: bytes, made: str) -> bool:
     """Tells whether the page that is there is the one made anew."""
     fault = difference(anew)
     print(f"FAILED {fault}" if fault else "page/pespbench.html is the page made anew, byte for byte")
-    print(f"made by {tools()}")
+    print(made)
     print(f"{int(not fault)} passed, {int(bool(fault))} failed")
     return bool(fault)
 
 
-def work(words):
-    module = words.given.read_bytes() if words.given else made_module()
+def work(words: argparse.Namespace) -> bool:
+    module = given_module(words.given) if words.given else made_module()
     if words.module:
         words.module.write_bytes(module)
-        print(f"{words.module}: {len(module):,} bytes, made by {tools()}")
+        print(f"{words.module}: {len(module):,} bytes, {made_by(words)}")
         return False
     page = assembled(PAGE, module)
     if words.check:
-        return checked(page)
+        return checked(page, made_by(words))
     MADE.write_bytes(page)
-    print(f"page/pespbench.html: {len(page):,} bytes, of which {len(module):,} are the module's, made by {tools()}")
+    print(f"page/pespbench.html: {len(page):,} bytes, of which {len(module):,} are the module's, {made_by(words)}")
     return False
 
 
-def main(words):
+def main(typed: Sequence[str]) -> bool:
     parser = argparse.ArgumentParser(prog="tools/page", description="Makes page/pespbench.html.")
     parser.add_argument("--check", action="store_true", help="compare a page made anew with the one that is there")
     parser.add_argument("--module", type=pathlib.Path, metavar="FILE", help="make the module alone, into FILE")
-    parser.add_argument("--with", type=pathlib.Path, metavar="FILE", dest="given", help="take this module, and make none")
-    words = parser.parse_args(words)
+    parser.add_argument("--with", type=pathlib.Path, metavar="FILE", dest="given", help="take this module, or that of this page, and make none")
+    words = parser.parse_args(typed)
     try:
         return work(words)
     except NotMade as fault:

@@ -10,6 +10,7 @@ import re
 import shutil
 import subprocess
 import tempfile
+from typing import Iterator, Tuple
 
 from paging.library import built_module
 from paging.tree import PAGE, NotMade, run, toolchain
@@ -34,7 +35,7 @@ LOWERING = ["--enable-memory64", *(f"--enable-{name}" for name in FEATURES), "--
 LOWERING += ["--strip-debug", "--strip-producers", "--strip-target-features"]
 
 
-def written_anew(text):
+def written_anew(text: str) -> str:
     """The module's text for the other target."""
     places = {r'^target datalayout = ".*"$': f'target datalayout = "{LAYOUT}"', r'^target triple = ".*"$': f'target triple = "{TARGET}"'}
     for place, line in places.items():
@@ -45,7 +46,7 @@ def written_anew(text):
     return re.sub(r'"probe-stack"="[^"]*" "stack-probe-size"="[^"]*"', "", text)
 
 
-def compiled(kit, kept, folder):
+def compiled(kit: pathlib.Path, kept: pathlib.Path, folder: pathlib.Path) -> bytes:
     """The module with addresses of 64 bits."""
     clang, text = kit / "toolchain/bin/clang", folder / "library.ll"
     run([clang, "-x", "ir", kept, "-S", "-emit-llvm", "-O0", "-Xclang", "-disable-llvm-passes", "-o", text])
@@ -60,7 +61,7 @@ def compiled(kit, kept, folder):
     return (folder / "wide.wasm").read_bytes()
 
 
-def sections(module):
+def sections(module: bytes) -> Iterator[Tuple[int, bytes]]:
     """Of each section its kind and its bytes, which begin with the kind and the length."""
     place = 8
     while place < len(module):
@@ -77,7 +78,7 @@ def sections(module):
 TABLE, ELEMENTS = 4, 9
 
 
-def without_table(module):
+def without_table(module: bytes) -> bytes:
     """Without the empty table, which has addresses of 64 bits and which no call goes by."""
     parts = list(sections(module))
     if ELEMENTS in [kind for kind, _ in parts]:
@@ -85,7 +86,7 @@ def without_table(module):
     return module[:8] + b"".join(part for kind, part in parts if kind != TABLE)
 
 
-def lowered(module, folder):
+def lowered(module: bytes, folder: pathlib.Path) -> bytes:
     """The module with addresses of 32 bits."""
     if not shutil.which("wasm-opt"):
         raise NotMade("there is no wasm-opt (Debian's package binaryen)")
@@ -94,13 +95,13 @@ def lowered(module, folder):
     return (folder / "module.wasm").read_bytes()
 
 
-def tools():
+def tools() -> str:
     """The tools by which the module is made, as they name themselves."""
     version = subprocess.run(["wasm-opt", "--version"], capture_output=True, text=True, check=False).stdout.strip()
     return f"{run(['rt', 'version']).decode().strip()}, {version}"
 
 
-def made_module():
+def made_module() -> bytes:
     """The bytes of the module."""
     with tempfile.TemporaryDirectory() as name:
         return lowered(compiled(toolchain(), built_module(), pathlib.Path(name)), pathlib.Path(name))

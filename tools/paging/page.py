@@ -2,8 +2,10 @@
 
 import base64
 import hashlib
+import pathlib
 import re
 import zlib
+from typing import Match
 
 from paging.tree import NotMade
 
@@ -15,18 +17,18 @@ BREAKS = ["</script", "</style", "<!--"]
 NOTHING = "default-src 'none'"
 
 
-def unindented(text):
+def unindented(text: str) -> str:
     """A source without the more than ten thousand blanks that begin lines, and without empty lines; no text in it may have these."""
     return re.sub(r"^\s+", "", text, flags=re.M)
 
 
-def packed(module):
+def packed(module: bytes) -> bytes:
     """The bytes of a module by deflate without a head, the same ones each time."""
     packer = zlib.compressobj(9, zlib.DEFLATED, -15)
     return packer.compress(module) + packer.flush()
 
 
-def source(folder, name):
+def source(folder: pathlib.Path, name: str) -> str:
     """A style or script of the page, which can stand inside of it."""
     path = (folder / name).resolve()
     if folder.resolve() not in path.parents or not path.is_file():
@@ -38,7 +40,7 @@ def source(folder, name):
     return unindented(text)
 
 
-def part(folder, found, module):
+def part(folder: pathlib.Path, found: Match[str], module: bytes) -> str:
     """What stands for a line of the kind `<!-- style: FILE -->`, `<!-- script: FILE -->` or `<!-- module -->`."""
     kind, name, is_module = found.groups()
     if is_module:
@@ -46,12 +48,12 @@ def part(folder, found, module):
     return f"<{kind}>\n{source(folder, name)}</{kind}>"
 
 
-def named(script):
+def named(script: str) -> str:
     """The name of an inline script in a policy."""
     return f"'sha256-{base64.b64encode(hashlib.sha256(script.encode()).digest()).decode()}'"
 
 
-def with_policy(text):
+def with_policy(text: str) -> str:
     """The page, whose policy lets just its own scripts run, in place of any that stand in it, and asks for nothing."""
     policies = POLICY.findall(text)
     if len(policies) != 1 or NOTHING not in policies[0]:
@@ -62,7 +64,7 @@ def with_policy(text):
     return text.replace(policies[0], "; ".join(rules), 1)
 
 
-def assembled(folder, module):
+def assembled(folder: pathlib.Path, module: bytes) -> bytes:
     """The page of the sources in a folder and of a module, as its bytes."""
     if not (folder / "index.html").is_file():
         raise NotMade("there is no page/index.html")
@@ -73,7 +75,7 @@ def assembled(folder, module):
     return with_policy(text).encode()
 
 
-def module_of(page):
+def module_of(page: bytes) -> bytes:
     """The module in a page."""
     found = re.search(rb'const PESPBENCH_MODULE = "([A-Za-z0-9+/=]*)"', page)
     if not found:

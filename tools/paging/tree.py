@@ -4,6 +4,7 @@ import pathlib
 import re
 import shutil
 import subprocess
+from typing import Any, Dict, List, Sequence
 
 TOP = pathlib.Path(__file__).resolve().parents[2]
 PAGE = TOP / "page"
@@ -15,7 +16,7 @@ class NotMade(Exception):
     """Why the page or the module cannot be made."""
 
 
-def run(words, **how):
+def run(words: Sequence[object], **how: Any) -> bytes:
     """Runs a command that has to succeed."""
     try:
         done = subprocess.run(list(map(str, words)), capture_output=True, check=False, **how)
@@ -24,23 +25,23 @@ def run(words, **how):
     if done.returncode:
         told = (done.stdout + done.stderr).decode(errors="replace").strip().splitlines()[-12:]
         raise NotMade("\n".join([f"{words[0]} ended with {done.returncode}", *told]))
-    return done.stdout
+    return bytes(done.stdout)
 
 
-def toolchain():
+def toolchain() -> pathlib.Path:
     """The folder of the toolchain."""
     if not shutil.which("rt"):
         raise NotMade("there is no command rt")
     return pathlib.Path(run(["rt", "doc"]).decode().split()[0]).parent
 
 
-def crates():
+def crates() -> Dict[str, List[str]]:
     """Each crate with what it stands on, as crates.txt has them."""
     rows = re.findall(r"^(\w+)(?: +\w+)*:(.*)$", (TOP / "crates.txt").read_text(), re.M)
     return {name: names.split() for name, names in rows}
 
 
-def below(name):
+def below(name: str) -> List[str]:
     """All crates of the repository below this one."""
     known, found, left = crates(), set(), [name]
     while left:

@@ -1,9 +1,9 @@
-"""A report on a network: one HTML file without scripts, which can be read on paper too."""
+"""A report on a network: the page with what the program said of it inside, one HTML file that is read, printed and worked on."""
 
 from pespbench.places import read_places
 from pespbench.report.command import add_parser
-from pespbench.report.content import Activity, Content, Event
-from pespbench.report.gathering import gather
-from pespbench.report.page import page_of
+from pespbench.report.drawing import NoNode, netgraph_of
+from pespbench.report.gathering import Content, gather
+from pespbench.report.page import NoPage, page_of
 
-__all__ = ["Activity", "Content", "Event", "add_parser", "gather", "page_of", "read_places"]
+__all__ = ["Content", "NoNode", "NoPage", "add_parser", "gather", "netgraph_of", "page_of", "read_places"]

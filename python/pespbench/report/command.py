@@ -11,8 +11,9 @@ from pespbench.answers import Found
 from pespbench.client import Bench
 from pespbench.opening import add_network, open_network, seconds
 from pespbench.places import Place, read_places
+from pespbench.report.drawing import netgraph_of
 from pespbench.report.gathering import gather
-from pespbench.report.page import netgraph_of, page_of
+from pespbench.report.page import page_of
 from pespbench.terminal import shown, tell
 from pespbench.watching import Line
 from pespbench.writing import write_text
@@ -27,23 +28,24 @@ def add_parser(subparsers: argparse._SubParsersAction[argparse.ArgumentParser]) 
     parser.add_argument("--title", default="Timetable", help="the title [default: Timetable]")
     output = "where the report is written; - is standard output [default: the name of NETWORK with .html, in this folder]"
     parser.add_argument("--output", metavar="FILE", help=output)
-    parser.add_argument("--netgraph", metavar="FILE", help="write the netgraph alone too, as an SVG picture")
+    parser.add_argument("--netgraph", metavar="FILE", help="write the netgraph alone too, as an SVG picture; this wants Node")
     best = "look so long for the best timetable, and report on it where one is found"
     parser.add_argument("--search", metavar="SECONDS", type=seconds, help=best)
     parser.set_defaults(run=run)
 
 
 def run(words: argparse.Namespace) -> int:
-    """Writes the report, and the netgraph alone where it is asked for."""
+    """Writes the report, and the netgraph alone where it is asked for; without Node the report alone, which is said."""
     places = places_for(words)
     with open_network(words) as bench:
         found = None if words.search is None else searched(bench, words.search)
         content = gather(bench, words.title, places, found)
+    text = page_of(content)
     output = words.output or f"{Path(words.network).resolve().name or 'report'}.html"
     if output == "-":
-        sys.stdout.write(page_of(content))
+        sys.stdout.write(text)
     else:
-        write_text(output, page_of(content))
+        write_text(output, text)
     if words.output is None:
         tell(f"{shown(output)}\n")
     if words.netgraph is not None:

@@ -1,19 +1,19 @@
-"""Asks a bench for all that a report shows."""
+"""Asks a bench for all that a report shows, as plain values: all numbers are those of replies, all names those of labels."""
 
 from __future__ import annotations
 
-from typing import Mapping, Optional
+from typing import Any, Dict, List, Mapping, Optional
 
-from pespbench.answers import Domain, Found, Infeasible, Tension, Violations
+from pespbench.answers import Domain, Found, Infeasible
 from pespbench.client import Bench
 from pespbench.faults import Refused
-from pespbench.labels import EventLabel
 from pespbench.places import Place
-from pespbench.report.content import Activity, Content, Event
 from pespbench.terminal import shown
 from pespbench.wording import found_text
 
 NO_TIME = 11
+# What page/script/report.js reads: rows of numbers and names, of which nothing steers a terminal.
+Content = Dict[str, Any]
 
 
 def gather(bench: Bench, title: str, places: Optional[Mapping[str, Place]] = None, found: Optional[Found] = None) -> Content:
@@ -29,35 +29,48 @@ def gather(bench: Bench, title: str, places: Optional[Mapping[str, Place]] = Non
         Ended: the program ended.
         Refused: the program refused for another reason than a missing time.
     """
-    domains = bench.domains()
-    tensions: Mapping[int, Tension] = {}
-    violations, cost, missing = Violations((), ()), None, None
+    return {
+        "title": shown(title),
+        "network": network_of(bench),
+        "labels": labels_of(bench),
+        "places": [[shown(station), place] for station, place in (places or {}).items()],
+        "times": [[event, time] for event, time in bench.times.items()],
+        "domains": domains_of(bench.domains(), bench.period),
+        "search": "" if found is None else found_text(found),
+        "isInfeasible": isinstance(found, Infeasible),
+        **timetable_of(bench),
+    }
+
+
+def network_of(bench: Bench) -> Content:
+    """Events, windows and activities."""
+    windows, activities = bench.network.windows, bench.network.activities
+    rows = [[number, each.from_event, each.to_event, each.lower, each.upper, each.weight] for number, each in sorted(activities.items())]
+    held = [[event, window.first, window.length] for event, window in windows.items() if window is not None]
+    return {"period": bench.period, "events": list(windows), "windows": held, "activities": rows}
+
+
+def labels_of(bench: Bench) -> Content:
+    """The names of what is there."""
+    events = bench.labels.events.items()
+    rows = [[event, *map(shown, (each.line, each.to, each.station, each.kind))] for event, each in events]
+    kinds = [[activity, shown(kind)] for activity, kind in bench.labels.activities.items()]
+    return {"events": rows, "kinds": kinds}
+
+
+def domains_of(domains: Mapping[int, Domain], period: int) -> List[Any]:
+    """The minutes of the events that cannot be at each of them."""
+    return [[event, each.residues] for event, each in domains.items() if len(each.residues) < period]
+
+
+def timetable_of(bench: Bench) -> Content:
+    """What the working timetable makes; `missing` says which event lacks a time, and nothing else is known then."""
     try:
         tensions, violations, cost = bench.tensions(), bench.violations(), bench.cost()
     except Refused as refusal:
         if refusal.number != NO_TIME:
             raise
-        missing = refusal.event
-    events = {event: event_of(bench, event, domains, violations) for event in bench.network.events}
-    activities = {number: activity_of(bench, number, tensions, violations) for number in sorted(bench.network.activities)}
-    search = "" if found is None else found_text(found)
-    named = {shown(station): place for station, place in (places or {}).items()}
-    return Content(shown(title), bench.period, events, activities, cost, missing, search, isinstance(found, Infeasible), named)
-
-
-def event_of(bench: Bench, event: int, domains: Mapping[int, Domain], violations: Violations) -> Event:
-    """An event with its label, window, time and domain."""
-    label = bench.labels.events.get(event, EventLabel())
-    window = bench.network.windows[event]
-    return Event(
-        event, shown(label.line), shown(label.to), shown(label.station), shown(label.kind), bench.times.get(event),
-        (window.first, window.length) if window else None, domains[event].residues, event in violations.events, bench.period,
-    )  # fmt: skip
-
-
-def activity_of(bench: Bench, number: int, tensions: Mapping[int, Tension], violations: Violations) -> Activity:
-    """An activity with its kind, tension and slack."""
-    each, taken = bench.network.activities[number], tensions.get(number)
-    known = (taken.tension, taken.slack) if taken else (None, None)
-    kind, is_violated = shown(bench.labels.kind(number)), number in violations.activities
-    return Activity(number, each.from_event, each.to_event, each.lower, each.upper, each.weight, kind, *known, is_violated)
+        return {"tensions": None, "violations": None, "cost": None, "missing": f"event {refusal.event} has no time"}
+    rows = [[number, each.tension, each.slack] for number, each in tensions.items()]
+    broken = {"activities": violations.activities, "events": violations.events}
+    return {"tensions": rows, "violations": broken, "cost": str(cost), "missing": ""}
