@@ -29,7 +29,13 @@ pub fn both(cap: u64, best: Option<Candidate>, next: Outcome) -> Outcome
         (Outcome::Found(found), _) => Outcome::Found(found),
         (Outcome::NoneBelow, Some(best)) => Outcome::Found(best),
         (Outcome::NoneBelow, None) => Outcome::NoneBelow,
-        (Outcome::Spent { best: found, lower_bound }, best) => {
+        (
+            Outcome::Spent {
+                best: found,
+                lower_bound,
+            },
+            best,
+        ) => {
             let limit = match &best {
                 Some(best) => best.cost,
                 None => cap,
