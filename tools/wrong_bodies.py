@@ -8,7 +8,7 @@ import pathlib
 import re
 import shutil
 import subprocess
-from typing import Dict, List, Sequence
+from typing import Dict, List, NamedTuple, Sequence, Tuple
 
 FIRST, SECOND = "must-fail", "wrong-bodies"
 # The toolchain's line on an edit; what is in brackets after the first words takes from what a refusal shows.
@@ -125,3 +125,71 @@ def is_refused(told: str) -> bool:
 def is_plain(told: str) -> bool:
     """Whether the edit is refused, and without a remark in brackets, which says that this shows less."""
     return is_refused(told) and not told[len(REFUSED) :].lstrip().startswith("(")
+
+
+# Where a refusal comes from; what is through is not refused, or not tried.
+KINDS = CLAUSE, CALL, PROOF, OTHER, THROUGH = "clause", "call", "proof", "other", "through"
+# A line on an edit, as the toolchain or tools/try_wrong_bodies prints it.
+TOLD = re.compile(r"(?:(?:rt: )?must-fail )?(?P<crate>\w+)/(?P<name>[\w.-]+\.edit): (?P<told>.*)")
+# What the prover says of a goal that its search does not prove, and which of these goals are of the body's own contract.
+UNPROVED_GOAL = re.compile(r"it is not proved that (?P<goal>.*)")
+OWN = re.compile(r"what the function ensures|the invariant|the `invariant`|the loop ends|the struct's ghost fields|the `&mut`")
+NO_LOAN = re.compile(r"no `follows`|it has an `ensures\*`")
+# An error in a proof, with the goal that it answers and what is said of it.
+IN_A_PROOF = re.compile(r"(?:note: )?(?:\./)?(?P<path>proofs/\S+\.antt):\d+:\d+: error: `(?P<goal>[^`]+)`: (?P<said>.*)")
+# What is said where a tactic was asked for a step that it does not prove, so that the text fits and the step fails.
+UNPROVED_STEP = re.compile(r"give the call less to do|`?(search|grind|omega|cc|simp)`?:")
+# An answer that is a tactic and nothing else.
+TACTIC = re.compile(r"(search|grind|omega|simp|cc)\b")
+
+
+class Refusal(NamedTuple):
+    """What a log says of an edit: where the refusal comes from, and the words that tell it."""
+
+    crate: str
+    name: str
+    kind: str
+    where: str
+
+
+def refusals(top: pathlib.Path, lines: Sequence[str]) -> List[Refusal]:
+    """What the lines of a log say of edits, each once, by its last line, in the order of the log."""
+    found: Dict[tuple, Refusal] = {}
+    for line in lines:
+        match = TOLD.fullmatch(line)
+        if match:
+            crate, name, told = match.groups()
+            found[crate, name] = Refusal(crate, name, *sorted_out(top / "crates" / crate, told))
+    return list(found.values())
+
+
+def sorted_out(crate: pathlib.Path, told: str) -> Tuple[str, str]:
+    """The kind of what is told of an edit of the crate, and the words that tell it."""
+    if not is_refused(told):
+        return THROUGH, told
+    where = told[len(REFUSED) :].strip(" :")
+    if where.startswith("("):
+        return (PROOF if "a proof file names" in where else OTHER), where
+    goal = UNPROVED_GOAL.search(where)
+    if goal:
+        return (CLAUSE if OWN.match(goal["goal"]) else CALL), where
+    if NO_LOAN.search(where):
+        return CLAUSE, where
+    proof = IN_A_PROOF.match(where)
+    if not proof:
+        return OTHER, where
+    answer = answer_of(crate / proof["path"], proof["goal"])
+    fails = UNPROVED_STEP.search(proof["said"]) or TACTIC.match(answer)
+    return (kind_of_goal(proof["goal"]) if fails else PROOF), where
+
+
+def answer_of(path: pathlib.Path, goal: str) -> str:
+    """What stands after the equation's sign in the answer to a goal, or nothing where there is none."""
+    text = path.read_text() if path.is_file() else ""
+    found = re.search(rf"^{re.escape(goal)}(?: [^=\n]*)? =\s*(.*)", text, flags=re.M)
+    return found[1] if found else ""
+
+
+def kind_of_goal(goal: str) -> str:
+    """Whether a goal, as the prover names it, is of the body's own contract or of a call in it."""
+    return CLAUSE if re.match(r"returns|.*-(preserved|holds|smaller|starts)$", goal) else CALL

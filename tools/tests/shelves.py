@@ -6,7 +6,7 @@ import sys
 
 from tests.harness import TOP, run
 from tests.start_tree import SYSTEM
-from wrong_bodies import FIRST, SECOND, Unread, applied, breaks_of, edits
+from wrong_bodies import FIRST, KINDS, SECOND, Unread, applied, breaks_of, edits, refusals
 
 # The gate tries each edit of the first shelf in each run, and a change at the bottom pays for all of them.
 MOST_ON_THE_FIRST = 240
@@ -115,8 +115,35 @@ def second_shelf(suite):
     suite.note("what is tried is a copy", {"in the tree": []}, {"in the tree": here})
 
 
+# What the toolchain says of edits of the crate low, and where each refusal comes from.
+REFUSALS = [
+    ("clause", "refused, as it must be: note: src/lib.rt:3:1: it is not proved that what the function ensures holds when it returns"),
+    ("clause", "refused, as it must be: ./proofs/f/Answers.antt:9:5: error: `returns`: `search`: no proof of `a ≡ b` was found"),
+    ("clause", "refused, as it must be: ./proofs/f/Answers.antt:3:5: error: `returns-clause-ok`: the two types differ"),
+    ("call", "refused, as it must be: note: src/lib.rt:3:1: it is not proved that what `put` requires holds at this call"),
+    ("call", "refused, as it must be: note: src/lib.rt:3:1: it is not proved that the sum fits its type"),
+    ("proof", "refused, as it must be: ./proofs/f/Answers.antt:6:5: error: `returns-by-hand`: the two types differ"),
+    ("proof", "refused, as it must be (only because a proof file names what the edit took away): proofs/f/Answers.antt:6:5"),
+    ("other", BRACKETS),
+    ("through", PROVED),
+    ("through", BAD),
+]
+ANSWERS = "pub returns-clause-ok : goal.returns-clause-ok\nreturns-clause-ok g c = search rules\n\nreturns-by-hand g c = c.put.ensures\n"
+
+
+def kinds(suite):
+    """Where refusals come from, as far as what the toolchain prints and the proofs tell."""
+    top = suite.folder / "kinds"
+    (top / "crates/low/proofs/f").mkdir(parents=True)
+    (top / "crates/low/proofs/f/Answers.antt").write_text(ANSWERS)
+    lines = [f"rt: must-fail low/{place}.edit: {told}" for place, (_, told) in enumerate(REFUSALS)]
+    found = refusals(top, ["rt: a line of the toolchain", *lines, f"low/0.edit: {REFUSALS[0][1]}"])
+    suite.note("kinds of refusals", {"kinds": [kind for kind, _ in REFUSALS]}, {"kinds": [it.kind for it in found]})
+    suite.holds("each kind has a refusal", set(KINDS) == {kind for kind, _ in REFUSALS})
+
+
 def files_of(top):
     return sorted(str(path.relative_to(top)) for path in (top / "crates").rglob("*"))
 
 
-GROUPS = [shelves, second_shelf]
+GROUPS = [shelves, second_shelf, kinds]

@@ -1,13 +1,14 @@
 //! Where commands come from and where replies go.
 //!
-//! std's readers and writers keep no record of a failure or of an end, so a contract over them could
-//! not say that one came. [`Noted`] keeps both.
+//! std's readers and writers keep no record of a failure, of an end or of a flush, so a contract over them could
+//! not say that one came. [`Noted`] keeps the first two, and [`Flush`] tells the third.
 
-ghost use Rattle.std.specs.Prelude.{◌≡◌, ℕ, ◌<◌, Bool, true, false, List, Option, length, IfOk, IsTrue, OnOk};
+ghost use Rattle.std.specs.Prelude.{◌≡◌, ℕ, ◌<◌, ⊤, Bool, true, false, List, Option, length, IfOk, IsTrue, OnOk};
 ghost use Rattle.std.specs.Io.KnownBytes.{Keeps, ReadConsumes, WriteAppends};
 ghost use Rattle.std.specs.Io.{ReadsAtMost, WritesAtMost};
 ghost use Rattle.pesp_shell_io.specs.Devices.{MarksEnd, MarksFailure, MarksHeldBack};
 
+use std::io;
 use std::io::{Read, Write};
 
 /// A device failed.
@@ -26,7 +27,10 @@ pub trait ByteSource {
     ghost at_end: { Self → Bool };
 
     /// Puts bytes into the front of the room, and answers how many: 0 at the end, or where there is no room.
+    ///
+    /// After a call that failed there is no other.
     fn take(&mut self, room: &mut [u8]) -> Result<usize, Failed>
+        requires { failed self.old ≡ false }
         ensures count { ReadsAtMost result room.new }
         ensures bytes { ReadConsumes (left self.old) (left self.new) result room.new }
         ensures failure { MarksFailure result (failed self.old) (failed self.new) }
@@ -44,19 +48,48 @@ pub trait ByteSink {
     /// Whether all bytes that were taken are passed on.
     ghost passed_on: { Self → Bool };
 
+    /// What a flush of the device leaves, and nothing else is known to.
+    ghost is_flushed: { Self → Type 0 } = { λ _. ⊤ };
+
     /// Takes bytes from the front, one at least where there is one, and answers how many.
+    ///
+    /// After a call that failed there is no other, neither of this nor of `finish`.
     fn put(&mut self, bytes: &[u8]) -> Result<usize, Failed>
+        requires { failed self.old ≡ false }
         ensures count { WritesAtMost result bytes.now }
         ensures some { IfOk result (λ n. 0 < length bytes.now → 0 < n) }
         ensures bytes { WriteAppends (written self.old) (written self.new) result bytes.now }
         ensures held { MarksHeldBack result (passed_on self.old) (passed_on self.new) }
         ensures failure { MarksFailure result (failed self.old) (failed self.new) };
 
-    /// Passes on what it holds back.
+    /// Passes on what it holds back, by a flush. Where it is not called, what was taken may be held back.
     fn finish(&mut self) -> Result<(), Failed>
+        requires { failed self.old ≡ false }
         ensures bytes { Keeps (written self.old) (written self.new) }
         ensures passed { OnOk result (IsTrue (passed_on self.new)) }
+        ensures flushed { OnOk result (is_flushed self.new) }
         ensures failure { MarksFailure result (failed self.old) (failed self.new) };
+}
+
+/// A writer whose flushes can be told.
+pub trait Flush: Write {
+    /// What a flush leaves, and nothing else is known to.
+    ghost is_flushed: { Self → Type 0 };
+
+    /// Flushes the writer.
+    fn flush_all(&mut self) -> io::Result<()>
+        ensures bytes { Keeps (Self.contents self.old) (Self.contents self.new) }
+        ensures flushed { OnOk result (is_flushed self.new) };
+}
+
+impl<W: Write> Flush for W {
+    ghost use Rattle.std.specs.Prelude.{⊤};
+
+    ghost is_flushed = { λ _. ⊤ };
+
+    fn flush_all(&mut self) -> io::Result<()> {
+        self.flush()
+    }
 }
 
 /// A reader or a writer, with a note of a failure, of the end, and of whether all that was written is flushed.
@@ -122,12 +155,14 @@ impl<R: Read> ByteSource for Noted<R> {
     }
 }
 
-impl<W: Write> ByteSink for Noted<W> {
+impl<W: Flush> ByteSink for Noted<W> {
     ghost written = { λ n. W.contents n.device };
 
     ghost failed = { λ n. n.failed };
 
     ghost passed_on = { λ n. n.passed_on };
+
+    ghost is_flushed = { λ n. W.is_flushed n.device };
 
     fn put(&mut self, bytes: &[u8]) -> Result<usize, Failed> {
         match self.device.write(bytes) {
@@ -141,7 +176,7 @@ impl<W: Write> ByteSink for Noted<W> {
     }
 
     fn finish(&mut self) -> Result<(), Failed> {
-        if self.device.flush().is_err() {
+        if self.device.flush_all().is_err() {
             return Err(self.fail());
         }
         self.passed_on = true;

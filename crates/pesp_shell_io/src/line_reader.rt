@@ -79,7 +79,8 @@ impl LineReader {
 
     /// Takes more bytes after those that are held, and answers whether there were any.
     pub fn fill<R: ByteSource>(&mut self, source: &mut R) -> Result<bool, Failed>
-        requires { length self.old < ROOM }
+        requires room { length self.old < ROOM }
+        requires failure { R.failed source.old ≡ false }
         ensures some { IfOk result (λ more. more ≡ true → length self.old < length self.new) }
         ensures none { IfOk result (λ more. more ≡ false → (self.new ≡ self.old)
             × IsAtEnd (R.left source.new)) }
@@ -98,6 +99,7 @@ impl LineReader {
 
     /// Takes bytes until those that are held tell what stands at their front, and none where they tell it already.
     pub fn look<R: ByteSource>(&mut self, source: &mut R) -> Result<Front, Failed>
+        requires { R.failed source.old ≡ false }
         ensures front { IfOk result (IsFront self.new) }
         ensures end { IfOk result (λ front. front ≡ fronts.Last → IsTrue (R.at_end source.new)
             × IsAtEnd (R.left source.new)) }

@@ -1,6 +1,6 @@
 //! Writing whole texts.
 
-ghost use Rattle.std.specs.Prelude.{ℕ, take, OnOk, OnErr};
+ghost use Rattle.std.specs.Prelude.{◌≡◌, ℕ, false, take, OnOk, OnErr};
 ghost use Rattle.std.specs.Io.KnownBytes.{Appends};
 ghost use Rattle.pesp_shell_io.specs.Devices.{MarksFailure};
 
@@ -8,6 +8,7 @@ use crate::{ByteSink, Failed};
 
 /// Puts all the bytes, in as many calls as it takes.
 pub fn put_all<W: ByteSink>(sink: &mut W, bytes: &[u8]) -> Result<(), Failed>
+    requires { W.failed sink.old ≡ false }
     ensures ok { OnOk result (Appends (W.written sink.old) (W.written sink.new) bytes.now) }
     ensures err { OnErr result ((n : ℕ)
         × Appends (W.written sink.old) (W.written sink.new) (take n bytes.now)) }

@@ -1,5 +1,5 @@
 -- The faults that end a run.
-use Rattle.std.specs.Prelude.{List, [], ◌∷◌}
+use Rattle.std.specs.Prelude.{List, [], ◌∷◌, Contains}
 use Rattle.pesp_shell.specs.declared.run_fault.RunFault.{RunFault}
 use Rattle.pesp_shell.specs.declared.run_fault.RunFault.TheVariants as run
 use Rattle.pesp_shell.specs.declared.run_fault.Source.{Source}
@@ -18,3 +18,7 @@ fault_of run.TooManyLines = fault.TooManyLines
 -- the faults of reading a file
 abbrev pub faults_of_file : Source → List Fault
 faults_of_file source = fault.Unreadable source ∷ fault.TooLong source ∷ fault.Memory 0 ∷ []
+
+-- a fault of reading one of the files
+abbrev pub IsFaultOfFile : Fault → Type 0
+IsFaultOfFile f = (source : Source) × Contains (faults_of_file source) f

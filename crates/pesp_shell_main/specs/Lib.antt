@@ -3,3 +3,4 @@ pub mod Endings
 pub mod Faults
 pub mod Files
 pub mod Wiring
+pub mod Work

@@ -15,6 +15,7 @@ use pesp_shell_io::put_all;
 use std::alloc::Global;
 
 fn write<W: ByteSink>(sink: &mut W, text: &[u8]) -> Result<(), Failed>
+    requires { W.failed sink.old ≡ false }
     ensures ok { OnOk result (Appends (W.written sink.old) (W.written sink.new) text.now) }
     ensures err { OnErr result ((n : ℕ)
         × Appends (W.written sink.old) (W.written sink.new) (take n text.now)) }

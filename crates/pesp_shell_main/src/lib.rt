@@ -6,6 +6,7 @@ mod ending;
 mod fault;
 mod file_bytes;
 mod files;
+mod paths;
 mod program;
 
 pub use program::status;

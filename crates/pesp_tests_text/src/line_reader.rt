@@ -42,7 +42,7 @@ fn told(rt: &impl AllocGlobal, device: impl Read + Drop) -> Result<Vec<u8>, Allo
     let mut source = Noted::new(device);
     let mut reader = LineReader::new(rt.alloc())?;
     let mut text = Vec::new(rt.alloc());
-    for _ in 0..9 {
+    'lines: for _ in 0..9 {
         match reader.look(&mut source) {
             Ok(Front::Line(length)) => {
                 put_marked(&mut text, &reader.held()[..length], b'/')?;

@@ -1,5 +1,7 @@
 //! Devices that take few bytes at a time, that take no more, and that fail.
 
+ghost use Rattle.std.specs.Prelude.{◌≡◌, false};
+
 use crate::asserts::same_at;
 use pesp_shell_io::{ByteSink, Failed, Noted, put_all};
 use std::io::{self, Write};
@@ -32,12 +34,17 @@ impl Write for Narrow<'_> {
     }
 }
 
-/// Puts a text into a sink, and finishes it there. What the two answer.
+/// Puts a text into a sink, and finishes it there where all of it was put. What the two answer.
 fn put_and_finish<W: ByteSink>(
     sink: &mut W,
     text: &[u8],
-) -> (Result<(), Failed>, Result<(), Failed>) {
-    (put_all(sink, text), sink.finish())
+) -> (Result<(), Failed>, Result<(), Failed>)
+    requires { W.failed sink.old ≡ false }
+{
+    if put_all(sink, text).is_err() {
+        return (Err(Failed), Err(Failed));
+    }
+    (Ok(()), sink.finish())
 }
 
 /// Puts a text into a device that takes so much, and finishes it there. What the two answer.

@@ -6,7 +6,7 @@ ghost use Rattle.std.specs.List.Sorted.{IsStrictlyIncreasing};
 ghost use Rattle.pesp_tension.specs.Timetables.{timed_events};
 ghost use Rattle.pesp_search.specs.declared.answer.Answer.TheVariants as answers;
 ghost use Rattle.pesp_search.specs.Optima.{IsAnswer};
-ghost use Rattle.pesp_bench.specs.Asked.{IsAdopted, IsAttempt, IsNoOptimum, IsNotAdopted, IsSearched, IsUnsearched};
+ghost use Rattle.pesp_bench.specs.Asked.{IsAdopted, IsAttempt, IsLent, IsNoOptimum, IsNotAdopted, IsSearched, IsUnsearched};
 
 use crate::candidate::{candidate_cost, or_candidate};
 use crate::costing::KeptCost;
@@ -87,9 +87,10 @@ impl<K: Keeper> Bench<K> {
         Ok(())
     }
 
-    /// The optimum, or out of memory: what [`Bench::find_optimum`] makes known, and a known one as it is. The working timetable stays.
-    pub(crate) fn known_optimum(&mut self, alloc: Global) -> Result<&Answer, Memory>
-        ensures* leaves { sem 𝓛 (follows_so (the_row K.row K.Keeper) (the_row K.row K.Keeper) self.entry.ghost_name none (λ _ _. ⊤) (λ after. IsSearched self.old after × (after.times ≡ self.old.times))) }
+    /// The optimum, or want of memory: what [`Bench::find_optimum`] makes known, and a known one as it is. The error is no
+    /// [`Refusal`], over which no clause on what is left after a loan is proved.
+    pub fn optimum(&mut self, alloc: Global) -> Result<&Answer, Memory>
+        ensures* leaves { sem 𝓛 (follows_so (the_row K.row K.Keeper) (the_row K.row K.Keeper) self.entry.ghost_name none (λ _ _. ⊤) (λ after. IsLent self.old after (λ answer. answer.now) result)) }
         ensures ok { IfOk result (λ answer. IsAnswer self.old.instance answer.now) }
         ensures kept { IfSome self.old.known
             (λ known. IsOkAnd result (λ answer. answer.now ≡ known)) }
