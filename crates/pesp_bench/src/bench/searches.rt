@@ -87,9 +87,8 @@ impl<K: Keeper> Bench<K> {
         Ok(())
     }
 
-    /// The optimum, or want of memory: what [`Bench::find_optimum`] makes known, and a known one as it is. The error is no
-    /// [`Refusal`], over which no clause on what is left after a loan is proved.
-    pub fn optimum(&mut self, alloc: Global) -> Result<&Answer, Memory>
+    /// The optimum, or out of memory: what [`Bench::find_optimum`] makes known, and a known one as it is. The working timetable stays.
+    pub(crate) fn known_optimum(&mut self, alloc: Global) -> Result<&Answer, Memory>
         ensures* leaves { sem 𝓛 (follows_so (the_row K.row K.Keeper) (the_row K.row K.Keeper) self.entry.ghost_name none (λ _ _. ⊤) (λ after. IsLent self.old after (λ answer. answer.now) result)) }
         ensures ok { IfOk result (λ answer. IsAnswer self.old.instance answer.now) }
         ensures kept { IfSome self.old.known
