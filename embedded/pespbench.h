@@ -1,10 +1,12 @@
-/* The workbench in process: whole runs of pespbench over memory, for C and for what calls C.
+/* The workbench in process: sessions that answer line by line, and whole runs of pespbench over memory, for C and for
+ * what calls C.
  *
  * The library is crates/pesp_embedded, proved, as a static library: tools/library makes its out/libpesp_embedded.a.
  * Link heap.c with it, or the toolchain's own heap. What a caller has to keep to stands below; nothing checks it. */
 #ifndef PESPBENCH_H
 #define PESPBENCH_H
 
+#include <stdbool.h>
 #include <stddef.h>
 #include <stdint.h>
 
@@ -23,7 +25,12 @@ enum pesp_status {
     PESP_MEMORY = 6,      /* no memory at line `place`, 0 before the first: the lines before it are answered */
     PESP_LONG_LINE = 7,   /* line `place` has more than 4,096 bytes: the lines before it are answered */
     PESP_MANY_LINES = 8,  /* there are more than 1,000,000 lines: those are answered */
-    PESP_NO_PERIOD = 9    /* the period is not 2 to 1,440: nothing is done, and `out` is as it was */
+    PESP_NO_PERIOD = 9,   /* the period is not 2 to 1,440: nothing is done, and `out` is as it was */
+    /* Of calls on a session alone. Nothing is done, and what the call was to fill in is as it was. */
+    PESP_CLOSED = 10,       /* the session is closed */
+    PESP_OPEN = 11,         /* the session is open already */
+    PESP_NOT_ONE_LINE = 12, /* there is a line feed in the line */
+    PESP_REFUSED = 13       /* refused, as docs/FORMATS.md has it: `reason` is the number, `place` the event */
 };
 
 /* Why a record of a file is refused. */
@@ -46,7 +53,7 @@ struct pesp_told {
     uint64_t length; /* the bytes of the replies, also where `out` has less room for them */
     uint64_t place;  /* a record or a line, from 1; 0 where the status names none */
     uint32_t status; /* of pesp_status */
-    uint32_t reason; /* of pesp_reason, for a fault of a file; else 0 */
+    uint32_t reason; /* of pesp_reason, for a fault of a file; the number of a refusal; else 0 */
     uint32_t field;  /* for PESP_BAD_NUMBER and PESP_OUT_OF_RANGE; else 0 */
 };
 
@@ -70,6 +77,40 @@ struct pesp_told {
 void pesp_answer(uint16_t period, const uint8_t *activities, size_t activities_length, const uint8_t *fixed,
                  size_t fixed_length, const uint8_t *times, size_t times_length, const uint8_t *commands,
                  size_t commands_length, uint8_t *out, size_t out_length, struct pesp_told *told);
+
+/* A session: an instance and a working timetable, kept from call to call. Only the library reads or writes what is in one.
+ *
+ * One of zeros is closed: struct pesp_session session = {0}. What can be told is told: a call on a closed session, and
+ * opening one that is open. What cannot: a session is not null, is opened and closed by these calls alone, and no copy of
+ * one is used beside it, nor one of bytes that no call wrote. It is used by one call at a time, on any thread; two
+ * sessions never meet. For what else a call is given stands what is said of pesp_answer. */
+struct pesp_session {
+    void *at;
+    bool is_open;
+};
+
+/* Opens a closed session of the files, as pesp_answer reads them. Where `told->status` is not PESP_DONE it stays as it
+ * was, and all memory is given back: a period that there is not, a fault of a file, PESP_MEMORY at 0, PESP_OPEN. */
+void pesp_open(uint16_t period, const uint8_t *activities, size_t activities_length, const uint8_t *fixed,
+               size_t fixed_length, const uint8_t *times, size_t times_length, struct pesp_session *session,
+               struct pesp_told *told);
+
+/* Gives all memory of a session back, which is closed then; a closed one stays so. One that is not closed is never freed. */
+void pesp_close(struct pesp_session *session);
+
+/* Answers one line, given without its line feed: the program's bytes. The replies so far are those of a run over the lines
+ * so far, of which a session may have any number.
+ *
+ * out: the room for the reply, as in pesp_answer. The reply to a change has at most 127 bytes; where a longer one does not
+ *     fit, ask once more.
+ * Where `told->status` is not PESP_DONE, the line is not answered, and instance and working timetable are as they were:
+ * PESP_CLOSED, PESP_LONG_LINE, PESP_NOT_ONE_LINE, PESP_MEMORY. Their `place` is 0. */
+void pesp_ask(struct pesp_session *session, const uint8_t *line, size_t line_length, uint8_t *out, size_t out_length,
+              struct pesp_told *told);
+
+/* The cost of the working timetable, as a number. PESP_REFUSED, 11, where an event has no time: `place` is the least such
+ * event. PESP_CLOSED. Nothing changes, and where every event has a time it takes the same time at every size. */
+void pesp_cost(struct pesp_session *session, uint64_t *cost, struct pesp_told *told);
 
 #ifdef __cplusplus
 }

@@ -12,6 +12,7 @@ from tests.drawn_runs import drawn_run, told_by
 from tests.examples import content, folders, words_of
 from tests.file_cases import TWO
 from tests.harness import SOME, TOP, closed_pipe, run, within
+from tests.sessions import many_sessions, sessions
 
 SOURCES = TOP / "embedded"
 # tools/library makes it.
@@ -37,6 +38,8 @@ def callers(suite):
         return {}
     if made(suite, "answer.c", [compiler, *WARNINGS, "-o", folder / "in-c", SOURCES / "answer.c", heap, LIBRARY]):
         found["C"] = [folder / "in-c"]
+    made(suite, "moves.c", [compiler, *WARNINGS, "-o", folder / "moves", SOURCES / "moves.c", heap, LIBRARY])
+    many_sessions(suite, compiler, heap, LIBRARY)
     words = ["-shared", "-o", shared(suite), heap, "-Wl,--whole-archive", LIBRARY, "-Wl,--no-whole-archive"]
     if made(suite, "the shared library", [compiler, *words]):
         found["Python"] = [sys.executable, "-B", SOURCES / "answer.py", shared(suite)]
@@ -84,6 +87,7 @@ def embedded(suite):
         drawn_runs(suite, module, call)
         rooms(suite, module, call)
         periods(suite, module, call)
+        sessions(suite, module, shared(suite))
 
 
 PERIODS = ["65546", "65535", "10x", "x10", "", " 10", "10 ", "-5", "0", "1", "2", "1440", "1441", "1e1", "10.0", "+10", "++10", "+", "0010", "9" * 30]
@@ -182,4 +186,38 @@ def periods(suite, module, call):
         suite.holds(f"period {period} is one", into_room(module, call, b"", period, b"")[1]["status"] == 0)
 
 
-GROUPS = [embedded]
+def moved(suite, title, words):
+    """A local search of embedded/moves.c over a session keeps no move at which the cost rises."""
+    folder = TOP / "examples/two-trains"
+    came = run([*words, "10", folder / "activities", folder / "times", "1000"], env={"LD_LIBRARY_PATH": str(suite.folder / "prefix/lib")})
+    wanted = {"status": 0, "standard output": b"cost 3, now 3\n"}
+    suite.note(title, wanted, came)
+
+
+@within(240)
+def installed_library(suite):
+    """tools/install puts header and libraries where a linker finds them, and the crate of embedded/rust is tried over them."""
+    prefix, compiler, cargo = suite.folder / "prefix", shutil.which("gcc") or shutil.which("cc"), shutil.which("cargo")
+    env = {**os.environ, "PESPBENCH": str(suite.program), "HOME": str(suite.folder)}
+    suite.note("tools/install", {"status": 0, "standard error": b""}, run([TOP / "tools/install", prefix], env=env))
+    if not (compiler and LIBRARY.exists()):
+        return
+    for name in ["include/pespbench.h", "lib/libpespbench.a", "lib/libpespbench.so", "lib/pkgconfig/pespbench.pc"]:
+        suite.holds(f"{name} is there, for everybody to read", os.stat(prefix / name).st_mode & 0o444 == 0o444)
+    flags, source = [f"-I{prefix / 'include'}"], SOURCES / "moves.c"
+    (suite.folder / "moves.c").write_bytes(source.read_bytes())
+    for title, link in [("shared", [f"-L{prefix / 'lib'}", "-lpespbench"]), ("static", [prefix / "lib/libpespbench.a"])]:
+        if made(suite, f"moves.c over the {title} library", [compiler, *WARNINGS, *flags, "-o", suite.folder / title, suite.folder / "moves.c", *link]):
+            moved(suite, f"moves over the {title} library", [suite.folder / title])
+    if shutil.which("pkg-config"):
+        told = run(["pkg-config", "--cflags", "--libs", "pespbench"], env={**env, "PKG_CONFIG_PATH": str(prefix / "lib/pkgconfig")})
+        wanted = f"-I{prefix}/include -L{prefix}/lib -lpespbench".encode()
+        suite.note("what pkg-config tells", {"told": wanted.split()}, {"told": told["standard output"].split()})
+    if cargo:
+        shutil.copytree(SOURCES / "rust", suite.folder / "rust")
+        words = [cargo, "test", "--offline", "--quiet", "--target-dir", suite.folder / "target"]
+        env = {**os.environ, "PESPBENCH_LIB": str(prefix / "lib")}
+        suite.note("the crate's own tests", {"status": 0}, run(words, cwd=suite.folder / "rust", env=env, seconds=200))
+
+
+GROUPS = [embedded, installed_library]

@@ -1,5 +1,6 @@
-"""The header of the library in process says what the crate says: the order of parameters, the layout of what is told, and
-the numbers. A C file of assertions is made from the crate's sources, and a C compiler checks it against the header."""
+"""The header of the library in process says what the crate says: the order of each call's parameters, the layouts of what is
+told and of a session, and the numbers. A C file of assertions is made from the crate's sources, and a C compiler checks it
+against the header."""
 
 import re
 import shutil
@@ -14,6 +15,8 @@ PARAMETERS = {
     "&[u8]": ["const uint8_t *", "size_t"],
     "&mut [u8]": ["uint8_t *", "size_t"],
     "&mut Told": ["struct pesp_told *"],
+    "&mut Session": ["struct pesp_session *"],
+    "&mut u64": ["uint64_t *"],
 }
 FIELDS = {"u64": 8, "u32": 4}
 # The words of the header for those of the crate that are not the same in capitals.
@@ -31,11 +34,11 @@ STATUSES = {
 REASONS = {"Memory": "PESP_READING_MEMORY"}
 
 
-def parameters():
-    """The names and types of the call's parameters, but for the allocator, which no caller sees."""
-    text = (CRATE / "lib.rt").read_text()
-    listed = re.search(r"fn pesp_answer\((.*?)\)\s+ensures", text, re.S).group(1)
-    return [(name, kind) for name, kind in re.findall(r"(\w+): ([^,]+),", listed) if kind != "Global"]
+def calls():
+    """By the name of a call the names and types of its parameters, but for the allocator, which no caller sees."""
+    found = re.findall(r'pub extern "C" fn (\w+)\((.*?)\)\s+ensures', (CRATE / "lib.rt").read_text(), re.S)
+    given = {call: re.findall(r"(\w+): ([^,]+?)(?:,|$)", listed) for call, listed in found}
+    return {call: [each for each in listed if each[1] != "Global"] for call, listed in given.items()}
 
 
 def fields(told):
@@ -53,9 +56,18 @@ def numbers(told):
     found = {STATUSES[name or whole]: int(number) for whole, name, number in ended}
     found["PESP_NO_PERIOD"] = int(re.search(r"fn no_period.*?Told::ended\(0, (\d+), 0\)", told, re.S).group(1))
     found.update({STATUSES[name]: int(number) for name, number in re.findall(r"Source::(\w+) => (\d+),", told)})
+    found.update(faults())
     reasons = re.findall(r"FaultKind::(\w+)(?:\(_\))? => (\d+),", told)
     found.update({REASONS.get(name, in_capitals(name)): int(number) for name, number in reasons})
     return found
+
+
+def faults():
+    """The same of calls on a session; what a run may end with too has the run's word and number."""
+    text = (CRATE / "fault.rt").read_text()
+    told = re.findall(r"Fault::(\w+) => Told::ended\(0, (\d+), 0\),", text)
+    told.append(("Refused", re.search(r"status: (\d+),", text).group(1)))
+    return {STATUSES.get(name, in_capitals(name)): int(number) for name, number in told}
 
 
 def assertions():
@@ -69,21 +81,28 @@ def assertions():
         place += FIELDS[kind]
     yield f'_Static_assert(sizeof(struct pesp_told) == {-(-place // 8) * 8}, "what is told");'
     yield from (f'_Static_assert({name} == {number}, "{name}");' for name, number in numbers(told).items())
-    kinds = ", ".join(kind for _, rust in parameters() for kind in PARAMETERS[rust])
-    yield f"void (*const call)({kinds}) = pesp_answer;"
+    yield '_Static_assert(offsetof(struct pesp_session, at) == 0, "at");'
+    yield '_Static_assert(offsetof(struct pesp_session, is_open) == 8, "is_open");'
+    yield '_Static_assert(sizeof(struct pesp_session) == 16 && sizeof(bool) == 1, "a session");'
+    for call, parameters in calls().items():
+        kinds = ", ".join(kind for _, rust in parameters for kind in PARAMETERS[rust])
+        yield f"void (*const call_{call})({kinds}) = {call};"
 
 
 def names_of_the_header():
-    """The names of the parameters, without those of lengths."""
-    listed = re.search(r"void pesp_answer\((.*?)\);", HEADER.read_text(), re.S).group(1)
-    names = [each.split()[-1].lstrip("*") for each in listed.split(",")]
-    return [name for name in names if not name.endswith("_length")]
+    """By the name of a call the names of its parameters, without those of lengths."""
+    found = {}
+    for call, listed in re.findall(r"void (\w+)\((.*?)\);", HEADER.read_text(), re.S):
+        names = [each.split()[-1].lstrip("*") for each in listed.split(",")]
+        found[call] = [name for name in names if not name.endswith("_length")]
+    return found
 
 
 def layout_in_c(suite):
     """The order of parameters, and each number that the header lists; offsets and sizes, where there is a C compiler."""
     told = (CRATE / "told.rt").read_text()
-    suite.note("parameters", {"names": [name for name, _ in parameters()]}, {"names": names_of_the_header()})
+    names = {call: [name for name, _ in parameters] for call, parameters in calls().items()}
+    suite.note("parameters", {"names": names}, {"names": names_of_the_header()})
     listed = set(re.findall(r"^    (PESP_\w+) = \d+", HEADER.read_text(), re.M))
     suite.note("numbers", {"words": sorted(numbers(told))}, {"words": sorted(listed)})
     compiler = shutil.which("gcc") or shutil.which("cc")

@@ -30,7 +30,7 @@ impl Told {
     }
 
     /// A run with replies of this length ended so, by no fault of a file.
-    fn ended(length: u64, status: u32, place: u64) -> Told
+    pub(crate) fn ended(length: u64, status: u32, place: u64) -> Told
         ensures { result ≡ record {
           length = length;
           place = place;

@@ -14,6 +14,9 @@ const STEP_WORK: u64 = 4;
 /// A candidate counts for so many steps, since it is put in order.
 const CANDIDATE_STEPS: u64 = 4;
 
+/// An odd number whose bits are mixed.
+const MIXER: u64 = 11_400_714_819_323_198_485;
+
 /// A cycle of an arc and the ways to its ends, from where these part.
 #[derive(Clone, Copy, PartialEq, Eq, PartialOrd, Ord)]
 struct Candidate {
@@ -92,6 +95,52 @@ pub(crate) fn shortest(
             if space.adds(steps.as_slice(), work)? {
                 add(&mut cycles, copy_of(&steps)?)?;
             }
+        }
+    }
+    Ok(cycles)
+}
+
+/// What tells one cycle from another, whichever step is its first: nearly always another number.
+fn mark_of(steps: &[Step]) -> u64 {
+    let mut mark: u64 = 0;
+    for step in steps {
+        let arc = (step.arc as u64).wrapping_add(1);
+        let mixed = arc.wrapping_mul(MIXER);
+        mark = mark.wrapping_add((mixed ^ (mixed >> 29)).wrapping_mul(MIXER));
+    }
+    mark
+}
+
+/// The shortest candidates, so many at most, and each once.
+pub(crate) fn narrowest(
+    alloc: Global,
+    graph: &Graph,
+    all: &[Ways],
+    most: usize,
+    work: &mut u64,
+) -> Result<Vec<Vec<Step>>, Memory> {
+    let mut cycles = Vec::new(alloc);
+    let mut steps = Vec::new(alloc);
+    // Those of the cycles of one length.
+    let mut marks = Vec::new(alloc);
+    let mut length = 0;
+    for candidate in &candidates_of(alloc, graph, all, work)? {
+        if cycles.len() == most {
+            return Ok(cycles);
+        }
+        let Some(ways) = all.get(candidate.ways) else {
+            continue;
+        };
+        ways.write_cycle(graph, candidate.arc, &mut steps)?;
+        bill(work, steps.len() as u64);
+        if candidate.length != length {
+            length = candidate.length;
+            marks.clear();
+        }
+        let mark = mark_of(steps.as_slice());
+        if !marks.contains(&mark) {
+            add(&mut marks, mark)?;
+            add(&mut cycles, copy_of(&steps)?)?;
         }
     }
     Ok(cycles)

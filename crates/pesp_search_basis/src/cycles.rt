@@ -1,6 +1,6 @@
 //! Cycles.
 
-use crate::candidates::shortest;
+use crate::candidates::{narrowest, shortest};
 use crate::forest::Forest;
 use crate::graph::Graph;
 use crate::growth::add;
@@ -98,4 +98,20 @@ pub fn narrow_cycles(
     let graph = Graph::of(alloc, nodes, links)?;
     let all = all_ways(alloc, &graph, by_forest, work)?;
     shortest(alloc, &graph, outside.as_slice(), all.as_slice(), work)
+}
+
+/// The narrowest cycles of that kind, so many at most, whether they are sums of others or not.
+pub fn candidate_cycles(
+    alloc: Global,
+    period: Period,
+    nodes: usize,
+    arcs: &[Arc],
+    most: usize,
+    work: &mut u64,
+) -> Result<Vec<Vec<Step>>, Memory> {
+    let links = links_of(alloc, period, nodes, arcs, Idle::LeftOut)?;
+    let (by_forest, _) = Forest::of(alloc, nodes, links.as_slice())?.into_ways(alloc, nodes)?;
+    let graph = Graph::of(alloc, nodes, links)?;
+    let all = all_ways(alloc, &graph, by_forest, work)?;
+    narrowest(alloc, &graph, all.as_slice(), most, work)
 }

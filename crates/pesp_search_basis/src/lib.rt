@@ -21,5 +21,5 @@ mod space;
 mod steps;
 mod ways;
 
-pub use cycles::{cycle_count, narrow_cycles, tree_cycles};
+pub use cycles::{candidate_cycles, cycle_count, narrow_cycles, tree_cycles};
 pub use nearest::way;

@@ -1,5 +1,5 @@
 -- The scale times the cost, and what it is at least.
-use Rattle.std.proofs.Common.{◌≡◌, ℕ, suc, ◌+◌, ◌*◌, ◌<◌, ◌≤◌, ◌++◌, ℤ, pos, ◌+ℤ◌, ◌*ℤ◌, ◌≤ℤ◌, Option, Some, None, MatchOption, List, [], ◌∷◌, length, map, get_or, sum_by, refl, sym, ap, subst, ◌∙◌, arith}
+use Rattle.std.proofs.Common.{◌≡◌, ℕ, suc, ◌+◌, ◌*◌, ◌<◌, ◌≤◌, ◌++◌, ℤ, pos, ◌+ℤ◌, ◌*ℤ◌, ◌≤ℤ◌, Option, Some, None, MatchOption, All, List, [], ◌∷◌, length, map, get_or, sum_by, refl, sym, ap, subst, ◌∙◌, arith}
 use Rattle.std.proofs.Math.IntN.{pos-*ℤ-pos}
 use Rattle.std.proofs.lemmas.Int.{ints}
 use Rattle.std.proofs.lemmas.List.{length-map}
@@ -10,9 +10,9 @@ use Rattle.pesp_search_least.specs.Sums.{IsEmpty, IsLowerBound, Sums}
 use Rattle.pesp_search_graph.specs.declared.arc.Arc.{Arc}
 use Rattle.pesp_search_network.specs.Arcs.{cost_in}
 use Rattle.pesp_search_cycles.specs.declared.boxes.Boxes.{Boxes}
-use Rattle.pesp_search_cycles.specs.Maps.{IsSummed, Net, slack_at}
+use Rattle.pesp_search_cycles.specs.Maps.{AreCycles, IsSummed, Net, slack_at}
 use Rattle.pesp_search_cycles.specs.Ranges.{AreIn}
-use Rattle.pesp_search_cycles.specs.Terms.{greater, products, rate_at, weighed}
+use Rattle.pesp_search_cycles.specs.Terms.{IsKept, greater, products, rate_at, weighed}
 use Rattle.pesp_search_cycles.specs.Walks.{RoundsAreIn}
 
 spread : (s w y r : ℕ) → s * w * y + s * r ≡ s * (w * y + r)
@@ -65,14 +65,14 @@ settled_below scale arcs ys xs least v start long e f g h =
     chain least v (products start (ys ++ xs)) (pos (scale * weighed arcs ys)) g h (products-weighed scale arcs start ys xs long e f)
 
 -- what a lower bound of the scale times the cost tells of the cost
-pub told : (N : Net) (B : Boxes) (o : Option ℕ) (sum : ℤ) (scale : ℕ) → ((ys xs : List ℕ) → length ys ≡ length N.network.arcs → AreIn B.numbers.items (ys ++ xs) → RoundsAreIn B.rounds.items N.network.arcs (ys ++ xs) N.walks → sum ≤ℤ pos (scale * weighed N.network.arcs ys)) → MatchOption o ((cost : ℕ) → sum ≤ℤ pos (scale * cost) → ⊥) (λ least. (cost : ℕ) → sum ≤ℤ pos (scale * cost) → least ≤ cost) → MatchOption o (IsEmpty (IsSummed N B)) (IsLowerBound (IsSummed N B))
-told N B o sum scale f h = go o h
+pub told : (N : Net) (B : Boxes) (o : Option ℕ) (sum : ℤ) (scale : ℕ) → AreCycles N → ((ys xs : List ℕ) → length ys ≡ length N.network.arcs → AreIn B.numbers.items (ys ++ xs) → RoundsAreIn B.rounds.items N.network.arcs (ys ++ xs) N.walks → All (λ cut. IsKept cut (ys ++ xs)) N.cuts → sum ≤ℤ pos (scale * weighed N.network.arcs ys)) → MatchOption o ((cost : ℕ) → sum ≤ℤ pos (scale * cost) → ⊥) (λ least. (cost : ℕ) → sum ≤ℤ pos (scale * cost) → least ≤ cost) → MatchOption o (IsEmpty (IsSummed N B)) (IsLowerBound (IsSummed N B))
+told N B o sum scale sound f h = go o h
   where
     at : (xs : List ℕ) (cost : ℕ) → IsSummed N B xs cost → sum ≤ℤ pos (scale * cost)
     at xs cost s =
         let A = N.network in
         subst (λ k. sum ≤ℤ pos (scale * k)) (weighed-slacks A.period xs A.arcs ∙ s.costed.costs)
-        (f (map (slack_at A.period xs) A.arcs) xs (length-map A.arcs (slack_at A.period xs)) s.inside.numbers s.inside.rounds)
+        (f (map (slack_at A.period xs) A.arcs) xs (length-map A.arcs (slack_at A.period xs)) s.inside.numbers s.inside.rounds (λ k d h. sound.kept k d h xs s.costed.met))
 
     go : (p : Option ℕ) → MatchOption p ((cost : ℕ) → sum ≤ℤ pos (scale * cost) → ⊥) (λ least. (cost : ℕ) → sum ≤ℤ pos (scale * cost) → least ≤ cost) → MatchOption p (IsEmpty (IsSummed N B)) (IsLowerBound (IsSummed N B))
     go None k = λ xs cost s. k cost (at xs cost s)

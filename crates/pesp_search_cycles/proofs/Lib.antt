@@ -1,4 +1,5 @@
 pub mod Firsts
+pub mod Flipped
 pub mod Floors
 pub mod Halved
 pub mod Numbered

@@ -1,5 +1,5 @@
 -- Multiples of what steps and walks take, and what a sum is without them.
-use Rattle.std.proofs.Common.{◌≡◌, ℕ, ◌+◌, ◌<◌, ◌≤◌, Bool, true, false, ℤ, pos, neg_ℤ, ◌+ℤ◌, ◌-ℤ◌, ◌*ℤ◌, ◌≤ℤ◌, List, drop, length, get_or, refl, sym, ap, subst, ◌∙◌, arith}
+use Rattle.std.proofs.Common.{◌≡◌, ℕ, ◌+◌, ◌<◌, ◌≤◌, Bool, true, false, ℤ, pos, negsuc, neg_ℤ, ◌+ℤ◌, ◌-ℤ◌, ◌*ℤ◌, ◌≤ℤ◌, List, drop, length, get_or, refl, sym, ap, subst, ◌∙◌, arith}
 use Rattle.std.proofs.Math.IntN.{*ℤ-zero}
 use Rattle.std.proofs.Math.ListN.{set}
 use Rattle.std.proofs.lemmas.Int.{ints}
@@ -7,10 +7,12 @@ use Rattle.std.proofs.lemmas.List.{drop_all, drop_more}
 use Rattle.pesp_search_graph.specs.declared.arc.Arc.{Arc}
 use Rattle.pesp_search_cycles.specs.declared.range.Range.{Range}
 use Rattle.pesp_search_graph.specs.declared.step.Step.{Step}
+use Rattle.pesp_search_cycles.specs.declared.flip.Part.{Part}
 use Rattle.pesp_search_cycles.specs.Ranges.{IsIn, least_product, no_range}
-use Rattle.pesp_search_cycles.specs.Terms.{products, value}
+use Rattle.pesp_search_cycles.specs.Terms.{left, products, value}
 use Rattle.pesp_search_cycles.specs.Walks.{Path, RoundsAreIn, arc_at, no_path, residue, round, signed, time_of, times}
-use Rattle.pesp_search_cycles.proofs.Numbers.{least_product_le, neg_times, times_neg, times_sum}
+use Rattle.pesp_search_cycles.proofs.Flipped.{times_pos}
+use Rattle.pesp_search_cycles.proofs.Numbers.{least_product_le, neg_times, times_neg, times_sum, times_up}
 use Rattle.pesp_search_cycles.proofs.Totals.{products-set}
 
 less_rate : (rate r part : ℤ) → rate ≡ r -ℤ part → rate -ℤ r ≡ neg_ℤ part
@@ -92,3 +94,28 @@ closed v w a b h e = closed_sum w v a b e h
 
 pub RoundsAreIn-at : (ranges : List Range) (arcs : List Arc) (zs : List ℕ) (walks : List Path) (i : ℕ) → RoundsAreIn ranges arcs zs walks → i < length walks → IsIn (get_or ranges i no_range) (round arcs zs (get_or walks i no_path))
 RoundsAreIn-at ranges arcs zs walks i h lt = h.each i lt
+
+-- one term of a cut more
+pub termed : (terms : List Part) (zs : List ℕ) (i : ℕ) (d : Part) (m multiple p q a : ℤ) → i < length terms → multiple ≡ m *ℤ (get_or terms i d).rate → q ≡ p -ℤ multiple *ℤ pos (get_or zs (get_or terms i d).number 0) → p ≡ a +ℤ m *ℤ left (drop i terms) zs → q ≡ a +ℤ m *ℤ left (drop (i + 1) terms) zs
+termed terms zs i d m multiple p q a h e f g =
+    let t = get_or terms i d in
+    let y = get_or zs t.number 0 in
+    one_less p q a (m *ℤ left (drop i terms) zs) (multiple *ℤ pos y) (m *ℤ left (drop (i + 1) terms) zs) f
+    (ap (λ k. m *ℤ left k zs) (drop_more terms i d h) ∙ times_sum m (t.rate *ℤ pos y) (left (drop (i + 1) terms) zs) ∙ ap (λ k. k +ℤ m *ℤ left (drop (i + 1) terms) zs) (sym (times_pos m t.rate y) ∙ ap (λ k. k *ℤ pos y) (sym e)))
+    g
+
+-- all terms
+pub termed_all : (terms : List Part) (zs : List ℕ) (i : ℕ) (m v a : ℤ) → length terms ≤ i → v ≡ a +ℤ m *ℤ left (drop i terms) zs → v ≡ a
+termed_all terms zs i m v a h e =
+    none_left v a (m *ℤ left (drop i terms) zs) (ap (λ k. m *ℤ left k zs) (drop_all i terms h) ∙ *ℤ-zero m) e
+
+up : (m a b : ℤ) → pos 0 ≤ℤ m → a ≤ℤ b → (m *ℤ a) ≤ℤ (m *ℤ b)
+up (pos n) a b h l = times_up n a b l
+up (negsuc n) a b h l = absurd (omega (arith, ints, h))
+
+-- a cut taken so often
+pub cut_taken : (m sum more product p q l least : ℤ) → pos 0 ≤ℤ m → more ≡ sum +ℤ product → product ≡ m *ℤ least → q ≡ p -ℤ m *ℤ l → least ≤ℤ l → (more +ℤ q) ≤ℤ (sum +ℤ p)
+cut_taken m sum more product p q l least some e f g h = go (m *ℤ least) (m *ℤ l) f g (up m least l some h)
+  where
+    go : (a b : ℤ) → product ≡ a → q ≡ p -ℤ b → a ≤ℤ b → (more +ℤ q) ≤ℤ (sum +ℤ p)
+    go a b i j k = omega (arith, ints, e, i, j, k)

@@ -2,21 +2,13 @@
 use Rattle.std.specs.Prelude.{◌≡◌, ℕ, ◌+◌, ◌++◌, IsTrue, List, All, length, map, slice_index}
 use Rattle.pesp_base.specs.Tensions.{slack_of}
 use Rattle.pesp_search_graph.specs.declared.arc.Arc.{Arc}
-use Rattle.pesp_search_network.specs.Arcs.{AreArcs, Arcs, IsCosted}
+use Rattle.pesp_search_network.specs.Arcs.{AreArcs, Arcs, IsCosted, IsMet}
 use Rattle.pesp_search_cycles.specs.declared.boxes.Boxes.{Boxes}
+use Rattle.pesp_search_cycles.specs.declared.flip.FlipCut.{FlipCut}
 use Rattle.pesp_search_cycles.specs.declared.range.Range.{Range}
 use Rattle.pesp_search_cycles.specs.Ranges.{AreIn}
+use Rattle.pesp_search_cycles.specs.Terms.{IsKept}
 use Rattle.pesp_search_cycles.specs.Walks.{Path, RoundsAreIn, joins}
-
--- a network, and walks in it
-pub record Net : Type 0 where
-  pub network : Arcs
-  pub walks : List Path
-
--- what holds of all of these
-pub record AreCycles (N : Net) : Type 0 where
-  pub arcs : AreArcs N.network
-  pub joined : All (λ p. IsTrue (joins N.network.events N.network.arcs p)) N.walks
 
 -- the slack of an arc at a map
 abbrev pub slack_at : ℕ → List ℕ → Arc → ℕ
@@ -29,6 +21,22 @@ slacks_of A xs = map (slack_at A.period xs) A.arcs
 -- and then its residues
 abbrev pub numbers_of : Arcs → List ℕ → List ℕ
 numbers_of A xs = slacks_of A xs ++ xs
+
+-- a cut is kept by each map that meets everything
+abbrev pub Holds : Arcs → FlipCut → Type 0
+Holds A cut = (xs : List ℕ) → IsMet A xs → IsKept cut (numbers_of A xs)
+
+-- a network, walks in it, and cuts
+pub record Net : Type 0 where
+  pub network : Arcs
+  pub walks : List Path
+  pub cuts : List FlipCut
+
+-- what holds of all of these
+pub record AreCycles (N : Net) : Type 0 where
+  pub arcs : AreArcs N.network
+  pub joined : All (λ p. IsTrue (joins N.network.events N.network.arcs p)) N.walks
+  pub kept : All (Holds N.network) N.cuts
 
 -- its slacks and residues and the times of the walks are in the boxes
 pub record IsInside (N : Net) (B : Boxes) (xs : List ℕ) : Type 0 where

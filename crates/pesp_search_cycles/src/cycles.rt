@@ -1,22 +1,26 @@
 //! Networks with walks in them.
 
 ghost use Rattle.std.specs.Prelude.{◌≡◌, All, IfOk, IsTrue};
-ghost use Rattle.pesp_search_cycles.specs.Maps.{AreCycles};
+ghost use Rattle.pesp_search_cycles.specs.Maps.{AreCycles, Holds};
 ghost use Rattle.pesp_search_cycles.specs.Walks.{joins};
 
 use crate::Walk;
+use crate::flip::FlipCut;
+use crate::walk::copied;
 use pesp_base::{Memory, Period};
 use pesp_search_network::Network;
 use std::alloc::Global;
 use std::marker::Model;
 
-/// A network, and walks along and against its arcs.
+/// A network, walks along and against its arcs, and cuts.
 #[derive(Drop)]
 pub struct Cycles<'a> {
     // As it was given.
     network: &'a Network,
     // Each leads from its first event to its last.
     walks: Vec<Walk>,
+    // Each is kept by all maps.
+    cuts: &'a [FlipCut],
 }
 
 impl<'a> Model for Cycles<'a> {
@@ -24,9 +28,9 @@ impl<'a> Model for Cycles<'a> {
 
     ghost Value = { Net };
 
-    ghost view = { λ a. record { network = a.network.now; walks = a.walks.items } };
+    ghost view = { λ a. record { network = a.network.now; walks = a.walks.items; cuts = a.cuts.now } };
 
-    ghost invariant = { λ a. AreCycles (record { network = a.network.now; walks = a.walks.items }) };
+    ghost invariant = { λ a. AreCycles (record { network = a.network.now; walks = a.walks.items; cuts = a.cuts.now }) };
 }
 
 impl<'a> Cycles<'a> {
@@ -35,7 +39,9 @@ impl<'a> Cycles<'a> {
         alloc: Global,
         network: &'a Network,
         walks: Vec<Walk>,
+        cuts: &'a [FlipCut],
     ) -> Result<Cycles<'a>, Memory>
+        requires { All (Holds network.now) cuts.now }
         ensures { IfOk result (λ cycles. cycles.network ≡ network.now) }
     {
         network.sound();
@@ -48,7 +54,19 @@ impl<'a> Cycles<'a> {
         Ok(Cycles {
             network,
             walks: joined,
+            cuts,
         })
+    }
+
+    /// The same without cuts.
+    pub(crate) fn without_cuts(
+        alloc: Global,
+        network: &'a Network,
+        walks: &[Walk],
+    ) -> Result<Cycles<'a>, Memory>
+        ensures { IfOk result (λ cycles. cycles.network ≡ network.now) }
+    {
+        Cycles::new(alloc, network, copied(alloc, walks)?, &[])
     }
 
     /// What holds of all of these.
@@ -76,5 +94,12 @@ impl<'a> Cycles<'a> {
             self.now.walks }
     {
         &self.walks
+    }
+
+    pub(crate) fn cuts(&self) -> &'a [FlipCut]
+        ensures value { result.now ≡ self.now.cuts }
+        ensures kept { All (Holds self.now.network) self.now.cuts }
+    {
+        self.cuts
     }
 }

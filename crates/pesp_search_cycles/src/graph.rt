@@ -7,7 +7,7 @@ ghost use Rattle.std.specs.Prelude.{◌<◌};
 
 use crate::{Range, Walk};
 use pesp_base::{Memory, Period, Span, Weight};
-use pesp_search_basis::{cycle_count, narrow_cycles, tree_cycles, way};
+use pesp_search_basis::{candidate_cycles, cycle_count, narrow_cycles, tree_cycles, way};
 use pesp_search_graph::{Arc, Step};
 use pesp_search_network::Network;
 use std::alloc::Global;
@@ -216,6 +216,21 @@ impl Graph {
             Basis::Narrow => narrow_cycles(alloc, period, self.nodes, &self.arcs, work)?,
             Basis::Tree => tree_cycles(alloc, period, self.nodes, &self.arcs)?,
         };
+        self.walks_of(alloc, &cycles)
+    }
+
+    /// The walks of narrow cycles, so many at most; none where there are too many.
+    pub(crate) fn candidates(
+        &self,
+        alloc: Global,
+        period: Period,
+        most: usize,
+        work: &mut u64,
+    ) -> Result<Vec<Walk>, Memory> {
+        if MOST_NARROW < self.cycle_count(alloc, period)? {
+            return Ok(Vec::new(alloc));
+        }
+        let cycles = candidate_cycles(alloc, period, self.nodes, &self.arcs, most, work)?;
         self.walks_of(alloc, &cycles)
     }
 

@@ -1,18 +1,21 @@
 //! The first map of least cost: event by event it is asked for a lesser residue, and held.
 
-ghost use Rattle.std.specs.Prelude.{◌≡◌, ℕ, ◌+◌, ◌<◌, ◌^◌, List, IfOk, length, slice_set};
+ghost use Rattle.std.specs.Prelude.{◌≡◌, ℕ, ◌+◌, ◌<◌, ◌^◌, All, List, IfOk, length, slice_set};
 ghost use Rattle.pesp_search_least.specs.Order.{BelowResidue, EndsUnlessSpent, IsFirst, IsFirstOutcome, IsHeld};
 ghost use Rattle.pesp_search_least.specs.Spending.{OnlySpends};
 ghost use Rattle.pesp_search_least.specs.Sums.{IsLeast, IsLowerBound, IsOutcome, StopsWhereSpent};
 ghost use Rattle.pesp_search_network.specs.Arcs.{IsCosted, IsMet};
-ghost use Rattle.pesp_search_cycles.specs.Maps.{IsAmong};
+ghost use Rattle.pesp_search_cycles.specs.Maps.{Holds, IsAmong};
 ghost use Rattle.pesp_search_cycles.specs.Ranges.{AreIn};
 
+use crate::cuts::cuts_among;
+use crate::flip::FlipCut;
 use crate::graph::{Graph, units_of};
 use crate::method::{basis_within, walks_of};
 use crate::node::Node;
 use crate::proposer::Proposer;
 use crate::residues::residue_ranges;
+use crate::walk::copied;
 use crate::{Cycles, Range, Walk};
 use pesp_base::Memory;
 use pesp_search_least::{
@@ -30,23 +33,15 @@ struct Held<'a> {
     residues: Vec<Range>,
     // Those of a basis, and those to events that are held.
     walks: Vec<Walk>,
-    // Knows the walks.
+    // Each is kept by all maps.
+    cuts: Vec<FlipCut>,
+    // Knows the walks and the cuts.
     proposer: Proposer,
     // For each node whether it is held; the origin is.
     held: Vec<bool>,
     alloc: Global,
     ghost long: { length residues.items ≡ network.now.events },
-}
-
-/// Walks once more.
-fn copied(alloc: Global, walks: &[Walk]) -> Result<Vec<Walk>, Memory> {
-    let mut copy = Vec::new(alloc);
-    for index in 0..walks.len() {
-        if copy.push(walks[index].copy()?).is_err() {
-            return Err(Memory);
-        }
-    }
-    Ok(copy)
+    ghost kept: { All (Holds network.now) cuts.items },
 }
 
 impl<'a> Held<'a> {
@@ -60,8 +55,10 @@ impl<'a> Held<'a> {
         let residues = residue_ranges(alloc, network)?;
         let basis = basis_within(alloc, network, &residues, budget)?;
         let walks = walks_of(alloc, network, &residues, basis, budget)?;
+        let plain = Cycles::without_cuts(alloc, network, &walks)?;
+        let cuts = cuts_among(alloc, &plain, &residues, basis, u64::MAX, budget)?;
         let copy = copied(alloc, &walks)?;
-        let proposer = Proposer::new(alloc, &Cycles::new(alloc, network, copy)?)?;
+        let proposer = Proposer::new(alloc, &Cycles::new(alloc, network, copy, &cuts)?)?;
         let Ok(mut held) = vec![in alloc; false; network.events() + 1] else {
             return Err(Memory);
         };
@@ -72,6 +69,7 @@ impl<'a> Held<'a> {
             network,
             residues,
             walks,
+            cuts,
             proposer,
             held,
             alloc,
@@ -97,6 +95,7 @@ impl<'a> Held<'a> {
     fn join(&mut self, event: usize) -> Result<(), Memory>
         ensures network { self.new.network ≡ self.old.network }
         ensures residues { self.new.residues ≡ self.old.residues }
+        ensures cuts { self.new.cuts ≡ self.old.cuts }
     {
         let Some(walk) = self.walk(event)? else {
             return Ok(());
@@ -159,7 +158,7 @@ impl<'a> Region for Held<'a> {
             floor: cost,
             cap: cost + 1,
         };
-        let cycles = Cycles::new(alloc, self.network, walks)?;
+        let cycles = Cycles::new(alloc, self.network, walks, &self.cuts)?;
         let Some(root) = Node::among(alloc, &cycles, &residues, proposer, false)? else {
             return Err(Memory);
         };

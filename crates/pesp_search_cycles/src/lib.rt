@@ -4,8 +4,10 @@
 mod admitted;
 mod boxes;
 mod cut;
+mod cuts;
 mod cycles;
 mod empty;
+mod flip;
 mod gap;
 mod graph;
 mod held;
@@ -15,6 +17,7 @@ mod proposer;
 mod range;
 mod residues;
 mod root;
+mod separate;
 mod terms;
 #[cfg(test)]
 mod tests;

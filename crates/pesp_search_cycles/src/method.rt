@@ -6,6 +6,7 @@ ghost use Rattle.pesp_search_least.specs.Sums.{IsLowerBound, IsOutcome, IsStop, 
 ghost use Rattle.pesp_search_network.specs.Arcs.{IsCosted, IsMet};
 ghost use Rattle.pesp_search_cycles.specs.Ranges.{AreIn};
 
+use crate::cuts::cuts_among;
 use crate::graph::{Basis, Graph, units_of};
 use crate::node::Node;
 use crate::proposer::Proposer;
@@ -108,7 +109,9 @@ fn least_by(
     ensures stops { limits.floor < limits.cap → budget.old.left ≡ Some 0 → IfOk result IsStop }
 {
     let walks = walks_of(alloc, network, residues, basis, budget)?;
-    let cycles = Cycles::new(alloc, network, walks)?;
+    let plain = Cycles::without_cuts(alloc, network, &walks)?;
+    let cuts = cuts_among(alloc, &plain, residues, basis, limits.cap, budget)?;
+    let cycles = Cycles::new(alloc, network, walks, &cuts)?;
     let proposer = Proposer::new(alloc, &cycles)?;
     let Some(root) = Node::among(alloc, &cycles, residues, proposer, true)? else {
         return Err(Memory);

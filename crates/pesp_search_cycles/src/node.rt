@@ -11,12 +11,14 @@ use crate::admitted::{admitted_cost, only_map};
 use crate::boxes::Boxes;
 use crate::cut::{Choice, last_cut, number_cut, round_cut};
 use crate::empty::{has_empty, has_lost_event};
+use crate::flip::Flip;
 use crate::gap::gap_at;
 use crate::graph::units_of;
 use crate::proposer::Proposer;
 use crate::root::root;
+use crate::separate::separate;
 use crate::terms::floor;
-use crate::{Cycles, Range};
+use crate::{Cycles, Range, Walk};
 use pesp_base::Memory;
 use pesp_search_least::{Budget, Candidate, Relaxation, Split};
 use std::alloc::Global;
@@ -35,7 +37,7 @@ pub struct Node<'a> {
     bound: Option<u64>,
     // What sums are made in: one for each number.
     rates: Vec<i64>,
-    // Those of the walks.
+    // Those of the walks, and then those of the cuts.
     multipliers: Vec<i64>,
     // Knows multipliers, splits and maps; nothing that it says is relied upon.
     proposer: Proposer,
@@ -44,7 +46,7 @@ pub struct Node<'a> {
     ghost sound: { AreCycles cycles.now },
     ghost fit: { AreBoxes cycles.now boxes },
     ghost room: { length rates.items ≡ length cycles.now.network.arcs + cycles.now.network.events },
-    ghost walks: { length multipliers.items ≡ length cycles.now.walks },
+    ghost walks: { length multipliers.items ≡ length cycles.now.walks + length cycles.now.cuts },
     ghost none: { ForNone bound (IsEmpty (IsSummed cycles.now boxes)) },
     ghost lower: { ForSome bound (IsLowerBound (IsSummed cycles.now boxes)) },
 }
@@ -93,7 +95,7 @@ impl<'a> Node<'a> {
         let Ok(rates) = vec![in alloc; 0; network.arcs().len() + network.events()] else {
             return Err(Memory);
         };
-        let Ok(multipliers) = vec![in alloc; 0; cycles.walks().len()] else {
+        let Ok(multipliers) = vec![in alloc; 0; cycles.walks().len() + cycles.cuts().len()] else {
             return Err(Memory);
         };
         Ok(Some(Node {
@@ -255,6 +257,29 @@ impl<'a> Node<'a> {
             Some(choice) => Some(choice),
             None => last_cut(self.cycles, &self.boxes),
         }
+    }
+
+    /// The flip of a walk that the tableau misses by most, and by how much.
+    pub(crate) fn separated(
+        &self,
+        alloc: Global,
+        walk: &Walk,
+    ) -> Result<Option<(i64, Flip)>, Memory> {
+        let network = self.cycles.network();
+        let (arcs, period) = (network.arcs(), network.period());
+        separate(
+            alloc,
+            arcs,
+            period,
+            &self.boxes.numbers,
+            &self.proposer,
+            walk,
+        )
+    }
+
+    /// Whether the terms of a cut are as little as they may.
+    pub(crate) fn is_tight(&self, cut: usize) -> bool {
+        self.proposer.is_tight(cut)
     }
 
     /// The ranges of the residues.

@@ -3,6 +3,7 @@
 ghost use Rattle.std.specs.Prelude.{◌≡◌, length};
 
 use crate::boxes::Boxes;
+use crate::flip::{FlipCut, Part};
 use crate::graph::Graph;
 use crate::{Cycles, Range, Walk};
 use pesp_base::{Memory, Period};
@@ -40,10 +41,13 @@ pub(crate) struct Proposal {
 /// the arcs' lower bounds add up to.
 #[derive(Drop)]
 pub(crate) struct Proposer {
-    // A row for each walk.
+    // A row for each walk, and for each cut.
     tableau: Tableau,
     // Of each walk, what the lower bounds of its arcs add up to.
     bases: Vec<i64>,
+    // After how many walks the cuts come, and how many there are.
+    before: usize,
+    cuts: usize,
     // How many slacks and residues there are.
     numbers: usize,
     // How the tableau was left.
@@ -110,6 +114,36 @@ fn terms_of(alloc: Global, arcs: usize, walk: &Walk) -> Result<Vec<Term>, Memory
     Ok(terms)
 }
 
+/// The terms of a cut: its rates are below a period.
+fn terms_of_cut(alloc: Global, cut: &FlipCut) -> Result<Vec<Term>, Memory> {
+    let mut terms = Vec::new(alloc);
+    for part in &cut.terms {
+        let number = part.number;
+        let rate = i32::try_from(part.rate).unwrap_or(0);
+        if terms.push(Term { number, rate }).is_err() {
+            return Err(Memory);
+        }
+    }
+    Ok(terms)
+}
+
+/// What terms are together at most.
+fn most_of(network: &Network, terms: &[Part]) -> i64 {
+    let period = network.period();
+    let mut most: i64 = 0;
+    for term in terms {
+        if term.rate > 0 {
+            let width = match network.arcs().get(term.number) {
+                Some(arc) => arc.width(period),
+                None => period.get(),
+            };
+            let product = term.rate.saturating_mul(i64::from(width));
+            most = most.saturating_add(product);
+        }
+    }
+    most
+}
+
 /// How good a split is by what both halves gain.
 fn score(down: i64, up: i64) -> i64 {
     down.saturating_add(UNIT / 8)
@@ -124,12 +158,17 @@ impl Proposer {
         let mut proposer = Proposer {
             tableau: Tableau::new(alloc, &costs)?,
             bases: Vec::new(alloc),
+            before: cycles.walks().len(),
+            cuts: 0,
             numbers: costs.len(),
             end: End::Spent,
             depth: 0,
         };
         for walk in cycles.walks() {
             proposer.push(alloc, network.arcs(), walk)?;
+        }
+        for cut in cycles.cuts() {
+            proposer.push_cut(alloc, network, cut)?;
         }
         Ok(proposer)
     }
@@ -144,6 +183,45 @@ impl Proposer {
         Ok(())
     }
 
+    /// Takes a cut: a number for what its terms are together.
+    fn push_cut(&mut self, alloc: Global, network: &Network, cut: &FlipCut) -> Result<(), Memory> {
+        let terms = terms_of_cut(alloc, cut)?;
+        self.tableau.push_row(&terms)?;
+        let number = self
+            .numbers
+            .saturating_add(self.before)
+            .saturating_add(self.cuts);
+        let most = most_of(network, &cut.terms).max(cut.least);
+        self.tableau.set_range(number, cut.least, most);
+        self.cuts = self.cuts.saturating_add(1);
+        Ok(())
+    }
+
+    /// The tableau's number for the time of a walk.
+    fn number_of(&self, walk: usize) -> usize {
+        let own = self.numbers.saturating_add(walk);
+        if walk < self.before {
+            own
+        } else {
+            own.saturating_add(self.cuts)
+        }
+    }
+
+    /// The tableau's number for what the terms of a cut are together.
+    fn number_of_cut(&self, cut: usize) -> usize {
+        self.numbers.saturating_add(self.before).saturating_add(cut)
+    }
+
+    /// Whether the terms of a cut are as little as they may.
+    pub(crate) fn is_tight(&self, cut: usize) -> bool {
+        !self.tableau.is_basic(self.number_of_cut(cut))
+    }
+
+    /// What the tableau says of a slack or a residue, in parts.
+    pub(crate) fn parts(&self, index: usize) -> i64 {
+        self.tableau.value(index)
+    }
+
     /// The same with another tableau.
     fn with(&self, tableau: Tableau) -> Result<Proposer, Memory> {
         let Ok(bases) = self.bases.clone() else {
@@ -152,6 +230,8 @@ impl Proposer {
         Ok(Proposer {
             tableau,
             bases,
+            before: self.before,
+            cuts: self.cuts,
             numbers: self.numbers,
             end: self.end,
             depth: self.depth,
@@ -189,7 +269,7 @@ impl Proposer {
             };
             let low = range.low.saturating_sub(base);
             let high = range.high.saturating_sub(base);
-            let number = self.numbers.saturating_add(index);
+            let number = self.number_of(index);
             self.tableau.set_range(number, low, high);
         }
     }
@@ -203,13 +283,20 @@ impl Proposer {
         self.tableau.work().saturating_sub(before)
     }
 
-    /// The multipliers of the walks that tell a bound, and their scale.
+    /// The multipliers of the walks and the cuts that tell a bound, and their scale.
     pub(crate) fn write_multipliers(&self, multipliers: &mut [i64]) -> u32
         ensures { length multipliers.new ≡ length multipliers.old }
     {
         let is_empty = self.end == End::Empty;
-        for row in 0..multipliers.len() {
-            multipliers[row] = if is_empty {
+        let walks = multipliers.len().saturating_sub(self.cuts);
+        for index in 0..multipliers.len() {
+            let number = if index < walks {
+                self.number_of(index)
+            } else {
+                self.number_of_cut(index - walks)
+            };
+            let row = number.saturating_sub(self.numbers);
+            multipliers[index] = if is_empty {
                 self.tableau.refutation(row)
             } else {
                 self.tableau.multiplier(row)
@@ -220,7 +307,7 @@ impl Proposer {
 
     /// What a split of a walk at its time is worth, where that is between two whole numbers of periods.
     fn value_of(&self, walk: usize, period: i64) -> Option<(i64, Proposal)> {
-        let number = self.numbers.saturating_add(walk);
+        let number = self.number_of(walk);
         if !self.tableau.is_basic(number) {
             return None;
         }

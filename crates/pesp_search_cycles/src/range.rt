@@ -21,7 +21,7 @@ pub(crate) struct Halves {
 }
 
 /// The greatest whole number of steps that is not above.
-fn whole_below(at: i64, step: u16) -> Option<i64>
+pub(crate) fn whole_below(at: i64, step: u16) -> Option<i64>
     requires { 0 < step }
     ensures whole { IfSome result (IsMultiple step) }
     ensures below { IfSome result (λ whole. whole ≤ℤ at) }

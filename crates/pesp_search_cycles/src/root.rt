@@ -15,7 +15,7 @@ use pesp_search_network::Network;
 use std::alloc::Global;
 
 /// The times that a step along or against the arc takes at these slacks.
-fn step_range(arc: &Arc, along: bool, slacks: Range) -> Option<Range>
+pub(crate) fn step_range(arc: &Arc, along: bool, slacks: Range) -> Option<Range>
     ensures { IfSome result (λ range. (y : ℕ) → IsIn slacks (pos y)
         → IsIn range (signed along (arc.now.span.lower +ℤ pos y))) }
 {
@@ -43,7 +43,7 @@ fn time_range(arcs: &[Arc], numbers: &[Range], steps: &[Step]) -> Option<Range>
 }
 
 /// The range of the residue of an event.
-fn residue_range(arcs: &[Arc], numbers: &[Range], event: usize) -> Option<Range>
+pub(crate) fn residue_range(arcs: &[Arc], numbers: &[Range], event: usize) -> Option<Range>
     ensures { IfSome result (λ range. (zs : List ℕ) → AreIn numbers.now zs
         → IsIn range (residue arcs.now zs event)) }
 {

@@ -2,14 +2,15 @@
 //!
 //! Where a sum does not fit, `None` is told.
 
-ghost use Rattle.std.specs.Prelude.{◌≡◌, ℕ, List, ◌+◌, ◌*◌, ◌<◌, ◌≤◌, ◌++◌, ◌^◌, pos, ◌*ℤ◌, ◌+ℤ◌, ◌-ℤ◌, ◌≤ℤ◌, IfSome, MatchOption, length, slice_index, slice_index_or};
+ghost use Rattle.std.specs.Prelude.{◌≡◌, ℕ, List, ◌+◌, ◌*◌, ◌<◌, ◌≤◌, ◌++◌, ◌^◌, pos, ◌*ℤ◌, ◌+ℤ◌, ◌-ℤ◌, ◌≤ℤ◌, All, IfSome, MatchOption, length, slice_index, slice_index_or};
 ghost use Rattle.pesp_search_least.specs.Sums.{IsEmpty, IsLowerBound};
 ghost use Rattle.pesp_search_cycles.specs.Maps.{AreBoxes, IsSummed};
 ghost use Rattle.pesp_search_cycles.specs.Ranges.{AreIn, IsIn};
-ghost use Rattle.pesp_search_cycles.specs.Terms.{products, rate_at, value, weighed};
+ghost use Rattle.pesp_search_cycles.specs.Terms.{IsKept, left, products, rate_at, value, weighed};
 ghost use Rattle.pesp_search_cycles.specs.Walks.{RoundsAreIn, residue, round, time_of, times};
 
 use crate::boxes::Boxes;
+use crate::flip::{FlipCut, Part};
 use crate::{Cycles, Range, Walk};
 use pesp_search_graph::{Arc, Step};
 
@@ -166,6 +167,53 @@ fn take_walks(
     Some(less)
 }
 
+/// Takes a multiple of all terms from the sum.
+fn take_terms(terms: &[Part], multiplier: i64, rates: &mut [i64]) -> Option<()>
+    ensures long { length rates.new ≡ length rates.old }
+    ensures taken { IfSome result (λ _. (zs : List ℕ) → length zs ≡ length rates.old
+        → products rates.new zs ≡ products rates.old zs -ℤ multiplier *ℤ left terms.now zs) }
+{
+    for term in terms {
+        if term.number >= rates.len() {
+            return None;
+        }
+        let multiple = multiplier.checked_mul(term.rate)?;
+        take_number(term.number, multiple, rates)?;
+    }
+    Some(())
+}
+
+/// Takes a multiple of a cut's terms from the sum, and adds what this is at least: nothing, where it is less than 0 times.
+fn take_cut(cut: &FlipCut, multiplier: i64, sum: i64, rates: &mut [i64]) -> Option<i64>
+    ensures long { length rates.new ≡ length rates.old }
+    ensures taken { IfSome result (λ less. (zs : List ℕ) → length zs ≡ length rates.old
+        → IsKept cut.now zs
+        → value less rates.new zs ≤ℤ value sum rates.old zs) }
+{
+    if multiplier <= 0 {
+        return Some(sum);
+    }
+    let product = multiplier.checked_mul(cut.least)?;
+    let more = sum.checked_add(product)?;
+    take_terms(&cut.terms, multiplier, rates)?;
+    Some(more)
+}
+
+/// The same for each cut with its multiplier.
+fn take_cuts(cuts: &[FlipCut], multipliers: &[i64], sum: i64, rates: &mut [i64]) -> Option<i64>
+    requires { length multipliers.now ≡ length cuts.now }
+    ensures long { length rates.new ≡ length rates.old }
+    ensures taken { IfSome result (λ less. (zs : List ℕ) → length zs ≡ length rates.old
+        → All (λ cut. IsKept cut zs) cuts.now
+        → value less rates.new zs ≤ℤ value sum rates.old zs) }
+{
+    let mut less = sum;
+    for index in 0..cuts.len() {
+        less = take_cut(&cuts[index], multipliers[index], less, rates)?;
+    }
+    Some(less)
+}
+
 /// What the sum is at least where the numbers are in these ranges.
 fn settle(sum: i64, rates: &[i64], ranges: &[Range]) -> Option<i64>
     requires { length ranges.now ≡ length rates.now }
@@ -203,22 +251,26 @@ fn least_value(
     rates: &mut [i64],
 ) -> Option<i64>
     requires boxes { AreBoxes cycles.now boxes.now }
-    requires multipliers { length multipliers.now ≡ length cycles.now.walks }
+    requires multipliers { length multipliers.now ≡ length cycles.now.walks + length cycles.now.cuts }
     requires rates { length rates.old ≡ length cycles.now.network.arcs + cycles.now.network.events }
     ensures long { length rates.new ≡ length rates.old }
     ensures least { IfSome result (λ least. (ys xs : List ℕ) → length ys ≡ length cycles.now.network.arcs
         → AreIn boxes.now.numbers.items (ys ++ xs)
         → RoundsAreIn boxes.now.rounds.items cycles.now.network.arcs (ys ++ xs) cycles.now.walks
+        → All (λ cut. IsKept cut (ys ++ xs)) cycles.now.cuts
         → least ≤ℤ pos (scale * weighed cycles.now.network.arcs ys)) }
 {
     let arcs = cycles.network().arcs();
     weigh(arcs, scale, rates);
-    let sum = take_walks(arcs, cycles.walks(), &boxes.rounds, multipliers, rates)?;
-    let least = settle(sum, rates, &boxes.numbers)?;
+    let walks = cycles.walks();
+    let (of_walks, of_cuts) = multipliers.split_at(walks.len());
+    let sum = take_walks(arcs, walks, &boxes.rounds, of_walks, rates)?;
+    let less = take_cuts(cycles.cuts(), of_cuts, sum, rates)?;
+    let least = settle(less, rates, &boxes.numbers)?;
     Some(least)
 }
 
-/// A lower bound of what maps in the boxes cost, by multipliers of the walks and a scale, which may be any; or none,
+/// A lower bound of what maps in the boxes cost, by multipliers of walks and cuts and a scale, which may be any; or none,
 /// where these show that there is no map.
 pub(crate) fn floor(
     cycles: &Cycles,
@@ -228,12 +280,13 @@ pub(crate) fn floor(
     rates: &mut [i64],
 ) -> Option<u64>
     requires boxes { AreBoxes cycles.now boxes.now }
-    requires multipliers { length multipliers.now ≡ length cycles.now.walks }
+    requires multipliers { length multipliers.now ≡ length cycles.now.walks + length cycles.now.cuts }
     requires rates { length rates.old ≡ length cycles.now.network.arcs + cycles.now.network.events }
     ensures long { length rates.new ≡ length rates.old }
     ensures floor { MatchOption result (IsEmpty (IsSummed cycles.now boxes.now))
         (IsLowerBound (IsSummed cycles.now boxes.now)) }
 {
+    cycles.sound();
     match least_value(cycles, boxes, multipliers, scale, rates) {
         Some(sum) => least_cost(sum, scale),
         None => Some(0),

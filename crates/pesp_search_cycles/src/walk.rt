@@ -5,6 +5,7 @@ ghost use Rattle.pesp_search_cycles.specs.Walks.{joins, leads};
 
 use pesp_base::Memory;
 use pesp_search_graph::{Arc, Step};
+use std::alloc::Global;
 use std::marker::Model;
 
 /// Steps from one event to another.
@@ -72,4 +73,15 @@ fn leads_to(arcs: &[Arc], from: usize, steps: &[Step], to: usize) -> bool
         at = end;
     }
     at == to
+}
+
+/// Walks once more.
+pub(crate) fn copied(alloc: Global, walks: &[Walk]) -> Result<Vec<Walk>, Memory> {
+    let mut copy = Vec::new(alloc);
+    for index in 0..walks.len() {
+        if copy.push(walks[index].copy()?).is_err() {
+            return Err(Memory);
+        }
+    }
+    Ok(copy)
 }

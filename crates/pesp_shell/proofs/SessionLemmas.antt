@@ -19,7 +19,7 @@ use Rattle.pesp_shell.specs.declared.run_fault.RunFault.{RunFault}
 use Rattle.pesp_shell.specs.declared.run_fault.RunFault.TheVariants as fault
 use Rattle.pesp_shell.specs.declared.run_fault.Source.{Source}
 use Rattle.pesplib_reader.specs.declared.fault.ReadFault.{ReadFault}
-use Rattle.pesp_shell.specs.Opening.{Files, IsFirstFault, IsOpening}
+use Rattle.pesp_shell.specs.Opening.{Files, IsFirstFault, IsOpenFault, IsOpening}
 use Rattle.pesp_shell.specs.Runs.{Answers, IsRun, Marks, MayWant, NoneFailed}
 use Rattle.pesp_shell.specs.Sessions.{MayAnswer, MayEndAfter}
 
@@ -64,7 +64,7 @@ one_line (b ∷ bytes) unended =
 
 -- ---- transcripts
 
-leads_on : (first mid last : Work) (lines more : List (List ℕ)) (output rest : List ℕ)
+pub leads_on : (first mid last : Work) (lines more : List (List ℕ)) (output rest : List ℕ)
     → Leads first lines output mid → Leads mid more rest last → Leads first (lines ++ more) (output ++ rest) last
 leads_on first mid last [] more output rest (none, same) leads =
     subst (λ w. Leads w more (output ++ rest) last) same (subst (λ o. Leads mid more (o ++ rest) last) (sym none) leads)
@@ -100,6 +100,17 @@ not_begun f first left written m off opening = record {
   all = λ ok. absurd (false≢true ok);
   ending = (off, omega arith, (λ some. absurd (omega (arith, some))), stands f first first [] [] opening (omega arith) (All-nil IsShort) (refl, refl));
 }
+
+-- the files open no work
+pub not_opened : (f : Files) (left written : Option (List ℕ)) (m : Marks) (ended : RunFault)
+    → NoneFailed m → IsOpenFault f ended → IsRun f left left written written m (Err ended)
+not_opened f left written m (fault.File source found) off first = not_read f left written m source found off first
+not_opened f left written m (fault.Memory line) off (w, opening, first) =
+    subst (λ (n : ℕ). IsRun f left left written written m (Err (fault.Memory n))) (sym first) (not_begun f w left written m off opening)
+not_opened f left written m fault.Read off none = absurd none
+not_opened f left written m fault.Write off none = absurd none
+not_opened f left written m (fault.LineTooLong line) off none = absurd none
+not_opened f left written m fault.TooManyLines off none = absurd none
 
 -- ---- from line to line
 

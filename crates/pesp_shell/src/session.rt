@@ -7,7 +7,7 @@ ghost use Rattle.pesp_shell.specs.Runs.{IsRun, marks};
 
 use crate::RunFault;
 use crate::answering::{answer, answer_last, end};
-use crate::opening::{open, read};
+use crate::opening::open;
 use pesp_base::Period;
 use pesp_bench::Bench;
 use pesp_domains::Keeper;
@@ -67,10 +67,7 @@ pub fn run<K: Keeper, R: ByteSource, W: ByteSink>(
         (R.left reader.old) (R.left reader.new) (W.written writer.old) (W.written writer.new)
         (marks (R.at_end reader.new) (R.failed reader.new) (W.failed writer.new) (W.passed_on writer.new)) result }
 {
-    let (instance, timetable) = read(alloc, period, activities, fixed, times)?;
-    let Ok(mut bench) = open::<K>(alloc, instance, &timetable) else {
-        return Err(RunFault::Memory { line: 0 });
-    };
+    let mut bench = open::<K>(alloc, period, activities, fixed, times)?;
     let Ok(mut lines) = LineReader::new(alloc) else {
         return Err(RunFault::Memory { line: 0 });
     };

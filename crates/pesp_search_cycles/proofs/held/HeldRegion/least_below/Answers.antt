@@ -20,24 +20,24 @@ least-requires c = record {
       let q = c.below.result in
       let here : c.args.event < length R = omega (arith, c.requires.event, c.args.self.now.long) in
       let same : c.index.result.now ≡ get_or R c.args.event no_range = get_or_read R c.args.event c.index.result.now here c.index.ensures no_range in
-      let narrowed = c.deref-2.ensures.value ∙ c.in_ok-residues.ensures in
-      let among : IsAmong A c.deref-2.result.now xs cost =
-      subst (λ (B : Arcs). IsAmong B c.deref-2.result.now xs cost) c.in_ok-cycles.ensures ((rw c.in-Some-2.is at c.in_ok-root.ensures.within) xs cost s) in
+      let narrowed = c.deref-3.ensures.value ∙ c.in_ok-residues.ensures in
+      let among : IsAmong A c.deref-3.result.now xs cost =
+      subst (λ (B : Arcs). IsAmong B c.deref-3.result.now xs cost) c.in_ok-cycles.ensures ((rw c.in-Some-2.is at c.in_ok-root.ensures.within) xs cost s) in
       c.requires.floor xs cost
-      (below_within A R c.deref-2.result.now c.args.event c.args.residue q here narrowed (λ x. subst (λ (r : Range). IsIn q (pos x) ↔ (IsIn r (pos x) × (x < c.args.residue))) same (c.below.ensures x)) xs cost among).0;
+      (below_within A R c.deref-3.result.now c.args.event c.args.residue q here narrowed (λ x. subst (λ (r : Range). IsIn q (pos x) ↔ (IsIn r (pos x) × (x < c.args.residue))) same (c.below.ensures x)) xs cost among).0;
 }
 
 pub returns-clause-outcome : goal.returns-clause-outcome
 returns-clause-outcome c =
     let A : Arcs = c.args.self.now.network.now in
     let R = c.args.self.now.residues.items in
-    let S = c.deref-2.result.now in
+    let S = c.deref-3.result.now in
     let q = c.below.result in
     let node = c.in-Some-2.root in
     let sums = IsSummed node.cycles.now node.boxes in
     let here : c.args.event < length R = omega (arith, c.requires.event, c.args.self.now.long) in
     let same : c.index.result.now ≡ get_or R c.args.event no_range = get_or_read R c.args.event c.index.result.now here c.index.ensures no_range in
-    let narrowed = c.deref-2.ensures.value ∙ c.in_ok-residues.ensures in
+    let narrowed = c.deref-3.ensures.value ∙ c.in_ok-residues.ensures in
     let is_below : (x : ℕ) → IsIn q (pos x) ↔ (IsIn (get_or R c.args.event no_range) (pos x) × (x < c.args.residue)) =
     λ x. subst (λ (r : Range). IsIn q (pos x) ↔ (IsIn r (pos x) × (x < c.args.residue))) same (c.below.ensures x) in
     let all : IsWithin (IsAmong A S) sums =

@@ -37,7 +37,7 @@ invariant_of-result c =
       sound = s.sound;
       fit = fits s.cycles.now s.sound s.boxes c.args.choice.halves c.put.new.self c.in_ok-above.above c.args.choice.place c.args.choice.halves.above c.in_ok-above.above s.fit c.in_ok-above.ensures;
       room = (let n : length c.in-Ok.rates.items ≡ length s.cycles.now.network.arcs + s.cycles.now.network.events = search rules in n);
-      walks = (let n : length c.in-Ok-clone.multipliers.items ≡ length s.cycles.now.walks = search rules in n);
+      walks = (let n : length c.in-Ok-clone.multipliers.items ≡ length s.cycles.now.walks + length s.cycles.now.cuts = search rules in n);
       none = λ e map sum k. s.none e map sum (h.second_within map sum k);
       lower = λ x e map sum k. s.lower x e map sum (h.second_within map sum k);
     }

@@ -1,0 +1,310 @@
+//! Flip cuts of a network, found round by round: those that the least slacks of the first node do not keep.
+
+ghost use Rattle.std.specs.Prelude.{◌≡◌, ℕ, List, All, IfOk, length};
+ghost use Rattle.pesp_search_least.specs.Spending.{OnlySpends};
+ghost use Rattle.pesp_search_network.specs.Arcs.{IsMet};
+ghost use Rattle.pesp_search_cycles.specs.Maps.{Holds, numbers_of};
+ghost use Rattle.pesp_search_cycles.specs.Ranges.{AreIn};
+
+use crate::flip::{Flip, FlipCut, flip_cut};
+use crate::graph::{Basis, Graph, units_of};
+use crate::node::Node;
+use crate::proposer::Proposer;
+use crate::root::root;
+use crate::separate::separate;
+use crate::walk::copied;
+use crate::{Cycles, Range, Walk};
+use pesp_base::Memory;
+use pesp_search_least::{Budget, Relaxation};
+use pesp_search_network::Network;
+use std::alloc::Global;
+
+/// How many rounds there are at most.
+const ROUNDS: usize = 20;
+
+/// How many narrow cycles are looked at in each.
+const MOST_CANDIDATES: usize = 1_000;
+
+/// How many cuts a round adds at most.
+const MOST_OF_ROUND: usize = 100;
+
+/// Fewer walks than this are searched without cuts.
+const LEAST_WALKS: usize = 12;
+
+/// The last round is one that gains less than so many hundredths of what lies between the bound and a map.
+const LEAST_GAIN: u64 = 100;
+
+/// Where the map costs less than a sixty-fourth more than the bound, no cuts are sought.
+const LEAST_GAP: u64 = 64;
+
+/// A candidate by index, that of which most is missing first.
+#[derive(Clone, Copy, PartialEq, Eq, PartialOrd, Ord)]
+struct Rank {
+    // How much is there: below 0.
+    kept: i64,
+    candidate: usize,
+}
+
+/// The cuts of flips of a network whose numbers are in these ranges.
+fn cuts_of(
+    alloc: Global,
+    cycles: &Cycles,
+    numbers: &[Range],
+    flips: &[Flip],
+) -> Result<Vec<FlipCut>, Memory>
+    requires { (xs : List ℕ) → IsMet cycles.now.network xs
+        → AreIn numbers.now (numbers_of cycles.now.network xs) }
+    ensures { IfOk result (λ cuts. All (Holds cycles.now.network) cuts.items) }
+{
+    let mut cuts = Vec::new(alloc);
+    for index in 0..flips.len() {
+        let Some(cut) = flip_cut(alloc, cycles, numbers, &flips[index]) else {
+            continue;
+        };
+        if cuts.push(cut).is_err() {
+            return Err(Memory);
+        }
+    }
+    Ok(cuts)
+}
+
+/// What is left between a bound and the best that is known: a map's cost, or the cap, or so much more than the bound.
+fn gap_of(bound: u64, cost: Option<u64>, cap: u64) -> u64 {
+    let top = match cost {
+        Some(cost) => cost.min(cap),
+        None => cap.min(bound.saturating_add(bound / 2)),
+    };
+    top.saturating_sub(bound)
+}
+
+/// Whether another round is of use, after one that brought the bound from the last one to this one.
+fn is_worth(last: Option<u64>, bound: u64, gap: u64) -> bool {
+    match last {
+        Some(last) => bound.saturating_sub(last).saturating_mul(LEAST_GAIN) >= gap && 0 < gap,
+        None => gap.saturating_mul(LEAST_GAP) > bound,
+    }
+}
+
+/// The candidates of which the tableau misses cuts, those of which it misses most first.
+fn ranked(
+    alloc: Global,
+    node: &Node,
+    candidates: &[Walk],
+    work: &mut u64,
+) -> Result<Vec<Rank>, Memory> {
+    let mut ranks = Vec::new(alloc);
+    for (candidate, walk) in candidates.iter().enumerate() {
+        let steps = walk.steps.len() as u64;
+        *work = work.saturating_add(steps.saturating_mul(steps).saturating_mul(2));
+        if let Some((missing, _)) = node.separated(alloc, walk)? {
+            let kept = missing.saturating_neg();
+            if ranks.push(Rank { kept, candidate }).is_err() {
+                return Err(Memory);
+            }
+        }
+    }
+    ranks.sort_unstable();
+    Ok(ranks)
+}
+
+/// Adds flips of which the tableau misses most; tells whether there is one.
+fn add_missed(
+    alloc: Global,
+    node: &Node,
+    candidates: &[Walk],
+    flips: &mut Vec<Flip>,
+    work: &mut u64,
+) -> Result<bool, Memory> {
+    let ranks = ranked(alloc, node, candidates, work)?;
+    for (index, rank) in ranks.iter().enumerate() {
+        if index == MOST_OF_ROUND {
+            return Ok(true);
+        }
+        if let Some(walk) = candidates.get(rank.candidate) {
+            if let Some((_, flip)) = node.separated(alloc, walk)? {
+                if flips.push(flip).is_err() {
+                    return Err(Memory);
+                }
+            }
+        }
+    }
+    Ok(!ranks.is_empty())
+}
+
+/// Those of the flips whose cuts are tight.
+fn tight(alloc: Global, node: &Node, flips: Vec<Flip>) -> Result<Vec<Flip>, Memory> {
+    let mut kept = Vec::new(alloc);
+    let mut index: usize = 0;
+    for flip in flips {
+        if node.is_tight(index) && kept.push(flip).is_err() {
+            return Err(Memory);
+        }
+        index = index.saturating_add(1);
+    }
+    Ok(kept)
+}
+
+/// The walks that are looked at: narrow cycles, where there are not too many.
+fn candidates_of(
+    alloc: Global,
+    network: &Network,
+    residues: &[Range],
+    budget: &mut Budget,
+) -> Result<Vec<Walk>, Memory> {
+    let graph = Graph::of(alloc, network, residues)?;
+    let mut work = 0;
+    let walks = graph.candidates(alloc, network.period(), MOST_CANDIDATES, &mut work)?;
+    budget.spend(units_of(work));
+    Ok(walks)
+}
+
+/// Where cuts are sought: at the first node of a network.
+#[derive(Drop)]
+struct Site<'a> {
+    // Of its walks, without cuts.
+    cycles: &'a Cycles<'a>,
+    // One for each event.
+    residues: &'a [Range],
+    // In which all numbers of a map are.
+    numbers: Vec<Range>,
+    // Maps that cost as much are of no use.
+    cap: u64,
+    ghost long: { length residues.now ≡ cycles.now.network.events },
+    ghost inside: { (xs : List ℕ) → IsMet cycles.now.network xs
+        → AreIn numbers.items (numbers_of cycles.now.network xs) },
+}
+
+/// What a round leaves.
+#[derive(Drop)]
+struct Stage {
+    // Of cuts that are tight, and new ones.
+    flips: Vec<Flip>,
+    // What each map costs at least; none before the first round.
+    bound: Option<u64>,
+    // Whether another one is of use.
+    goes_on: bool,
+}
+
+/// What the maps of a node cost at least, and what one of them costs that is at hand.
+fn measured(
+    alloc: Global,
+    node: &mut Node,
+    cap: u64,
+    budget: &mut Budget,
+) -> Result<(u64, Option<u64>), Memory> {
+    node.tighten(cap, budget);
+    let bound = node.bound().unwrap_or(cap);
+    let cost = match node.candidate(alloc)? {
+        Some(candidate) => Some(candidate.cost),
+        None => None,
+    };
+    Ok((bound, cost))
+}
+
+/// Leaves the flips whose cuts are tight and adds those that are missed; another round is of use where one is.
+fn renewed(
+    alloc: Global,
+    node: &Node,
+    before: Vec<Flip>,
+    candidates: &[Walk],
+    budget: &mut Budget,
+) -> Result<(Vec<Flip>, bool), Memory> {
+    let mut flips = tight(alloc, node, before)?;
+    let mut work = 0;
+    let goes_on = add_missed(alloc, node, candidates, &mut flips, &mut work)?;
+    budget.spend(units_of(work));
+    Ok((flips, goes_on))
+}
+
+/// One round: what the cuts of flips make of the bound, and which others are missed.
+fn round(
+    alloc: Global,
+    site: &Site,
+    before: Stage,
+    candidates: &[Walk],
+    budget: &mut Budget,
+) -> Result<Stage, Memory> {
+    let cycles = site.cycles;
+    let cuts = cuts_of(alloc, cycles, &site.numbers, &before.flips)?;
+    let walks = copied(alloc, cycles.walks())?;
+    let with_cuts = Cycles::new(alloc, cycles.network(), walks, &cuts)?;
+    let proposer = Proposer::new(alloc, &with_cuts)?;
+    let Some(mut node) = Node::among(alloc, &with_cuts, site.residues, proposer, false)? else {
+        return Err(Memory);
+    };
+    let (bound, cost) = measured(alloc, &mut node, site.cap, budget)?;
+    let (flips, goes_on) = if is_worth(before.bound, bound, gap_of(bound, cost, site.cap))
+        && !budget.is_spent()
+    {
+        renewed(alloc, &node, before.flips, candidates, budget)?
+    } else {
+        (before.flips, false)
+    };
+    Ok(Stage {
+        flips,
+        bound: Some(bound),
+        goes_on,
+    })
+}
+
+/// The flips whose cuts are worth it, round by round.
+fn flips_of(alloc: Global, site: &Site, budget: &mut Budget) -> Result<Vec<Flip>, Memory> {
+    if site.cycles.walks().len() < LEAST_WALKS {
+        return Ok(Vec::new(alloc));
+    }
+    let network = site.cycles.network();
+    let candidates = candidates_of(alloc, network, site.residues, budget)?;
+    let mut stage = Stage {
+        flips: Vec::new(alloc),
+        bound: None,
+        goes_on: true,
+    };
+    for _round in 0..ROUNDS {
+        if !stage.goes_on {
+            break;
+        }
+        stage = round(alloc, site, stage, &candidates, budget)?;
+    }
+    Ok(stage.flips)
+}
+
+/// What was spent of what was left.
+fn spent_of(before: Option<u64>, after: Option<u64>) -> u64 {
+    match (before, after) {
+        (Some(before), Some(after)) => before.saturating_sub(after),
+        _ => 0,
+    }
+}
+
+/// Flip cuts of a network whose events have their residues in these ranges, at all maps that it has; none beside the
+/// cycles of a tree.
+pub(crate) fn cuts_among<'x>(
+    alloc: Global,
+    cycles: &'x Cycles<'x>,
+    residues: &'x [Range],
+    basis: Basis,
+    cap: u64,
+    budget: &mut Budget,
+) -> Result<Vec<FlipCut>, Memory>
+    requires long { length residues.now ≡ cycles.now.network.events }
+    requires all { (map : List ℕ) → IsMet cycles.now.network map → AreIn residues.now map }
+    ensures kept { IfOk result (λ cuts. All (Holds cycles.now.network) cuts.items) }
+    ensures budget { OnlySpends budget.old.left budget.new.left }
+{
+    if let Basis::Tree = basis {
+        return Ok(Vec::new(alloc));
+    }
+    let Some(boxes) = root(alloc, cycles, residues)? else {
+        return Ok(Vec::new(alloc));
+    };
+    let site = Site {
+        cycles,
+        residues,
+        numbers: boxes.numbers,
+        cap,
+    };
+    let mut part = Budget { left: budget.left };
+    let flips = flips_of(alloc, &site, &mut part)?;
+    budget.spend(spent_of(budget.left, part.left));
+    cuts_of(alloc, cycles, &site.numbers, &flips)
+}

@@ -1,0 +1,219 @@
+//! The workbench in process: a session of an instance and a working timetable, which answers line by line.
+//!
+//! The library is proved, this handle is not: it keeps to what embedded/pespbench.h wants of a caller.
+
+use std::ffi::c_void;
+use std::fmt;
+use std::ptr;
+
+/// The reply to a change has at most so many bytes, so that no change is asked twice.
+const LEAST_ROOM: usize = 128;
+
+const DONE: u32 = 0;
+
+#[repr(C)]
+#[derive(Default)]
+struct Told {
+    length: u64,
+    place: u64,
+    status: u32,
+    reason: u32,
+    field: u32,
+}
+
+#[repr(C)]
+struct Raw {
+    at: *mut c_void,
+    is_open: bool,
+}
+
+extern "C" {
+    #[allow(clippy::too_many_arguments)]
+    fn pesp_open(
+        period: u16,
+        activities: *const u8,
+        activities_length: usize,
+        fixed: *const u8,
+        fixed_length: usize,
+        times: *const u8,
+        times_length: usize,
+        session: *mut Raw,
+        told: *mut Told,
+    );
+    fn pesp_close(session: *mut Raw);
+    fn pesp_ask(session: *mut Raw, line: *const u8, line_length: usize, out: *mut u8, out_length: usize, told: *mut Told);
+    fn pesp_cost(session: *mut Raw, cost: *mut u64, told: *mut Told);
+}
+
+/// The bytes of the files that a session is opened of; one of no bytes is not there.
+#[derive(Clone, Copy, Debug, Default)]
+pub struct Files<'a> {
+    pub activities: &'a [u8],
+    pub fixed: &'a [u8],
+    pub times: &'a [u8],
+}
+
+/// Why a call did nothing, in the numbers of pespbench.h.
+#[derive(Clone, Copy, Debug, PartialEq, Eq)]
+pub struct Fault {
+    /// Of `pesp_status`.
+    pub status: u32,
+    /// Of `pesp_reason` for a fault of a file, or the number of a refusal; else 0.
+    pub reason: u32,
+    /// The record of a file or the event that is named; else 0.
+    pub place: u64,
+    /// The field of a record; else 0.
+    pub field: u32,
+}
+
+impl fmt::Display for Fault {
+    fn fmt(&self, f: &mut fmt::Formatter<'_>) -> fmt::Result {
+        write!(f, "pespbench: status {}, reason {}, place {}", self.status, self.reason, self.place)
+    }
+}
+
+impl std::error::Error for Fault {}
+
+impl Told {
+    fn ended(&self) -> Result<(), Fault> {
+        if self.status == DONE {
+            return Ok(());
+        }
+        Err(Fault {
+            status: self.status,
+            reason: self.reason,
+            place: self.place,
+            field: self.field,
+        })
+    }
+}
+
+/// An open session. It may go to another thread, and is used by one at a time.
+pub struct Session {
+    raw: Raw,
+    // For replies: no call takes one that is longer.
+    room: Vec<u8>,
+}
+
+// Nothing of a session is bound to a thread, and none of its calls takes a shared one.
+unsafe impl Send for Session {}
+
+impl Session {
+    /// Opens a session of files, as pespbench reads them.
+    pub fn open(period: u16, files: Files<'_>) -> Result<Session, Fault> {
+        let mut told = Told::default();
+        let mut raw = Raw {
+            at: ptr::null_mut(),
+            is_open: false,
+        };
+        let Files { activities, fixed, times } = files;
+        // The slices are there during the call, and session and answer are this function's own.
+        unsafe {
+            pesp_open(
+                period,
+                activities.as_ptr(),
+                activities.len(),
+                fixed.as_ptr(),
+                fixed.len(),
+                times.as_ptr(),
+                times.len(),
+                &mut raw,
+                &mut told,
+            );
+        }
+        told.ended()?;
+        Ok(Session {
+            raw,
+            room: vec![0; LEAST_ROOM],
+        })
+    }
+
+    fn asked(&mut self, line: &[u8]) -> Result<usize, Fault> {
+        let mut told = Told::default();
+        // The line and the room are there during the call, and do not meet.
+        unsafe { pesp_ask(&mut self.raw, line.as_ptr(), line.len(), self.room.as_mut_ptr(), self.room.len(), &mut told) };
+        told.ended()?;
+        Ok(told.length as usize)
+    }
+
+    /// The program's reply to a line, which is given without its line feed: its bytes, with theirs.
+    pub fn ask(&mut self, line: &str) -> Result<&[u8], Fault> {
+        let mut length = self.asked(line.as_bytes())?;
+        // Only a question has a longer reply, and asked again it has the same.
+        if self.room.len() < length {
+            self.room.resize(length, 0);
+            length = self.asked(line.as_bytes())?;
+        }
+        Ok(&self.room[..length.min(self.room.len())])
+    }
+
+    /// The cost of the working timetable.
+    pub fn cost(&mut self) -> Result<u64, Fault> {
+        let (mut cost, mut told) = (0, Told::default());
+        unsafe { pesp_cost(&mut self.raw, &mut cost, &mut told) };
+        told.ended()?;
+        Ok(cost)
+    }
+}
+
+impl Drop for Session {
+    fn drop(&mut self) {
+        // Gives all memory of the session back.
+        unsafe { pesp_close(&mut self.raw) };
+    }
+}
+
+#[cfg(test)]
+mod tests {
+    use super::*;
+
+    const TWO: Files = Files {
+        activities: b"1; 1; 2; 3; 5; 2\n2; 2; 1; 4; 6; 1\n",
+        fixed: b"",
+        times: b"1; 0\n",
+    };
+
+    #[test]
+    fn a_session_answers_line_by_line() -> Result<(), Fault> {
+        let mut session = Session::open(10, TWO)?;
+        assert_eq!(session.cost().map_err(|fault| (fault.status, fault.reason, fault.place)), Err((13, 11, 2)));
+        assert_eq!(session.ask("time 2 4")?, b"ok\n");
+        assert_eq!(session.cost()?, 4);
+        assert_eq!(session.ask("cost")?, b"cost 4\n");
+        assert_eq!(session.ask("")?, b"");
+        Ok(())
+    }
+
+    #[test]
+    fn a_long_reply_comes_whole() -> Result<(), Fault> {
+        let mut session = Session::open(1_440, TWO)?;
+        assert_eq!(session.ask("domains")?.len(), 2 * 6_093 + 10);
+        Ok(())
+    }
+
+    #[test]
+    fn faults_are_told() -> Result<(), Fault> {
+        assert_eq!(Session::open(1, TWO).err().map(|fault| fault.status), Some(9));
+        let crossed = Files { activities: b"1; 1; 2; 5; 3; 2\n", ..TWO };
+        let fault = Fault { status: 1, reason: 5, place: 1, field: 0 };
+        assert_eq!(Session::open(10, crossed).err(), Some(fault));
+        assert_eq!(Session::open(10, TWO)?.ask("cost\ncost").err().map(|fault| fault.status), Some(12));
+        Ok(())
+    }
+
+    #[test]
+    fn sessions_go_to_other_threads() {
+        let threads: Vec<_> = (0..2)
+            .map(|_| {
+                std::thread::spawn(|| {
+                    let mut session = Session::open(10, TWO)?;
+                    session.ask("time 2 4")?;
+                    session.cost()
+                })
+            })
+            .collect();
+        for thread in threads {
+            assert_eq!(thread.join().expect("no panic"), Ok(4));
+        }
+    }
+}
