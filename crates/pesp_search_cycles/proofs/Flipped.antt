@@ -8,6 +8,7 @@ use Rattle.pesp_search_cycles.specs.declared.flip.Making.{Making}
 use Rattle.pesp_search_cycles.specs.Terms.{IsMade, left}
 use Rattle.pesp_search_cycles.proofs.Halved.{one_times}
 use Rattle.pesp_search_cycles.proofs.Numbers.{neg_times, sum_times, times_neg, times_sum, times_up}
+use Rattle.pesp_search_cycles.proofs.Totals.{rest}
 
 one_more : (m : ℤ) (n : ℕ) → m *ℤ pos (suc n) ≡ m *ℤ pos n +ℤ m
 one_more m n =
@@ -21,13 +22,13 @@ times_pos c r (suc n) =
     one_more (c *ℤ r) n ∙ ap (λ k. k +ℤ c *ℤ r) (times_pos c r n)
     ∙ sym (ap (λ k. c *ℤ k) (one_more r n) ∙ times_sum c (r *ℤ pos n) r)
 
+pub plus_neg : (p q : ℤ) → p +ℤ neg_ℤ q ≡ p -ℤ q
+plus_neg p q = omega (arith, ints)
+
 less_by : (a b c : ℤ) → a *ℤ (b -ℤ c) ≡ a *ℤ b -ℤ a *ℤ c
 less_by a b c =
     let apart : b -ℤ c ≡ b +ℤ neg_ℤ c = omega (arith, ints) in
-    ap (λ k. a *ℤ k) apart ∙ times_sum a b (neg_ℤ c) ∙ ap (λ k. a *ℤ b +ℤ k) (times_neg a c) ∙ joined (a *ℤ b) (a *ℤ c)
-  where
-    joined : (p q : ℤ) → p +ℤ neg_ℤ q ≡ p -ℤ q
-    joined p q = omega (arith, ints)
+    ap (λ k. a *ℤ k) apart ∙ times_sum a b (neg_ℤ c) ∙ ap (λ k. a *ℤ b +ℤ k) (times_neg a c) ∙ plus_neg (a *ℤ b) (a *ℤ c)
 
 -- a term more
 pub left_more : (ts us : List Part) (t : Part) (zs : List ℕ) → us ≡ ts ++ t ∷ [] → left us zs ≡ left ts zs +ℤ t.rate *ℤ pos (get_or zs t.number 0)
@@ -36,12 +37,9 @@ left_more ts us t zs e = ap (λ (l : List Part). left l zs) e ∙ go ts
     alone : (p : ℤ) → p +ℤ pos 0 ≡ pos 0 +ℤ p
     alone p = omega (arith, ints)
 
-    further : (p q r s : ℤ) → q ≡ r +ℤ s → p +ℤ q ≡ (p +ℤ r) +ℤ s
-    further p q r s f = omega (arith, ints, f)
-
     go : (l : List Part) → left (l ++ t ∷ []) zs ≡ left l zs +ℤ t.rate *ℤ pos (get_or zs t.number 0)
     go [] = alone (t.rate *ℤ pos (get_or zs t.number 0))
-    go (u ∷ l) = further (u.rate *ℤ pos (get_or zs u.number 0)) (left (l ++ t ∷ []) zs) (left l zs) (t.rate *ℤ pos (get_or zs t.number 0)) (go l)
+    go (u ∷ l) = rest (u.rate *ℤ pos (get_or zs u.number 0)) (left (l ++ t ∷ []) zs) (left l zs) (t.rate *ℤ pos (get_or zs t.number 0)) (go l)
 
 -- times of a piece, and what is taken of them
 taken : (c f r : ℤ) (y : ℕ) → c *ℤ (f +ℤ r *ℤ pos y) ≡ c *ℤ f +ℤ (c *ℤ r) *ℤ pos y
@@ -98,9 +96,6 @@ once f lower y e = omega (arith, ints, e)
 
 pub against_once : (f lower : ℤ) (y : ℕ) → f ≡ neg_ℤ lower → f +ℤ negsuc 0 *ℤ pos y ≡ neg_ℤ (lower +ℤ pos y)
 against_once f lower y e = omega (arith, ints, e)
-
-pub again : (z t : ℤ) → (z -ℤ t) +ℤ t ≡ z
-again z t = omega (arith, ints)
 
 pub back_again : (t r s : ℤ) → r ≡ s → t ≡ t +ℤ (r -ℤ s)
 back_again t r s e = omega (arith, ints, e)

@@ -15,7 +15,7 @@ use Rattle.pesp_search_cycles.specs.Walks.{time_of, times}
 without_step : (r z t q p : ℤ) → r ≡ z +ℤ q → p ≡ t +ℤ q → r ≡ (z -ℤ t) +ℤ p
 without_step r z t q p e f = omega (arith, ints, e, f)
 
-again : (z t : ℤ) → (z -ℤ t) +ℤ t ≡ z
+pub again : (z t : ℤ) → (z -ℤ t) +ℤ t ≡ z
 again z t = omega (arith, ints)
 
 pub one_before : (arcs : List Arc) (ys : List ℕ) (steps : List Step) (i : ℕ) (d : Step) (z : ℤ) → i < length steps → times arcs ys steps ≡ z +ℤ times arcs ys (drop (i + 1) steps) → times arcs ys steps ≡ (z -ℤ time_of arcs ys (get_or steps i d)) +ℤ times arcs ys (drop i steps)

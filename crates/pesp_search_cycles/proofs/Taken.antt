@@ -11,7 +11,7 @@ use Rattle.pesp_search_cycles.specs.declared.flip.Part.{Part}
 use Rattle.pesp_search_cycles.specs.Ranges.{IsIn, least_product, no_range}
 use Rattle.pesp_search_cycles.specs.Terms.{left, products, value}
 use Rattle.pesp_search_cycles.specs.Walks.{Path, RoundsAreIn, arc_at, no_path, residue, round, signed, time_of, times}
-use Rattle.pesp_search_cycles.proofs.Flipped.{times_pos}
+use Rattle.pesp_search_cycles.proofs.Flipped.{plus_neg, times_pos}
 use Rattle.pesp_search_cycles.proofs.Numbers.{least_product_le, neg_times, times_neg, times_sum, times_up}
 use Rattle.pesp_search_cycles.proofs.Totals.{products-set}
 
@@ -37,10 +37,7 @@ step_taken arcs ys rs s m part fixed sum less rate h f p q g r =
 pub number_taken : (rs : List ℤ) (zs : List ℕ) (i : ℕ) (m rate : ℤ) → i < length rs → length zs ≡ length rs → rate ≡ get_or rs i (pos 0) -ℤ m → products (set rs i rate) zs ≡ products rs zs -ℤ m *ℤ pos (get_or zs i 0)
 number_taken rs zs i m rate h e r =
     products-set rs zs i rate h e ∙ ap (λ k. products rs zs +ℤ k) (ap (λ k. k *ℤ pos (get_or zs i 0)) (less_rate rate (get_or rs i (pos 0)) m r) ∙ neg_times m (pos (get_or zs i 0)))
-    ∙ less_by (products rs zs) (m *ℤ pos (get_or zs i 0))
-  where
-    less_by : (p a : ℤ) → p +ℤ neg_ℤ a ≡ p -ℤ a
-    less_by p a = omega (arith, ints)
+    ∙ plus_neg (products rs zs) (m *ℤ pos (get_or zs i 0))
 
 both_sum : (p q r a b c d : ℤ) → q ≡ p -ℤ a → r ≡ q -ℤ b → b ≡ neg_ℤ d → c ≡ a +ℤ neg_ℤ d → r ≡ p -ℤ c
 both_sum p q r a b c d e f g h = omega (arith, ints, e, f, g, h)

@@ -14,7 +14,7 @@ first r v x y p e = omega (arith, ints, e)
 whole : (r v : ℤ) → v ≡ r +ℤ (v -ℤ r)
 whole r v = omega (arith, ints)
 
-rest : (a p q d : ℤ) → p ≡ q +ℤ d → a +ℤ p ≡ (a +ℤ q) +ℤ d
+pub rest : (a p q d : ℤ) → p ≡ q +ℤ d → a +ℤ p ≡ (a +ℤ q) +ℤ d
 rest a p q d e = omega (arith, ints, e)
 
 -- where one rate is another one, its slack counts so many times more

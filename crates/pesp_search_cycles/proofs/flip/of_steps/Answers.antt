@@ -5,8 +5,7 @@ use Rattle.pesp_search_graph.specs.declared.step.Step.{Step}
 use Rattle.pesp_search_cycles.specs.Ranges.{IsIn}
 use Rattle.pesp_search_cycles.specs.Terms.{IsMade}
 use Rattle.pesp_search_cycles.specs.Walks.{time_of}
-use Rattle.pesp_search_cycles.proofs.Ranged.{one_before}
-use Rattle.pesp_search_cycles.proofs.Flipped.{again}
+use Rattle.pesp_search_cycles.proofs.Ranged.{again, one_before}
 use Rattle.pesp_search_cycles.proofs.flip.of_steps.Goals as goal
 
 pub loop-index-preserved : goal.loop-index-preserved

@@ -1,6 +1,6 @@
 -- The weights, then the walks, then the cuts, then all numbers.
-use Rattle.std.proofs.lemmas.Int.{ints}
 use Rattle.std.proofs.Common.{◌≡◌, ℕ, ◌*◌, ◌<◌, ◌++◌, ◌≤ℤ◌, ℤ, pos, All, List, FitsSigned, w64, length, get_or, sym, ap, subst, ◌∙◌, arith, rules}
+use Rattle.pesp_base.proofs.Laws.{le_through}
 use Rattle.pesp_search_graph.specs.declared.arc.Arc.{Arc}
 use Rattle.pesp_search_network.specs.Arcs.{Arcs}
 use Rattle.pesp_search_cycles.specs.declared.flip.FlipCut.{FlipCut}
@@ -40,7 +40,4 @@ returns-clause-least c ys xs long numbers rounds kept =
     let settled : c.in_ok-least.least ≤ℤ value c.in_ok-less.less last zs =
     subst (λ s. c.in_ok-least.least ≤ℤ value s last zs) (back _ less_fits) (c.in_ok-least.ensures zs boxes) in
     subst (λ l. l ≤ℤ pos (c.args.scale * weighed A.arcs ys)) (sym (back _ least_fits))
-    (settled_below c.args.scale A.arcs ys xs c.in_ok-least.least (value c.in_ok-less.less last zs) c.weigh.new.rates long (omega (arith, c.requires.rates, c.weigh.ensures.long)) weights settled (at_most _ _ _ more taken))
-  where
-    at_most : (p q r : ℤ) → p ≤ℤ q → q ≤ℤ r → p ≤ℤ r
-    at_most p q r g h = omega (arith, ints, g, h)
+    (settled_below c.args.scale A.arcs ys xs c.in_ok-least.least (value c.in_ok-less.less last zs) c.weigh.new.rates long (omega (arith, c.requires.rates, c.weigh.ensures.long)) weights settled (le_through _ _ _ more taken))
