@@ -9,7 +9,8 @@
 
 from pespbench.answers import Answer, Domain, Found, Infeasible, Optimum, Stopped, Tension, Violations
 from pespbench.client import Bench
-from pespbench.faults import BadReply, Ended, Fault, FileFault, PespbenchError, Refused
+from pespbench.engines import Engine
+from pespbench.faults import BadReply, Ended, Fault, FileFault, NoLibrary, NotKept, PespbenchError, Refused
 from pespbench.labels import EventLabel, Labels
 from pespbench.network import Activity, Network, Window
 from pespbench.parts import optimum_in_parts
@@ -18,7 +19,7 @@ from pespbench.wording import Names
 from pespbench.workers import Lost
 
 __all__ = [
-    "Activity", "Answer", "BadReply", "Bench", "Domain", "Ended", "EventLabel", "Fault", "FileFault", "Found", "Infeasible",
-    "Labels", "Lost", "Names", "Network", "Optimum", "PespbenchError", "Refused", "Stopped", "Tension", "Violations", "Window",
-    "optimum_in_parts", "variants",
+    "Activity", "Answer", "BadReply", "Bench", "Domain", "Ended", "Engine", "EventLabel", "Fault", "FileFault", "Found",
+    "Infeasible", "Labels", "Lost", "Names", "Network", "NoLibrary", "NotKept", "Optimum", "PespbenchError", "Refused", "Stopped",
+    "Tension", "Violations", "Window", "optimum_in_parts", "variants",
 ]

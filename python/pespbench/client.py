@@ -1,24 +1,25 @@
-"""A running program, as an object: a method for each command, and what the client adds to them."""
+"""A network in an engine, as an object: a method for each command, and what the client adds to them."""
 
 from __future__ import annotations
 
 import os
 import re
 import time as clock
-from contextlib import contextmanager
-from typing import Dict, Iterable, Iterator, List, Mapping, Optional, Union
+from operator import index
+from typing import Iterable, List, Mapping, Optional, Tuple, Union
 
 from pespbench import files
 from pespbench.answers import Answer, Found, Stopped
 from pespbench.commands import MOST_NODES, checked
 from pespbench.curing import cured
+from pespbench.engines import Engine
 from pespbench.faults import Ended, Fault, Refused
+from pespbench.journal import journal_of
+from pespbench.kept import Kept
 from pespbench.labels import Labels
-from pespbench.methods import Commands, found_by
-from pespbench.network import Network
-from pespbench.places import Place
-from pespbench.process import OutOfTime, find_program
-from pespbench.session import Outcome, Session
+from pespbench.methods import found_by
+from pespbench.session import Cost, Outcome, Session
+from pespbench.transport import OutOfTime
 from pespbench.watching import Watch
 from pespbench.work import Work
 
@@ -29,20 +30,17 @@ MOST_SECONDS = 1_000_000
 SECONDS_TEXT = f"a search takes from 0 to {MOST_SECONDS:,} seconds"
 
 
-class Bench(Commands):
-    """A network in a running program.
+class Bench(Kept):
+    """A network in a running program, or in the library in this process (`open`).
 
     There is a method for each command (Commands). What was accepted is kept: where a search is killed (Ctrl-C, `search`),
     or the program ends, the next use starts it again with all of that. A bench is for one thread at a time, and for a
     `with` statement, which closes it.
-    """
 
-    def __init__(self, session: Session, labels: Optional[Labels] = None) -> None:
-        """Takes a session; `open`, `from_script` and `load` make one."""
-        self._session = session
-        self.labels = Labels() if labels is None else labels
-        # Where stations lie: x to the east, y to the north.
-        self.places: Dict[str, Place] = {}
+    Over the library (pespbench.in_process) all answers are the same, and a move takes microseconds. Ctrl-C is heard in a
+    search at once and in any other call after its answer, within about a second. A search that is given up cannot be stopped
+    there: the bench goes on without it, and it takes a processor until it has come to its end, or this process ends.
+    """
 
     @classmethod
     def open(
@@ -54,22 +52,30 @@ class Bench(Commands):
         period: int = 60,
         labels: Union[Path, Labels, None] = None,
         program: Optional[Path] = None,
+        engine: Union[str, Engine] = "program",
+        library: Optional[Path] = None,
+        journal: Union[int, str] = "all",
     ) -> "Bench":
         """Opens files as the program reads them; `activities` may be None, for a network without events.
 
-        `program` is what is run; where it is None, that is the program of the environment's PESPBENCH, else `pespbench` on
-        the path. The times are read here too, so their file has to be one that can be read twice. Raises Ended where the
-        program does not take the files or the period, FileNotFoundError where there is no program, and of the labels OSError
-        and FileFault.
+        `engine` is what answers. With "program", `program` is what is run; where it is None, that is the program of the
+        environment's PESPBENCH, else `pespbench` on the path. With "library", the library answers in this process: the file or
+        folder `library`, else the first that is found (find_library of pespbench.library says where).
+
+        `journal` says which of the accepted changes are kept for `undo` and `journal`: "all", the last so many, or "none"; 0 is
+        none. A trial keeps its own while it lasts. What an ended engine is opened again with rests on no journal.
+
+        The times are read here too, so their file has to be one that can be read twice. Raises Ended where the files or the
+        period are not taken, FileNotFoundError where there is no program, NoLibrary where there is no library, WrongWords for
+        another engine or journal, and of the labels OSError and FileFault.
         """
+        kept, answering = journal_of(journal), Engine.of(engine, program, library)
         named = labels if labels is None or isinstance(labels, Labels) else Labels.read(labels)
-        options = {"fixed": fixed, "times": times}
-        words = [f"--{name}={os.fspath(path)}" for name, path in options.items() if path is not None]
-        words += [] if activities is None else ["--", os.fspath(activities)]
+        paths = {"activities": activities, "fixed": fixed, "times": times}
         try:
-            session = Session.opened(find_program(program), period, words)
+            session = Session.opened(answering, period, paths, kept)
         except Ended as ended:
-            raise cured(ended, {"activities": activities, **options}) from None
+            raise cured(ended, paths) from None
         bench = cls(session, named)
         try:
             given = {} if times is None else files.read_times(times)
@@ -88,18 +94,23 @@ class Bench(Commands):
         period: Optional[int] = None,
         labels: Union[Path, Labels, None] = None,
         program: Optional[Path] = None,
+        engine: Union[str, Engine] = "program",
+        library: Optional[Path] = None,
+        journal: Union[int, str] = "all",
     ) -> "Bench":
         """Opens the network that the lines of a script make, as `dump` gives them.
 
         The period is that of its comment `# period T lines N` where none is given, and else 60. Raises Refused or Fault for
         the first line that is not accepted, Ended for a period that the program does not take, and what `open` raises of the
-        program and of the labels.
+        engine, of the journal and of the labels.
         """
         lines = script.split("\n")
         if period is None:
             told = filter(None, map(PERIOD_COMMENT.match, lines))
             period = next((int(found[1]) for found in told), 60)
-        bench = cls.open(None, period=period, labels=labels, program=program)
+        bench = cls.open(
+            None, period=period, labels=labels, program=program, engine=engine, library=library, journal=journal
+        )  # fmt: skip
         try:
             bench._all(line for line in lines if line.split() and not line.split()[0].startswith("#"))
             bench._session.journal.clear()
@@ -118,6 +129,9 @@ class Bench(Commands):
         period: Optional[int] = None,
         labels: Union[Path, Labels, None] = None,
         program: Optional[Path] = None,
+        engine: Union[str, Engine] = "program",
+        library: Optional[Path] = None,
+        journal: Union[int, str] = "all",
     ) -> "Bench":
         """Opens what `save` has written; what is given is taken in place of the folder's own.
 
@@ -125,7 +139,8 @@ class Bench(Commands):
         """
         from pespbench.folders import load
 
-        return load(folder, program, period, {"fixed": fixed, "times": times, "labels": labels})
+        answering = Engine.of(engine, program, library)
+        return load(folder, answering, period, {"fixed": fixed, "times": times, "labels": labels}, journal)
 
     def save(self, folder: Path) -> None:
         """Writes network, times, labels and places to a folder, which is made where it is not there. Raises OSError.
@@ -136,49 +151,32 @@ class Bench(Commands):
 
         save(self, folder)
 
-    def close(self) -> None:
-        """Ends the program. Each other method but those for what the client knows raises ValueError then."""
-        self._session.close()
-
-    def __enter__(self) -> "Bench":
-        return self
-
-    def __exit__(self, *_: object) -> None:
-        self.close()
-
-    # What the client knows, without asking.
-
-    @property
-    def program(self) -> str:
-        """The path of the program."""
-        return self._session.program
-
-    @property
-    def period(self) -> int:
-        """The period, in units of time."""
-        return self._session.work.network.period
-
-    @property
-    def network(self) -> Network:
-        """The network as the accepted commands left it. It changes with them; it is there to be read."""
-        return self._session.work.network
-
-    @property
-    def times(self) -> Dict[int, int]:
-        """The working timetable: the time of each event that has one, below the period, ascending by event; a copy."""
-        known = self._session.work.times
-        return {event: known[event] for event in sorted(known)}
-
     def set_times(self, times: Mapping[int, int]) -> None:
         """Makes these the working timetable, in one write; events that are left out have no time then.
 
         All is done or nothing. Raises Refused for an event that is not there (2) and for a time that is not below the period
         (4), and what each command raises.
         """
-        mark = len(self._session.journal)
-        with self._all_or_nothing():
-            self._all(Work.change_to(self._session.work.times, times))
-        self._session.join(mark)
+        journal = self._session.journal
+        with journal.held() as mark:
+            try:
+                self._all(Work.change_to(self._session.work.times, times))
+            except BaseException:
+                self._session.take_back(mark)
+                raise
+            journal.join(mark)
+
+    # The two that a local search asks most often: they go the shortest way where it ends well, and else as all others.
+
+    def time(self, event: int, time: int) -> None:
+        """The event is at `time`, which is below the period, in the working timetable."""
+        if not (type(event) is int and type(time) is int and self._session.set_time(event, time)):
+            super().time(event, time)
+
+    def cost(self) -> int:
+        """What the working timetable costs: weight times slack, over all activities. Raises Refused (11) where a time is missing."""
+        cost = self._session.cost()
+        return super().cost() if cost is None else cost
 
     # Lines and searches.
 
@@ -194,6 +192,15 @@ class Bench(Commands):
         """
         return list(self._session.outcomes([checked(command) for command in commands]))
 
+    def moves(self, moves: Iterable[Tuple[int, int]]) -> List[Cost]:
+        """Sets times, each an event with its time, and gives the cost after each: `time` and `cost` for each, but sooner.
+
+        As in `many`, a refusal or a fault is a value of the list, of the move or of its cost, and the rest goes on; each move
+        that is accepted is a change of its own. Raises TypeError, before anything is set, for what is no whole number, and
+        Ended and BadReply; what was accepted before that is kept.
+        """
+        return list(self._session.moves([(index(event), index(time)) for event, time in moves]))
+
     def standing(self) -> Stopped:
         """The working timetable with its cost where it meets everything; else a cost of None, and no times."""
         if len(self._session.work.times) < len(self.network.windows) or len(self.violations()):
@@ -204,7 +211,7 @@ class Bench(Commands):
         """The optimum where it is found within a time, and else the best timetable that is known.
 
         The working timetable is one where it meets everything. It tries `nodes` nodes, twice as many, and so on; what is
-        under way when the time is over is killed. `watch` is told what it comes to, and so has the best timetable where
+        under way when the time is over is given up. `watch` is told what it comes to, and so has the best timetable where
         anything is raised. Raises ValueError for seconds that are not from 0 to 1,000,000.
         """
         if not 0 <= seconds <= MOST_SECONDS:
@@ -224,34 +231,6 @@ class Bench(Commands):
                 return watch.best
             nodes = min(2 * nodes, MOST_NODES)
 
-    # The journal.
-
-    @property
-    def journal(self) -> List[str]:
-        """What was accepted since the bench was opened and not taken back, as command lines."""
-        return [command for change in self._session.journal for command in change.commands]
-
-    def undo(self) -> List[str]:
-        """Takes back the last accepted change, and gives its commands; `adopt` and `set_times` are one change each.
-
-        Raises ValueError where there is none, within a trial where it has none.
-        """
-        if len(self._session.journal) <= self._session.floor:
-            raise ValueError("there is nothing to take back")
-        return self._session.take_back(len(self._session.journal) - 1)
-
-    @contextmanager
-    def trial(self) -> Iterator["Bench"]:
-        """What is accepted within the `with` statement is taken back at its end, whatever ends it."""
-        session = self._session
-        floor, mark = session.floor, len(session.journal)
-        session.floor = mark
-        try:
-            yield self
-        finally:
-            session.floor = floor
-            session.take_back(mark)
-
     # How a command is asked.
 
     def _one(self, command: str, deadline: Optional[float]) -> Answer:
@@ -265,12 +244,3 @@ class Bench(Commands):
         for outcome in self.many(commands):
             if isinstance(outcome, (Refused, Fault)):
                 raise outcome
-
-    @contextmanager
-    def _all_or_nothing(self) -> Iterator[None]:
-        mark = len(self._session.journal)
-        try:
-            yield
-        except BaseException:
-            self._session.take_back(mark)
-            raise

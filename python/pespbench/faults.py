@@ -49,7 +49,7 @@ class Ended(PespbenchError):
 
     `status` is its exit status, negative where a signal ended it; `text` is what it wrote to standard error. `cure` says what
     a fault of a file comes from and what mends it, where that is known, and is empty else. What the bench had accepted is
-    kept: its next use starts the program again.
+    kept: its next use starts the program again. The library tells the same status and text where the program would end.
     """
 
     def __init__(self, status: int, text: str, cure: str = "") -> None:
@@ -71,6 +71,22 @@ class BadReply(PespbenchError):
 
     def __str__(self) -> str:
         return f"no reply of pespbench: {self.text[:200]!r}"
+
+
+class NoLibrary(PespbenchError):
+    """The library in process is not there, or cannot be used. `str` says where it was looked for, and what mends it."""
+
+
+class NotKept(PespbenchError, ValueError):
+    """A change cannot be taken back, since the journal was to keep the last `most` alone, and it is an earlier one."""
+
+    def __init__(self, most: int) -> None:
+        super().__init__(most)
+        self.most = most
+
+    def __str__(self) -> str:
+        kept = f"the last {self.most} changes alone" if self.most else "no changes"
+        return f"an earlier change cannot be taken back: the journal keeps {kept}"
 
 
 class WrongWords(PespbenchError, ValueError):

@@ -18,6 +18,7 @@ from pathlib import Path
 from typing import TYPE_CHECKING, Any, Dict, Mapping, Optional, Union
 
 from pespbench import files
+from pespbench.engines import Engine
 from pespbench.faults import FileFault, Refused
 from pespbench.labels import Labels
 from pespbench.network import Network, window_command
@@ -65,9 +66,10 @@ def write_folder(
 
 def load(
     folder: AnyPath,
-    program: Union[AnyPath, None] = None,
+    engine: Union[str, Engine] = "program",
     period: Optional[int] = None,
     instead: Optional[Mapping[str, Union[AnyPath, Labels, None]]] = None,
+    journal: Union[int, str] = "all",
 ) -> "Bench":
     """Opens a folder that was saved; a period, and files of some names, are taken in place of the folder's own.
 
@@ -80,7 +82,7 @@ def load(
     there = {name: place / name for name in ("fixed", "times", "labels") if (place / name).exists()}
     there.update(given)
     known = period_of(place / "period") if period is None else period
-    bench = Bench.open(place / "activities", period=known, program=program, **there)
+    bench = Bench.open(place / "activities", period=known, engine=engine, journal=journal, **there)
     try:
         if (place / "places").exists():
             bench.places = read_places(place / "places")

@@ -11,17 +11,15 @@ import time
 import weakref
 from typing import IO, Iterator, List, Optional, Sequence, Tuple, Union
 
+from pespbench.commands import MOST_LINES
 from pespbench.faults import BadReply, Ended
 from pespbench.replies import Assembler
 from pespbench.starting import started
+from pespbench.transport import OutOfTime, Transport
 
 PIECE = 65_536
 # How long a program may take to end that was told to, or has closed its output.
 PATIENCE = 2.0
-
-
-class OutOfTime(Exception):
-    """The deadline came before the reply."""
 
 
 def find_program(program: Union[str, "os.PathLike[str]", None]) -> str:
@@ -36,7 +34,7 @@ def find_program(program: Union[str, "os.PathLike[str]", None]) -> str:
     return os.path.abspath(found)
 
 
-class Process:
+class Process(Transport):
     """A running program. It has a session of its own, so that Ctrl-C at a terminal reaches the client alone."""
 
     def __init__(self, words: Sequence[str]) -> None:
@@ -50,7 +48,7 @@ class Process:
         self._selector = selectors.PollSelector()
         self._selector.register(self._output, selectors.EVENT_READ)
         self._assembler = Assembler()
-        self.lines = 0
+        self._lines = 0
         # One that nobody closed goes with its object, or with the interpreter.
         self._let_go = weakref.finalize(self, let_go, self._child, self._selector, self._errors, os.getpid())
         _running.add(self)
@@ -58,12 +56,11 @@ class Process:
     def replies(self, commands: Sequence[str], deadline: Optional[float] = None) -> Iterator[List[str]]:
         """Sends commands, and gives the reply to each as it comes.
 
-        Where the caller stops before the last, replies are left in the pipe, and the process is of no more use. The deadline
-        is one of `time.monotonic`. Raises Ended where the program ends, OutOfTime at the deadline, BadReply, also for what
-        comes unasked: then no reply that is not given yet can be relied on.
+        Where the caller stops before the last, replies are left in the pipe. Raises Ended where the program ends, OutOfTime
+        at the deadline, and BadReply, also for what comes unasked.
         """
         self._want_silence()
-        self.lines += len(commands)
+        self._lines += len(commands)
         rest = self._write(memoryview("".join(f"{command}\n" for command in commands).encode()))
         wanted = len(commands)
         while wanted:
@@ -122,6 +119,10 @@ class Process:
             status = self._child.wait()
         self._errors.seek(0)
         return Ended(status, self._errors.read().decode(errors="replace").strip())
+
+    def is_full(self, lines: int) -> bool:
+        """Whether the program would end before so many lines more."""
+        return self._lines + lines > MOST_LINES
 
     def close(self) -> None:
         """Ends the program by the end of its input, and by force where that takes long."""

@@ -1,95 +1,100 @@
-"""A network in a program that is started again, with all that was accepted, where it has ended."""
+"""A network in an engine that is opened again, with all that was accepted, where it has ended."""
 
 from __future__ import annotations
 
-from dataclasses import dataclass
-from typing import Iterator, List, Mapping, Optional, Sequence, Union
+from contextlib import contextmanager
+from typing import Iterator, List, Mapping, Optional, Sequence, Tuple, Union
 
 from pespbench.answers import Answer, Optimum
-from pespbench.commands import CHANGES, MOST_LINES, name_of
+from pespbench.commands import CHANGES, name_of, split
+from pespbench.engines import Engine, Path
 from pespbench.faults import BadReply, Fault, Refused
-from pespbench.process import Process
+from pespbench.journal import Change, Journal
 from pespbench.replies import answer_of, is_reply_to
+from pespbench.transport import Transport
 from pespbench.work import Work, work_of
 
 Outcome = Union[Answer, Refused, Fault]
-# As many lines are sent at once; a program takes no more than MOST_LINES in all.
+# What is told after a move.
+Cost = Union[int, Refused, Fault]
+# As many lines are sent at once.
 BATCH = 50_000
 
 
-@dataclass(frozen=True)
-class Change:
-    """What was accepted as one, and the commands that take it back, in their order."""
-
-    commands: List[str]
-    back: List[str]
-
-
 class Session:
-    """The work as the client knows it, a program that has the same, and the journal of what was accepted."""
+    """The work as the client knows it, an engine that has the same, and the journal of what was accepted."""
 
-    def __init__(self, program: str, work: Work, process: Optional[Process] = None) -> None:
-        self.program = program
+    def __init__(self, engine: Engine, work: Work, transport: Optional[Transport] = None, journal: Optional[Journal] = None) -> None:
+        self.engine = engine
         self.work = work
-        self.journal: List[Change] = []
+        self.journal = Journal() if journal is None else journal
         # Changes below this place are not taken back: those from before a trial.
         self.floor = 0
-        self._process = process
+        self._transport = transport
         self._is_closed = False
 
     @classmethod
-    def opened(cls, program: str, period: int, words: Sequence[str], times: Optional[Mapping[int, int]] = None) -> "Session":
-        """Starts the program with words, and asks it what it has. Raises Ended where it does not take them."""
-        process = Process([program, f"--period={period}", *words])
+    def opened(cls, engine: Engine, period: int, paths: Mapping[str, Optional[Path]], journal: Journal) -> "Session":
+        """Opens files, and asks what they have. Raises Ended where they are not taken."""
+        transport = engine.opened(period, paths)
         try:
-            [reply] = process.replies(["dump"])
+            [reply] = transport.replies(["dump"])
             if not isinstance(answer_of(reply), str):
                 raise BadReply(reply[0])
             work = work_of(reply[1:], period)
         except BaseException:
-            process.kill()
+            transport.kill()
             raise
-        return cls(program, work, process)
+        return cls(engine, work, transport, journal)
 
     def close(self) -> None:
-        """Ends the program; there are no more answers then."""
+        """Ends the engine; there are no more answers then."""
         self._is_closed = True
-        process, self._process = self._process, None
-        if process is not None:
-            process.close()
+        transport, self._transport = self._transport, None
+        if transport is not None:
+            transport.close()
 
     def drop(self) -> None:
-        """Ends the program by force. The next use starts it again."""
-        process, self._process = self._process, None
-        if process is not None:
-            process.kill()
+        """Ends the engine by force. The next use opens it again."""
+        transport, self._transport = self._transport, None
+        if transport is not None:
+            transport.kill()
 
     def end(self) -> None:
-        """Ends the program by force, from whatever thread; who waits for it is raised Ended."""
-        process = self._process
-        if process is not None:
-            process.end()
+        """Ends the engine by force, from whatever thread; who waits for it is raised Ended."""
+        transport = self._transport
+        if transport is not None:
+            transport.end()
 
-    def _ready(self, lines: int) -> Process:
-        """The program, with room for so many lines, and with all that was accepted."""
+    def _ready(self, lines: int) -> Transport:
+        """The engine, with room for so many lines, and with all that was accepted. Raises ValueError where it is closed."""
         if self._is_closed:
             raise ValueError("the bench is closed")
-        if self._process is not None and self._process.lines + lines > MOST_LINES:
+        if self._transport is not None and self._transport.is_full(lines):
             self.drop()
-        if self._process is None:
-            process = Process([self.program, f"--period={self.work.network.period}"])
+        if self._transport is None:
+            transport = self.engine.opened(self.work.network.period, {})
             try:
-                sync(process, self.work.script())
+                sync(transport, self.work.script())
             except BaseException:
-                process.kill()
+                transport.kill()
                 raise
-            self._process = process
-        return self._process
+            self._transport = transport
+        return self._transport
+
+    @contextmanager
+    def _whole(self) -> Iterator[None]:
+        """Drops the engine where what is done within does not come to its end; so the next use agrees with the work."""
+        try:
+            yield
+        except BaseException:
+            self.drop()
+            raise
 
     def outcomes(self, commands: Sequence[str], deadline: Optional[float] = None) -> Iterator[Outcome]:
         """The outcome of each command, as it comes; what is accepted goes to the work and to the journal.
 
-        Where the caller stops, or anything is raised, the program is dropped, and nothing that came is lost. Raises Ended,
+        Where the caller stops, or anything is raised, the engine is dropped, and nothing that came is lost. Raises Ended,
         OutOfTime and BadReply.
         """
         for start in range(0, len(commands), BATCH):
@@ -98,20 +103,71 @@ class Session:
     def _batch(self, commands: Sequence[str], deadline: Optional[float]) -> Iterator[Outcome]:
         # What is adopted is told by no reply but that of `optimum`, which is known then.
         lines = [line for command in commands for line in ([command, "optimum"] if command.split() == ["adopt"] else [command])]
-        is_done = False
-        try:
+        with self._whole():
             replies = self._ready(len(lines)).replies(lines, deadline)
             for command in commands:
                 outcome = outcome_of(command, next(replies))
                 if command.split() == ["adopt"]:
                     outcome = self._adopted(outcome, outcome_of("optimum", next(replies)))
                 elif outcome is None and name_of(command) in CHANGES:
-                    self.journal.append(Change([command], self.work.apply(command)))
+                    self._accept(command)
                 yield outcome
-            is_done = True
-        finally:
-            if not is_done:
-                self.drop()
+
+    def _accept(self, command: str) -> None:
+        name, numbers = split(command)
+        # Times are set most often, and take the least room in the journal where they are written as it writes them.
+        if name == "time" and command == f"time {numbers[0]} {numbers[1]}":
+            self._take_move(*numbers)
+        else:
+            self.journal.append(Change((command,), tuple(self.work.apply(command))))
+
+    def moves(self, moves: Sequence[Tuple[int, int]]) -> Iterator[Cost]:
+        """Sets times, and gives the cost after each, or its refusal; as `outcomes` in all else."""
+        for start in range(0, len(moves), BATCH):
+            yield from self._moves(moves[start : start + BATCH])
+
+    def _moves(self, moves: Sequence[Tuple[int, int]]) -> Iterator[Cost]:
+        with self._whole():
+            for move, told in zip(moves, self._ready(2 * len(moves)).moved(moves)):
+                if isinstance(told, int):
+                    self._take_move(*move)
+                    yield told
+                else:
+                    yield self._cost_after(move, *told)
+
+    def _cost_after(self, move: Tuple[int, int], reply: List[str], cost: List[str]) -> Cost:
+        outcome = outcome_of("time {} {}".format(*move), reply)
+        if outcome is None:
+            self._take_move(*move)
+            outcome = outcome_of("cost", cost)
+        if isinstance(outcome, (int, Refused, Fault)):
+            return outcome
+        raise BadReply(str(outcome))
+
+    def _take_move(self, event: int, time: int) -> None:
+        # Where this is broken off after the first, what would be taken back was not done yet, and is as it was.
+        times = self.work.times
+        self.journal.append((event, time, times.get(event)))
+        times[event] = time
+
+    def set_time(self, event: int, time: int) -> bool:
+        """Sets a time where the engine does that at once and it is accepted; else nothing has changed."""
+        transport = self._transport
+        if transport is None:
+            return False
+        try:
+            if not transport.set_time(event, time):
+                return False
+            self._take_move(event, time)
+        except BaseException:
+            self.drop()
+            raise
+        return True
+
+    def cost(self) -> Optional[int]:
+        """The cost where the engine tells it at once."""
+        transport = self._transport
+        return None if transport is None else transport.cost()
 
     def _adopted(self, outcome: Outcome, optimum: Outcome) -> Outcome:
         """The outcome of `adopt`: the optimum that it took, or its refusal."""
@@ -123,35 +179,25 @@ class Session:
         return optimum
 
     def take_times(self, times: Mapping[int, int]) -> None:
-        """Notes that the program has other times now."""
+        """Notes that the engine has other times now."""
         commands = Work.change_to(self.work.times, times)
-        self.journal.append(Change(commands, self.work.set_times(times)))
-
-    def join(self, mark: int) -> None:
-        """Makes one change of those above a place of the journal."""
-        joined = self.journal[mark:]
-        commands = [command for change in joined for command in change.commands]
-        back = [command for change in reversed(joined) for command in change.back]
-        self.journal[mark:] = [Change(commands, back)] if joined else []
+        self.journal.append(Change(tuple(commands), tuple(self.work.set_times(times))))
 
     def take_back(self, mark: int) -> List[str]:
         """Takes back what was accepted above a place of the journal, and gives those commands.
 
-        The work goes first, and then the program, which is dropped where that fails: so both agree at its next use.
+        The work goes first, and then the engine, which is dropped where that fails: so both agree at its next use. Raises
+        NotKept where the journal has not all of it.
         """
-        self.join(mark)
-        if len(self.journal) == mark:
+        if len(self.journal) <= mark:
             return []
-        change = self.journal.pop()
-        for command in change.back:
-            self.work.apply(command)
-        if self._process is not None:
-            try:
+        change = self.journal.take_out(mark)
+        with self._whole():
+            for command in change.back:
+                self.work.apply(command)
+            if self._transport is not None:
                 sync(self._ready(len(change.back)), change.back)
-            except BaseException:
-                self.drop()
-                raise
-        return change.commands
+        return list(change.commands)
 
 
 def outcome_of(command: str, reply: Sequence[str]) -> Outcome:
@@ -164,8 +210,8 @@ def outcome_of(command: str, reply: Sequence[str]) -> Outcome:
         return told
 
 
-def sync(process: Process, commands: Sequence[str]) -> None:
-    """Gives a program commands that it has to accept. Raises BadReply where it does not."""
-    for command, reply in zip(commands, process.replies(commands)):
+def sync(transport: Transport, commands: Sequence[str]) -> None:
+    """Gives an engine commands that it has to accept. Raises BadReply where it does not."""
+    for command, reply in zip(commands, transport.replies(commands)):
         if reply != ["ok"]:
             raise BadReply(f"{reply[0]} to {command}")

@@ -11,6 +11,7 @@ from typing import Dict, Iterator, List, Optional, Sequence, Tuple, Union
 
 from pespbench.client import Bench
 from pespbench.commands import CHANGES, checked, name_of
+from pespbench.engines import Engine
 from pespbench.faults import Fault, Refused
 from pespbench.session import Outcome, Session
 from pespbench.work import work_of
@@ -22,17 +23,17 @@ AT_ONCE = 1_000
 
 @dataclass(frozen=True)
 class Base:
-    """A network that can be sent to other processes: the program that opens it there, and the commands that make it."""
+    """A network that can be sent to other processes: the engine that opens it there, and the commands that make it."""
 
-    program: str
+    engine: Engine
     period: int
     script: Tuple[str, ...]
 
     @classmethod
     def of(cls, bench: Bench, program: Union[str, "os.PathLike[str]", None] = None) -> "Base":
         """The network and the times of a bench, for another program where one is named."""
-        path = bench.program if program is None else os.fspath(program)
-        return cls(path, bench.period, tuple(bench._session.work.script()))
+        engine = bench.engine if program is None else Engine("program", os.fspath(program))
+        return cls(engine, bench.period, tuple(bench._session.work.script()))
 
 
 @dataclass(frozen=True)
@@ -56,7 +57,7 @@ class Opened(threading.local):
         if self._bench is None or self._base != base:
             if self._bench is not None:
                 self._bench.close()
-            self._bench = Bench(Session(base.program, work_of(list(base.script), base.period)))
+            self._bench = Bench(Session(base.engine, work_of(list(base.script), base.period)))
             self._base = base
         return self._bench
 
@@ -80,7 +81,7 @@ def answer_task(task: Task) -> Outcome:
 
 @contextmanager
 def at_work(hands: Hands, base: Base) -> Iterator[None]:
-    """Lets hands go at the end, however it comes; where something is raised, no thread of this process searches on."""
+    """Lets hands go at the end, however it comes; where something is raised, no thread of this process waits for a search."""
     try:
         yield
     except BaseException:
@@ -104,7 +105,7 @@ def variants(
     """Answers each list of edits on the network of `base` by itself, and gives the answers in the order of the lists.
 
     `ask` is the command that is asked after the edits: `optimum`, `domains`, `try 5000`, .. The tasks go to `executor`, any of
-    `concurrent.futures` whose workers have this package and the program at the same path, `workers` of them at once (1,000
+    `concurrent.futures` whose workers have this package and the program or library at the same path, `workers` of them at once (1,000
     where that is None). Where none is given, they go to `workers` processes of this machine (as many as it has processors),
     and the caller's main module has to be one that can be imported (`if __name__ == "__main__":`). Each worker keeps one
     opened program. A bar on standard error shows how far it is where that is a terminal, or as `progress` says.

@@ -9,29 +9,42 @@ import sys
 import tempfile
 import unittest
 from pathlib import Path
-from typing import List
+from typing import Any, Dict, List, Type, TypeVar
 
 from pespbench import Bench
 
 TOP = Path(__file__).resolve().parents[2]
 EXAMPLES = TOP / "examples"
 PROGRAM = os.path.abspath(os.environ.get("PESPBENCH") or TOP / "crates/pespbench/out/pespbench")
+# The shared library in process, where there is one: tools/test_program makes it of what tools/library has built.
+LIBRARY = os.path.abspath(os.environ["PESPBENCH_LIB"]) if os.environ.get("PESPBENCH_LIB") else ""
+# What opens a bench over each engine.
+OVER_PROGRAM: Dict[str, Any] = {"program": PROGRAM}
+OVER_LIBRARY: Dict[str, Any] = {"engine": "library", "library": LIBRARY}
+needs_library = unittest.skipUnless(LIBRARY, "there is no library in process; PESPBENCH_LIB names one")
 # Over a program that is so many times slower, as tools/test_program says it, so many times fewer are drawn where many are.
 PATIENCE = int(os.environ.get("PESPBENCH_PATIENCE") or 1)
 
 
 class Case(unittest.TestCase):
-    """A test with a folder of its own."""
+    """A test with a folder of its own; `how` has what opens a bench."""
+
+    how = OVER_PROGRAM
 
     def setUp(self) -> None:
         self.folder = Path(tempfile.mkdtemp(prefix="pespbench-"))
         self.addCleanup(shutil.rmtree, self.folder)
 
-    def two_trains(self, **files: object) -> Bench:
-        """The example of two trains at period 10, in the program."""
-        bench = Bench.open(EXAMPLES / "two-trains/activities", period=10, program=PROGRAM, **files)  # type: ignore[arg-type]
+    def two_trains(self, **files: Any) -> Bench:
+        """The example of two trains at period 10."""
+        bench = Bench.open(EXAMPLES / "two-trains/activities", period=10, **self.how, **files)
         self.addCleanup(bench.close)
         return bench
+
+    def drawn(self, seed: int, events: int, activities: int, period: int = 60, room: int = 12) -> Bench:
+        """The drawn network."""
+        script = "\n".join(drawn_script(seed, events, activities, period, room))
+        return Bench.from_script(script, period=period, **self.how)
 
     def stand_in(self, answers: str) -> Path:
         """A program that answers as the body of a function does that is given a line and writes bytes by `write`."""
@@ -41,6 +54,17 @@ class Case(unittest.TestCase):
         path.write_text(text)
         path.chmod(0o755)
         return path
+
+
+Kind = TypeVar("Kind", bound=Type[Case])
+
+
+def over_both(case: Kind) -> Kind:
+    """Has the tests of a class run over the library too, as those of another class of its module."""
+    name = f"{case.__name__}InProcess"
+    other = type(name, (case,), {"how": OVER_LIBRARY, "__module__": case.__module__, "__qualname__": name})
+    setattr(sys.modules[case.__module__], name, needs_library(other))
+    return case
 
 
 STAND_IN = '''
@@ -74,12 +98,6 @@ def drawn_script(seed: int, events: int, activities: int, period: int = 60, room
         upper = lower + room + draw.randrange(room)
         lines.append(f"add activity {activity} {first} {last} {lower} {upper} {draw.randrange(50)}")
     return lines
-
-
-def drawn_bench(seed: int, events: int, activities: int, period: int = 60, room: int = 12) -> Bench:
-    """The drawn network, in the program."""
-    script = "\n".join(drawn_script(seed, events, activities, period, room))
-    return Bench.from_script(script, period=period, program=PROGRAM)
 
 
 def drawn_changes(draw: random.Random, period: int, count: int) -> List[str]:

@@ -1,26 +1,34 @@
-"""How long the answers of the package take on drawn regions: `python3 -m tests.measures [PROGRAM]` in the folder python/.
+"""How long the answers of the package take: `python3 -m tests.measures [PROGRAM [LIBRARY]]` in the folder python/.
 
-Seconds of the clock, each the least of three runs: why an infeasible region has no timetable, with all kinds changeable
-and with runs, dwells and headways held hard; the report on a feasible one; and a span changed with all domains asked for.
+First moves a second, on drawn networks with a time for each event, over the program and, where it is named, over the
+library: a time set and the cost told, one by one and by `moves`, and the bytes that the journal takes for each. Then, on
+drawn regions, seconds of the clock: why an infeasible region has no timetable, with all kinds changeable and with runs,
+dwells and headways held hard; the report on a feasible one; and a span changed with all domains asked for. Each is the best
+of three runs.
 """
 
 from __future__ import annotations
 
+import random
 import sys
 import tempfile
 import time
+import tracemalloc
 from pathlib import Path
-from typing import Callable, Sequence
+from typing import Any, Callable, Dict, Iterator, List, Sequence, Tuple
 
 from pespbench import Bench
 from pespbench.drawn import draw_region
 from pespbench.report import gather, page_of
 from pespbench.why import Conflict, why
-from tests.common import PROGRAM
+from tests.common import PROGRAM, drawn_script
 
 SEEDS = range(1, 9)
 RUNS = 3
 HARD = ("run", "dwell", "headway")
+# Events and activities of the networks of moves, and how many moves there are.
+SIZES = [(108, 140), (2_048, 2_645)]
+MOVES = 20_000
 
 
 def seconds(work: Callable[[], object]) -> float:
@@ -61,9 +69,47 @@ def measure(folder: Path, seed: int, program: str) -> Sequence[float]:
     return figures
 
 
+def moves_a_second(bench: Bench, moves: List[Tuple[int, int]]) -> Tuple[float, float]:
+    """How many moves a second there are one by one, and in one call."""
+
+    def one_by_one() -> None:
+        for event, at in moves:
+            bench.time(event, at)
+            bench.cost()
+
+    return len(moves) / seconds(one_by_one), len(moves) / seconds(lambda: bench.moves(moves))
+
+
+def journal_room(bench: Bench, moves: List[Tuple[int, int]]) -> float:
+    """The bytes that the journal takes for a move."""
+    tracemalloc.start()
+    bench.moves(moves)
+    taken = tracemalloc.get_traced_memory()[0] / len(moves)
+    tracemalloc.stop()
+    return taken
+
+
+def measured_moves(engines: Dict[str, Dict[str, Any]]) -> Iterator[str]:
+    """A line for each size and engine."""
+    for events, activities in SIZES:
+        draw = random.Random(events)
+        script = "\n".join(drawn_script(events, events, activities))
+        moves = [(draw.randrange(events), draw.randrange(60)) for _ in range(MOVES)]
+        for name, how in engines.items():
+            with Bench.from_script(script, **how) as bench:
+                bench.set_times({event: draw.randrange(60) for event in range(events)})
+                figures = moves_a_second(bench, moves)
+                yield f"{events:>7} {name:>8} {figures[0]:>11,.0f} {figures[1]:>9,.0f} {journal_room(bench, moves):>7.0f}"
+
+
 def main(words: Sequence[str]) -> None:
-    """Prints a line for each seed."""
+    """Prints a line for each size of moves, and for each seed of regions."""
     program = words[0] if words else PROGRAM
+    engines: Dict[str, Dict[str, Any]] = {"program": {"program": program}}
+    engines.update({"library": {"engine": "library", "library": library} for library in words[1:2]})
+    print(f"{'events':>7} {'engine':>8} {'one by one':>11} {'moves':>9} {'journal':>7}")
+    for line in measured_moves(engines):
+        print(line, flush=True)
     print(f"{'seed':>4} {'why':>8} {'why hard':>8} {'report':>8} {'edit':>8}")
     with tempfile.TemporaryDirectory() as folder:
         for seed in SEEDS:

@@ -10,9 +10,10 @@ from unittest import mock
 from pespbench import (
     Activity, Bench, Domain, Ended, Fault, Infeasible, Optimum, Refused, Stopped, Tension, Violations, Window,
 )
-from tests.common import EXAMPLES, PROGRAM, Case, drawn_bench
+from tests.common import EXAMPLES, PROGRAM, Case, over_both
 
 
+@over_both
 class Commands(Case):
     """Each command with its answer, in the words of docs/FORMATS.md."""
 
@@ -91,23 +92,24 @@ class Commands(Case):
 
     def test_from_script(self) -> None:
         script = "# period 10 lines 2\nadd event 1\n\nfix 1 3\n"
-        with Bench.from_script(script, program=PROGRAM) as bench:
+        with Bench.from_script(script, **self.how) as bench:
             self.assertEqual((bench.period, bench.network.windows, bench.journal), (10, {1: Window(3)}, []))
-        with self.assertRaises(Refused), Bench.from_script("add event 1\nadd event 1\n", program=PROGRAM):
+        with self.assertRaises(Refused), Bench.from_script("add event 1\nadd event 1\n", **self.how):
             pass
 
     def test_comments_that_tell_no_period(self) -> None:
         """The period is that of the first comment that tells one, and else 60; lines end at line feeds alone."""
         for comment in ("# period", "# period x", "# period 1O lines 5", "#period 7", "# a period 7", "# period -5", "# period " + "9" * 5_000):
-            with self.subTest(comment=comment[:20]), Bench.from_script(f"{comment}\nadd event 1\n", program=PROGRAM) as bench:
+            with self.subTest(comment=comment[:20]), Bench.from_script(f"{comment}\nadd event 1\n", **self.how) as bench:
                 self.assertEqual((bench.period, bench.network.events), (60, [1]))
         for comment in ("# period 7", "#  period\t7 lines 5\r", "# period\n# period 7", " # period 7"):
-            with self.subTest(comment=comment), Bench.from_script(f"{comment}\n", program=PROGRAM) as bench:
+            with self.subTest(comment=comment), Bench.from_script(f"{comment}\n", **self.how) as bench:
                 self.assertEqual(bench.period, 7)
-        with self.assertRaises(Fault), Bench.from_script("add event 1\x0badd event 2\n", program=PROGRAM):
+        with self.assertRaises(Fault), Bench.from_script("add event 1\x0badd event 2\n", **self.how):
             pass
 
 
+@over_both
 class Raised(Case):
     """What is raised, and what is in it."""
 
@@ -138,16 +140,27 @@ class Raised(Case):
 
     def test_what_cannot_be_opened(self) -> None:
         with self.assertRaises(Ended) as told:
-            Bench.open(self.folder / "none", program=PROGRAM)
+            Bench.open(self.folder / "none", **self.how)
         self.assertEqual((told.exception.status, str(told.exception)), (1, "pespbench: activities file cannot be read"))
         wrong = EXAMPLES / "swapped-bounds/activities"
         with self.assertRaises(Ended) as told:
-            Bench.open(wrong, program=PROGRAM)
+            Bench.open(wrong, **self.how)
         self.assertEqual(str(told.exception), "pespbench: activities file, record 2: lower bound above upper bound")
         with self.assertRaises(Ended) as told:
-            Bench.open(None, period=1, program=PROGRAM)
+            Bench.open(None, period=1, **self.how)
         self.assertEqual(told.exception.status, 2)
-        self.assertRaises(OSError, Bench.open, EXAMPLES / "two-trains/activities", labels=self.folder / "none", program=PROGRAM)
+        self.assertRaises(OSError, Bench.open, EXAMPLES / "two-trains/activities", labels=self.folder / "none", **self.how)
+
+    def test_closed(self) -> None:
+        bench = self.two_trains()
+        bench.close()
+        bench.close()
+        self.assertRaises(ValueError, bench.cost)
+        self.assertEqual(bench.period, 10)
+
+
+class Pipes(Case):
+    """Which program is run, and what its pipes save."""
 
     def test_which_program(self) -> None:
         with mock.patch.dict(os.environ, {"PESPBENCH": PROGRAM}), Bench.open(None) as bench:
@@ -159,14 +172,18 @@ class Raised(Case):
                 self.assertEqual(bench.cost(), 0)
         self.assertRaises(FileNotFoundError, Bench.open, None, program=self.folder / "none")
 
-    def test_closed(self) -> None:
-        bench = self.two_trains()
-        bench.close()
-        bench.close()
-        self.assertRaises(ValueError, bench.cost)
-        self.assertEqual(bench.period, 10)
+    def test_one_by_one_and_at_once(self) -> None:
+        with self.drawn(4, 40, 80) as bench:
+            lines = [f"span {activity % 80} {activity % 50} {activity % 50 + 20}" for activity in range(400)]
+            began = time.monotonic()
+            for line in lines:
+                bench.ask(line)
+            middle = time.monotonic()
+            bench.many(lines)
+            self.assertLess(time.monotonic() - middle, middle - began)
 
 
+@over_both
 class Many(Case):
     """Many lines in one write."""
 
@@ -183,7 +200,7 @@ class Many(Case):
 
     def test_no_side_waits_for_the_other(self) -> None:
         """More replies than pipes hold, after more lines than pipes hold."""
-        with drawn_bench(3, 60, 60) as bench:
+        with self.drawn(3, 60, 60) as bench:
             blanks = " " * 4_000
             came = bench.many([f"domains{blanks}", f"fix 1 1{blanks}", f"dump{blanks}"] * 40)
             self.assertEqual(len(came), 120)
@@ -192,23 +209,13 @@ class Many(Case):
 
     def test_past_the_limit_of_lines(self) -> None:
         """A program takes a million lines; the client takes another program before that."""
-        with Bench.open(None, program=PROGRAM) as bench:
+        with Bench.open(None, **self.how) as bench:
             bench.add_event(1)
-            with mock.patch("pespbench.session.MOST_LINES", 1_000), mock.patch("pespbench.session.BATCH", 100):
+            with mock.patch("pespbench.process.MOST_LINES", 1_000), mock.patch("pespbench.session.BATCH", 100):
                 for turn in range(40):
                     self.assertEqual(bench.many([f"fix 1 {turn}"] * 70), [None] * 70)
                 self.assertEqual(bench.network.windows, {1: Window(39)})
                 self.assertEqual(bench.dump(), bench.network.text())
-
-    def test_one_by_one_and_at_once(self) -> None:
-        with drawn_bench(4, 40, 80) as bench:
-            lines = [f"span {activity % 80} {activity % 50} {activity % 50 + 20}" for activity in range(400)]
-            began = time.monotonic()
-            for line in lines:
-                bench.ask(line)
-            middle = time.monotonic()
-            bench.many(lines)
-            self.assertLess(time.monotonic() - middle, middle - began)
 
 
 if __name__ == "__main__":

@@ -5,12 +5,12 @@ from __future__ import annotations
 import os
 import threading
 import unittest
-from typing import Callable
+from typing import Any, Callable, Dict
 
 from pespbench import Bench, Ended, FileFault, Labels, files
 from pespbench.curing import DECIMAL, TABS, UTF_16
 from pespbench.places import read_places
-from tests.common import PROGRAM, Case
+from tests.common import Case, over_both
 
 ROWS = "activity; from; to; lower; upper; weight\n1; 1; 2; 3; 5; 2\n2; 2; 1; 4; 6; 1\n"
 # Files of activities, and what cures each.
@@ -30,13 +30,14 @@ TABLE = [
 ]
 
 
+@over_both
 class Cures(Case):
     """Each fault with its cure, told by the program and by the package's own readers."""
 
     def raised(self, path: "os.PathLike[str]") -> Ended:
         """How opening a file of activities ends."""
         with self.assertRaises(Ended) as told:
-            Bench.open(path, program=PROGRAM).close()
+            Bench.open(path, **self.how).close()
         return told.exception
 
     def test_activities(self) -> None:
@@ -59,8 +60,9 @@ class Cures(Case):
         for text, cure in table.items():
             path.write_bytes(text)
             for option in ("times", "fixed"):
+                given: Dict[str, Any] = {**self.how, option: path}
                 with self.subTest(text=text, option=option), self.assertRaises(Ended) as told:
-                    Bench.open(activities, program=PROGRAM, **{option: path}).close()  # type: ignore[arg-type]
+                    Bench.open(activities, **given).close()
                 self.assertEqual(told.exception.cure, cure)
 
     def test_labels_and_places(self) -> None:

@@ -13,14 +13,14 @@ import unittest
 from typing import Any
 
 from pespbench import optimum_in_parts, variants
-from tests.common import EXAMPLES, PROGRAM, TOP, Case
-from tests.test_variants import at_step, drawn_lists, one_by_one, small
+from tests.common import EXAMPLES, PROGRAM, TOP
+from tests.test_variants import Small, at_step, drawn_lists, one_by_one
 
 distributed: Any = importlib.import_module("distributed") if importlib.util.find_spec("distributed") else None
 
 
 @unittest.skipIf(distributed is None, "Dask is not installed")
-class Dask(Case):
+class Dask(Small):
     """The executor of a Dask client."""
 
     def setUp(self) -> None:
@@ -37,7 +37,7 @@ class Dask(Case):
 
     def test_a_worker_is_ended(self) -> None:
         lists = drawn_lists(1_000)
-        with small(1) as bench, self.client.get_executor() as executor:
+        with self.small(1) as bench, self.client.get_executor() as executor:
             wanted = one_by_one(bench, lists)
             with at_step(300, self.end_one):
                 self.assertEqual(variants(bench, lists, executor=executor), wanted)
@@ -45,7 +45,7 @@ class Dask(Case):
     def test_parts(self) -> None:
         with self.client.get_executor() as executor:
             for seed in range(20):
-                with small(seed) as bench:
+                with self.small(seed) as bench:
                     self.assertEqual(optimum_in_parts(bench, executor=executor, ranges=4).text(), bench.optimum().text())
 
     def test_the_example(self) -> None:

@@ -11,7 +11,7 @@ from typing import Mapping
 
 from pespbench import Activity, Bench, FileFault, Labels, Names, Window, files
 from pespbench.labels import EventLabel
-from tests.common import EXAMPLES, PATIENCE, PROGRAM, Case, drawn_bench
+from tests.common import EXAMPLES, PATIENCE, PROGRAM, Case, over_both
 
 ACTIVITIES = b"activity; from; to; lower; upper; weight\n1; 1; 2; 3; 5; 2.0\n\n# late\n2; 2; 1; 4; 6; 1\n3;1;2;-3;+5;0\n"
 TIMES = b'event,time\r\n1,0\r\n"2",3\r\n  \r\n7,-12\r\n'
@@ -78,6 +78,7 @@ class Reading(Case):
         self.assertEqual(str(told.exception), f"{path}, record 3: event is repeated")
 
 
+@over_both
 class Folders(Case):
     """`save` and `load`."""
 
@@ -94,7 +95,7 @@ class Folders(Case):
         bench.many(["add event 7", "fix 7 3", "add event 8", "window 8 2 10", "add event 9", "window 1 9 3", "fix 2 5"])
         bench.set_times({1: 0, 2: 3, 7: 3, 9: 1})
         bench.save(self.folder / "a" / "b")
-        with Bench.load(self.folder / "a" / "b", program=PROGRAM) as other:
+        with Bench.load(self.folder / "a" / "b", **self.how) as other:
             self.assertEqual(other.network.windows, {1: Window(9, 3), 2: Window(5), 7: Window(3), 8: Window(2, 10), 9: None})
             self.same(bench, other)
             self.assertEqual(other.journal, [])
@@ -117,34 +118,34 @@ class Folders(Case):
         bench.save(self.folder)
         bench.many(["unfix 1", "unfix 2", "untime 1", "drop event 9"])
         bench.save(self.folder)
-        with Bench.load(self.folder, program=PROGRAM) as other:
+        with Bench.load(self.folder, **self.how) as other:
             self.same(bench, other)
         wanted = {"period", "activities", "fixed", "windows", "events", "times"}
         self.assertEqual({path.name for path in self.folder.iterdir()}, wanted)
 
     def test_drawn(self) -> None:
         for seed in range(8):
-            with drawn_bench(seed, 8, 12, period=20, room=3) as bench:
+            with self.drawn(seed, 8, 12, period=20, room=3) as bench:
                 draw = random.Random(seed)
                 bench.many(f"window {draw.randrange(8)} {draw.randrange(20)} {draw.randint(9, 20)}" for _ in range(2))
                 bench.many(f"time {draw.randrange(8)} {draw.randrange(20)}" for _ in range(20))
                 bench.save(self.folder / str(seed))
-                with Bench.load(self.folder / str(seed), program=PROGRAM) as other:
+                with Bench.load(self.folder / str(seed), **self.how) as other:
                     self.same(bench, other)
 
     def test_what_is_no_saved_folder(self) -> None:
-        self.assertRaises(OSError, Bench.load, self.folder / "none", program=PROGRAM)
+        self.assertRaises(OSError, Bench.load, self.folder / "none", **self.how)
         self.two_trains().save(self.folder)
         for name, text in {"period": "10\n20\n", "windows": "1; 0; 11\n", "events": "1\n", "times": "x; y; z\n1\n"}.items():
             path = self.folder / name
             before = path.read_text()
             path.write_text(text)
             with self.assertRaises(Exception) as told:
-                Bench.load(self.folder, program=PROGRAM)
+                Bench.load(self.folder, **self.how)
             self.assertIn(type(told.exception).__name__, ("FileFault", "Ended"))
             path.write_text(before)
         (self.folder / "period").unlink()
-        self.assertRaises(OSError, Bench.load, self.folder, program=PROGRAM)
+        self.assertRaises(OSError, Bench.load, self.folder, **self.how)
 
 
 class LabelFiles(Case):

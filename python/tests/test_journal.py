@@ -7,11 +7,13 @@ import signal
 import threading
 import time
 import unittest
+from typing import List, Union
 
-from pespbench import Bench, Optimum, Stopped
-from tests.common import EXAMPLES, PROGRAM, Case, drawn_bench, drawn_changes
+from pespbench import Bench, NotKept, Optimum, Refused, Stopped, Window
+from tests.common import EXAMPLES, Case, drawn_changes, over_both
 
 
+@over_both
 class TakenBack(Case):
     """Undo and trials."""
 
@@ -58,7 +60,7 @@ class TakenBack(Case):
         """Whatever is accepted, refused and taken back, the client and the program know the same."""
         for seed in range(30):
             draw = random.Random(seed)
-            with Bench.open(None, period=7, program=PROGRAM) as bench:
+            with Bench.open(None, period=7, **self.how) as bench:
                 bench.many(drawn_changes(draw, 7, 40))
                 before, times = bench.dump(), bench.times
                 self.assertEqual(bench.network.text(), before)
@@ -78,15 +80,102 @@ class TakenBack(Case):
                 self.assertEqual((bench.dump(), bench.times), ("# period 7 lines 0\n", {}))
 
 
-class StartedAgain(Case):
-    """Searches that are killed."""
+@over_both
+class Bounded(Case):
+    """A journal that keeps the last changes, or none."""
+
+    # What keeps nothing, or one change.
+    NONE: List[Union[int, str]] = ["none", 0]
+    FEW: List[Union[int, str]] = ["none", 1]
+
+    def opened(self, journal: Union[int, str]) -> Bench:
+        return self.two_trains(times=EXAMPLES / "two-trains/times", journal=journal)
+
+    def test_the_last(self) -> None:
+        bench = self.opened(3)
+        bench.many(["fix 1 0", "time 2 5", "weight 1 9"])
+        bench.time(2, 6)
+        bench.set_times({1: 0, 2: 4})
+        self.assertEqual(bench.journal, ["weight 1 9", "time 2 6", "time 2 4"])
+        for wanted in (["time 2 4"], ["time 2 6"], ["weight 1 9"]):
+            self.assertEqual(bench.undo(), wanted)
+        for _ in range(2):
+            with self.assertRaises(NotKept) as told:
+                bench.undo()
+        self.assertEqual(str(told.exception), "an earlier change cannot be taken back: the journal keeps the last 3 changes alone")
+        self.assertIsInstance(told.exception, ValueError)
+        self.assertEqual((bench.network.windows[1], bench.times, bench.journal), (Window(0), {1: 0, 2: 5}, []))
+        self.assertEqual((bench.dump(), bench.cost()), (bench.network.text(), 5))
+        bench.moves([(2, 1), (2, 2), (2, 3), (2, 4), (2, 5)])
+        self.assertEqual([bench.undo()[0] for _ in range(3)], ["time 2 5", "time 2 4", "time 2 3"])
+        self.assertRaises(NotKept, bench.undo)
+        self.assertEqual(bench.times, {1: 0, 2: 2})
+
+    def test_none(self) -> None:
+        """Of none there is nothing to take back; all that is accepted is there again where the engine has ended."""
+        for journal in self.NONE:
+            bench = self.opened(journal)
+            with self.assertRaises(ValueError) as told:
+                bench.undo()
+            self.assertNotIsInstance(told.exception, NotKept)
+            bench.many(["fix 1 0", "span 2 3 6", "add event 3"])
+            bench.moves([(2, 5), (3, 1)])
+            self.assertEqual(bench.journal, [])
+            with self.assertRaises(NotKept) as kept:
+                bench.undo()
+            self.assertEqual(str(kept.exception), "an earlier change cannot be taken back: the journal keeps no changes")
+            before = bench.dump(), bench.cost(), bench.times
+            bench._session.drop()
+            self.assertEqual((bench.dump(), bench.cost(), bench.times), before)
+
+    def test_trials(self) -> None:
+        """A trial, and times that are set as one, keep what they need while they last."""
+        for journal in self.FEW:
+            bench = self.opened(journal)
+            bench.many(["fix 1 0", "fix 1 1"])
+            before, kept = (bench.dump(), bench.times), bench.journal
+            with bench.trial():
+                bench.moves([(2, 5), (2, 6), (2, 7)])
+                with bench.trial():
+                    bench.many(["unfix 1", "drop activity 1"])
+                self.assertEqual(bench.undo(), ["time 2 7"])
+                bench.set_times({2: 9})
+                self.assertEqual(bench.journal, [*kept, "time 2 5", "time 2 6", "untime 1", "time 2 9"])
+            self.assertEqual(((bench.dump(), bench.times), bench.journal), (before, kept))
+            self.assertRaises(Refused, bench.set_times, {1: 1, 2: 2, 7: 1})
+            self.assertEqual(((bench.dump(), bench.times), bench.journal), (before, kept))
+
+    def test_files_and_scripts(self) -> None:
+        script = "add event 1\nadd event 2\n"
+        with Bench.from_script(script, journal=1, **self.how) as bench:
+            self.assertRaises(ValueError, bench.undo)
+            bench.many(["fix 1 0", "fix 2 0"])
+            bench.save(self.folder)
+            self.assertEqual(bench.undo(), ["fix 2 0"])
+            self.assertRaises(NotKept, bench.undo)
+        with Bench.load(self.folder, journal="none", **self.how) as bench:
+            bench.unfix(1)
+            self.assertRaises(NotKept, bench.undo)
+
+    def test_no_journal(self) -> None:
+        for wrong in (-1, "some", "", None, 1.5):
+            self.assertRaises(ValueError, Bench.open, None, journal=wrong, **self.how)
+
+
+class Hard(Case):
+    """A test over a search that takes long."""
 
     def hard(self) -> Bench:
         """A network whose optimum is not found in a minute."""
-        bench = drawn_bench(11, 100, 320)
+        bench = self.drawn(11, 100, 320)
         self.addCleanup(bench.close)
         bench.many([f"span {activity} {activity % 60} {activity % 60 + 45}" for activity in range(320)])
         return bench
+
+
+@over_both
+class StartedAgain(Hard):
+    """Searches that are killed."""
 
     def test_search_in_time(self) -> None:
         bench = self.hard()
@@ -99,9 +188,13 @@ class StartedAgain(Case):
         bench.undo()
 
     def test_search_that_ends(self) -> None:
-        with drawn_bench(1, 12, 20) as bench:
+        with self.drawn(1, 12, 20) as bench:
             self.assertEqual(bench.search(60), bench.optimum())
             self.assertIsInstance(bench.search(60), Optimum)
+
+
+class Interrupted(Hard):
+    """Ctrl-C; over the library see tests.test_in_process, since the search goes on there."""
 
     def test_interrupt(self) -> None:
         """Ctrl-C in a search: what was accepted is there afterwards, within some milliseconds."""

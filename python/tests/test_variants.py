@@ -17,12 +17,15 @@ from pespbench import Bench, Fault, Infeasible, Lost, Optimum, Refused, optimum_
 from pespbench.network import Activity, Network
 from pespbench.parts import parts_of, ranges_of
 from pespbench.workers import Progress
-from tests.common import PATIENCE, PROGRAM, Case, drawn_bench
+from tests.common import PATIENCE, Case, over_both
 
 
-def small(seed: int) -> Bench:
-    """A network of 4 events whose optimum is found at once."""
-    return drawn_bench(seed, 4, 6, period=10, room=3)
+class Small(Case):
+    """A test over small networks."""
+
+    def small(self, seed: int) -> Bench:
+        """A network of 4 events whose optimum is found at once."""
+        return self.drawn(seed, 4, 6, period=10, room=3)
 
 
 def drawn_lists(count: int) -> List[List[str]]:
@@ -39,34 +42,8 @@ def one_by_one(bench: Bench, lists: List[List[str]], ask: str = "optimum") -> Li
     return answers
 
 
-class Variants(Case):
-    """`variants`."""
-
-    def test_a_worker_is_ended(self) -> None:
-        """Of many variants one worker is ended in the middle: all are answered, as one after the other."""
-        lists = drawn_lists(1_000 // PATIENCE)
-        with small(1) as bench:
-            wanted = one_by_one(bench, lists)
-            with at_step(len(lists) * 3 // 10, end_one):
-                self.assertEqual(variants(bench, lists, workers=2), wanted)
-
-    def test_what_is_asked(self) -> None:
-        lists = drawn_lists(20)
-        with small(2) as bench:
-            bench.many(["time 0 3", "time 1 3", "time 2 4", "time 3 5"])
-            for ask in ["domains", "try 0", "cost", "dump"]:
-                with ThreadPoolExecutor(3) as executor:
-                    came = variants(bench, lists, ask=ask, executor=executor)
-                self.assertEqual([str(answer) for answer in came], [str(answer) for answer in one_by_one(bench, lists, ask)])
-            self.assertEqual(variants(bench, [], workers=1), [])
-
-    def test_refusals(self) -> None:
-        with small(3) as bench, ThreadPoolExecutor(1) as executor:
-            came = variants(bench, [["fix 9 0"], ["fix 0"], [], ["fix 0 x"]], ask="cost", executor=executor, progress=False)
-            self.assertEqual([type(answer) for answer in came], [Refused, Fault, Refused, Fault])
-            for wrong in ["cost", "", "# x", "dump", "fix 1 0\ncost"]:
-                self.assertRaises(ValueError, variants, bench, [[wrong]], executor=executor)
-            self.assertRaises(ValueError, variants, bench, [[]], ask="", executor=executor)
+class Dying(Case):
+    """`variants` over a program that dies."""
 
     def test_a_program_that_dies(self) -> None:
         """A variant at which the program dies is given out again once, and is then told."""
@@ -79,8 +56,39 @@ class Variants(Case):
         self.assertEqual(came, [3] * 8)
         self.assertTrue(isinstance(lost, Lost) and lost.task == 7 and "status 1" in str(lost), lost)
 
+
+@over_both
+class Variants(Small):
+    """`variants`."""
+
+    def test_a_worker_is_ended(self) -> None:
+        """Of many variants one worker is ended in the middle: all are answered, as one after the other."""
+        lists = drawn_lists(1_000 // PATIENCE)
+        with self.small(1) as bench:
+            wanted = one_by_one(bench, lists)
+            with at_step(len(lists) * 3 // 10, end_one):
+                self.assertEqual(variants(bench, lists, workers=2), wanted)
+
+    def test_what_is_asked(self) -> None:
+        lists = drawn_lists(20)
+        with self.small(2) as bench:
+            bench.many(["time 0 3", "time 1 3", "time 2 4", "time 3 5"])
+            for ask in ["domains", "try 0", "cost", "dump"]:
+                with ThreadPoolExecutor(3) as executor:
+                    came = variants(bench, lists, ask=ask, executor=executor)
+                self.assertEqual([str(answer) for answer in came], [str(answer) for answer in one_by_one(bench, lists, ask)])
+            self.assertEqual(variants(bench, [], workers=1), [])
+
+    def test_refusals(self) -> None:
+        with self.small(3) as bench, ThreadPoolExecutor(1) as executor:
+            came = variants(bench, [["fix 9 0"], ["fix 0"], [], ["fix 0 x"]], ask="cost", executor=executor, progress=False)
+            self.assertEqual([type(answer) for answer in came], [Refused, Fault, Refused, Fault])
+            for wrong in ["cost", "", "# x", "dump", "fix 1 0\ncost"]:
+                self.assertRaises(ValueError, variants, bench, [[wrong]], executor=executor)
+            self.assertRaises(ValueError, variants, bench, [[]], ask="", executor=executor)
+
     def test_a_pool_of_the_caller_that_breaks(self) -> None:
-        with small(4) as bench, ProcessPoolExecutor(1, mp_context=multiprocessing.get_context("forkserver")) as pool:
+        with self.small(4) as bench, ProcessPoolExecutor(1, mp_context=multiprocessing.get_context("forkserver")) as pool:
             self.assertEqual(variants(bench, [["fix 1 1"]], executor=pool), one_by_one(bench, [["fix 1 1"]]))
             with self.assertRaises(Exception):
                 pool.submit(os._exit, 1).result()
@@ -88,7 +96,7 @@ class Variants(Case):
             self.assertEqual([type(answer) for answer in came], [Lost, Lost])
 
     def test_progress(self) -> None:
-        with small(5) as bench, ThreadPoolExecutor(1) as executor, mock.patch("sys.stderr") as stderr:
+        with self.small(5) as bench, ThreadPoolExecutor(1) as executor, mock.patch("sys.stderr") as stderr:
             variants(bench, [[], []], ask="domains", executor=executor, progress=True)
             written = "".join(call.args[0] for call in stderr.write.call_args_list)
             self.assertIn("] 0 of 2\r[", written)
@@ -115,7 +123,8 @@ def end_one() -> None:
     os.kill(process.pid or 0, signal.SIGKILL)
 
 
-class Parts(Case):
+@over_both
+class Parts(Small):
     """`optimum_in_parts`."""
 
     def test_small_networks(self) -> None:
@@ -123,7 +132,7 @@ class Parts(Case):
         seen = set()
         with ThreadPoolExecutor(3) as executor:
             for seed in range(200 // PATIENCE):
-                with small(seed) as bench:
+                with self.small(seed) as bench:
                     if seed % 3 == 0:
                         bench.many(f"span {number} {seed * number % 10} {seed * number % 10 + 2}" for number in range(6))
                     wanted = bench.optimum()
@@ -135,13 +144,13 @@ class Parts(Case):
         self.assertEqual(seen, {Optimum, Infeasible})
 
     def test_over_processes(self) -> None:
-        with small(7) as bench:
+        with self.small(7) as bench:
             self.assertEqual(optimum_in_parts(bench, workers=2), bench.optimum())
             self.assertRaises(ValueError, optimum_in_parts, bench, spans=0)
 
     def test_ties(self) -> None:
         """Timetables that cost the same in many parts: the first of them all is told."""
-        with Bench.open(None, period=6, program=PROGRAM) as bench, ThreadPoolExecutor(2) as executor:
+        with Bench.open(None, period=6, **self.how) as bench, ThreadPoolExecutor(2) as executor:
             bench.many([f"add event {event}" for event in range(3)])
             bench.many(["add activity 1 0 1 0 4 1", "add activity 2 1 2 0 4 1", "add activity 3 0 2 4 5 0"])
             for ranges in range(1, 7):

@@ -14,7 +14,7 @@ from pespbench.why import Conflict, Member, Mend, Of, Possible, Span, Undecided,
 from pespbench.why.members import Bounds, Held
 from pespbench.why.shapes import Circle
 from pespbench.wording import Names
-from tests.common import PATIENCE, PROGRAM, Case
+from tests.common import PATIENCE, PROGRAM, Case, over_both
 
 NETWORKS = 1_000 // PATIENCE
 # Long enough for a program that was built without its proofs, which takes a hundred times as long.
@@ -143,12 +143,13 @@ def all_members(network: Network) -> list[Member]:
     return [Member(Of.ACTIVITY, number) for number in network.activities] + [Member(Of.EVENT, event) for event in held]
 
 
+@over_both
 class Told(Case):
     """Answers in words."""
 
     def told(self, commands: list[str], period: int, hard: tuple[str, ...] = (), kinds: dict[int, str] | None = None) -> str:
         """What is told of a network with few labels."""
-        with Bench.from_script("\n".join(commands), period=period, program=PROGRAM) as bench:
+        with Bench.from_script("\n".join(commands), period=period, **self.how) as bench:
             bench.labels.activities.update(kinds or {})
             return text_of(why(bench, hard), Names(bench.labels, bench.network.activities))
 
@@ -183,7 +184,7 @@ class Told(Case):
         self.assertIn("A timetable meets everything", self.told(["add event 1"], 10))
 
     def test_bad_numbers(self) -> None:
-        with Bench.open(None, program=PROGRAM) as bench:
+        with Bench.open(None, **self.how) as bench:
             self.assertRaises(ValueError, why, bench, (), 0)
             self.assertRaises(ValueError, why, bench, (), 1, 0.0)
 

@@ -44,7 +44,7 @@ def why(bench: Bench, hard: Collection[str] = (), nodes: int = 2_000, seconds: f
     held = hard_members(bench, hard)
     if (standing := bench.standing()).cost is not None:
         return Possible(dict(standing.times))
-    with Bench.from_script(bench.dump(), period=bench.period, program=bench.program) as copy:
+    with Bench.from_script(bench.dump(), period=bench.period, engine=bench.engine) as copy:
         return Finding(Probe(copy), held, nodes, seconds).answer()
 
 

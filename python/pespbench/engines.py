@@ -1,0 +1,59 @@
+"""What answers a bench: the program over its pipes, or the library in process. Here alone it is chosen."""
+
+from __future__ import annotations
+
+import importlib.util
+import os
+from dataclasses import dataclass
+from typing import Mapping, Optional, Union
+
+from pespbench.faults import NoLibrary, WrongWords
+from pespbench.process import Process, find_program
+from pespbench.transport import Transport
+
+Path = Union[str, "os.PathLike[str]"]
+
+
+@dataclass(frozen=True)
+class Engine:
+    """What answers, `program` or `library`, and where it is; another process can be sent it."""
+
+    name: str
+    path: str
+
+    @classmethod
+    def of(cls, name: Union[str, "Engine"], program: Optional[Path] = None, library: Optional[Path] = None) -> "Engine":
+        """The engine of a name, or the one given.
+
+        Raises WrongWords for another name, or a library for a program, FileNotFoundError where there is no program, and
+        NoLibrary where there is no library, or no way to call it.
+        """
+        if isinstance(name, Engine):
+            return name
+        if name == "library":
+            if importlib.util.find_spec("_ctypes") is None:
+                raise NoLibrary("this Python has no ctypes, by which the library is called")
+            from pespbench.library import find_library
+
+            return cls(name, find_library(library, program))
+        if name != "program":
+            raise WrongWords(f"an engine is `program` or `library`, and not {name!r}")
+        if library is not None:
+            raise WrongWords("a library is for the engine `library`")
+        return cls(name, find_program(program))
+
+    def opened(self, period: int, files: Mapping[str, Optional[Path]]) -> Transport:
+        """Opens the files `activities`, `fixed` and `times`, of which each may be missing.
+
+        Raises Ended where they or the period are not taken, NoLibrary, and OSError where the program cannot be started.
+        """
+        if self.name == "library":
+            # A Python without ctypes has the rest of the package.
+            from pespbench.in_process import InProcess, texts_of
+            from pespbench.library import loaded
+
+            return InProcess(loaded(self.path), period, texts_of(files))
+        options = [f"--{name}={os.fspath(path)}" for name, path in files.items() if name != "activities" and path is not None]
+        activities = files.get("activities")
+        words = [*options] if activities is None else [*options, "--", os.fspath(activities)]
+        return Process([self.path, f"--period={period}", *words])

@@ -1,0 +1,178 @@
+"""A session of the library in this process, in the place of a program and its pipes."""
+
+from __future__ import annotations
+
+import ctypes
+import os
+import signal
+import threading
+import time as clock
+import weakref
+from typing import Iterator, List, Mapping, Optional, Sequence, Tuple, Union
+
+from pespbench.faults import BadReply, Ended
+from pespbench.library import DONE, FILES, Calls, Handle, Told, ended_by, fault
+from pespbench.transport import AfterMove, OutOfTime, Transport
+
+Path = Union[str, "os.PathLike[str]"]
+# The program's (docs/FORMATS.md, *Limits*).
+LEAST_PERIOD, GREATEST_PERIOD = 2, 1_440
+LONGEST_FILE = 67_108_864
+# What may take long. The replies fit into the first room, so that none is searched for twice: 20,000 events with their times.
+SEARCHES = ("optimum", "try", "adopt")
+ROOM = 1 << 19
+OK = b"ok\n"
+
+
+class InProcess(Transport):
+    """An open session of the library.
+
+    All but a search is answered where it is asked, within about a second: Ctrl-C is heard after it. A search goes on in
+    a thread of its own, while the caller waits for it, for Ctrl-C and for its deadline. The library cannot be stopped: a
+    search that is given up takes a processor until it has come to its end, and then the session's memory is given back; or
+    until the process ends, which waits for none. It meets no other session.
+    """
+
+    def __init__(self, calls: Calls, period: int, texts: Mapping[str, bytes]) -> None:
+        """Opens it, of the bytes of files. Raises Ended where they or the period are not taken."""
+        if not (isinstance(period, int) and LEAST_PERIOD <= period <= GREATEST_PERIOD):
+            raise Ended(2, f"pespbench: the period is not {LEAST_PERIOD} to {GREATEST_PERIOD}")
+        self._calls = calls
+        self._handle, self._told, self._cost = Handle(), Told(), ctypes.c_uint64()
+        # The addresses of what a call is given, as numbers.
+        self._at, self._told_at, self._cost_at = map(ctypes.addressof, (self._handle, self._told, self._cost))
+        self._make_room(ROOM)
+        # Whether a call is under way in a thread, and what it came to; whether its session is let go, or ended from outside.
+        self._is_searching = self._is_given_up = self._is_ended = False
+        self._is_over = threading.Event()
+        self._found: Union[bytes, Exception] = b""
+        # Where nobody closes it, or its search is given up, it goes with the last that uses it.
+        self._let_go = weakref.finalize(self, let_go, calls, self._handle, os.getpid())
+        self._let_go.atexit = False
+        given = [part for name in FILES for part in (texts.get(name, b""), len(texts.get(name, b"")))]
+        calls.open(period, *given, self._at, self._told_at)
+        if self._told.status != DONE:
+            raise ended_by(self._told)
+
+    def _make_room(self, length: int) -> None:
+        self._length, self._room = length, ctypes.create_string_buffer(length)
+        self._room_at = ctypes.addressof(self._room)
+
+    def replies(self, commands: Sequence[str], deadline: Optional[float] = None) -> Iterator[List[str]]:
+        """Asks commands one after another. Raises Ended, OutOfTime and BadReply."""
+        for command in commands:
+            if self._is_ended:
+                raise given_up()
+            is_long = deadline is not None or command.split()[0] in SEARCHES
+            reply = self._searched(command.encode(), deadline) if is_long else self._answered(command.encode())
+            *lines, rest = reply.decode(errors="replace").split("\n")
+            if rest or not lines:
+                raise BadReply(rest or f"nothing to {command}")
+            yield lines
+
+    def _answered(self, line: bytes) -> bytes:
+        while True:
+            self._calls.ask(self._at, line, len(line), self._room_at, self._length, self._told_at)
+            if self._told.status != DONE:
+                raise ended_by(self._told)
+            length: int = self._told.length
+            if length <= self._length:
+                return ctypes.string_at(self._room_at, length)
+            # The reply to a question, which is asked once more.
+            self._make_room(length)
+
+    def _searched(self, line: bytes, deadline: Optional[float]) -> bytes:
+        left = None if deadline is None else deadline - clock.monotonic()
+        if left is not None and left <= 0:
+            raise OutOfTime
+        self._is_over.clear()
+        if self._is_ended:
+            raise given_up()
+        self._is_searching = True
+        threading.Thread(target=self._search, args=(line,), name="pespbench search", daemon=True).start()
+        is_over = self._is_over.wait(left)
+        if self._is_ended:
+            raise given_up()
+        if not is_over:
+            raise OutOfTime
+        if isinstance(self._found, Exception):
+            raise self._found
+        return self._found
+
+    def _search(self, line: bytes) -> None:
+        try:
+            self._found = self._answered(line)
+        except Exception as raised:
+            self._found = raised
+        # Either this thread sees that it was given up, or who gives up sees that it does not search.
+        self._is_searching = False
+        if self._is_given_up:
+            self._let_go()
+        self._is_over.set()
+
+    def moved(self, moves: Sequence[Tuple[int, int]]) -> Iterator[AfterMove]:
+        """Sets times, each by a call and its cost by another, without a reply to be read where it is accepted."""
+        (ask, tell), at, told_at, cost_at = self._calls[1:3], self._at, self._told_at, self._cost_at
+        room_at, length, told, cost = self._room_at, self._length, self._told, self._cost
+        for event, time in moves:
+            line = b"time %d %d" % (event, time)
+            ask(at, line, len(line), room_at, length, told_at)
+            if told.length == len(OK) and told.status == DONE:
+                tell(at, cost_at, told_at)
+                if told.status == DONE:
+                    yield cost.value
+                    continue
+            yield from super().moved([(event, time)])
+
+    def set_time(self, event: int, time: int) -> bool:
+        """Sets a time where that is accepted; else nothing has changed."""
+        line = b"time %d %d" % (event, time)
+        told = self._told
+        self._calls.ask(self._at, line, len(line), self._room_at, self._length, self._told_at)
+        is_ok: bool = told.length == len(OK) and told.status == DONE
+        return is_ok
+
+    def cost(self) -> Optional[int]:
+        """The cost where all events have times."""
+        self._calls.cost(self._at, self._cost_at, self._told_at)
+        return self._cost.value if self._told.status == DONE else None
+
+    def kill(self) -> None:
+        """Gives the session's memory back, or leaves that to the search that is under way."""
+        self._is_given_up = True
+        if not self._is_searching:
+            self._let_go()
+
+    def end(self) -> None:
+        """Has who waits for a search, or asks next, be raised Ended, from whatever thread."""
+        self._is_ended = True
+        self._is_over.set()
+
+
+def let_go(calls: Calls, handle: Handle, owner: int) -> None:
+    """Closes a session; a process that was forked leaves its copy as it is, since a call may have been under way then."""
+    if os.getpid() == owner:
+        calls.close(ctypes.addressof(handle))
+
+
+def given_up() -> Ended:
+    """What is raised who waits for a search that another thread has ended."""
+    return Ended(-signal.SIGKILL, "pespbench: the search was given up")
+
+
+def texts_of(paths: Mapping[str, Optional[Path]]) -> Mapping[str, bytes]:
+    """The bytes of the files, read in the program's order. Raises Ended for one that it does not read."""
+    return {name: content(name, path) for name in FILES if (path := paths.get(name)) is not None}
+
+
+def content(name: str, path: Path) -> bytes:
+    """The bytes of a file. Raises Ended where it cannot be read, or is too long."""
+    place = os.fspath(path)
+    try:
+        with open(place, "rb") as file:
+            data = file.read(LONGEST_FILE + 1)
+    except (OSError, ValueError):
+        raise fault(f"{name} file cannot be read") from None
+    if len(data) > LONGEST_FILE:
+        raise fault(f"{name} file is too long")
+    return data

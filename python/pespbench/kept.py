@@ -1,0 +1,93 @@
+"""What a bench knows without asking, and how it is taken back."""
+
+from __future__ import annotations
+
+from contextlib import contextmanager
+from typing import Dict, Iterator, List, Optional, TypeVar
+
+from pespbench.engines import Engine
+from pespbench.labels import Labels
+from pespbench.methods import Commands
+from pespbench.network import Network
+from pespbench.places import Place
+from pespbench.session import Session
+
+Self = TypeVar("Self", bound="Kept")
+
+
+class Kept(Commands):
+    """A session with its labels and places: the network as the accepted commands left it, and the journal of these."""
+
+    def __init__(self, session: Session, labels: Optional[Labels] = None) -> None:
+        """Takes a session; `open`, `from_script` and `load` make one."""
+        self._session = session
+        self.labels = Labels() if labels is None else labels
+        # Where stations lie: x to the east, y to the north.
+        self.places: Dict[str, Place] = {}
+
+    def close(self) -> None:
+        """Ends the program, or the session of the library. Each other method but those for what the client knows raises ValueError then."""
+        self._session.close()
+
+    def __enter__(self: Self) -> Self:
+        return self
+
+    def __exit__(self, *_: object) -> None:
+        self.close()
+
+    # What the client knows, without asking.
+
+    @property
+    def engine(self) -> Engine:
+        """What answers; another bench can be opened over the same."""
+        return self._session.engine
+
+    @property
+    def program(self) -> str:
+        """The path of the program, or of the library where that answers."""
+        return self._session.engine.path
+
+    @property
+    def period(self) -> int:
+        """The period, in units of time."""
+        return self._session.work.network.period
+
+    @property
+    def network(self) -> Network:
+        """The network as the accepted commands left it. It changes with them; it is there to be read."""
+        return self._session.work.network
+
+    @property
+    def times(self) -> Dict[int, int]:
+        """The working timetable: the time of each event that has one, below the period, ascending by event; a copy."""
+        known = self._session.work.times
+        return {event: known[event] for event in sorted(known)}
+
+    # The journal.
+
+    @property
+    def journal(self) -> List[str]:
+        """What was accepted since the bench was opened and not taken back, as command lines; the last of it, as `open` was told."""
+        return self._session.journal.commands()
+
+    def undo(self) -> List[str]:
+        """Takes back the last accepted change, and gives its commands; `adopt` and `set_times` are one change each.
+
+        Raises ValueError where there is none, within a trial where it has none, and NotKept where the journal had to let it go.
+        """
+        if len(self._session.journal) <= self._session.floor:
+            raise ValueError("there is nothing to take back")
+        return self._session.take_back(len(self._session.journal) - 1)
+
+    @contextmanager
+    def trial(self: Self) -> Iterator[Self]:
+        """What is accepted within the `with` statement is taken back at its end, whatever ends it."""
+        session = self._session
+        floor = session.floor
+        with session.journal.held() as mark:
+            session.floor = mark
+            try:
+                yield self
+            finally:
+                session.floor = floor
+                session.take_back(mark)

@@ -1,0 +1,133 @@
+"""The library in process: where it is looked for, and its calls, which embedded/pespbench.h explains."""
+
+from __future__ import annotations
+
+import ctypes
+import ctypes.util
+import functools
+import os
+from contextlib import suppress
+from pathlib import Path
+from typing import Callable, Iterator, NamedTuple, Union
+
+from pespbench.faults import BadReply, Ended, NoLibrary
+from pespbench.process import find_program
+
+AnyPath = Union[str, "os.PathLike[str]", None]
+NAME = "libpespbench.so"
+HOW = "tools/library and tools/install make it; name it by library=, or by PESPBENCH_LIB"
+
+
+def find_library(library: AnyPath = None, program: AnyPath = None) -> str:
+    """The library to load: the first of these that is named or there.
+
+    1. The one given, a file or the folder that has libpespbench.so.
+    2. That of the environment's PESPBENCH_LIB, in the same way.
+    3. `lib/libpespbench.so` beside the `bin` of the program that would be run, and beside the `share` of an installed
+       package, as tools/install puts them.
+    4. The one that the system's loader knows as `pespbench`.
+
+    Raises NoLibrary where there is none, or one that is named by 1 or 2 is not there.
+    """
+    named = library if library is not None else os.environ.get("PESPBENCH_LIB")
+    if named:
+        path = Path(named) / NAME if os.path.isdir(named) else Path(named)
+        if not path.is_file():
+            raise NoLibrary(f"there is no library {path}; {HOW}")
+        return os.path.abspath(path)
+    for place in installed(program):
+        if place.is_file():
+            return str(place)
+    known = ctypes.util.find_library("pespbench")
+    if known is None:
+        raise NoLibrary(f"there is no {NAME} beside the program, nor does the system know one; {HOW}")
+    return known
+
+
+def installed(program: AnyPath) -> Iterator[Path]:
+    """Where tools/install has put the library, if it has put the program or this package there."""
+    with suppress(FileNotFoundError):
+        found = Path(find_program(program))
+        yield from (path.parent.parent / "lib" / NAME for path in (found, found.resolve()))
+    package = Path(__file__).resolve().parent
+    if package.parts[-4:-1] == ("share", "pespbench", "python"):
+        yield package.parents[3] / "lib" / NAME
+
+
+class Told(ctypes.Structure):
+    """What a call tells."""
+
+    _fields_ = [
+        ("length", ctypes.c_uint64),
+        ("place", ctypes.c_uint64),
+        ("status", ctypes.c_uint32),
+        ("reason", ctypes.c_uint32),
+        ("field", ctypes.c_uint32),
+    ]
+
+
+class Handle(ctypes.Structure):
+    """A session, which the library alone reads and writes."""
+
+    _fields_ = [("at", ctypes.c_void_p), ("is_open", ctypes.c_bool)]
+
+
+class Calls(NamedTuple):
+    """The calls on a session. Addresses are numbers: so they are handed over soonest."""
+
+    open: Callable[..., None]
+    ask: Callable[..., None]
+    cost: Callable[..., None]
+    close: Callable[..., None]
+
+
+ADDRESS, LENGTH = ctypes.c_void_p, ctypes.c_size_t
+BYTES = [ctypes.c_char_p, LENGTH]
+PARAMETERS = {
+    "pesp_open": [ctypes.c_uint16, *BYTES, *BYTES, *BYTES, ADDRESS, ADDRESS],
+    "pesp_ask": [ADDRESS, *BYTES, ADDRESS, LENGTH, ADDRESS],
+    "pesp_cost": [ADDRESS, ADDRESS, ADDRESS],
+    "pesp_close": [ADDRESS],
+}
+
+
+@functools.lru_cache(maxsize=None)
+def loaded(path: str) -> Calls:
+    """The calls of the library at a path. Raises NoLibrary for what is none, or an older one."""
+    try:
+        library = ctypes.CDLL(path)
+    except OSError as fault:
+        raise NoLibrary(f"{path} is no library that can be loaded: {fault}") from None
+    missing = [name for name in PARAMETERS if not hasattr(library, name)]
+    if missing:
+        raise NoLibrary(f"{path} is no library of this version of pespbench: it has no {missing[0]}")
+    calls = [getattr(library, name) for name in PARAMETERS]
+    for call, parameters in zip(calls, PARAMETERS.values()):
+        call.argtypes, call.restype = parameters, None
+    return Calls(*calls)
+
+
+DONE, MEMORY, LONG_LINE = 0, 6, 7
+FILES = ("activities", "fixed", "times")
+REASONS = (
+    "wrong number of fields", "field {} is not a number", "field {} is out of range", "weight has a fraction",
+    "lower bound above upper bound", "activity number is repeated", "event is repeated", "event is not in the instance",
+    "too many events", "too many activities", "out of memory",
+)  # fmt: skip
+
+
+def ended_by(told: Told) -> Union[Ended, BadReply]:
+    """What a status other than DONE comes to, as the program tells it; BadReply for one that cannot come."""
+    if told.status == MEMORY:
+        return fault("out of memory")
+    if told.status == LONG_LINE:
+        return fault("a line is longer than 4096 bytes")
+    if 1 <= told.status <= len(FILES) and 1 <= told.reason <= len(REASONS):
+        reason = REASONS[told.reason - 1].format(told.field)
+        return fault(f"{FILES[told.status - 1]} file, record {told.place}: {reason}")
+    return BadReply(f"status {told.status} of the library")
+
+
+def fault(text: str) -> Ended:
+    """The end of a program with a fault."""
+    return Ended(1, f"pespbench: {text}")

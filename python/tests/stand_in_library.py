@@ -1,0 +1,60 @@
+"""Stands in for the library in process: its calls in Python, over a function that answers lines."""
+
+from __future__ import annotations
+
+import ctypes
+import re
+from typing import Callable, Dict, MutableSequence, Union
+
+from pespbench.library import Calls, Handle, Told
+
+Answer = Union[bytes, int]
+MEMORY, REFUSED = 6, 13
+
+
+class StandIn:
+    """Answers by the reply to a line, or by the status that is told in its place. It counts what was opened and closed."""
+
+    def __init__(self, answer: Callable[[bytes], Answer], status: int = 0) -> None:
+        self.answer, self.status = answer, status
+        self.opened = self.closed = 0
+        # What was asked.
+        self.lines: MutableSequence[bytes] = []
+
+    def calls(self) -> Calls:
+        """The calls, as those of a library."""
+        return Calls(self._open, self._ask, self._cost, self._close)
+
+    def _open(self, *given: int) -> None:
+        Told.from_address(given[-1]).status = self.status
+        if self.status == 0:
+            self.opened += 1
+            Handle.from_address(given[-2]).is_open = True
+
+    def _ask(self, _: int, line: bytes, length: int, room: int, room_length: int, told: int) -> None:
+        assert len(line) == length
+        self.lines.append(line)
+        self._tell(self.answer(line), room, room_length, Told.from_address(told))
+
+    def _tell(self, answer: Answer, room: int, room_length: int, told: Told) -> None:
+        reply = answer if isinstance(answer, bytes) else b""
+        told.length, told.status = len(reply), answer if isinstance(answer, int) else 0
+        ctypes.memmove(room, reply, min(room_length, len(reply)))
+
+    def _cost(self, _: int, cost: int, told: int) -> None:
+        answer = self.answer(b"cost")
+        found = re.fullmatch(b"cost ([0-9]+)\n", answer) if isinstance(answer, bytes) else None
+        Told.from_address(told).status = answer if isinstance(answer, int) else 0 if found else REFUSED
+        if found:
+            ctypes.c_uint64.from_address(cost).value = int(found[1])
+
+    def _close(self, handle: int) -> None:
+        self.closed += Handle.from_address(handle).is_open
+        Handle.from_address(handle).is_open = False
+
+
+def usual(line: bytes, others: "Dict[bytes, Callable[[], Answer]]") -> Answer:
+    """The reply of a network without events whose edits are all accepted, but to lines that others answer."""
+    if line in others:
+        return others[line]()
+    return {b"dump": b"# period 10 lines 0\n", b"cost": b"cost 7\n"}.get(line, b"ok\n")

@@ -1,0 +1,203 @@
+"""The library in process: where it is looked for, and what holds over it alone."""
+
+from __future__ import annotations
+
+import ctypes.util
+import os
+import signal
+import subprocess
+import sys
+import time
+import unittest
+from pathlib import Path
+from typing import Any, Dict, List, Tuple, Union
+from unittest import mock
+
+from pespbench import Bench, Ended, Engine, FileFault, NoLibrary, PespbenchError, variants
+from pespbench.library import find_library, loaded
+from tests.common import LIBRARY, OVER_LIBRARY, OVER_PROGRAM, TOP, Case, drawn_script, needs_library
+
+
+class Finding(Case):
+    """Where it is looked for."""
+
+    def setUp(self) -> None:
+        super().setUp()
+        self.known = mock.patch("ctypes.util.find_library", return_value=None)
+        self.known.start()
+        self.addCleanup(self.known.stop)
+        surroundings = mock.patch.dict(os.environ, {"PESPBENCH_LIB": "", "PESPBENCH": "", "PATH": str(self.folder)})
+        surroundings.start()
+        self.addCleanup(surroundings.stop)
+
+    def file(self, name: str) -> Path:
+        path = self.folder / name
+        path.parent.mkdir(parents=True, exist_ok=True)
+        path.touch(0o755)
+        return path
+
+    def test_named(self) -> None:
+        """One that is named is taken, and nothing else where it is not there."""
+        beside, program = self.file("prefix/lib/libpespbench.so"), self.file("prefix/bin/pespbench")
+        other, own = self.file("other/libpespbench.so"), self.file("own.so")
+        for named in (other, other.parent):
+            self.assertEqual(find_library(named, program), str(other))
+            with mock.patch.dict(os.environ, {"PESPBENCH_LIB": str(named)}):
+                self.assertEqual(find_library(None, program), str(other))
+                self.assertEqual(find_library(own), str(own))
+        for missing in (self.folder / "none.so", self.folder):
+            with mock.patch.dict(os.environ, {"PESPBENCH_LIB": str(missing)}), self.assertRaises(NoLibrary) as told:
+                find_library(None, program)
+            self.assertIn(f"there is no library {self.folder}", str(told.exception))
+            with self.assertRaises(NoLibrary):
+                Bench.open(None, engine="library", library=missing)
+        self.assertEqual(find_library(None, program), str(beside))
+
+    def test_beside(self) -> None:
+        """As tools/install puts it, also where the program is a link to what was installed."""
+        library, program = self.file("prefix/lib/libpespbench.so"), self.file("prefix/bin/pespbench")
+        link = self.folder / "pespbench"
+        self.assertRaises(NoLibrary, find_library)
+        link.symlink_to(program)
+        self.assertEqual(find_library(), str(library))
+        with mock.patch.dict(os.environ, {"PESPBENCH": str(program), "PATH": ""}):
+            self.assertEqual(find_library(), str(library))
+        with mock.patch("pespbench.library.__file__", str(self.folder / "prefix/share/pespbench/python/pespbench/library.py")):
+            link.unlink()
+            self.assertEqual(find_library(), str(library))
+
+    def test_known_to_the_system(self) -> None:
+        with self.assertRaises(NoLibrary) as told:
+            find_library()
+        self.assertIn("tools/library and tools/install make it; name it by library=, or by PESPBENCH_LIB", str(told.exception))
+        self.assertIsInstance(told.exception, PespbenchError)
+        with mock.patch("ctypes.util.find_library", return_value="libpespbench.so"):
+            self.assertEqual(find_library(), "libpespbench.so")
+
+    def test_no_library_of_this(self) -> None:
+        text = self.folder / "libpespbench.so"
+        text.write_text("not a library\n")
+        with self.assertRaises(NoLibrary) as told:
+            Bench.open(None, engine="library", library=text)
+        self.assertIn(f"{text} is no library that can be loaded", str(told.exception))
+        self.known.stop()
+        path = ctypes.util.find_library("c")
+        self.known.start()
+        if path is not None:
+            with self.assertRaises(NoLibrary) as told:
+                loaded(path)
+            self.assertIn("it has no pesp_open", str(told.exception))
+
+    def test_wrong_words(self) -> None:
+        self.assertRaises(ValueError, Bench.open, None, engine="libraries")
+        self.assertRaises(ValueError, Bench.open, None, library=self.folder)
+
+    def test_without_ctypes(self) -> None:
+        with mock.patch("importlib.util.find_spec", return_value=None), self.assertRaises(NoLibrary) as told:
+            Bench.open(None, engine="library")
+        self.assertEqual(str(told.exception), "this Python has no ctypes, by which the library is called")
+        words = [sys.executable, "-c", "import pespbench, sys; print('ctypes' in sys.modules)"]
+        done = subprocess.run(words, env={**os.environ, "PYTHONPATH": str(TOP / "python")}, stdout=subprocess.PIPE)
+        self.assertEqual(done.stdout, b"False\n")
+
+
+# A search without an end that is broken off, and then a process that ends.
+BROKEN_OFF = """
+import sys, threading, time
+from pespbench import Bench
+
+with Bench.from_script(open(sys.argv[2]).read(), engine="library", library=sys.argv[1]) as bench:
+    bench.time(3, 7)
+    before = bench.dump(), bench.journal, bench.times
+    print("searching", flush=True)
+    try:
+        bench.optimum()
+    except KeyboardInterrupt:
+        assert (bench.dump(), bench.journal, bench.times) == before
+        assert [thread.name for thread in threading.enumerate()][1:] == ["pespbench search"]
+        print("went on", flush=True)
+"""
+
+
+@needs_library
+class Library(Case):
+    """Over the library itself."""
+
+    def test_ctrl_c(self) -> None:
+        """It is heard in a search that takes minutes, the bench goes on, and the process does not wait for it."""
+        script, program = self.folder / "script", self.folder / "program.py"
+        edits = [f"span {activity} {activity % 60} {activity % 60 + 45}" for activity in range(320)]
+        script.write_text("\n".join([*drawn_script(11, 100, 320), *edits]))
+        program.write_text(BROKEN_OFF)
+        environment = {**os.environ, "PYTHONPATH": str(TOP / "python")}
+        words, pipe = [sys.executable, str(program), LIBRARY, str(script)], subprocess.PIPE
+        with subprocess.Popen(words, stdout=pipe, stderr=pipe, env=environment) as command:
+            self.addCleanup(command.kill)
+            assert command.stdout is not None
+            self.assertEqual(command.stdout.readline(), b"searching\n")
+            time.sleep(0.7)
+            command.send_signal(signal.SIGINT)
+            output, error = command.communicate(timeout=40)
+        self.assertEqual((command.returncode, output, error), (0, b"went on\n", b""))
+
+    def test_which(self) -> None:
+        with Bench.open(None, **OVER_LIBRARY) as bench:
+            self.assertEqual((bench.engine, bench.program), (Engine("library", find_library(LIBRARY)), find_library(LIBRARY)))
+            with Bench.open(None, engine=bench.engine) as other:
+                self.assertEqual(other.cost(), 0)
+
+    def test_periods(self) -> None:
+        """None is taken for another one."""
+        for period in (-1, 0, 1, 1_441, 65_536 + 10):
+            with self.assertRaises(Ended) as told:
+                Bench.open(None, period=period, **OVER_LIBRARY)
+            self.assertEqual((told.exception.status, str(told.exception)), (2, "pespbench: the period is not 2 to 1440"))
+
+    def test_faults(self) -> None:
+        """Files that are not taken, and why: as the program tells it."""
+        two, times = "1; 1; 2; 3; 5; 2\n2; 2; 1; 4; 6; 1\n", "1; 0\n2; 3\n"
+        wrong = ["1; 1\n", "x; 1; 2; 3; 5; 2\n", "1; 1; -2; 3; 5; 2\n", "1; 1; 2; 3; 5; 0.5\n", "1; 1; 2; 5; 3; 2\n", two + two]
+        wrong += ["1; 1; 2; 3; 1000000000000; 2\n", "\ufeff", "; ; \n", '"1; 1\n']
+        rows = ["1\n", "x; 1\n", "1; 0\n1; 3\n", "7; 0\n", "1; 0.5\n", "1; 99999999999999999999\n"]
+        cases: List[Dict[str, Union[str, Path]]] = [{"activities": text} for text in wrong]
+        cases += [{"activities": two, name: text} for name in ("fixed", "times") for text in rows]
+        cases += [{"activities": two, "fixed": rows[0], "times": rows[1]}, {"activities": wrong[0], "times": self.folder / "none"}]
+        cases += [{"activities": wrong[0], "fixed": self.folder}, {"activities": two, "fixed": self.longest(), "times": times}]
+        for case in cases:
+            with self.subTest(case=case):
+                self.assertEqual(self.told(case, OVER_LIBRARY), self.told(case, OVER_PROGRAM))
+
+    def longest(self) -> Path:
+        """A file of one byte more than may be."""
+        path = self.folder / "longest"
+        path.touch()
+        os.truncate(path, 67_108_865)
+        return path
+
+    def told(self, case: Dict[str, Union[str, Path]], how: Dict[str, Any]) -> Tuple[int, str, str]:
+        """How opening files ends, of their texts or where they are."""
+        for name, text in case.items():
+            if isinstance(text, str):
+                (self.folder / name).write_text(text, encoding="utf-8")
+        paths: Dict[str, Any] = {name: self.folder / name if isinstance(text, str) else text for name, text in case.items()}
+        try:
+            with Bench.open(paths.pop("activities"), **paths, **how) as bench:
+                return 0, bench.dump(), str(bench.times)
+        except (Ended, FileFault) as ended:
+            return getattr(ended, "status", 0), str(ended), ended.cure
+
+    def test_many_sessions(self) -> None:
+        """Side by side, and in processes of their own."""
+        benches = [Bench.open(None, period=10, **OVER_LIBRARY) for _ in range(20)]
+        for place, bench in enumerate(benches):
+            bench.many(["add event 1", f"time 1 {place % 10}"])
+        for place, bench in enumerate(benches):
+            self.assertEqual(bench.times, {1: place % 10})
+        [told] = variants(benches[3], [["time 1 0"]], ask="cost", workers=1)
+        self.assertEqual(told, 0)
+        for bench in benches:
+            bench.close()
+
+
+if __name__ == "__main__":
+    unittest.main()
