@@ -34,14 +34,14 @@ def callers(suite):
     if not (compiler and LIBRARY.exists()):
         return {}
     found, heap = {}, folder / "heap.o"
-    if not made(suite, "heap.c", [compiler, *WARNINGS, "-fPIC", "-c", SOURCES / "heap.c", "-o", heap]):
+    is_shared = shared_library(suite) is not None
+    if not heap.exists():
         return {}
     if made(suite, "answer.c", [compiler, *WARNINGS, "-o", folder / "in-c", SOURCES / "answer.c", heap, LIBRARY]):
         found["C"] = [folder / "in-c"]
     made(suite, "moves.c", [compiler, *WARNINGS, "-o", folder / "moves", SOURCES / "moves.c", heap, LIBRARY])
     many_sessions(suite, compiler, heap, LIBRARY)
-    words = ["-shared", "-o", shared(suite), heap, "-Wl,--whole-archive", LIBRARY, "-Wl,--no-whole-archive"]
-    if made(suite, "the shared library", [compiler, *words]):
+    if is_shared:
         found["Python"] = [sys.executable, "-B", SOURCES / "answer.py", shared(suite)]
     if rustc:
         words = ["--edition=2021", "-O", "-o", folder / "in-rust", SOURCES / "answer.rs"]
@@ -53,6 +53,17 @@ def callers(suite):
 
 def shared(suite):
     return suite.folder / "libpespbench.so"
+
+
+def shared_library(suite):
+    """The library as a shared one, made of that which tools/library has built; None where that or a compiler is not there."""
+    compiler, heap = shutil.which("gcc") or shutil.which("cc"), suite.folder / "heap.o"
+    if not (compiler and LIBRARY.exists()):
+        return None
+    if not made(suite, "heap.c", [compiler, *WARNINGS, "-fPIC", "-c", SOURCES / "heap.c", "-o", heap]):
+        return None
+    words = ["-shared", "-o", shared(suite), heap, "-Wl,--whole-archive", LIBRARY, "-Wl,--no-whole-archive"]
+    return shared(suite) if made(suite, "the shared library", [compiler, *words]) else None
 
 
 def asked_by(words):
@@ -213,6 +224,11 @@ def installed_library(suite):
         told = run(["pkg-config", "--cflags", "--libs", "pespbench"], env={**env, "PKG_CONFIG_PATH": str(prefix / "lib/pkgconfig")})
         wanted = f"-I{prefix}/include -L{prefix}/lib -lpespbench".encode()
         suite.note("what pkg-config tells", {"told": wanted.split()}, {"told": told["standard output"].split()})
+    words = [sys.executable, "-B", "-c", "from pespbench import Bench; print(Bench.open(None, engine='library').program)"]
+    paths = {"PYTHONPATH": str(prefix / "share/pespbench/python"), "PATH": "/usr/bin:/bin", "PESPBENCH": "", "PESPBENCH_LIB": ""}
+    came = run(words, env={**env, **paths})
+    wanted = {"status": 0, "standard output": f"{prefix / 'lib/libpespbench.so'}\n".encode()}
+    suite.note("the library that the installed Python package finds", wanted, came)
     if cargo:
         shutil.copytree(SOURCES / "rust", suite.folder / "rust")
         words = [cargo, "test", "--offline", "--quiet", "--target-dir", suite.folder / "target"]

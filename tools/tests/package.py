@@ -6,6 +6,7 @@ import shutil
 import subprocess
 import sys
 
+from tests.embedded import shared_library
 from tests.harness import TOP, within
 
 PYTHON = TOP / "python"
@@ -22,8 +23,9 @@ def run_tests(suite, modules, python=sys.executable, warnings="error"):
 
     They ran to their end too where all were skipped.
     """
-    command = [python, "-W", warnings, "-m", "tests", *modules]
-    with subprocess.Popen(command, cwd=PYTHON, env=environment(suite), stdout=subprocess.PIPE, text=True) as process:
+    command, library = [python, "-W", warnings, "-m", "tests", *modules], shared_library(suite)
+    env = {**environment(suite), **({"PESPBENCH_LIB": str(library)} if library else {})}
+    with subprocess.Popen(command, cwd=PYTHON, env=env, stdout=subprocess.PIPE, text=True) as process:
         told = 0
         for line in process.stdout:
             word, _, name = line.rstrip().partition(" ")
