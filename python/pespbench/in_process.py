@@ -21,6 +21,8 @@ LONGEST_FILE = 67_108_864
 # What may take long. The replies fit into the first room, so that none is searched for twice: 20,000 events with their times.
 SEARCHES = ("optimum", "try", "adopt")
 ROOM = 1 << 19
+# Seconds: so soon Ctrl-C is heard at the latest.
+LITTLE = 0.1
 OK = b"ok\n"
 
 
@@ -82,15 +84,14 @@ class InProcess(Transport):
             self._make_room(length)
 
     def _searched(self, line: bytes, deadline: Optional[float]) -> bytes:
-        left = None if deadline is None else deadline - clock.monotonic()
-        if left is not None and left <= 0:
+        if deadline is not None and deadline <= clock.monotonic():
             raise OutOfTime
         self._is_over.clear()
         if self._is_ended:
             raise given_up()
         self._is_searching = True
         threading.Thread(target=self._search, args=(line,), name="pespbench search", daemon=True).start()
-        is_over = self._is_over.wait(left)
+        is_over = self._is_over_by(deadline)
         if self._is_ended:
             raise given_up()
         if not is_over:
@@ -98,6 +99,13 @@ class InProcess(Transport):
         if isinstance(self._found, Exception):
             raise self._found
         return self._found
+
+    def _is_over_by(self, deadline: Optional[float]) -> bool:
+        """Waits for the search a little at a time, since a signal that comes just before a wait does not end it."""
+        left = LITTLE
+        while left > 0 and not self._is_over.wait(left):
+            left = LITTLE if deadline is None else min(LITTLE, deadline - clock.monotonic())
+        return self._is_over.is_set()
 
     def _search(self, line: bytes) -> None:
         try:
