@@ -1,12 +1,11 @@
 -- Pairs come to the rows and into a list, one after another.
-use Rattle.std.proofs.Common.{◌≡◌, ℕ, ◌+◌, ◌*◌, ◌<◌, ◌≤◌, ◌==◌, ◌&&◌, ◌||◌, false, Some, None, [], ◌∷◌, ◌++◌, length, vec_capacity, refl, sym, ap, subst, ◌∙◌, arith, IsTrue, IfSome, append_assoc}
+use Rattle.std.proofs.Common.{◌≡◌, ℕ, ◌+◌, ◌*◌, ◌<◌, ◌≤◌, ◌==◌, ◌&&◌, ◌||◌, false, Some, None, [], ◌∷◌, ◌++◌, length, vec_capacity, refl, sym, ap, ◌∙◌, arith, IsTrue, append_assoc}
 use Rattle.std.proofs.lemmas.Bool.Decides.{nat_tests}
 use Rattle.std.proofs.lemmas.List.{append-nil, length_push}
 use Rattle.std.proofs.lemmas.List.Folds.{list_any-append}
 use Rattle.std.specs.Option.{option_and_then}
 use Rattle.pesp_base.specs.Limits.{greatest_number}
 use Rattle.pesp_base.specs.Tensions.{residue}
-use Rattle.pesp_base.specs.Windows.{Interval, IsWindow}
 use Rattle.pesp_instance.specs.declared.event.Event.{Event}
 use Rattle.pesp_instance.specs.Network.{IsEvent, IsNetwork, Network, event_of, window_of}
 use Rattle.pesp_instance.proofs.Rising.{IfSome-with_number, number-with_number}
@@ -150,14 +149,4 @@ unwindowed_beyond I n network beyond =
           let number = number-with_number (λ (e : Event). e.id) n I.events x is in
           let within = (IfSome-with_number (λ (e : Event). e.id) (IsEvent I.period) n I.events x network.events_within is).number in
           absurd (omega (arith, number, within, beyond))
-    ] refl
-
--- a window is one of the period
-pub window_within : (I : Network) (n : ℕ) (w : Interval) → IsNetwork I → window_of I n ≡ Some w → IsWindow I.period w
-window_within I n w network =
-    elim (event_of I n) as (λ o. event_of I n ≡ o → option_and_then (λ (x : Event). x.window) o ≡ Some w → IsWindow I.period w) [
-      | None ↦ λ is none. absurd (cc)
-      | Some x ↦ λ is window.
-          let within = (IfSome-with_number (λ (e : Event). e.id) (IsEvent I.period) n I.events x network.events_within is).window in
-          subst (λ o. IfSome o (IsWindow I.period)) window within
     ] refl

@@ -1,8 +1,8 @@
 -- Rows that come are empty, and rows that are opened are full.
-use Rattle.std.proofs.Common.{◌≡◌, ℕ, zero, suc, ◌*◌, ◌<◌, ◌≤◌, Bool, true, false, List, [], ◌∷◌, ◌++◌, All, length, max, get_or, set, refl, ap, ◌∙◌, inl, inr, arith}
+use Rattle.std.proofs.Common.{◌≡◌, ℕ, zero, suc, ◌*◌, ◌<◌, ◌≤◌, Bool, true, false, List, [], ◌∷◌, ◌++◌, All, length, max, replicate, get_or, set, refl, ap, ◌∙◌, inl, inr, arith}
 use Rattle.std.proofs.Math.Nat.{mul-le-mul_right}
 use Rattle.std.proofs.lemmas.Bool.{cases_lt}
-use Rattle.std.proofs.lemmas.List.{get_or_append_left, get_or_past, get_or_push, length_push}
+use Rattle.std.proofs.lemmas.List.{get_or_append_left, get_or_past, get_or_push, get_or-replicate, length-replicate, length_push}
 use Rattle.std.proofs.lemmas.List.Elements.{All-from_get_or, All-get_or, All-push, All-set}
 use Rattle.std.proofs.lemmas.List.Sums.{sum_by-le, sum_by_push}
 use Rattle.pesp_domains.specs.Domains.{holds}
@@ -73,3 +73,13 @@ padded_one period rows row long is empty =
       held = held_added rows row empty;
       more = omega (arith, many);
     }
+
+-- and a row made without a residue is one
+pub padded_empty : (period : ℕ) (rows : List (List Bool)) (row : List Bool) → All (λ r. length r ≡ period) rows → row ≡ replicate period false → ArePadded period rows (rows ++ row ∷ [])
+padded_empty period rows row long is =
+    padded_one period rows row long (ap length is ∙ length-replicate period false)
+    (λ r.
+    elim (cases_lt r period) [
+      | inl low ↦ ap (λ xs. holds xs r) is ∙ get_or-replicate period r false false low
+      | inr high ↦ get_or_past row r false (omega (arith, ap length is, length-replicate period false, high))
+    ])

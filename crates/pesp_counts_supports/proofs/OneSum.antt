@@ -1,12 +1,16 @@
 -- Sums of a row and another one by other names, sums of one residue alone, and the residues of a window.
-use Rattle.std.proofs.Common.{◌≡◌, ◌≢◌, ◌==◌, cond, ℕ, zero, suc, ◌+◌, ◌-◌, ◌*◌, ◌%◌, ◌<◌, ◌≤◌, pos, ◌-ℤ◌, ◌⊎◌, ◌&&◌, nat_lt, Bool, IsTrue, true, false, List, Option, ◌++◌, drop, take, length, get_or, refl, sym, ap, subst, ◌∙◌, inl, inr, arith}
+use Rattle.std.proofs.Common.{◌≡◌, ◌≢◌, ◌==◌, cond, ℕ, zero, suc, ◌+◌, ◌-◌, ◌*◌, ◌/◌, ◌%◌, ◌<◌, ◌≤◌, min, pos, ◌+ℤ◌, ◌-ℤ◌, ◌*ℤ◌, ◌⊎◌, ◌&&◌, nat_lt, Bool, IsTrue, true, false, List, Option, ◌++◌, drop, take, length, get_or, refl, sym, ap, subst, ◌∙◌, inl, inr, arith}
 use Rattle.std.proofs.lemmas.Bool.Decides.{nat_tests}
-use Rattle.std.proofs.Math.Nat.{add-mod_left}
+use Rattle.std.proofs.Math.IntN.{pos-*ℤ-pos}
+use Rattle.std.proofs.Math.Nat.{add-mod_left, mod-add-div}
 use Rattle.std.proofs.lemmas.Bool.{cases_lt, lt-ltb}
 use Rattle.std.proofs.lemmas.Grind.{common_steps}
+use Rattle.std.proofs.lemmas.Int.{ints}
 use Rattle.pesp_counts_arcs.proofs.EndRanges.{far_above, far_below, mod_below}
 use Rattle.pesp_base.specs.Tensions.{residue}
 use Rattle.pesp_base.specs.Windows.{Interval, is_held}
+use Rattle.pesp_base.proofs.Laws.{residue_below}
+use Rattle.pesp_base.proofs.ResidueLaws.{residue-whole_periods}
 use Rattle.pesp_base.proofs.WindowLaws.{steps}
 use Rattle.pesp_counts_arcs.specs.declared.end.End.{End}
 use Rattle.pesp_counts_arcs.specs.declared.end.Ranges.{Ranges}
@@ -32,7 +36,7 @@ pub sums_written : (ws xs : List ℕ) (len : ℕ) → len ≡ length xs → leng
 sums_written ws xs len is same = grind (arith, common_steps)
 
 -- below one residue there is none of it, and one after it
-pub lone_below : (T q i : ℕ) → i ≤ T → sum_below T (λ r. r == q) i ≡ one (nat_lt q i)
+lone_below : (T q i : ℕ) → i ≤ T → sum_below T (λ r. r == q) i ≡ one (nat_lt q i)
 lone_below T q zero le = grind (arith, nat_tests)
 lone_below T q (suc i) le =
     let rest = lone_below T q i (omega (arith, le)) in
@@ -42,6 +46,12 @@ lone_below T q (suc i) le =
 -- of all residues of a period one is that one
 pub lone_all : (T q : ℕ) → q < T → 1 ≡ sum_below T (λ r. r == q) T
 lone_all T q low = grind (arith, nat_tests, lone_below T q T)
+
+-- so sums that are 0 up to it and 1 after it are those of one period
+pub lone_once : (T q : ℕ) (sums : List ℕ) → ((i : ℕ) → i < q + 1 → get_or sums i 0 ≡ 0) → ((i : ℕ) → q + 1 ≤ i → i < T → get_or sums i 0 ≡ 1) → (i : ℕ) → i < T → get_or sums i 0 ≡ sum_below T (λ r. r == q) i
+lone_once T q sums none one_more i low =
+    let is = lone_below T q i (omega (arith, low)) in
+    grind (arith, nat_tests, none i, one_more i, is, low)
 
 -- ---- the counts of an end anew
 
@@ -81,6 +91,16 @@ passes_held T window end r first_is width_is first rl =
     let from : (0 + end.first) % T ≡ window.first = rw first_is (ap (λ n. n % T) (omega arith) ∙ mod_below T window.first first) in
     let below : nat_lt r T ≡ true = lt-ltb r T rl in
     rw (from, width_is, below, far) refl
+
+-- a window is the same from the residue of its first one on, and with no more residues than the period
+pub held_within : (T : ℕ) (window : Interval) (r : ℕ) → 0 < T → is_held T (record { first = window.first % T; length = min window.length T }) r ≡ is_held T window r
+held_within T window r some =
+    let whole = pos-*ℤ-pos T (window.first / T) in
+    let parts = mod-add-div window.first T in
+    let turned : pos r -ℤ pos (window.first % T) ≡ (pos r -ℤ pos window.first) +ℤ pos T *ℤ pos (window.first / T) = omega (arith, ints, whole, parts) in
+    let far : residue T (pos r -ℤ pos (window.first % T)) ≡ residue T (pos r -ℤ pos window.first) = ap (residue T) turned ∙ residue-whole_periods T (pos r -ℤ pos window.first) (pos (window.first / T)) some in
+    let below = residue_below T (pos r -ℤ pos window.first) some in
+    rw far (grind (arith, nat_tests, below))
 
 -- not all residues are in a window that is shorter than the period
 some_out : (T : ℕ) (end : End) → end.first < T → end.width < T → (r : ℕ) × (r < T) × (passes T end 0 r ≡ false)

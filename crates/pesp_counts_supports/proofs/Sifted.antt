@@ -4,18 +4,18 @@ use Rattle.std.proofs.lemmas.Bool.Decides.{nat_tests}
 use Rattle.std.specs.List.{Contains}
 use Rattle.std.proofs.lemmas.Bool.{and_parts, cases_Bool, eqb-true as eqb_is}
 use Rattle.std.proofs.lemmas.List.Elements.{All-get_or}
-use Rattle.pesp_domains.specs.Sweeps.{Of, Pairs}
+use Rattle.pesp_domains.specs.Sweeps.{Of, Pairs, narrowed_to}
 use Rattle.pesp_domains.proofs.Families.{and_left}
 use Rattle.pesp_domains.proofs.RowLaws.{within_row}
 use Rattle.pesp_counts_arcs.specs.declared.end.End.{End}
 use Rattle.pesp_counts_arcs.specs.declared.end.Ranges.{Ranges}
-use Rattle.pesp_counts_arcs.specs.Ends.{AreLinked, end_at, ends_of, passes}
+use Rattle.pesp_counts_arcs.specs.Ends.{AreLinked, end_at, ends_of, is_from_to, passes}
 use Rattle.pesp_counts_arcs.specs.Links.{Links}
 use Rattle.pesp_counts_supports.specs.declared.moving.Moved.{Moved}
 use Rattle.pesp_counts_supports.specs.Counts.{KeepsClosed, count_at, has_at}
 use Rattle.pesp_counts_supports.specs.Moves.{is_touched}
 use Rattle.pesp_counts_supports.specs.Resting.{AreLiveBut}
-use Rattle.pesp_counts_supports.specs.Restored.{in_ranges}
+use Rattle.pesp_counts_supports.specs.Restored.{AreRanges, in_ranges}
 use Rattle.pesp_counts_supports.specs.Supports.{AreExact, Keeps, Supports}
 use Rattle.pesp_counts_supports.proofs.Rows.{Clears, within_rows}
 use Rattle.pesp_counts_supports.proofs.Supporters.{supporters_none}
@@ -33,6 +33,11 @@ clears_all place period f before after long clears p r = grind (arith, nat_tests
 -- what goes from the row of a place, of two ranges one after the other
 pub clears_both : (place : ℕ) (f : ℕ → Bool) (w : Ranges) (before mid after : List (List Bool)) → Clears place f w.start w.end before mid → Clears place f 0 w.wrapped mid after → (p r : ℕ) → has_at after p r ≡ (has_at before p r && not (p == place && in_ranges w r && f r))
 clears_both place f w before mid after first then p r = grind (arith, first p r, then p r)
+
+-- what goes from the row of a place beside two ranges, which have those of the period that stay
+pub narrowed_both : (T place : ℕ) (stays : ℕ → Bool) (w : Ranges) (before mid after : List (List Bool)) → AreRanges T w → ((r : ℕ) → r < T → in_ranges w r ≡ stays r) → All (λ row. length row ≡ T) before → ((p r : ℕ) → has_at mid p r ≡ (has_at before p r && not (p == place && is_from_to w.wrapped w.start r))) → ((p r : ℕ) → has_at after p r ≡ (has_at mid p r && not (p == place && is_from_to w.end T r))) → (p r : ℕ) → has_at after p r ≡ narrowed_to (has_at before) place stays p r
+narrowed_both T place stays w before mid after are left long first then p r =
+    grind (arith, nat_tests, are.order, are.below, are.wrapped, left r, first p r, then p r, below_long before T p r long)
 
 -- ---- one end after another
 

@@ -24,18 +24,16 @@ use pesp_instance::Instance;
 use std::ops::Range;
 
 /// The residues of a window.
-fn ranges_of(window: Window, period: Period) -> Ranges
-    requires first { window.first < period }
-    requires length { window.length < period }
+pub(crate) fn ranges_of(window: Window, period: Period) -> Ranges
     ensures ranges { AreRanges period result }
-    ensures few { size_of result < period }
+    ensures few { window.length < period → size_of result < period }
     ensures held { (r : ℕ) → r < period → in_ranges result r ≡ is_held period window r }
 {
     let end = End {
         looks_at: 0,
         mate: 0,
-        first: window.first(),
-        width: window.length(),
+        first: window.first() % period.get(),
+        width: window.length().min(period.get()),
     };
     end.ranges(period.get(), 0)
 }

@@ -1,7 +1,6 @@
 //! Rows, counts and room come as places do.
 
-ghost use Rattle.std.specs.Prelude.{◌≡◌, ◌<◌, ◌≤◌, ◌*◌, ◌+◌, ◌==◌, ◌&&◌, ◌||◌, nat_lt, ℕ, [], false, length, max, All, OnOk, OnErr, IfOk, vec_capacity};
-ghost use Rattle.pesp_domains.specs.Domains.{holds};
+ghost use Rattle.std.specs.Prelude.{◌≡◌, ◌<◌, ◌≤◌, ◌*◌, ◌+◌, ◌==◌, ◌&&◌, ◌||◌, nat_lt, ℕ, [], length, max, All, OnOk, OnErr, vec_capacity};
 ghost use Rattle.pesp_counts_supports.specs.Counts.{has_at};
 ghost use Rattle.pesp_counts_supports.specs.Resting.{HaveRoom};
 ghost use Rattle.pesp_counts_supports.specs.Supports.{ArePadded, HaveSameShape, IsRoomier};
@@ -14,18 +13,6 @@ use std::alloc::{AllocError, Global};
 
 /// The greatest number of places, so that a listed pair keeps its own in 32 bits.
 const MOST_PLACES: usize = 4_294_967_295;
-
-/// A row without a residue.
-fn empty_row(alloc: Global, period: Period) -> Result<Row, AllocError>
-    ensures long { IfOk result (λ row. length row ≡ period) }
-    ensures empty { IfOk result (λ row. (r : ℕ) → holds row r ≡ false) }
-{
-    let mut row = Row::full(alloc, period)?;
-    for residue in 0..period.get() {
-        row.take_out(residue);
-    }
-    Ok(row)
-}
 
 /// Adds an empty row to both lists. Without the memory for it, nothing changes.
 fn add_row(
@@ -43,8 +30,8 @@ fn add_row(
     ensures err { OnErr result ((length rows.new.items ≡ length rows.old.items)
         × (length counted.new.items ≡ length counted.old.items)) }
 {
-    let row = empty_row(alloc, period)?;
-    let other = empty_row(alloc, period)?;
+    let row = Row::empty(alloc, period)?;
+    let other = Row::empty(alloc, period)?;
     rows.reserve(1)?;
     counted.reserve(1)?;
     rows.push_reserved(row);

@@ -1,6 +1,6 @@
 //! Sums of the residues that move: how many of them a window holds is the difference of two.
 
-ghost use Rattle.std.specs.Prelude.{◌≡◌, ◌<◌, ◌≤◌, ◌*◌, ◌+◌, ◌==◌, ℕ, length, option_map, slice_index_or};
+ghost use Rattle.std.specs.Prelude.{◌≡◌, ◌<◌, ◌≤◌, ◌*◌, ◌+◌, ◌==◌, ◌⊎◌, ℕ, length, option_map, slice_index_or};
 ghost use Rattle.pesp_base.specs.Limits.{greatest_period};
 ghost use Rattle.pesp_counts_supports.specs.Blocks.{AreSums, is_beyond, sum_below};
 ghost use Rattle.pesp_counts_supports.specs.Moves.{waiting_at};
@@ -37,17 +37,16 @@ fn sum_once(row: &Row, other: Option<&Row>, period: u16, sums: &mut [u16]) -> u1
     many
 }
 
-/// Makes the sums of one period for one residue alone.
-fn sum_one_once(residue: u16, period: u16, sums: &mut [u16])
-    requires period { period ≤ greatest_period }
-    requires long { 3 * period < length sums.old }
+/// Makes each sum of a range this one.
+fn fill_range(sums: &mut [u16], from: usize, to: usize, sum: u16)
+    requires order { from ≤ to }
+    requires within { to ≤ length sums.old }
     ensures long { length sums.new ≡ length sums.old }
-    ensures sums { (i : ℕ) → i < period
-        → slice_index_or sums.new i 0 ≡ sum_below period (λ r. r == residue) i }
+    ensures here { (i : ℕ) → from ≤ i → i < to → slice_index_or sums.new i 0 ≡ sum }
+    ensures elsewhere { (i : ℕ) → i < from ⊎ to ≤ i
+        → slice_index_or sums.new i 0 ≡ slice_index_or sums.old i 0 }
 {
-    for at in 0..period {
-        sums[at as usize] = u16::from(residue < at);
-    }
+    sums[from..to].fill(sum);
 }
 
 /// Goes on with the sums of one period through two more, in each of which as many residues are.
@@ -91,7 +90,9 @@ pub(crate) fn sum_one(residue: u16, period: u16, sums: &mut [u16])
     ensures long { length sums.new ≡ length sums.old }
     ensures sums { AreSums period (λ r. r == residue) sums.new }
 {
-    sum_one_once(residue, period, sums);
+    let next = residue as usize + 1;
+    fill_range(sums, 0, next, 0);
+    fill_range(sums, next, period as usize, 1);
     sum_on(sums, period, 1);
 }
 

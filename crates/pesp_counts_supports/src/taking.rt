@@ -12,6 +12,7 @@ ghost use Rattle.pesp_counts_supports.specs.Resting.{AreAtRest, AreLive, AreLive
 ghost use Rattle.pesp_counts_supports.specs.Supports.{AreExact, Fit, HaveSameShape, IsTaken, Keeps, is_in, lacks_partner};
 ghost use Rattle.pesp_counts_supports.specs.Spent.{ends_at};
 
+use crate::bringing::ranges_of;
 use crate::moving::{BLOCK, Moved, Way, begins_run, touched};
 use crate::supports::Supports;
 use crate::{Placed, probes};
@@ -161,10 +162,25 @@ impl Supports {
         ensures keeps { Keeps self.old self.new }
         ensures probes { (self.new).probes ≡ (self.old).probes }
     {
-        let period = self.period;
-        for other in 0..period.get() {
-            if !window.holds(period, other) && self.holds(place, other) {
-                self.take_out(place, other);
+        let left = ranges_of(window, self.period);
+        self.limit_range(place, left.wrapped..left.start);
+        self.limit_range(place, left.end..self.period.get());
+    }
+
+    /// Takes a range of residues at a place out.
+    fn limit_range(&mut self, place: usize, residues: Range<u16>)
+        requires place { place < length (self.old).rows }
+        requires order { residues.start ≤ residues.end }
+        ensures rows { (p r : ℕ) → has_at (self.new).rows p r
+            ≡ (has_at (self.old).rows p r
+            && not (p == place && is_from_to residues.start residues.end r)) }
+        ensures taken { IsTaken self.old self.new }
+        ensures keeps { Keeps self.old self.new }
+        ensures probes { (self.new).probes ≡ (self.old).probes }
+    {
+        for residue in residues {
+            if self.row(place).holds(residue) {
+                self.take_out(place, residue);
             }
         }
     }

@@ -1,19 +1,21 @@
 -- Residues that an event admits with another window, or with none, and did not admit before.
-use Rattle.std.proofs.Common.{◌≡◌, ℕ, ◌<◌, ◌==◌, ◌&&◌, not, cond, Bool, true, false, List, [], ◌∷◌, Option, Some, None, option_map, refl, sym, ap, ◌∙◌, inl, inr, arith, zero, suc, ◌+◌, All, ◌≤◌}
+use Rattle.std.proofs.Common.{◌≡◌, ℕ, ◌<◌, ◌==◌, ◌&&◌, not, cond, Bool, true, false, List, [], ◌∷◌, Option, Some, None, option_map, refl, sym, ap, ◌∙◌, inl, inr, arith, zero, suc, ◌+◌, ◌%◌, min, mod-lt, All, ◌≤◌}
 use Rattle.std.proofs.Math.Bool.{and-false}
+use Rattle.std.proofs.Math.Nat.{add-mod-mod, mod-le}
 use Rattle.std.specs.List.{list_any, range_with_len}
 use Rattle.std.specs.Option.{option_and_then}
 use Rattle.std.proofs.lemmas.List.Elements.{All-cons, All-head, All-nil, All-tail}
-use Rattle.std.proofs.lemmas.Bool.{and_from, cases_eq, eq-eqb, eqb-true, ne_eqb}
-use Rattle.pesp_base.specs.Windows.{Interval, at_time}
+use Rattle.std.proofs.lemmas.Bool.{and_from, cases_Bool, cases_eq, false≢true, eq-eqb, eqb-true, ne_eqb}
+use Rattle.pesp_base.specs.Windows.{Interval, at_time, is_held}
 use Rattle.pesp_instance.specs.declared.edit.Edit.TheVariants.{Fix, Unfix}
 use Rattle.pesp_instance.specs.declared.event.Event.{Event}
 use Rattle.pesp_instance.specs.Edited.{effect, rewindowed}
 use Rattle.pesp_instance.specs.Network.{Network, admits, agrees_with, event_of, window_of}
-use Rattle.pesp_base.proofs.WindowLaws.{held-at_time, held-full}
+use Rattle.pesp_base.proofs.WindowLaws.{held-at_time, held-full, held_is}
 use Rattle.pesp_instance.proofs.Rising.{number-with_number, with_number-change_in}
 use Rattle.pesp_domains.specs.Loosening.{admits_anew}
 use Rattle.pesp_base.proofs.Ranges.{some_below}
+use Rattle.pesp_domains.proofs.Families.{and_left, and_right, of_range, passing}
 
 abbrev number : Event → ℕ
 number e = e.id
@@ -45,6 +47,40 @@ anew_is I e window = by (event_of I e) refl
         ap (option_and_then (λ y. y.window)) (with_number-change_in number e e (λ y. record y { window = window }) (λ y. refl) I.events ∙ ap (option_map (λ y. cond (number y == e) (record y { window = window }) y)) found)
         ∙ rw (eq-eqb x.id e same) refl in
         rw after refl
+
+-- steps up from the first residue of the second window, as many as it has residues and no more than the period, come to each of them
+module _ (T : ℕ) (old : Option Interval) (w : Interval) (some : 0 < T) where
+  abbrev lacks_ahead : ℕ → Bool
+  lacks_ahead k = not (agrees_with T old ((w.first + k) % T))
+
+  to_residue : list_any lacks_ahead (range_with_len 0 (min w.length T)) ≡ true → list_any (agrees_anew T old (Some w)) (range_with_len 0 T) ≡ true
+  to_residue h =
+      let (k, in_it, lacks) = passing lacks_ahead (range_with_len 0 (min w.length T)) h in
+      let low = (of_range 0 (min w.length T) k in_it).1 in
+      let r : ℕ = (w.first + k) % T in
+      let held : is_held T w r ≡ true = (held_is T w r some).1 (k, omega (arith, low), refl) in
+      some_below (agrees_anew T old (Some w)) T r (mod-lt (w.first + k) some) (and_from _ _ held lacks)
+
+  to_steps : list_any (agrees_anew T old (Some w)) (range_with_len 0 T) ≡ true → list_any lacks_ahead (range_with_len 0 (min w.length T)) ≡ true
+  to_steps h =
+      let (r, in_it, anew) = passing (agrees_anew T old (Some w)) (range_with_len 0 T) h in
+      let (k, few, is) = (held_is T w r some).0 (and_left (is_held T w r) (not (agrees_with T old r)) anew) in
+      let lacks : not (agrees_with T old r) ≡ true = and_right (is_held T w r) (not (agrees_with T old r)) anew in
+      let at : (w.first + k % T) % T ≡ r = add-mod-mod w.first k T ∙ is in
+      let low : k % T < T = mod-lt k some in
+      let less : k % T ≤ k = mod-le k T in
+      some_below lacks_ahead (min w.length T) (k % T) (omega (arith, low, less, few)) (ap (λ s. not (agrees_with T old s)) at ∙ lacks)
+
+  pub anew_ahead : list_any (λ k. not (agrees_with T old ((w.first + k) % T))) (range_with_len 0 (min w.length T)) ≡ list_any (agrees_anew T old (Some w)) (range_with_len 0 T)
+  anew_ahead =
+      elim (cases_Bool (list_any lacks_ahead (range_with_len 0 (min w.length T)))) [
+        | inl is ↦ is ∙ sym (to_residue is)
+        | inr none ↦
+            elim (cases_Bool (list_any (agrees_anew T old (Some w)) (range_with_len 0 T))) [
+              | inl is ↦ absurd (false≢true (sym none ∙ to_steps is))
+              | inr neither ↦ none ∙ sym neither
+            ]
+      ]
 
 no_other : (period : ℕ) (old : Option Interval) (t r : ℕ) → t < period → agrees_with period old t ≡ true → agrees_anew period old (Some (at_time t)) r ≡ false
 no_other period old t r below is =

@@ -1,8 +1,7 @@
 //! Whether a change of a window or of a span lets in what was not let in before.
 
-ghost use Rattle.std.specs.Prelude.{◌≡◌, ℕ, ◌<◌, ◌↔◌, IsTrue, None, Some};
+ghost use Rattle.std.specs.Prelude.{◌≡◌, ℕ, ◌+◌, ◌%◌, ◌<◌, ◌↔◌, IsTrue, None, Some};
 ghost use Rattle.pesp_base.specs.Bounds.{Bounds};
-ghost use Rattle.pesp_base.specs.Windows.{is_held};
 ghost use Rattle.pesp_instance.specs.Edited.{rewindowed};
 ghost use Rattle.pesp_instance.specs.Network.{IsNetwork, window_of};
 ghost use Rattle.pesp_domains.specs.Loosening.{AdmitsNewPair, admits_anew, admits_more};
@@ -10,12 +9,11 @@ ghost use Rattle.pesp_domains.specs.Loosening.{AdmitsNewPair, admits_anew, admit
 use pesp_base::{EventId, Period, Span, allows};
 use pesp_instance::{Event, Instance};
 
-/// Whether the residue is one of these, `length` from `first` on, which need not be a window of the period.
-fn is_held(period: Period, first: u16, length: u16, residue: u16) -> bool
-    ensures { result ≡ is_held period (record { first = first; length = length }) residue }
+/// The residue that is so many steps up from this time.
+fn residue_ahead(period: Period, first: u16, ahead: u16) -> u16
+    ensures { result ≡ (first + ahead) % period }
 {
-    let ahead = (residue as i32 - first as i32).rem_euclid(period.get() as i32) as u16;
-    residue < period.get() && ahead < length
+    ((u32::from(first) + u32::from(ahead)) % u32::from(period.get())) as u16
 }
 
 /// The event, with its window.
@@ -37,8 +35,10 @@ pub fn window_admits_anew(instance: &Instance, event: EventId, first: u16, lengt
 {
     let period = instance.period();
     let old = event_now(instance, event);
-    (0..period.get()).any(|residue| is_held(period, first, length, residue)
-        && !old.admits(period, residue))
+    (0..length.min(period.get())).any(|ahead| !old.admits(
+        period,
+        residue_ahead(period, first, ahead),
+    ))
 }
 
 /// Whether there is a residue at which the event may not stand now.

@@ -1,6 +1,6 @@
 //! Rows of residues.
 
-ghost use Rattle.std.specs.Prelude.{◌≡◌, ℕ, ◌==◌, ◌&&◌, ◌||◌, ◌<◌, not, nat_le, nat_lt, ◌-◌, true, replicate, length, find, IfOk};
+ghost use Rattle.std.specs.Prelude.{◌≡◌, ℕ, ◌==◌, ◌&&◌, ◌||◌, ◌<◌, not, nat_le, nat_lt, ◌-◌, true, false, replicate, length, find, IfOk};
 ghost use Rattle.std.specs.List.{range_with_len};
 ghost use Rattle.pesp_base.specs.Windows.{is_held};
 ghost use Rattle.pesp_domains.specs.Domains.{holds, residues};
@@ -34,6 +34,14 @@ impl Row {
         ensures { IfOk result (λ row. row ≡ replicate period true) }
     {
         let tests = vec![in alloc; true; period.get() as usize]?;
+        Ok(Row { tests })
+    }
+
+    /// The row of no residue.
+    pub fn empty(alloc: Global, period: Period) -> Result<Row, AllocError>
+        ensures { IfOk result (λ row. row ≡ replicate period false) }
+    {
+        let tests = vec![in alloc; false; period.get() as usize]?;
         Ok(Row { tests })
     }
 
