@@ -7,8 +7,9 @@ ghost use Rattle.pesp_search_cycles.specs.Maps.{Holds, numbers_of};
 ghost use Rattle.pesp_search_cycles.specs.Ranges.{AreIn};
 
 use crate::flip::{Flip, FlipCut, flip_cut};
-use crate::graph::{Basis, Graph, units_of};
+use crate::graph::{Graph, units_of};
 use crate::node::Node;
+use crate::phase::Seeking;
 use crate::proposer::Proposer;
 use crate::root::root;
 use crate::separate::separate;
@@ -68,7 +69,7 @@ fn cuts_of(
     Ok(cuts)
 }
 
-/// What is left between a bound and the best that is known: a map's cost, or the cap, or so much more than the bound.
+/// What is left between a bound and the best that is known: a map's cost, or the cap, or half as much more.
 fn gap_of(bound: u64, cost: Option<u64>, cap: u64) -> u64 {
     let top = match cost {
         Some(cost) => cost.min(cap),
@@ -78,9 +79,10 @@ fn gap_of(bound: u64, cost: Option<u64>, cap: u64) -> u64 {
 }
 
 /// Whether another round is of use, after one that brought the bound from the last one to this one.
-fn is_worth(last: Option<u64>, bound: u64, gap: u64) -> bool {
+fn is_worth(seeking: Seeking, last: Option<u64>, bound: u64, gap: u64) -> bool {
     match last {
         Some(last) => bound.saturating_sub(last).saturating_mul(LEAST_GAIN) >= gap && 0 < gap,
+        None if bound == 0 => seeking == Seeking::Everywhere,
         None => gap.saturating_mul(LEAST_GAP) > bound,
     }
 }
@@ -167,6 +169,8 @@ struct Site<'a> {
     residues: &'a [Range],
     // In which all numbers of a map are.
     numbers: Vec<Range>,
+    // Of this phase.
+    seeking: Seeking,
     // Maps that cost as much are of no use.
     cap: u64,
     ghost long: { length residues.now ≡ cycles.now.network.events },
@@ -233,7 +237,8 @@ fn round(
         return Err(Memory);
     };
     let (bound, cost) = measured(alloc, &mut node, site.cap, budget)?;
-    let (flips, goes_on) = if is_worth(before.bound, bound, gap_of(bound, cost, site.cap))
+    let gap = gap_of(bound, cost, site.cap);
+    let (flips, goes_on) = if is_worth(site.seeking, before.bound, bound, gap)
         && !budget.is_spent()
     {
         renewed(alloc, &node, before.flips, candidates, budget)?
@@ -269,20 +274,20 @@ fn flips_of(alloc: Global, site: &Site, budget: &mut Budget) -> Result<Vec<Flip>
 }
 
 /// What was spent of what was left.
-fn spent_of(before: Option<u64>, after: Option<u64>) -> u64 {
+pub(crate) fn spent_of(before: Option<u64>, after: Option<u64>) -> u64 {
     match (before, after) {
         (Some(before), Some(after)) => before.saturating_sub(after),
         _ => 0,
     }
 }
 
-/// Flip cuts of a network whose events have their residues in these ranges, at all maps that it has; none beside the
-/// cycles of a tree.
+/// Flip cuts of a network whose events have their residues in these ranges, at all maps that it has, where maps below the cap
+/// are sought.
 pub(crate) fn cuts_among<'x>(
     alloc: Global,
     cycles: &'x Cycles<'x>,
     residues: &'x [Range],
-    basis: Basis,
+    seeking: Seeking,
     cap: u64,
     budget: &mut Budget,
 ) -> Result<Vec<FlipCut>, Memory>
@@ -291,7 +296,7 @@ pub(crate) fn cuts_among<'x>(
     ensures kept { IfOk result (λ cuts. All (Holds cycles.now.network) cuts.items) }
     ensures budget { OnlySpends budget.old.left budget.new.left }
 {
-    if let Basis::Tree = basis {
+    if seeking == Seeking::Nowhere {
         return Ok(Vec::new(alloc));
     }
     let Some(boxes) = root(alloc, cycles, residues)? else {
@@ -301,6 +306,7 @@ pub(crate) fn cuts_among<'x>(
         cycles,
         residues,
         numbers: boxes.numbers,
+        seeking,
         cap,
     };
     let mut part = Budget { left: budget.left };

@@ -8,11 +8,12 @@ ghost use Rattle.pesp_search_network.specs.Arcs.{IsCosted, IsMet};
 ghost use Rattle.pesp_search_cycles.specs.Maps.{Holds, IsAmong};
 ghost use Rattle.pesp_search_cycles.specs.Ranges.{AreIn};
 
-use crate::cuts::cuts_among;
+use crate::cuts::{cuts_among, spent_of};
 use crate::flip::FlipCut;
 use crate::graph::{Graph, units_of};
 use crate::method::{basis_within, walks_of};
 use crate::node::Node;
+use crate::phase::{Phase, Seeking, phases_of};
 use crate::proposer::Proposer;
 use crate::residues::residue_ranges;
 use crate::walk::copied;
@@ -45,8 +46,14 @@ struct Held<'a> {
 }
 
 impl<'a> Held<'a> {
-    /// All maps of a network.
-    fn new(alloc: Global, network: &'a Network, budget: &mut Budget) -> Result<Held<'a>, Memory>
+    /// All maps of a network, of which those are sought that cost less than the cap.
+    fn new(
+        alloc: Global,
+        network: &'a Network,
+        seeking: Seeking,
+        cap: u64,
+        budget: &mut Budget,
+    ) -> Result<Held<'a>, Memory>
         ensures network { IfOk result (λ held. held.network.now ≡ network.now) }
         ensures all { IfOk result (λ held. (map : List ℕ) → IsMet network.now map
             → AreIn held.residues.items map) }
@@ -56,7 +63,7 @@ impl<'a> Held<'a> {
         let basis = basis_within(alloc, network, &residues, budget)?;
         let walks = walks_of(alloc, network, &residues, basis, budget)?;
         let plain = Cycles::without_cuts(alloc, network, &walks)?;
-        let cuts = cuts_among(alloc, &plain, &residues, basis, u64::MAX, budget)?;
+        let cuts = cuts_among(alloc, &plain, &residues, seeking, cap, budget)?;
         let copy = copied(alloc, &walks)?;
         let proposer = Proposer::new(alloc, &Cycles::new(alloc, network, copy, &cuts)?)?;
         let Ok(mut held) = vec![in alloc; false; network.events() + 1] else {
@@ -175,6 +182,59 @@ impl<'a> Region for Held<'a> {
     }
 }
 
+/// The same as [`first`], with these cuts.
+fn first_by(
+    alloc: Global,
+    network: &Network,
+    seeking: Seeking,
+    candidate: Candidate,
+    budget: &mut Budget,
+) -> Result<First, Memory>
+    requires least { IsLeast (IsCosted network.now) candidate }
+    requires room { candidate.cost + 1 < 2 ^ 64 }
+    ensures first { IfOk result (IsFirstOutcome (IsFirst (IsCosted network.now)) (IsCosted network.now)
+        candidate.cost) }
+    ensures spent { IfOk result (EndsUnlessSpent budget.new.left) }
+    ensures budget { OnlySpends budget.old.left budget.new.left }
+{
+    let region = Held::new(alloc, network, seeking, candidate.cost, budget)?;
+    first_of(alloc, region, candidate, budget)
+}
+
+/// The same as [`first`], phase by phase.
+fn first_in_turn(
+    alloc: Global,
+    network: &Network,
+    phases: &[Phase],
+    candidate: Candidate,
+    budget: &mut Budget,
+) -> Result<First, Memory>
+    requires least { IsLeast (IsCosted network.now) candidate }
+    requires room { candidate.cost + 1 < 2 ^ 64 }
+    ensures first { IfOk result (IsFirstOutcome (IsFirst (IsCosted network.now)) (IsCosted network.now)
+        candidate.cost) }
+    ensures spent { IfOk result (EndsUnlessSpent budget.new.left) }
+    ensures budget { OnlySpends budget.old.left budget.new.left }
+{
+    let Some((phase, rest)) = phases.split_first() else {
+        return first_by(alloc, network, Seeking::Everywhere, candidate, budget);
+    };
+    let Some(units) = phase.units else {
+        return first_by(alloc, network, phase.seeking, candidate, budget);
+    };
+    let mut part = budget.part(units);
+    let given = part.left;
+    let begun = first_by(alloc, network, phase.seeking, candidate, &mut part)?;
+    budget.spend(spent_of(given, part.left));
+    let First::Spent(found) = begun else {
+        return Ok(begun);
+    };
+    if budget.is_spent() {
+        return Ok(First::Spent(found));
+    }
+    first_in_turn(alloc, network, rest, found, budget)
+}
+
 /// From a map of least cost to the first one of that cost.
 ///
 /// Of two maps that one comes first that has the smaller residue at the first event at which they differ.
@@ -191,6 +251,7 @@ pub fn first(
     ensures spent { IfOk result (EndsUnlessSpent budget.new.left) }
     ensures budget { OnlySpends budget.old.left budget.new.left }
 {
-    let region = Held::new(alloc, network, budget)?;
-    first_of(alloc, region, candidate, budget)
+    // Without that of a tree: each part of the search finds the cycles that it has the units for.
+    let phases = phases_of(None);
+    first_in_turn(alloc, network, &phases[1..], candidate, budget)
 }

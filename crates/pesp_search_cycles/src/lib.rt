@@ -13,6 +13,7 @@ mod graph;
 mod held;
 mod method;
 mod node;
+mod phase;
 mod proposer;
 mod range;
 mod residues;

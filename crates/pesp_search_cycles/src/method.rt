@@ -6,9 +6,10 @@ ghost use Rattle.pesp_search_least.specs.Sums.{IsLowerBound, IsOutcome, IsStop, 
 ghost use Rattle.pesp_search_network.specs.Arcs.{IsCosted, IsMet};
 ghost use Rattle.pesp_search_cycles.specs.Ranges.{AreIn};
 
-use crate::cuts::cuts_among;
+use crate::cuts::{cuts_among, spent_of};
 use crate::graph::{Basis, Graph, units_of};
 use crate::node::Node;
+use crate::phase::{Phase, first_of, phases_of};
 use crate::proposer::Proposer;
 use crate::residues::residue_ranges;
 use crate::{Cycles, Range, Walk};
@@ -28,9 +29,6 @@ const MOST_ENTRIES: usize = 2_097_152;
 
 /// and what all arcs may cost at most: sums of the bound are in parts, and have 64 bits.
 const MOST_COST: u64 = 1 << 37;
-
-/// How many times as many units as narrow cycles take to be found the cycles of a tree have before them.
-const TREE_SHARE: u64 = 4;
 
 /// A search by what the slacks of a network add up to along its cycles.
 #[derive(Drop)]
@@ -91,12 +89,12 @@ pub(crate) fn walks_of(
     Ok(walks)
 }
 
-/// A map of least cost among those with these residues, by the cycles of one basis.
+/// A map of least cost among those with these residues, in one phase.
 fn least_by(
     alloc: Global,
     network: &Network,
     residues: &[Range],
-    basis: Basis,
+    phase: Phase,
     limits: Limits,
     budget: &mut Budget,
 ) -> Result<Outcome, Memory>
@@ -108,9 +106,9 @@ fn least_by(
     ensures budget { OnlySpends budget.old.left budget.new.left }
     ensures stops { limits.floor < limits.cap → budget.old.left ≡ Some 0 → IfOk result IsStop }
 {
-    let walks = walks_of(alloc, network, residues, basis, budget)?;
+    let walks = walks_of(alloc, network, residues, phase.basis, budget)?;
     let plain = Cycles::without_cuts(alloc, network, &walks)?;
-    let cuts = cuts_among(alloc, &plain, residues, basis, limits.cap, budget)?;
+    let cuts = cuts_among(alloc, &plain, residues, phase.seeking, limits.cap, budget)?;
     let cycles = Cycles::new(alloc, network, walks, &cuts)?;
     let proposer = Proposer::new(alloc, &cycles)?;
     let Some(root) = Node::among(alloc, &cycles, residues, proposer, true)? else {
@@ -119,29 +117,12 @@ fn least_by(
     least(alloc, root, limits, budget)
 }
 
-/// The basis to begin with, and how many units it has until narrow cycles are taken: none where it is the only one.
-///
-/// Units do not depend on the budget, so that a larger one never does other work as far as a smaller one goes.
-fn begin_with(
+/// A map of least cost among those with these residues, phase by phase.
+fn least_in_turn(
     alloc: Global,
     network: &Network,
     residues: &[Range],
-    budget: &Budget,
-) -> Result<(Basis, Option<u64>), Memory> {
-    let graph = Graph::of(alloc, network, residues)?;
-    match graph.units_of_narrow(alloc, network.period())? {
-        None => Ok((Basis::Tree, None)),
-        Some(_) if budget.left.is_none() => Ok((Basis::Narrow, None)),
-        Some(units) => Ok((Basis::Tree, Some(units.saturating_mul(TREE_SHARE)))),
-    }
-}
-
-/// A map of least cost among those with these residues: by the cycles of a tree at first, where units are counted, and
-/// then by narrow ones.
-fn least_among(
-    alloc: Global,
-    network: &Network,
-    residues: &[Range],
+    phases: &[Phase],
     limits: Limits,
     budget: &mut Budget,
 ) -> Result<Outcome, Memory>
@@ -153,21 +134,24 @@ fn least_among(
     ensures budget { OnlySpends budget.old.left budget.new.left }
     ensures stops { limits.floor < limits.cap → budget.old.left ≡ Some 0 → IfOk result IsStop }
 {
-    let (basis, share) = begin_with(alloc, network, residues, budget)?;
-    let Some(units) = share else {
-        return least_by(alloc, network, residues, basis, limits, budget);
+    let Some((phase, rest)) = phases.split_first() else {
+        return least_by(alloc, network, residues, Phase::last(), limits, budget);
+    };
+    let Some(units) = phase.units else {
+        return least_by(alloc, network, residues, *phase, limits, budget);
     };
     if budget.is_spent() {
-        return least_by(alloc, network, residues, basis, limits, budget);
+        return least_by(alloc, network, residues, *phase, limits, budget);
     }
     let mut part = budget.part(units);
-    let begun = least_by(alloc, network, residues, basis, limits, &mut part)?;
-    budget.spend(units.saturating_sub(part.left.unwrap_or(0)));
+    let given = part.left;
+    let begun = least_by(alloc, network, residues, *phase, limits, &mut part)?;
+    budget.spend(spent_of(given, part.left));
     let Outcome::Spent { best, lower_bound } = begun else {
         return Ok(begun);
     };
     let left = limits_after(limits, &best, lower_bound);
-    let next = least_by(alloc, network, residues, Basis::Narrow, left, budget)?;
+    let next = least_in_turn(alloc, network, residues, rest, left, budget)?;
     Ok(both(limits.cap, best, next))
 }
 
@@ -181,6 +165,10 @@ impl Method for ByCycles {
     ) -> Result<Outcome, Memory> {
         budget.spend(1);
         let residues = residue_ranges(alloc, network)?;
-        least_among(alloc, network, &residues, limits, budget)
+        let graph = Graph::of(alloc, network, &residues)?;
+        let narrow = graph.units_of_narrow(alloc, network.period())?;
+        let phases = phases_of(narrow);
+        let first = first_of(narrow, budget);
+        least_in_turn(alloc, network, &residues, &phases[first..], limits, budget)
     }
 }

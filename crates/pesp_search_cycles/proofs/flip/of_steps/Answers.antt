@@ -1,6 +1,5 @@
 -- One step more.
-use Rattle.std.proofs.Common.{◌≡◌, ◌<◌, false, ℤ, pos, ◌+ℤ◌, ◌-ℤ◌, ◌*ℤ◌, List, length, get_or, sym, ap, subst, ◌∙◌, arith}
-use Rattle.std.proofs.lemmas.List.{get_or_read}
+use Rattle.std.proofs.Common.{◌≡◌, ◌<◌, false, ℤ, pos, ◌+ℤ◌, ◌-ℤ◌, ◌*ℤ◌, length, get_or, sym, subst, arith}
 use Rattle.pesp_search_graph.specs.declared.step.Step.{Step}
 use Rattle.pesp_search_cycles.specs.Ranges.{IsIn}
 use Rattle.pesp_search_cycles.specs.Terms.{IsMade}

@@ -1,9 +1,9 @@
 -- The residue at one event counts for nothing, and those at two come after the steps.
-use Rattle.std.proofs.Common.{◌≡◌, ℤ, pos, neg_ℤ, ◌+ℤ◌, ◌-ℤ◌, ◌*ℤ◌, List, get_or, sym, ap, subst, ◌∙◌, arith}
+use Rattle.std.proofs.Common.{◌≡◌, ℤ, pos, neg_ℤ, ◌+ℤ◌, ◌*ℤ◌, List, get_or, sym, ap, subst, ◌∙◌, arith}
 use Rattle.pesp_search_graph.specs.declared.step.Step.{Step}
 use Rattle.pesp_search_cycles.specs.Ranges.{IsIn}
 use Rattle.pesp_search_cycles.specs.Terms.{IsMade}
-use Rattle.pesp_search_cycles.specs.Walks.{Path, residue, round, times}
+use Rattle.pesp_search_cycles.specs.Walks.{Path, residue, times}
 use Rattle.pesp_search_cycles.proofs.Flipped.{back_again, with_ends}
 use Rattle.pesp_search_cycles.proofs.flip.of_walk.Goals as goal
 

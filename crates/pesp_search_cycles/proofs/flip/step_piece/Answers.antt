@@ -1,8 +1,8 @@
 -- The fixed time of the arc, and its slack along or against.
-use Rattle.std.proofs.Common.{◌≡◌, ℤ, pos, neg_ℤ, ◌+ℤ◌, ◌-ℤ◌, ◌*ℤ◌, List, get_or, FitsSigned, to_z, of_z, w32, w64, sym, ap, subst, ◌∙◌, arith, rules}
+use Rattle.std.proofs.Common.{◌≡◌, pos, neg_ℤ, ◌+ℤ◌, ◌-ℤ◌, get_or, FitsSigned, to_z, of_z, w32, w64, sym, ap, subst, ◌∙◌, arith, rules}
 use Rattle.std.proofs.lemmas.Int.{ints}
 use Rattle.pesp_search_graph.specs.declared.arc.Arc.{Arc}
-use Rattle.pesp_search_cycles.specs.Ranges.{AreIn, IsIn, no_range}
+use Rattle.pesp_search_cycles.specs.Ranges.{IsIn, no_range}
 use Rattle.pesp_search_cycles.specs.Walks.{arc_at, no_arc, signed, time_of}
 use Rattle.pesp_search_cycles.proofs.Flipped.{against_once, once}
 use Rattle.pesp_search_cycles.proofs.Totals.{AreIn-at}

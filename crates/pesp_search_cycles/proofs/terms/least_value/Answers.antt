@@ -1,5 +1,5 @@
 -- The weights, then the walks, then the cuts, then all numbers.
-use Rattle.std.proofs.Common.{◌≡◌, ℕ, ◌*◌, ◌<◌, ◌++◌, ◌≤ℤ◌, ℤ, pos, All, List, FitsSigned, w64, length, get_or, sym, ap, subst, ◌∙◌, arith, rules}
+use Rattle.std.proofs.Common.{◌≡◌, ℕ, ◌*◌, ◌<◌, ◌++◌, ◌≤ℤ◌, pos, All, List, FitsSigned, w64, length, get_or, sym, ap, subst, ◌∙◌, arith, rules}
 use Rattle.pesp_base.proofs.Laws.{le_through}
 use Rattle.pesp_search_graph.specs.declared.arc.Arc.{Arc}
 use Rattle.pesp_search_network.specs.Arcs.{Arcs}

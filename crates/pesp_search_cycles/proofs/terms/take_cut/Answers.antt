@@ -1,8 +1,8 @@
 -- What the terms are at least is added, and then the terms are taken.
-use Rattle.std.proofs.Common.{◌≡◌, ℤ, pos, ◌+ℤ◌, ◌-ℤ◌, ◌*ℤ◌, ◌≤ℤ◌, List, FitsSigned, to_z, of_z, w64, sym, ap, subst, ◌∙◌, arith, rules}
+use Rattle.std.proofs.Common.{◌≡◌, ℤ, pos, ◌+ℤ◌, ◌-ℤ◌, ◌*ℤ◌, ◌≤ℤ◌, List, FitsSigned, w64, sym, ap, subst, ◌∙◌, arith, rules}
 use Rattle.std.proofs.lemmas.Int.{ints}
 use Rattle.pesp_search_cycles.specs.declared.flip.Part.{Part}
-use Rattle.pesp_search_cycles.specs.Terms.{left, products, value}
+use Rattle.pesp_search_cycles.specs.Terms.{left, products}
 use Rattle.pesp_search_cycles.proofs.Flipped.{product_is}
 use Rattle.pesp_search_cycles.proofs.Numbers.{back}
 use Rattle.pesp_search_cycles.proofs.Taken.{cut_taken}

@@ -1,6 +1,5 @@
 -- Term by term.
-use Rattle.std.proofs.Common.{◌≡◌, ℤ, ◌-ℤ◌, ◌*ℤ◌, pos, get_or, FitsSigned, to_z, of_z, w64, ap, refl, sym, ◌∙◌, arith, rules}
-use Rattle.std.proofs.lemmas.Int.{ints}
+use Rattle.std.proofs.Common.{◌-ℤ◌, ◌*ℤ◌, pos, get_or, FitsSigned, to_z, of_z, w64, ap, refl, sym, ◌∙◌, arith, rules}
 use Rattle.pesp_search_cycles.specs.Terms.{left, products}
 use Rattle.pesp_search_cycles.proofs.Flipped.{product_is}
 use Rattle.pesp_search_cycles.proofs.Numbers.{back}

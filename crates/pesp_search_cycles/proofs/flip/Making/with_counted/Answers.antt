@@ -1,5 +1,5 @@
 -- The step is at least its least time above none.
-use Rattle.std.proofs.Common.{◌≡◌, ℤ, pos, ◌+ℤ◌, ◌-ℤ◌, ◌*ℤ◌, get_or, FitsSigned, to_z, of_z, w64, ap, ◌∙◌, arith, rules}
+use Rattle.std.proofs.Common.{◌≡◌, pos, ◌+ℤ◌, ◌-ℤ◌, ◌*ℤ◌, get_or, FitsSigned, to_z, of_z, w64, ap, ◌∙◌, arith, rules}
 use Rattle.std.proofs.lemmas.Int.{ints}
 use Rattle.pesp_search_cycles.specs.Terms.{left}
 use Rattle.pesp_search_cycles.proofs.Flipped.{counted, product_is}

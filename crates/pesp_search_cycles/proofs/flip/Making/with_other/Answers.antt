@@ -1,5 +1,5 @@
 -- The step is at most its greatest time.
-use Rattle.std.proofs.Common.{◌≡◌, ℤ, pos, neg_ℤ, ◌+ℤ◌, ◌-ℤ◌, ◌*ℤ◌, get_or, FitsSigned, to_z, of_z, w64, ap, ◌∙◌, arith, rules}
+use Rattle.std.proofs.Common.{◌≡◌, pos, neg_ℤ, ◌+ℤ◌, ◌*ℤ◌, get_or, FitsSigned, w64, ap, ◌∙◌, arith, rules}
 use Rattle.std.proofs.lemmas.Int.{ints}
 use Rattle.pesp_search_cycles.specs.Terms.{left}
 use Rattle.pesp_search_cycles.proofs.Flipped.{other, product_is}

@@ -1,5 +1,5 @@
 -- A range without a number, or a row without one in its range, leaves no map.
-use Rattle.std.proofs.Common.{◌≡◌, ℕ, List, length, drop, refl, sym, subst}
+use Rattle.std.proofs.Common.{List, refl, sym, subst}
 use Rattle.pesp_search_network.specs.Arcs.{Arcs, IsMet}
 use Rattle.pesp_search_cycles.specs.declared.range.Range.{Range}
 use Rattle.pesp_search_cycles.specs.Maps.{numbers_of}

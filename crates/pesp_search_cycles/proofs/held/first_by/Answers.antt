@@ -5,7 +5,7 @@ use Rattle.pesp_search_network.specs.Arcs.{Arcs, IsCosted}
 use Rattle.pesp_search_cycles.specs.Maps.{IsAmong}
 use Rattle.pesp_search_cycles.proofs.Firsts.{first_along, least_same}
 use Rattle.pesp_search_cycles.proofs.Regions.{among_costed, costed_among}
-use Rattle.pesp_search_cycles.proofs.held.first.Goals as goal
+use Rattle.pesp_search_cycles.proofs.held.first_by.Goals as goal
 
 pub first-requires-clause-least : goal.first-requires-clause-least
 first-requires-clause-least c =

@@ -1,0 +1,97 @@
+//! What the rows of a tableau are made of: walks and cuts as terms.
+
+use crate::Walk;
+use crate::flip::{FlipCut, Part};
+use pesp_base::Memory;
+use pesp_search_graph::Arc;
+use pesp_search_network::Network;
+use pesp_search_simplex::Term;
+use std::alloc::Global;
+
+/// The weights of the arcs, and 0 for each event.
+pub(super) fn costs_of(alloc: Global, network: &Network) -> Result<Vec<u32>, Memory> {
+    let mut costs = Vec::new(alloc);
+    for arc in network.arcs() {
+        if costs.push(arc.weight.get()).is_err() {
+            return Err(Memory);
+        }
+    }
+    for _ in 0..network.events() {
+        if costs.push(0).is_err() {
+            return Err(Memory);
+        }
+    }
+    Ok(costs)
+}
+
+/// What the lower bounds of a walk's arcs add up to.
+pub(super) fn base_of(arcs: &[Arc], walk: &Walk) -> i64 {
+    let mut base: i64 = 0;
+    for step in &walk.steps {
+        if let Some(arc) = arcs.get(step.arc) {
+            let lower = i64::from(arc.span.lower());
+            base = if step.along {
+                base.saturating_add(lower)
+            } else {
+                base.saturating_sub(lower)
+            };
+        }
+    }
+    base
+}
+
+/// The terms of a walk: its slacks, and the residues at its ends.
+pub(super) fn terms_of(alloc: Global, arcs: usize, walk: &Walk) -> Result<Vec<Term>, Memory> {
+    let mut terms = Vec::new(alloc);
+    for step in &walk.steps {
+        let rate = if step.along { 1 } else { -1 };
+        let number = step.arc;
+        if terms.push(Term { number, rate }).is_err() {
+            return Err(Memory);
+        }
+    }
+    if walk.from != walk.to {
+        let from = Term {
+            number: arcs.saturating_add(walk.from),
+            rate: 1,
+        };
+        let to = Term {
+            number: arcs.saturating_add(walk.to),
+            rate: -1,
+        };
+        if terms.push(from).is_err() || terms.push(to).is_err() {
+            return Err(Memory);
+        }
+    }
+    Ok(terms)
+}
+
+/// The terms of a cut: its rates are below a period.
+pub(super) fn terms_of_cut(alloc: Global, cut: &FlipCut) -> Result<Vec<Term>, Memory> {
+    let mut terms = Vec::new(alloc);
+    for part in &cut.terms {
+        let number = part.number;
+        let rate = i32::try_from(part.rate).unwrap_or(0);
+        if terms.push(Term { number, rate }).is_err() {
+            return Err(Memory);
+        }
+    }
+    Ok(terms)
+}
+
+/// What terms are together at most.
+pub(super) fn most_of(network: &Network, terms: &[Part]) -> i64 {
+    let period = network.period();
+    let mut most: i64 = 0;
+    for term in terms {
+        if term.rate > 0 {
+            let width = match network.arcs().get(term.number) {
+                Some(arc) => arc.width(period),
+                None => period.get(),
+            };
+            let product = term.rate.saturating_mul(i64::from(width));
+            most = most.saturating_add(product);
+        }
+    }
+    most
+}
