@@ -2,22 +2,16 @@
 //!
 //! usage: answer PERIOD ACTIVITIES FIXED TIMES <COMMANDS, where a file that is not there is `-`
 
+#[allow(dead_code)]
+#[path = "rust/src/raw.rs"]
+mod raw;
+
+use raw::Told;
 use std::io::{Read, Write};
 use std::process::ExitCode;
 use std::{env, fs, io};
 
 const LONGEST_FILE: u64 = 67_108_864;
-
-/// What a call tells; `pespbench.h` says what the numbers mean.
-#[repr(C)]
-#[derive(Clone, Copy, Debug, Default)]
-struct Told {
-    length: u64,
-    place: u64,
-    status: u32,
-    reason: u32,
-    field: u32,
-}
 
 extern "C" {
     fn pesp_answer(

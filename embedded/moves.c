@@ -1,5 +1,5 @@
-/* A local search over a session: opens an activities file and a timetable for it, moves one event after another, and keeps
- * a move where the cost does not rise.
+/* A local search over a session: opens an activities file and a timetable for it, tries to move one event after another,
+ * and makes a move where the cost does not rise.
  *
  * usage: moves PERIOD ACTIVITIES TIMES MOVES, where each event of the activities has a time in TIMES */
 #include "pespbench.h"
@@ -7,7 +7,6 @@
 #include <inttypes.h>
 #include <stdio.h>
 #include <stdlib.h>
-#include <string.h>
 #include <time.h>
 
 struct bytes {
@@ -32,22 +31,6 @@ static struct bytes file_at(const char *path) {
     return bytes;
 }
 
-/* What an event has as its time. */
-struct timed {
-    unsigned event, time;
-};
-
-/* The rows of a file of times, `event; time`; how many there are. */
-static size_t rows_of(struct bytes times, struct timed *rows, size_t most) {
-    size_t count = 0;
-    char *text = (char *)times.at;
-    text[times.length] = '\0';
-    for (char *row = strtok(text, "\n"); row != NULL && count < most; row = strtok(NULL, "\n")) {
-        if (sscanf(row, "%u; %u", &rows[count].event, &rows[count].time) == 2) count += 1;
-    }
-    return count;
-}
-
 static void set(struct pesp_session *session, unsigned event, unsigned time) {
     char line[32];
     uint8_t reply[128];
@@ -65,6 +48,15 @@ static uint64_t cost_of(struct pesp_session *session) {
     return cost;
 }
 
+/* What the cost would change by. */
+static int64_t change_of(struct pesp_session *session, unsigned event, unsigned time) {
+    int64_t change = 0;
+    struct pesp_told told;
+    pesp_try_move(session, event, (uint16_t)time, &change, &told);
+    if (told.status != PESP_DONE) fail("no change", &told);
+    return change;
+}
+
 int main(int count, char **words) {
     if (count != 5) {
         fprintf(stderr, "usage: moves PERIOD ACTIVITIES TIMES MOVES\n");
@@ -77,21 +69,19 @@ int main(int count, char **words) {
     pesp_open((uint16_t)period, activities.at, activities.length, activities.at, 0, times.at, times.length, &session, &told);
     if (told.status != PESP_DONE) fail("not opened", &told);
 
-    static struct timed rows[20000];
-    size_t known = rows_of(times, rows, sizeof rows / sizeof *rows);
-    uint64_t first = cost_of(&session), cost = first;
+    static uint32_t events[20000];
+    pesp_events(&session, events, sizeof events / sizeof *events, &told);
+    uint64_t known = told.length;
+    uint64_t first = cost_of(&session);
     uint32_t drawn = 1;
     clock_t begun = clock();
     for (unsigned move = 0; move < moves && known != 0; move += 1) {
         drawn = drawn * 1664525 + 1013904223;
-        struct timed *row = &rows[(drawn >> 8) % known];
-        unsigned time = (drawn >> 16) % period;
-        set(&session, row->event, time);
-        uint64_t moved = cost_of(&session);
-        if (moved <= cost) cost = moved, row->time = time;
-        else set(&session, row->event, row->time);
+        unsigned event = events[(drawn >> 8) % known], time = (drawn >> 16) % period;
+        if (change_of(&session, event, time) <= 0) set(&session, event, time);
     }
     double seconds = (double)(clock() - begun) / CLOCKS_PER_SEC;
+    uint64_t cost = cost_of(&session);
     pesp_close(&session);
     printf("cost %" PRIu64 ", now %" PRIu64 "\n", first, cost);
     fprintf(stderr, "%u moves, %.0f a second\n", moves, seconds > 0 ? moves / seconds : 0);

@@ -30,7 +30,7 @@ enum pesp_status {
     PESP_CLOSED = 10,       /* the session is closed */
     PESP_OPEN = 11,         /* the session is open already */
     PESP_NOT_ONE_LINE = 12, /* there is a line feed in the line */
-    PESP_REFUSED = 13       /* refused, as docs/FORMATS.md has it: `reason` is the number, `place` the event */
+    PESP_REFUSED = 13       /* refused, as docs/FORMATS.md has it: `reason` is the number, `place` the event or 0 */
 };
 
 /* Why a record of a file is refused. */
@@ -50,7 +50,7 @@ enum pesp_reason {
 
 /* What a call tells. */
 struct pesp_told {
-    uint64_t length; /* the bytes of the replies, also where `out` has less room for them */
+    uint64_t length; /* the bytes of the replies, or how many numbers there are, also where `out` has less room for them */
     uint64_t place;  /* a record or a line, from 1; 0 where the status names none */
     uint32_t status; /* of pesp_status */
     uint32_t reason; /* of pesp_reason, for a fault of a file; the number of a refusal; else 0 */
@@ -111,6 +111,26 @@ void pesp_ask(struct pesp_session *session, const uint8_t *line, size_t line_len
 /* The cost of the working timetable, as a number. PESP_REFUSED, 11, where an event has no time: `place` is the least such
  * event. PESP_CLOSED. Nothing changes, and where every event has a time it takes the same time at every size. */
 void pesp_cost(struct pesp_session *session, uint64_t *cost, struct pesp_told *told);
+
+/* What the cost would change by if the event had this time: pesp_cost after `time` with both, less pesp_cost now. Nothing
+ * changes. Its work is in the activities at the event. PESP_CLOSED; then PESP_REFUSED, in this order: 2, there is no such
+ * event, which is `place`; 4, the time is not below the period; 11, an event has no time, of which `place` is the least. */
+void pesp_try_move(struct pesp_session *session, uint32_t event, uint16_t time, int64_t *change, struct pesp_told *told);
+
+/* In the place of the time of an event without one. */
+#define PESP_NO_TIME 65535
+
+/* The events, ascending, and the working timetable: the time of each event, in the same order. Nothing changes. PESP_CLOSED.
+ *
+ * out: the room for `out_length` numbers, aligned as C wants it. As many as fit are put in front of it, and what is after
+ *     them stays as it was; `told->length` is how many events there are. */
+void pesp_events(struct pesp_session *session, uint32_t *out, size_t out_length, struct pesp_told *told);
+void pesp_times(struct pesp_session *session, uint16_t *out, size_t out_length, struct pesp_told *told);
+
+/* The domain of an event, as `domain` tells it: residue r is in it just where out[r / 8] >> r % 8 & 1. Nothing changes.
+ * There are (period + 7) / 8 bytes, which `told->length` says; `out` is as in pesp_answer. PESP_CLOSED; PESP_REFUSED, 2,
+ * where there is no such event, which is `place`. */
+void pesp_domain(struct pesp_session *session, uint32_t event, uint8_t *out, size_t out_length, struct pesp_told *told);
 
 #ifdef __cplusplus
 }

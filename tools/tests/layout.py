@@ -12,11 +12,15 @@ HEADER = TOP / "embedded/pespbench.h"
 # The types of parameters and fields: those of C, and how many bytes a field has.
 PARAMETERS = {
     "u16": ["uint16_t"],
+    "u32": ["uint32_t"],
     "&[u8]": ["const uint8_t *", "size_t"],
     "&mut [u8]": ["uint8_t *", "size_t"],
+    "&mut [u16]": ["uint16_t *", "size_t"],
+    "&mut [u32]": ["uint32_t *", "size_t"],
     "&mut Told": ["struct pesp_told *"],
     "&mut Session": ["struct pesp_session *"],
     "&mut u64": ["uint64_t *"],
+    "&mut i64": ["int64_t *"],
 }
 FIELDS = {"u64": 8, "u32": 4}
 # The words of the header for those of the crate that are not the same in capitals.
@@ -36,7 +40,8 @@ REASONS = {"Memory": "PESP_READING_MEMORY"}
 
 def calls():
     """By the name of a call the names and types of its parameters, but for the allocator, which no caller sees."""
-    found = re.findall(r'pub extern "C" fn (\w+)\((.*?)\)\s+ensures', (CRATE / "lib.rt").read_text(), re.S)
+    text = "".join((CRATE / name).read_text() for name in ["lib.rt", "numbers.rt"])
+    found = re.findall(r'pub extern "C" fn (\w+)\((.*?)\)\s+ensures', text, re.S)
     given = {call: re.findall(r"(\w+): ([^,]+?)(?:,|$)", listed) for call, listed in found}
     return {call: [each for each in listed if each[1] != "Global"] for call, listed in given.items()}
 
@@ -81,6 +86,8 @@ def assertions():
         place += FIELDS[kind]
     yield f'_Static_assert(sizeof(struct pesp_told) == {-(-place // 8) * 8}, "what is told");'
     yield from (f'_Static_assert({name} == {number}, "{name}");' for name, number in numbers(told).items())
+    none = re.search(r"NO_TIME: u16 = ([\d_]+);", (CRATE / "lists.rt").read_text()).group(1).replace("_", "")
+    yield f'_Static_assert(PESP_NO_TIME == {none}, "PESP_NO_TIME");'
     yield '_Static_assert(offsetof(struct pesp_session, at) == 0, "at");'
     yield '_Static_assert(offsetof(struct pesp_session, is_open) == 8, "is_open");'
     yield '_Static_assert(sizeof(struct pesp_session) == 16 && sizeof(bool) == 1, "a session");'

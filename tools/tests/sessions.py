@@ -6,10 +6,12 @@ import random
 
 from tests.drawn_runs import drawn_run, told_by
 from tests.file_cases import TWO
-from tests.harness import TOP, run
+from tests.harness import TOP, rows_of, run
 
 DRAWN = 200
 DONE, LONG_LINE, CLOSED, OPEN, NOT_ONE_LINE, REFUSED = 0, 7, 10, 11, 12, 13
+# In the place of the time of an event without one.
+NO_TIME = 65535
 
 
 class Session(ctypes.Structure):
@@ -30,6 +32,10 @@ class Library:
             "pesp_close": [of_session],
             "pesp_ask": [of_session, *part, *part, of_told],
             "pesp_cost": [of_session, ctypes.POINTER(ctypes.c_uint64), of_told],
+            "pesp_try_move": [of_session, ctypes.c_uint32, ctypes.c_uint16, ctypes.POINTER(ctypes.c_int64), of_told],
+            "pesp_events": [of_session, ctypes.POINTER(ctypes.c_uint32), ctypes.c_size_t, of_told],
+            "pesp_times": [of_session, ctypes.POINTER(ctypes.c_uint16), ctypes.c_size_t, of_told],
+            "pesp_domain": [of_session, ctypes.c_uint32, ctypes.POINTER(ctypes.c_uint8), ctypes.c_size_t, of_told],
         }
         self.calls = {name: getattr(library, name) for name in parameters}
         for name, call in self.calls.items():
@@ -52,10 +58,39 @@ class Library:
         return out.raw[:shown]
 
     def cost(self):
-        """The cost, or the status with the number and the event of a refusal."""
+        """The cost, or what was there, with the status and the number and the event of a refusal."""
         cost = ctypes.c_uint64(7)
         self.calls["pesp_cost"](self.session, cost, self.told)
-        return cost.value if self.told.status == DONE else (cost.value, self.told.status, self.told.reason, self.told.place)
+        return cost.value if self.told.status == DONE else (cost.value, *self.refusal())
+
+    def refusal(self):
+        assert (self.told.length, self.told.field) == (0, 0)
+        return self.told.status, self.told.reason, self.told.place
+
+    def try_move(self, event, time):
+        """What the cost would change by, or what was there and the refusal."""
+        change = ctypes.c_int64(7)
+        self.calls["pesp_try_move"](self.session, event, time, change, self.told)
+        return change.value if self.told.status == DONE else (change.value, *self.refusal())
+
+    def shown(self, name, kind, given, room):
+        """The numbers in front of a room, or the refusal; the rest of it, and what is after it, stays as it was."""
+        out, mark = (kind * (room + 1))(), 77
+        out[:] = [mark] * (room + 1)
+        self.calls[name](self.session, *given, out, room, self.told)
+        shown = min(room, self.told.length)
+        assert out[shown:] == [mark] * (room + 1 - shown)
+        told = (self.told.status, self.told.place, self.told.reason, self.told.field)
+        return out[:shown] if told == (DONE, 0, 0, 0) else self.refusal()
+
+    def events(self, room=100):
+        return self.shown("pesp_events", ctypes.c_uint32, [], room)
+
+    def times(self, room=100):
+        return self.shown("pesp_times", ctypes.c_uint16, [], room)
+
+    def domain(self, event, room=180):
+        return self.shown("pesp_domain", ctypes.c_uint8, [event], room)
 
 
 def lines_of(commands):
@@ -90,6 +125,10 @@ def uses(suite, library):
     steps = [
         ("ask a closed session", lambda: ask(b"cost"), (b"", CLOSED)),
         ("the cost of a closed session", library.cost, (7, CLOSED, 0, 0)),
+        ("a move in a closed session", lambda: library.try_move(1, 10), (7, CLOSED, 0, 0)),
+        ("the events of a closed session", library.events, (CLOSED, 0, 0)),
+        ("the times of a closed session", library.times, (CLOSED, 0, 0)),
+        ("a domain of a closed session", lambda: library.domain(1), (CLOSED, 0, 0)),
         ("close a closed session", library.close, None),
         ("open with a fault", lambda: library.open(10, b"1; 1; 2; 5; 3; 2\n", b"", b""), 1),
         ("ask after that", lambda: ask(b"cost"), (b"", CLOSED)),
@@ -97,19 +136,106 @@ def uses(suite, library):
         ("open", lambda: library.open(10, TWO, b"", b""), DONE),
         ("open again", lambda: library.open(10, b"", b"", b""), OPEN),
         ("the cost without times", library.cost, (7, REFUSED, 11, 1)),
+        ("a move without times", lambda: library.try_move(2, 9), (7, REFUSED, 11, 1)),
+        ("a move to the period", lambda: library.try_move(2, 10), (7, REFUSED, 4, 0)),
+        ("a move of no event to the period", lambda: library.try_move(3, 10), (7, REFUSED, 2, 3)),
+        ("a move of a number above all events", lambda: library.try_move(2**32 - 1, 0), (7, REFUSED, 2, 2**32 - 1)),
+        ("the events", library.events, [1, 2]),
+        ("the events with no room", lambda: (library.events(room=0), library.told.length), ([], 2)),
+        ("the times before any", library.times, [NO_TIME, NO_TIME]),
         ("two lines at once", lambda: ask(b"time 1 0\ntime 2 4"), (b"", NOT_ONE_LINE)),
         ("a line of 4,097 bytes", lambda: ask(b"x" * 4097), (b"", LONG_LINE)),
         ("a time", lambda: ask(b"time 1 0"), (b"ok\n", DONE)),
         ("the cost without one time", library.cost, (7, REFUSED, 11, 2)),
+        ("a move of the event without one", lambda: library.try_move(2, 4), (7, REFUSED, 11, 2)),
+        ("one time", library.times, [0, NO_TIME]),
+        ("one of two times in a room for one", lambda: (library.times(room=1), library.told.length), ([0], 2)),
         ("the other time", lambda: ask(b"time 2 4", room=1), (b"o", DONE)),
         ("the cost by a line", lambda: ask(b"cost"), (b"cost 4\n", DONE)),
         ("the cost", library.cost, 4),
+        ("a cheaper move", lambda: library.try_move(2, 3), -1),
+        ("a dearer move", lambda: library.try_move(1, 9), 1),
+        ("a move to where it is", lambda: library.try_move(2, 4), 0),
+        ("both times after that", library.times, [0, 4]),
+        ("an open domain", lambda: library.domain(2), [0b11111111, 0b11]),
+        ("a fixed time", lambda: ask(b"fix 1 0"), (b"ok\n", DONE)),
+        ("a domain", lambda: library.domain(2), [0b110000, 0]),
+        ("a domain in a room for one byte", lambda: (library.domain(2, room=1), library.told.length), ([0b110000], 2)),
+        ("the domain of no event", lambda: library.domain(3), (REFUSED, 2, 3)),
+        ("the domain of a number above all events", lambda: library.domain(2**32 - 1), (REFUSED, 2, 2**32 - 1)),
         ("a comment", lambda: ask(b"# nothing"), (b"", DONE)),
         ("close", library.close, None),
         ("the cost after that", library.cost, (7, CLOSED, 0, 0)),
     ]
     for title, call, wanted in steps:
         suite.note(f"sessions: {title}", {"came": wanted}, {"came": call()})
+
+
+def drawn_network(draw):
+    """A period, activities with loops and some side by side, and a time for each event."""
+    period, count = draw.choice([2, 7, 10, 60, 1440]), draw.randint(1, 6)
+    names = draw.sample([*range(1, 9), 999_999_999], count)
+    activities = []
+    for number in range(1, draw.randint(1, 14)):
+        lower = draw.randint(-2 * period, 2 * period)
+        weight = draw.choice([0, 1, draw.randint(0, 50), 10**9])
+        activities.append((number, draw.choice(names), draw.choice(names), lower, lower + draw.randrange(period), weight))
+    ends = {end for row in activities for end in row[1:3]}
+    return period, activities, {end: draw.randrange(period) for end in sorted(ends)}
+
+
+def drawn_moves(suite, library):
+    """What a move would change the cost by is what it does change it by; some moves are kept."""
+    draw = random.Random(61)
+    for number in range(DRAWN):
+        period, activities, times = drawn_network(draw)
+        library.open(period, rows_of(activities), b"", rows_of(times.items()))
+        for _ in range(25 if times else 0):
+            event, time = draw.choice([*times]), draw.randrange(period)
+            before, told = library.cost(), library.try_move(event, time)
+            suite.note(f"drawn network {number} after a tried move", {"left": (before, [*times.values()])}, {"left": (library.cost(), library.times())})
+            library.ask(b"time %d %d" % (event, time))
+            suite.note(f"drawn network {number}, {event} from {times[event]} to {time}", {"change": library.cost() - before}, {"change": told})
+            if draw.randrange(3):
+                library.ask(b"time %d %d" % (event, times[event]))
+            else:
+                times[event] = time
+        library.close()
+
+
+def domain_in(bits):
+    """The residues of bits, as a reply lists them."""
+    return [str(residue) for residue in range(8 * len(bits)) if bits[residue // 8] >> residue % 8 & 1]
+
+
+def least_without(library):
+    """The least event without a time, by the times and by the cost; None where there is none."""
+    by_times = [event for event, time in zip(library.events(), library.times()) if time == NO_TIME]
+    cost = library.cost()
+    return {"by the times": by_times[0] if by_times else None}, {"by the times": cost[-1] if isinstance(cost, tuple) else None}
+
+
+def drawn_numbers(suite, library):
+    """After each line of drawn sessions events, times and domains are as replies tell them, also of numbers that are no event."""
+    draw = random.Random(67)
+    for number in range(DRAWN):
+        asked = drawn_run(draw)
+        if library.open(asked.period, asked.activities, asked.fixed, asked.times) != DONE:
+            continue
+        for line in [b"", *lines_of(asked.commands)]:
+            library.ask(line)
+            events = [int(row.split(b":")[0]) for row in library.ask(b"domains").splitlines()[1:]]
+            suite.note(f"drawn session {number} after {line}", {"events": events}, {"events": library.events()})
+            suite.note(f"drawn session {number} after {line}, without a time", *least_without(library))
+            for event in {*events, draw.randint(1, 5)}:
+                reply = library.ask(b"domain %d" % event).decode().split(":")
+                told = (REFUSED, 2, event) if len(reply) == 1 else reply[1].split()
+                bits = library.domain(event)
+                came = bits if isinstance(bits, tuple) else domain_in(bits)
+                length = 0 if isinstance(bits, tuple) else (asked.period + 7) // 8
+                title = f"domain {event} of drawn session {number} after {line}"
+                suite.note(title, {"residues": told, "length": length}, {"residues": came, "length": library.told.length})
+        library.close()
 
 
 # Two threads, each with sessions of its own, one after another: opened, asked, and closed.
@@ -163,3 +289,5 @@ def sessions(suite, module, path):
     library = Library(module, path)
     drawn_sessions(suite, library)
     uses(suite, library)
+    drawn_moves(suite, library)
+    drawn_numbers(suite, library)

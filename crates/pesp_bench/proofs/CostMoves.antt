@@ -1,9 +1,10 @@
 -- How the cost moves with the time of an event and with an edit, and how many events then have no time.
-use Rattle.std.proofs.Common.{◌≡◌, ℕ, suc, ◌+◌, ◌-◌, ◌*◌, ◌≤◌, ◌<◌, ◌==◌, ◌&&◌, Bool, true, false, not, cond, is_some, is_none, nat_le, List, [], ◌∷◌, length, map, filter, find, get_or, Option, Some, None, option_map, unwrap_or, IsSome, IsTrue, Ok, refl, sym, ap, ◌∙◌, arith, All, sum_by}
+use Rattle.std.proofs.Common.{◌≡◌, ℕ, pos, ◌-ℤ◌, suc, ◌+◌, ◌-◌, ◌*◌, ◌≤◌, ◌<◌, ◌==◌, ◌&&◌, Bool, true, false, not, cond, is_some, is_none, nat_le, List, [], ◌∷◌, length, map, filter, find, get_or, Option, Some, None, option_map, unwrap_or, IsSome, IsTrue, Ok, refl, sym, ap, ◌∙◌, arith, All, sum_by}
 use Rattle.std.specs.Map.{keys_of}
 use Rattle.std.specs.Option.{option_map_or}
 use Rattle.std.specs.Result.{is_ok}
 use Rattle.std.proofs.lemmas.Bool.{eq-eqb, eqb-true, false≢true, or_parts}
+use Rattle.std.proofs.lemmas.Int.{ints}
 use Rattle.std.proofs.lemmas.List.{length-map}
 use Rattle.std.proofs.lemmas.List.Elements.{All-head, All-tail}
 use Rattle.std.proofs.lemmas.List.Sums.{sum_by-cons, sum_by-le}
@@ -106,6 +107,13 @@ elsewhere m n e period others a out =
 moves_around : (I : Network) (m n : Times) (e : ℕ) → n.period ≡ m.period → ((q : ℕ) → (q ≡ e → ⊥) → time_of n q ≡ time_of m q)
     → cost_of I n + sum_by (cost_in m) (around I e) ≡ cost_of I m + sum_by (cost_in n) (around I e)
 moves_around I m n e period others = sum_moves (cost_in m) (cost_in n) (is_end_of e) I.activities (elsewhere m n e period others)
+
+-- so it changes by what lies at the event
+pub changes_by : (I : Network) (m : Times) (e t before after : ℕ) → before ≡ sum_by (cost_in m) (around I e) → after ≡ sum_by (cost_in (with_time m e t)) (around I e)
+    → pos after -ℤ pos before ≡ pos (cost_of I (with_time m e t)) -ℤ pos (cost_of I m)
+changes_by I m e t before after was is =
+    let moves = moves_around I m (with_time m e t) e refl (λ q apart. other_put e t q m.entries apart) in
+    omega (arith, ints, moves, was, is)
 
 -- what lies at an event is a part of the cost
 pub around_part : (I : Network) (m : Times) (e : ℕ) → sum_by (cost_in m) (around I e) ≤ cost_of I m

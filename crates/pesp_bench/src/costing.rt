@@ -2,6 +2,7 @@
 
 ghost use Rattle.std.specs.Prelude.{◌≡◌, ℕ, ◌≤◌, ◌<◌, ◌+◌, ◌*◌, ◌-◌, ◌^◌, [], IfErr, IsSome, IsTrue, None, Ok, OnErr, OnOk, sum_by};
 ghost use Rattle.pesp_base.specs.Limits.{greatest_period, greatest_weight, max_activities};
+ghost use Rattle.pesp_base.specs.Tensions.{slack_of};
 ghost use Rattle.pesp_instance.specs.declared.edit.Edit.TheVariants.{DropEvent};
 ghost use Rattle.pesp_instance.specs.Network.{IsNetwork, around, has_event};
 ghost use Rattle.pesp_tension.specs.Answers.{cost_in, cost_of, where_timed};
@@ -9,19 +10,28 @@ ghost use Rattle.pesp_tension.specs.Timetables.{IsSetRefusal, set_time, time_of,
 ghost use Rattle.pesp_bench.specs.Costing.{AreTimesOf, IsCosted, WasCosted, cost_edited, cost_of_number, missing_after};
 ghost use Rattle.pesp_bench.specs.State.{times_after};
 
-use pesp_base::{Activity, ActivityId, EventId, Refusal, slack};
+use pesp_base::{Activity, ActivityId, EventId, Period, Refusal, slack};
 use pesp_instance::{Edit, Instance};
 use pesp_tension::{Timetable, cost};
 
+/// Weight times slack of an activity from one residue to another.
+pub(crate) fn cost_between(activity: &Activity, period: Period, from: u16, to: u16) -> u64
+    requires { (from < period) × (to < period) }
+    ensures value { result ≡ activity.now.weight * slack_of period activity.now.span from to }
+    ensures small { result ≤ greatest_weight * (greatest_period - 1) }
+{
+    let slack = slack(period, activity.span, from, to);
+    u64::from(activity.weight.get()) * u64::from(slack)
+}
+
 /// Weight times slack of an activity. An end without a time counts as one at 0.
-fn cost_at(activity: &Activity, times: &Timetable) -> u64
+pub(crate) fn cost_at(activity: &Activity, times: &Timetable) -> u64
     ensures value { result ≡ cost_in times.now activity.now }
     ensures small { result ≤ greatest_weight * (greatest_period - 1) }
 {
     let from = times.get(activity.from).unwrap_or(0);
     let to = times.get(activity.to).unwrap_or(0);
-    let slack = slack(times.period(), activity.span, from, to);
-    u64::from(activity.weight.get()) * u64::from(slack)
+    cost_between(activity, times.period(), from, to)
 }
 
 /// What all activities cost: the one walk over the network.

@@ -1,4 +1,5 @@
 pub mod Answered
+pub mod Bits
 pub mod Faults
 pub mod Handles
 pub mod Numbers

@@ -1,5 +1,6 @@
 -- What a call tells, in numbers.
-use Rattle.std.specs.Prelude.{ℕ, Result, Ok, Err}
+use Rattle.std.specs.Prelude.{ℕ, unwrap_or, Result, Ok, Err}
+use Rattle.pesp_tension.specs.Timetables.{Times, time_of}
 use Rattle.pesplib_reader.specs.declared.fault.FaultKind.{FaultKind}
 use Rattle.pesplib_reader.specs.declared.fault.FaultKind.TheVariants as kind
 use Rattle.pesp_shell.specs.declared.run_fault.RunFault.{RunFault}
@@ -64,3 +65,15 @@ field_of other = 0
 -- what is told where there is no such period
 abbrev pub no_period : Told
 no_period = record { length = 0; place = 0; status = 9; reason = 0; field = 0 }
+
+-- what is told where a call was done, with so many bytes or numbers
+abbrev pub told_done : ℕ → Told
+told_done count = record { length = count; place = 0; status = 0; reason = 0; field = 0 }
+
+-- in the place of the time of an event without one
+abbrev pub no_time : ℕ
+no_time = 65535
+
+-- the time of an event, or the number for none
+abbrev pub time_or_none : Times → ℕ → ℕ
+time_or_none m e = unwrap_or (time_of m e) no_time

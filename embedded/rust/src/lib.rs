@@ -2,7 +2,9 @@
 //!
 //! The library is proved, this handle is not: it keeps to what embedded/pespbench.h wants of a caller.
 
-use std::ffi::c_void;
+mod raw;
+
+use raw::{Raw, Told, pesp_ask, pesp_close, pesp_cost, pesp_domain, pesp_events, pesp_open, pesp_times, pesp_try_move};
 use std::fmt;
 use std::ptr;
 
@@ -10,40 +12,8 @@ use std::ptr;
 const LEAST_ROOM: usize = 128;
 
 const DONE: u32 = 0;
-
-#[repr(C)]
-#[derive(Default)]
-struct Told {
-    length: u64,
-    place: u64,
-    status: u32,
-    reason: u32,
-    field: u32,
-}
-
-#[repr(C)]
-struct Raw {
-    at: *mut c_void,
-    is_open: bool,
-}
-
-extern "C" {
-    #[allow(clippy::too_many_arguments)]
-    fn pesp_open(
-        period: u16,
-        activities: *const u8,
-        activities_length: usize,
-        fixed: *const u8,
-        fixed_length: usize,
-        times: *const u8,
-        times_length: usize,
-        session: *mut Raw,
-        told: *mut Told,
-    );
-    fn pesp_close(session: *mut Raw);
-    fn pesp_ask(session: *mut Raw, line: *const u8, line_length: usize, out: *mut u8, out_length: usize, told: *mut Told);
-    fn pesp_cost(session: *mut Raw, cost: *mut u64, told: *mut Told);
-}
+/// In the place of the time of an event without one.
+const NO_TIME: u16 = 65_535;
 
 /// The bytes of the files that a session is opened of; one of no bytes is not there.
 #[derive(Clone, Copy, Debug, Default)]
@@ -86,6 +56,17 @@ impl Told {
             field: self.field,
         })
     }
+}
+
+/// All that a call gives which says how many they are; it is asked with no room first.
+fn all<T: Copy + Default>(mut call: impl FnMut(*mut T, usize, *mut Told)) -> Result<Vec<T>, Fault> {
+    let (mut out, mut told) = (Vec::new(), Told::default());
+    call(out.as_mut_ptr(), 0, &mut told);
+    told.ended()?;
+    out.resize(told.length as usize, T::default());
+    call(out.as_mut_ptr(), out.len(), &mut told);
+    told.ended()?;
+    Ok(out)
 }
 
 /// An open session. It may go to another thread, and is used by one at a time.
@@ -154,6 +135,35 @@ impl Session {
         told.ended()?;
         Ok(cost)
     }
+
+    /// What the cost would change by if the event had this time. Nothing is set.
+    pub fn try_move(&mut self, event: u32, time: u16) -> Result<i64, Fault> {
+        let (mut change, mut told) = (0, Told::default());
+        unsafe { pesp_try_move(&mut self.raw, event, time, &mut change, &mut told) };
+        told.ended()?;
+        Ok(change)
+    }
+
+    /// The events, ascending.
+    pub fn events(&mut self) -> Result<Vec<u32>, Fault> {
+        let raw = &mut self.raw;
+        all(|out, length, told| unsafe { pesp_events(raw, out, length, told) })
+    }
+
+    /// The working timetable: the time of each event that has one, in the order of [`Session::events`].
+    pub fn times(&mut self) -> Result<Vec<Option<u16>>, Fault> {
+        let raw = &mut self.raw;
+        let times = all(|out, length, told| unsafe { pesp_times(raw, out, length, told) })?;
+        Ok(times.into_iter().map(|time| (time != NO_TIME).then_some(time)).collect())
+    }
+
+    /// The domain of an event: its residues, ascending.
+    pub fn domain(&mut self, event: u32) -> Result<Vec<u16>, Fault> {
+        let raw = &mut self.raw;
+        let bits: Vec<u8> = all(|out, length, told| unsafe { pesp_domain(raw, event, out, length, told) })?;
+        let residues = 0..8 * bits.len() as u16;
+        Ok(residues.filter(|residue| bits[usize::from(residue / 8)] >> (residue % 8) & 1 == 1).collect())
+    }
 }
 
 impl Drop for Session {
@@ -181,6 +191,24 @@ mod tests {
         assert_eq!(session.cost()?, 4);
         assert_eq!(session.ask("cost")?, b"cost 4\n");
         assert_eq!(session.ask("")?, b"");
+        Ok(())
+    }
+
+    #[test]
+    fn a_session_answers_in_numbers() -> Result<(), Fault> {
+        let mut session = Session::open(10, TWO)?;
+        assert_eq!(session.events()?, [1, 2]);
+        assert_eq!(session.times()?, [Some(0), None]);
+        let refused = |fault: Fault| (fault.status, fault.reason, fault.place);
+        assert_eq!(session.try_move(3, 10).map_err(refused), Err((13, 2, 3)));
+        assert_eq!(session.try_move(2, 10).map_err(refused), Err((13, 4, 0)));
+        assert_eq!(session.try_move(2, 4).map_err(refused), Err((13, 11, 2)));
+        session.ask("time 2 4")?;
+        assert_eq!(session.try_move(2, 3)?, -1);
+        assert_eq!(session.times()?, [Some(0), Some(4)]);
+        session.ask("fix 1 0")?;
+        assert_eq!(session.domain(2)?, [4, 5]);
+        assert_eq!(session.domain(3).map_err(refused), Err((13, 2, 3)));
         Ok(())
     }
 

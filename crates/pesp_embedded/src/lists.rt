@@ -1,0 +1,63 @@
+//! Events and times as numbers.
+
+ghost use Rattle.std.specs.Prelude.{◌≡◌, map};
+ghost use Rattle.pesp_instance.specs.Network.{event_ids};
+ghost use Rattle.pesp_shell_replies.specs.Legal.{work_of};
+ghost use Rattle.pesp_embedded.specs.Answered.{fronted};
+ghost use Rattle.pesp_embedded.specs.Numbers.{time_or_none};
+ghost use Rattle.pesp_embedded.specs.Sessions.{AreShown, events_in, times_in};
+
+use crate::Told;
+use pesp_bench::Bench;
+use pesp_counts::CountKeeper;
+use pesp_instance::Instance;
+use pesp_tension::Timetable;
+
+/// In the place of the time of an event without one.
+pub const NO_TIME: u16 = 65_535;
+
+/// Puts the events in front of the room, ascending, as many as it holds.
+fn put_events(room: &mut [u32], instance: &Instance)
+    ensures { room.new ≡ fronted (event_ids instance.now) room.old }
+{
+    let mut place = 0;
+    for event in instance.events() {
+        if place == room.len() {
+            return;
+        }
+        room[place] = event.id.get();
+        place += 1;
+    }
+}
+
+/// Puts the time of each event in front of the room, by ascending events, as many as it holds.
+fn put_times(room: &mut [u16], instance: &Instance, times: &Timetable)
+    ensures { room.new ≡ fronted (map (time_or_none times.now) (event_ids instance.now)) room.old }
+{
+    let mut place = 0;
+    for event in instance.events() {
+        if place == room.len() {
+            return;
+        }
+        room[place] = times.get(event.id).unwrap_or(NO_TIME);
+        place += 1;
+    }
+}
+
+/// Puts the events of a workbench in front of the room, and tells how many there are.
+pub(crate) fn show_events(bench: &Bench<CountKeeper>, room: &mut [u32]) -> Told
+    ensures { AreShown (events_in (work_of bench.now)) room.old room.new result }
+{
+    let instance = bench.instance();
+    put_events(room, instance);
+    Told::ended(instance.event_count() as u64, 0, 0)
+}
+
+/// Puts the working timetable in front of the room, and tells how many events there are.
+pub(crate) fn show_times(bench: &Bench<CountKeeper>, room: &mut [u16]) -> Told
+    ensures { AreShown (times_in (work_of bench.now)) room.old room.new result }
+{
+    let instance = bench.instance();
+    put_times(room, instance, bench.timetable());
+    Told::ended(instance.event_count() as u64, 0, 0)
+}
