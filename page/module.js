@@ -1,16 +1,21 @@
 'use strict';
 
-// The program's runs in JavaScript: in a page, in a Worker and in Node. Each run is whole, over the bytes of three files and
-// of commands, and nothing is kept between two of them.
+// The program in JavaScript: in a page, in a Worker and in Node. A run is whole, over the bytes of three files and of commands,
+// and keeps nothing; a session is opened of files, and answers one line after another until it is closed.
 //
 //   const module = await PespModule.start(program);
 //   const { output, ending, fault } = PespModule.answer(module, { period, activities, fixed, times, commands });
+//   const { session, ending, fault } = PespModule.open(module, { period, activities, fixed, times });
+//   const { output, ending, fault } = PespModule.ask(module, session, 'fix 1 0');
+//   const { cost, ending, fault } = PespModule.cost(module, session);
+//   PespModule.close(module, session);
 //
-// `program` is what PespModule.compile made, or the bytes of the module. Files and commands are bytes or text, and nothing
-// where they are left out. `output` is the replies, as a Uint8Array. `ending` is how the run ended, as embedded/pespbench.h
-// lists it: { status, place, reason, field }; its status is 0 where all lines are answered. `fault` is then '', and else the
-// program's own text for it, without its name. After an instance that was trapped, as by a stack that is too short, `answer`
-// throws, and `start` makes a new one, or `startNow`.
+// `program` is what PespModule.compile made, or the bytes of the module. Files, commands and a line are bytes or text, and
+// nothing where they are left out. `output` is the replies, as a Uint8Array. `ending` is how the call ended, as
+// embedded/pespbench.h lists it: { status, place, reason, field }; its status is 0 where all lines are answered. `fault` is then
+// '', and else the program's own text for it, without its name, in which the one line of `ask` is line 1. `session` is null
+// where the files have a fault. `cost` is a BigInt; null where an event has no time. After an instance that was trapped, as by a
+// stack that is too short, a call throws; its sessions are lost, and `start` makes a new one, or `startNow`.
 const makePespModule = () => {
   const FILES = ['activities', 'fixed', 'times'];
   const ENDINGS = {
@@ -20,6 +25,9 @@ const makePespModule = () => {
     7: ({ place }) => `line ${place} is longer than 4096 bytes`,
     8: () => 'more than 1000000 lines',
     9: () => 'the period is not 2 to 1440',
+    10: () => 'the session is closed',
+    12: () => 'a line feed is in the line',
+    13: ({ place, reason }) => `refused ${reason} event ${place} has no time`,
   };
   const REASONS = {
     1: () => 'wrong number of fields',
@@ -43,6 +51,9 @@ const makePespModule = () => {
 
   // The number of bytes of what the module tells: two numbers of 64 bits, three of 32, and what C adds to them.
   const TOLD = 32;
+  // Those of a session, which has an address of 64 bits and a mark; of a cost; the room for a line at first; and that in which
+  // each reply to a change fits, which is not asked for twice.
+  const SESSION = 16, COST = 8, LINE = 1 << 10, OF_A_CHANGE = 128;
   const LEAST_ROOM = 1 << 20;
 
   // The module after a text in base64 that was packed by deflate, compiled: this can be sent to a Worker, which starts it sooner.
@@ -66,18 +77,33 @@ const makePespModule = () => {
   // The most bytes of memory that runs may take from now on; where one wants more, its answer says so.
   const limit = (module, bytes) => module.calls.pesp_limit(BigInt(bytes));
 
-  const bytesOf = value => (typeof value === 'string' ? new TextEncoder().encode(value) : value || new Uint8Array(0));
+  const encoder = new TextEncoder();
+
+  const bytesOf = value => (typeof value === 'string' ? encoder.encode(value) : value || new Uint8Array(0));
 
   // A block of the module's memory; it is 0 where there is none. No block is empty, since none may be nowhere.
   const take = (module, length) => module.calls.pesp_take(BigInt(Math.max(length, 1)));
+
+  const put = (module, block, bytes) => new Uint8Array(module.calls.memory.buffer, Number(block), bytes.length).set(bytes);
 
   const lend = (module, blocks, bytes) => {
     const block = take(module, bytes.length);
     if (!block) return false;
     blocks.push(block);
-    new Uint8Array(module.calls.memory.buffer, Number(block), bytes.length).set(bytes);
+    put(module, block, bytes);
     return true;
   };
+
+  const giveBack = (module, blocks) => blocks.forEach(block => module.calls.pesp_give_back(block));
+
+  // What the module tells: the length of the replies, and how the call ended.
+  const toldAt = (module, block) => {
+    const view = new DataView(module.calls.memory.buffer, Number(block), TOLD), place = Number(view.getBigUint64(8, true));
+    const ending = { status: view.getUint32(16, true), place, reason: view.getUint32(20, true), field: view.getUint32(24, true) };
+    return { length: Number(view.getBigUint64(0, true)), ending };
+  };
+
+  const outputAt = (module, block, length) => new Uint8Array(module.calls.memory.buffer, Number(block), length).slice();
 
   // What one call tells, and the replies as far as there was room; null where memory is wanted for what the call is lent.
   const call = (module, period, parts, room) => {
@@ -89,32 +115,106 @@ const makePespModule = () => {
       if (!told) return null;
       blocks.push(told);
       module.calls.pesp_answer(period, ...lengths.flatMap((length, place) => [blocks[place], length]), out, BigInt(room), told);
-      const memory = module.calls.memory.buffer, view = new DataView(memory, Number(told), TOLD);
-      const length = Number(view.getBigUint64(0, true)), place = Number(view.getBigUint64(8, true));
-      const ending = { status: view.getUint32(16, true), place, reason: view.getUint32(20, true), field: view.getUint32(24, true) };
-      return { length, ending, output: new Uint8Array(memory, Number(out), Math.min(length, room)).slice() };
+      const { length, ending } = toldAt(module, told);
+      return { length, ending, output: outputAt(module, out, Math.min(length, room)) };
     } finally {
-      blocks.forEach(block => module.calls.pesp_give_back(block));
+      giveBack(module, blocks);
     }
   };
 
   const ended = status => ({ status, place: 0, reason: 0, field: 0 });
 
+  // What is no number of 16 bits is no period.
+  const wholeOf = period => Number.isInteger(period) && period >= 0 && period < 65536 ? period : 0;
+
   // A run, once more with more room where the replies did not fit. Where there is no memory for what the call is lent,
   // memory is wanted before the first line; where there is none for the room, the replies are those that fitted.
   const answer = (module, { period, activities, fixed, times, commands }) => {
     const parts = [activities, fixed, times, commands].map(bytesOf);
-    const whole = Number.isInteger(period) && period >= 0 && period < 65536 ? period : 0;
-    let came = call(module, whole, parts, module.room) || { length: 0, output: new Uint8Array(0), ending: ended(6) };
+    let came = call(module, wholeOf(period), parts, module.room) || { length: 0, output: new Uint8Array(0), ending: ended(6) };
     if (came.length > came.output.length) {
-      const again = call(module, whole, parts, came.length);
+      const again = call(module, wholeOf(period), parts, came.length);
       if (again) module.room = came.length;
       came = again || { ...came, ending: ended(5) };
     }
     return { output: came.output, ending: came.ending, fault: faultOf(came.ending) };
   };
 
-  return { compile, start, startNow, limit, answer, faultOf };
+  // The blocks that a session has until it is closed, each with its bytes; null where there is no memory for them.
+  const blocksOfSession = module => {
+    const room = Math.max(module.room, OF_A_CHANGE), blocks = [SESSION, TOLD, COST, LINE, room].map(length => take(module, length));
+    if (blocks.every(Boolean)) {
+      const [at, told, number, line, out] = blocks;
+      // One of zeros is closed.
+      put(module, at, new Uint8Array(SESSION));
+      return { at, told, number, line: { block: line, length: LINE }, out: { block: out, length: room } };
+    }
+    giveBack(module, blocks.filter(Boolean));
+    return null;
+  };
+
+  const forget = (module, { at, told, number, line, out }) => giveBack(module, [at, told, number, line.block, out.block]);
+
+  // Opens a session of files; where memory is wanted, before the first line.
+  const open = (module, { period, activities, fixed, times }) => {
+    const parts = [activities, fixed, times].map(bytesOf), blocks = [], session = blocksOfSession(module);
+    try {
+      let ending = ended(6);
+      if (session && parts.every(part => lend(module, blocks, part))) {
+        const files = parts.flatMap((part, place) => [blocks[place], BigInt(part.length)]);
+        module.calls.pesp_open(wholeOf(period), ...files, session.at, session.told);
+        ({ ending } = toldAt(module, session.told));
+      }
+      if (session && ending.status) forget(module, session);
+      return { session: ending.status ? null : session, ending, fault: faultOf(ending) };
+    } finally {
+      giveBack(module, blocks);
+    }
+  };
+
+  // Whether there is so much room, which is taken in the place of what was too small.
+  const isRoom = (module, room, length) => {
+    if (length <= room.length) return true;
+    const block = take(module, length);
+    if (!block) return false;
+    module.calls.pesp_give_back(room.block);
+    Object.assign(room, { block, length });
+    return true;
+  };
+
+  const askOnce = (module, { at, told, line, out }, length) => {
+    module.calls.pesp_ask(at, line.block, BigInt(length), out.block, BigInt(out.length), told);
+    return toldAt(module, told);
+  };
+
+  // Asks a session a line, once more with more room where the reply did not fit.
+  const ask = (module, session, line) => {
+    const bytes = bytesOf(line), { out } = session;
+    let came = { length: 0, ending: ended(6) };
+    if (isRoom(module, session.line, bytes.length)) {
+      put(module, session.line.block, bytes);
+      came = askOnce(module, session, bytes.length);
+      if (came.length > out.length) came = isRoom(module, out, came.length) ? askOnce(module, session, bytes.length) : { ...came, ending: ended(5) };
+    }
+    const output = outputAt(module, out.block, Math.min(came.length, out.length));
+    return { output, ending: came.ending, fault: faultOf({ ...came.ending, place: 1 }) };
+  };
+
+  // The cost of the working timetable.
+  const cost = (module, session) => {
+    module.calls.pesp_cost(session.at, session.number, session.told);
+    const { ending } = toldAt(module, session.told);
+    const value = ending.status ? null : new DataView(module.calls.memory.buffer, Number(session.number), COST).getBigUint64(0, true);
+    return { cost: value, ending, fault: faultOf(ending) };
+  };
+
+  // Closes a session, which is not used again.
+  const close = (module, session) => {
+    module.calls.pesp_close(session.at);
+    forget(module, session);
+  };
+
+  return { compile, start, startNow, limit, answer, open, ask, cost, close, faultOf };
 };
 
 const PespModule = makePespModule();

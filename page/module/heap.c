@@ -1,7 +1,8 @@
 // A heap over the module's own memory, and what the compiled library calls. Nothing proves it.
 //
 // A block has a size of a class: a power of two, or one and a half of it. A block that is given back is kept for its
-// class. Where no block is out any more, as between two calls, the heap is as new, so nothing is lost to old classes.
+// class. Where no block is out any more, as between two runs with no session open, the heap is as new, so nothing is lost to
+// old classes.
 
 typedef __SIZE_TYPE__ size_t;
 typedef unsigned char byte;

@@ -181,7 +181,7 @@
     if (select.value !== line.name) select.value = line.name;
     const { drawn, told } = Page.diagramOf(view, line, Page.chosen), missing = view.tensions ? '' : `No train is drawn, since ${view.missing}.`;
     Page.setText(Page.find('diagram-note'), [told, NOTE, missing].filter(Boolean).join(' '));
-    holder.replaceChildren(drawn);
+    Page.renew(holder, [drawn]);
   };
 
   const build = view => {

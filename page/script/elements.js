@@ -39,6 +39,26 @@
     } else if (node.getAttribute(name) !== String(value)) node.setAttribute(name, value);
   };
 
+  // Makes a node what another one is, without listeners: what is the same in it stays, so that a browser does not lay it out and
+  // paint it again.
+  const renewNode = (node, wanted) => {
+    if (node.isEqualNode(wanted)) return;
+    if (node.nodeType !== Node.ELEMENT_NODE || node.nodeName !== wanted.nodeName) {
+      node.replaceWith(wanted);
+      return;
+    }
+    for (const { name, value } of [...wanted.attributes]) Page.setAttribute(node, name, value);
+    for (const { name } of [...node.attributes]) if (!wanted.hasAttribute(name)) node.removeAttribute(name);
+    Page.renew(node, wanted.childNodes);
+  };
+
+  // The same for the children of a node.
+  Page.renew = (holder, wanted) => {
+    const before = [...holder.childNodes], after = [...wanted];
+    after.forEach((node, place) => place < before.length ? renewNode(before[place], node) : holder.append(node));
+    before.slice(after.length).forEach(node => node.remove());
+  };
+
   // What a screen reader says, and the line below the buttons shows; `alarm` where something was refused.
   Page.say = (text, isAlarm = false) => {
     const line = Page.find('said');

@@ -5,8 +5,8 @@
   const SURE = ['optimum', 'infeasible'];
 
   // The better of what was found and what a search tells now; how far that search has come is told with either.
-  Page.betterFound = (before, { found, nodes, seconds, base, lines }) => {
-    const now = { ...found, nodes, seconds, base, lines };
+  Page.betterFound = (before, { found, nodes, seconds, mark }) => {
+    const now = { ...found, nodes, seconds, mark };
     const isKept = before && !SURE.includes(now.kind) && (SURE.includes(before.kind) || (before.times && !(now.times && now.cost < before.cost)));
     return isKept ? { ...before, nodes, seconds, isStopped: false } : now;
   };

@@ -38,14 +38,14 @@
     const open = [...activities.values()].filter(each => kinds.has(Page.kindOf(each.number)) && each.upper - each.lower < period - 1);
     open.sort((one, other) => Number(costNow(view, other) - costNow(view, one)) || one.number - other.number);
     return open.slice(0, MOST_ASKED).map(each => ({ each, after: WAYS[way].change(each) }))
-      .map(({ each, after }) => ({ number: each.number, after, line: `span ${each.number} ${after.lower} ${after.upper}` }));
+      .map(({ each, after }) => ({ number: each.number, after, line: `span ${each.number} ${after.lower} ${after.upper}`, back: `span ${each.number} ${each.lower} ${each.upper}` }));
   };
 
   const look = event => {
     event.preventDefault();
     const way = find('gain-way').value, questions = questionsOf(Page.view, way);
     if (!questions.length) return Page.say('No activity of these kinds has a span that rules anything out.', true);
-    asked = { ...Page.present(), way, count: questions.length, before: null, came: [], isEnded: false };
+    asked = { mark: Page.markNow(), way, count: questions.length, before: null, came: [], isEnded: false };
     Page.askFor({ kind: 'gains', questions });
     return Page.draw();
   };
@@ -58,11 +58,7 @@
     Page.draw();
   };
 
-
-  const isOfNow = () => {
-    const { base, lines } = Page.present();
-    return asked && asked.base === base && asked.lines.join() === lines.join();
-  };
+  const isOfNow = () => asked && asked.mark === Page.markNow();
 
   // By how much a timetable is cheaper than the best one as it is; null where one of both is not there.
   const savedBy = (view, { number, found }) => {
@@ -79,7 +75,7 @@
 
   const take = ({ number, line, found }) => {
     const activity = Page.view.network.activities.get(number), title = `${Page.activityName(activity)}: ${WAYS[asked.way].title}, and the best timetable with it`;
-    Page.step([line, ...[...found.times].map(([event, time]) => `time ${event} ${time}`)], { title });
+    Page.step([line, ...Page.timeLines(found.times)], { title });
   };
 
   const isSure = ({ kind }) => kind === 'optimum' || kind === 'infeasible';

@@ -7,6 +7,8 @@
   const WIDTH = 1020, HEIGHT = 640, MARGIN = 64, EDGE = 8, STATIONS_OF_A_PAGE = 14, LANE = 29, RING = 11;
   // What the name of a line takes of a track with some space, and what each number takes at each of its ends.
   const ROOM = 70, NAME = 14.5, ENOUGH = 16, ROW = 13, LETTERS = 24, SCALE = 0.56;
+  // So many lanes are one drawing, below that of the stations, since a browser paints a drawing as a whole anew.
+  const LANES_OF_A_SHEET = 4;
   let graph = null, numbers = new Map(), alarms = null;
 
   // Minutes that are told with the hour are wider.
@@ -30,7 +32,8 @@
   // How far the numbers of a track reach to each side.
   const halfWidth = track => (track.lanes.length - 1) * LANE / 2 + ROW;
 
-  const draw = view => {
+  // The drawings that lie upon each other, that of the stations first; on paper it is all of them.
+  const draw = (view, isPaper = false) => {
     numbers = new Map();
     alarms = { lanes: new Map(), stations: new Map(), drawn: new Set() };
     graph = layOut(view);
@@ -39,11 +42,19 @@
       const offset = (place - (track.lanes.length - 1) / 2) * LANE;
       return drawLane(track, lane, offset);
     }));
-    const box = viewBox(labels), page = drawing('svg', { viewBox: box.join(' '), role: 'group', 'aria-label': nameOf(view) }, ...lanes);
-    // Names can be read, and where there are many the netgraph is scrolled.
-    Object.assign(page.style, { minWidth: `${SCALE * box[2]}px`, maxHeight: `max(46rem, ${SCALE * box[3]}px)` });
+    const box = viewBox(labels), page = sheetOf(box, nameOf(view), isPaper ? lanes : []), sheets = [];
+    for (let place = 0; place < lanes.length && !isPaper; place += LANES_OF_A_SHEET) {
+      sheets.push(sheetOf(box, 'Trains of the netgraph', lanes.slice(place, place + LANES_OF_A_SHEET)));
+    }
     for (const [station, label] of labels) page.append(...drawStation(station, label));
-    return page;
+    return [page, ...sheets];
+  };
+
+  // Names can be read, and where there are many the netgraph is scrolled.
+  const sheetOf = (box, name, children) => {
+    const made = drawing('svg', { viewBox: box.join(' '), role: 'group', 'aria-label': name }, ...children);
+    Object.assign(made.style, { minWidth: `${SCALE * box[2]}px`, maxHeight: `max(46rem, ${SCALE * box[3]}px)` });
+    return made;
   };
 
   const nameOf = view => `Netgraph of ${graph.places.size} stations and ${view.lines.length} lines`;
@@ -175,7 +186,7 @@
     Page.find('no-netgraph').hidden = view.lines.length > 0;
     if (!view.lines.length) return;
     const isBeyond = graph && graph.told && !graph.places.has(Page.labelOf(Page.chosen).station);
-    if (!graph || isBeyond) Page.find('netgraph').replaceChildren(draw(view));
+    if (!graph || isBeyond) Page.find('netgraph').replaceChildren(...draw(view));
     Page.setText(Page.find('netgraph-elided'), graph.told);
     for (const [event, number] of numbers) drawNumber(view, event, number);
     Page.drawAlarms(view, alarms);
@@ -183,7 +194,7 @@
 
   // The netgraph for paper, with no event chosen, and what it says of what is left out; the one on the screen stays.
   Page.netgraphOf = view => {
-    const screen = { graph, numbers, alarms }, drawn = draw(view), { told } = graph;
+    const screen = { graph, numbers, alarms }, [drawn] = draw(view, true), { told } = graph;
     for (const [event, number] of numbers) drawNumber(view, event, number, null);
     Page.drawAlarms(view, alarms);
     ({ graph, numbers, alarms } = screen);

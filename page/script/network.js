@@ -12,12 +12,10 @@ Page.share(Page => {
     return { to: 'activities', number, value: { number, first, last, lower, upper, weight } };
   };
 
-  const linesOf = Page.remembered(addedBy);
-
-  // The network of a reply to `dump`. An activity that is told again is the same object.
+  // The network of a reply to `dump`. What is of the same shape has the same events and activities, between the same ends.
   Page.readNetwork = reply => {
-    const network = { period: Number(reply[0].split(' ')[2]), events: [], windows: new Map(), activities: new Map() };
-    for (const { to, number, value } of linesOf(reply)) {
+    const network = { period: Number(reply[0].split(' ')[2]), events: [], windows: new Map(), activities: new Map(), shape: {} };
+    for (const { to, number, value } of reply.slice(1).map(addedBy)) {
       if (to === 'events') network.events.push(number);
       else network[to].set(number, value);
     }

@@ -1,22 +1,42 @@
 'use strict';
 
-// The program in the page: whole runs over bytes, of which nothing is kept. `PespModule` is page/module.js.
+// The program in the page: whole runs over bytes, of which nothing is kept, and sessions. `PespModule` is page/module.js.
 Page.share(Page => {
+  // How a call ends that wants memory, of which there may be more where a session is opened anew.
+  const MEMORY = [5, 6];
+
   // Starts what was compiled, here or in a Worker.
   Page.startProgram = async program => {
     const decoder = new TextDecoder();
     let module = await PespModule.start(program);
     Page.program = program;
-    Page.answer = run => {
+
+    // Calls a module; what was trapped is not used again.
+    const called = (owner, call) => {
       try {
-        module = module || PespModule.startNow(program);
-        const { output, fault } = PespModule.answer(module, run);
-        return { output: decoder.decode(output), fault };
+        if (module !== owner) throw new Error('it is not used again');
+        return call(owner);
       } catch (trap) {
-        // What was trapped is not used again.
-        module = null;
-        return { output: '', fault: `the module was trapped: ${trap.message}` };
+        if (module === owner) module = null;
+        return { output: new Uint8Array(0), session: null, ending: { status: 0 }, fault: `the module was trapped: ${trap.message}` };
       }
+    };
+
+    const moduleNow = () => module = module || PespModule.startNow(program);
+
+    Page.answer = run => {
+      const { output, fault } = called(moduleNow(), each => PespModule.answer(each, run));
+      return { output: decoder.decode(output), fault };
+    };
+
+    // A session of files, with a fault or '': it answers lines until it is closed.
+    Page.openFiles = files => {
+      const owner = moduleNow(), { session, fault } = called(owner, each => PespModule.open(each, files));
+      const ask = line => {
+        const { output, ending, fault: why } = called(owner, each => PespModule.ask(each, session, line));
+        return { text: decoder.decode(output), fault: why, isWanting: MEMORY.includes(ending.status) };
+      };
+      return { fault, ask, close: () => called(owner, each => PespModule.close(each, session)) };
     };
   };
 });

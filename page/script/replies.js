@@ -7,9 +7,7 @@ Page.share(Page => {
 
   // The replies of a text, each as the list of its lines.
   Page.splitReplies = text => {
-    const lines = text.split('\n');
-    lines.pop();
-    const replies = [];
+    const lines = text ? Page.linesOfReply(text) : [], replies = [];
     for (let place = 0; place < lines.length;) {
       const words = lines[place].split(' ', 5);
       const more = Number(words[COUNTS[words[0]]]) || 0;
@@ -19,13 +17,18 @@ Page.share(Page => {
     return replies;
   };
 
+  // The lines of a text, each of which ends by a line feed.
+  Page.linesOfReply = text => text.slice(0, -1).split('\n');
+
   Page.isRefused = reply => /^(refused|fault) /.test(reply[0]);
 
-  // What the lines after a first line say, read by a function. Lines that are told again in their order are what they were,
-  // the same values, since a step changes few of them.
-  Page.remembered = read => {
-    let before = [], values = [];
+  // What the lines after a first line say, each by its number, read by a function. Lines that are told again in their order are
+  // what they were, the same values, since a step changes few of them; and so is a reply as a whole.
+  /** @param {function(string): any} read */
+  const remembered = read => {
+    let before = [], values = [], made = null;
     return reply => {
+      if (reply === before) return made;
       const found = [];
       for (let place = 1, old = 1; place < reply.length; place += 1) {
         const line = reply[place];
@@ -38,27 +41,28 @@ Page.share(Page => {
       }
       before = reply;
       values = found;
-      return found;
+      made = new Map(found);
+      return made;
     };
   };
 
   const numbersOf = text => text.split(' ').map(Number);
 
-  const domainLines = Page.remembered(line => {
+  const domainLines = remembered(line => {
     const end = line.indexOf(':');
     return [Number(line.slice(0, end)), line.length > end + 2 ? numbersOf(line.slice(end + 2)) : []];
   });
 
   // Of each event the minutes at which it can still be.
-  Page.readDomains = reply => new Map(domainLines(reply));
+  Page.readDomains = domainLines;
 
-  const tensionLines = Page.remembered(line => {
+  const tensionLines = remembered(line => {
     const [activity, tension, slack] = numbersOf(line);
     return [activity, { tension, slack }];
   });
 
   // Of each activity its tension and slack; null where the working timetable lacks a time.
-  Page.readTensions = reply => Page.isRefused(reply) ? null : new Map(tensionLines(reply));
+  Page.readTensions = reply => Page.isRefused(reply) ? null : tensionLines(reply);
 
   // The violated activities and events; null where a time is missing.
   Page.readViolations = reply => {

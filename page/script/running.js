@@ -1,9 +1,15 @@
 'use strict';
 
-// Runs of the program over a base, which is files and the lines after them. Nothing is kept between two runs.
+// What the program tells: of sessions, which stay open over a base, that is files and the lines after them; and of whole runs,
+// where each question is about another network.
 Page.share(Page => {
-  // A run that ended by a fault; its message is the program's text.
-  Page.RunFault = class extends Error {};
+  // A run or a session that ended by a fault; its message is the program's text. `isWanting` where memory is wanted.
+  Page.RunFault = class extends Error {
+    constructor(message, isWanting = false) {
+      super(message);
+      this.isWanting = isWanting;
+    }
+  };
 
   // The replies to some lines after those of the base. Raises RunFault.
   Page.run = (base, lines) => {
@@ -11,39 +17,78 @@ Page.share(Page => {
     const { output, fault } = Page.answer({ ...base, commands: all.length ? all.join('\n') + '\n' : '' });
     if (fault) throw new Page.RunFault(fault);
     const replies = Page.splitReplies(output);
-    isDone(base.setup, replies);
+    base.setup.forEach((line, place) => isDone(line, replies[place]));
     return replies.slice(base.setup.length);
   };
 
-  // Raises RunFault with the first of some lines that was refused.
-  const isDone = (lines, replies) => {
-    const place = lines.findIndex((_, each) => replies[each][0] !== 'ok');
-    if (place >= 0) throw new Page.RunFault(`${lines[place]}: ${replies[place][0]}`);
+  // Raises RunFault where a line was refused.
+  const isDone = (line, reply) => {
+    if (reply[0] !== 'ok') throw new Page.RunFault(`${line}: ${reply[0]}`);
   };
 
-  const QUESTIONS = ['dump', 'domains', 'tensions', 'violations', 'cost'];
-
-  // What the program tells of the network after some lines, and its replies to these lines.
-  Page.look = (base, lines) => {
-    const replies = Page.run(base, [...lines, ...QUESTIONS]);
-    return { replies: replies.slice(0, lines.length), ...toldBy(replies.slice(lines.length)) };
+  // A session of the files of a base. `ask` gives the reply to a line, and the same one where it is told again. Raises RunFault.
+  const openFiles = base => {
+    const { fault, ask, close } = Page.openFiles(base), told = new Map();
+    if (fault) throw new Page.RunFault(fault);
+    return {
+      close,
+      ask: line => {
+        const { text, fault: why, isWanting } = ask(line);
+        if (why) throw new Page.RunFault(why, isWanting);
+        const before = told.get(line);
+        if (before && before.text === text) return before.reply;
+        const reply = Page.linesOfReply(text);
+        if (QUESTIONS.includes(line)) told.set(line, { text, reply });
+        return reply;
+      },
+    };
   };
 
-  // The same of a base that was never looked at, with its times.
-  Page.lookFirst = base => {
-    const lines = Page.withOptima(base.setup), before = base.times ? ['dump'] : [];
-    const replies = Page.run({ ...base, setup: [] }, [...before, ...lines, ...QUESTIONS]);
-    const filed = base.times ? Page.timesOfFile(base, Page.readNetwork(replies.shift()).events) : new Map();
-    isDone(lines, replies.map((reply, place) => lines[place] === 'optimum' ? ['ok'] : reply));
-    return { ...toldBy(replies.slice(lines.length)), times: Page.timesAfter(filed, lines, replies) };
+  // What comes of something that is done with a session, which is closed where that fails.
+  Page.prepared = (session, act) => {
+    try {
+      return act();
+    } catch (fault) {
+      session.close();
+      throw fault;
+    }
   };
 
-  const toldBy = ([dump, domains, tensions, violations, cost]) => ({
-    network: Page.readNetwork(dump),
-    domains: Page.readDomains(domains),
-    tensions: Page.readTensions(tensions),
-    violations: Page.readViolations(violations),
-    cost: Page.readCost(cost),
-    missing: Page.isRefused(cost) ? cost[0].replace(/^refused 11 /, '') : '',
-  });
+  // A session after some lines, which are those of a base, or of it and of steps since. Raises RunFault.
+  Page.openSession = (base, lines = base.setup) => {
+    const session = openFiles(base);
+    Page.prepared(session, () => lines.forEach(line => isDone(line, session.ask(line))));
+    return session;
+  };
+
+  const QUESTIONS = ['domains', 'tensions', 'violations', 'cost'];
+
+  const READ = {
+    domains: reply => ({ domains: Page.readDomains(reply) }),
+    tensions: reply => ({ tensions: Page.readTensions(reply) }),
+    violations: reply => ({ violations: Page.readViolations(reply) }),
+    cost: reply => ({ cost: Page.readCost(reply), missing: Page.isRefused(reply) ? reply[0].replace(/^refused 11 /, '') : '' }),
+  };
+
+  // What a session tells of its network and its timetable, of all of it or of some questions.
+  Page.look = (session, questions = QUESTIONS) => Object.assign({}, ...questions.map(question => READ[question](session.ask(question))));
+
+  // A session of a base that was never looked at, with its network and its times. An `adopt` comes after an `optimum`, whose
+  // reply has the times; the program searches once for both. Raises RunFault.
+  Page.openFirst = base => {
+    const session = openFiles(base), networkNow = () => Page.readNetwork(session.ask('dump'));
+    return Page.prepared(session, () => {
+      const filed = networkNow(), before = base.times ? Page.timesOfFile(base, filed.events) : new Map();
+      const lines = base.setup.flatMap(line => doneFirst(session, line));
+      const { times } = Page.follow({ network: filed, times: before }, lines);
+      return { session, network: lines.length ? networkNow() : filed, times };
+    });
+  };
+
+  // Has a session do a line, and gives the lines that make the same of its times.
+  const doneFirst = (session, line) => {
+    const found = Page.isAdopt(line) ? Page.readFound(session.ask('optimum')) : null;
+    isDone(line, session.ask(line));
+    return found ? Page.timeLines(found.times) : [line];
+  };
 });

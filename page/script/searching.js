@@ -3,9 +3,11 @@
 // Work that a click stops, in a Worker: searches, whose best timetable is adopted by another click, why there is none, what would
 // help, and long files of lines.
 (() => {
-  // `asked` is what the Worker does now, `settle` ends the promise of what it plays, and `found` is what searches of one state
-  // came to: its best timetable, and what the last search said.
-  let worker = null, asked = null, settle = null, found = null, began = 0, wasShown = false;
+  // `asked` is what the Worker does now, since the step `from`, `settle` ends the promise of what it plays, and `found` is what
+  // searches of one network came to: its best timetable, and what the last search said.
+  let worker = null, asked = null, from = null, settle = null, found = null, began = 0, wasShown = false;
+
+  const stepNow = () => Page.session.steps[Page.session.place - 1] || Page.session.opened;
 
   // The Worker has the parts that are shared, the module's caller and the module, and nothing else.
   const start = () => {
@@ -37,7 +39,8 @@
   const ask = question => {
     Page.stopSearch();
     if (!worker) start();
-    asked = { id: performance.now(), ...Page.present(), ...question };
+    asked = { id: performance.now(), mark: Page.markNow(), ...Page.present(), ...question };
+    from = stepNow();
     if (!isOfNow(found)) found = null;
     began = performance.now();
     worker.postMessage(asked);
@@ -78,8 +81,8 @@
 
   const answered = told => {
     if (!asked || (told.id !== undefined && told.id !== asked.id)) return;
-    const { kind, base, lines } = asked;
-    if (told.found) found = Page.betterFound(found, { ...told, base, lines: [...lines], seconds: (performance.now() - began) / 1000 });
+    const { kind, mark } = asked;
+    if (told.found) found = Page.betterFound(found, { ...told, mark, seconds: (performance.now() - began) / 1000 });
     else if (settle) settle[told.fault ? 'fail' : 'done'](told.fault ? new Error(told.fault) : told.base);
     else if (told.fault) Page.say(told.fault, true);
     else if (kind === 'why') Page.showWhy(told.why);
@@ -93,11 +96,8 @@
 
   const BUSY = { why: 'Looking for what cannot be met together …', play: 'Doing the commands …', search: 'Searching …', gains: 'Asking what would help …' };
 
-  // What is found is of the state for which it was asked, and is offered as long as that is shown.
-  const isOfNow = each => {
-    const { base, lines } = Page.present();
-    return each && each.base === base && each.lines.length === lines.length && each.lines.every((line, place) => line === lines[place]);
-  };
+  // What is found is of the network for which it was asked, and is offered as long as that is shown, with whatever times.
+  const isOfNow = each => each && each.mark === Page.markNow();
 
   const update = () => {
     const isShown = Boolean(isOfNow(found)), isOffered = Boolean(isShown && found.times), isSearching = Boolean(asked && asked.kind === 'search');
@@ -114,17 +114,20 @@
 
   // Times are set by lines of their own, so that nothing is searched again when these lines are given once more.
   const adopt = () => {
-    const lines = [...found.times].map(([event, time]) => `time ${event} ${time}`), { cost, kind } = found;
+    const lines = Page.timeLines(found.times), { cost, kind } = found;
     Page.forgetSearch();
     if (Page.step(lines)) Page.say(`adopted: ${kind === 'optimum' ? 'the optimum' : 'the best that was found'}, cost ${cost.toLocaleString('en')}`);
   };
 
   const ENDS = { why: 'the search for a conflict has ended with it', play: 'the opening has ended with it', search: 'the search has ended with it', gains: 'asking what would help has ended with it' };
 
-  // A step ends what was asked of the state before it, and what was found for that is there again when it is taken back.
+  // What is opened takes the place of whatever is shown, so that any step ends it.
+  const isIdle = () => asked.kind === 'play' ? from !== stepNow() : !isOfNow(asked);
+
+  // A step ends what was asked of the network before it, and what was found for that is there again when it is taken back.
   Page.panel({
     update: () => {
-      const ending = asked && !isOfNow(asked) ? ENDS[asked.kind] : '', isLeft = wasShown && !isOfNow(found);
+      const ending = asked && isIdle() ? ENDS[asked.kind] : '', isLeft = wasShown && !isOfNow(found);
       if (ending) Page.stopSearch();
       const kept = isLeft ? `the timetable of cost ${found.cost.toLocaleString('en')} that was found before it is offered again after Undo` : '';
       update();
@@ -148,7 +151,7 @@
     Page.find('adopt').addEventListener('click', adopt);
     Page.find('ask-why').addEventListener('click', () => {
       Page.showTab('why');
-      ask({ kind: 'why', kept: Page.keptMembers() });
+      ask({ kind: 'why', members: Page.keptMembers() });
     });
   };
 })();

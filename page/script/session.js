@@ -1,105 +1,170 @@
 'use strict';
 
-// The session: what was opened, the steps since, and which of them are done. What is shown is always what the program
-// tells of the base and the lines of the steps that are done.
+// The session: what was opened, the steps since, and which of them are done. What is shown is what a session of the program tells,
+// which is kept open and asked the lines of each step alone; it can be opened anew from the base and all lines.
 (() => {
-  // After so many lines a step keeps a base of its own, so that a run does not begin at the first one.
-  const LINES_OF_A_BASE = 300;
-
   const session = { opened: null, steps: [], place: 0 };
   Page.session = session;
   Page.view = null;
 
-  // The last base at or before the present step, and the lines after it.
-  const present = () => {
-    let start = session.place;
-    while (start > 0 && !session.steps[start - 1].base) start -= 1;
-    const base = start ? session.steps[start - 1].base : session.opened.base;
-    return { base, lines: session.steps.slice(start, session.place).flatMap(step => step.lines) };
-  };
-  Page.present = present;
+  // The program's session, null where it has to be opened anew; what it told last, of the state that it has; and the lines of a
+  // drag's step that it has beside those of the steps, with those that take them back, null where there are none.
+  let kept = null, told = null, tried = null;
+  // What it told of the present step.
+  let settled = null;
 
-  Page.timesNow = () => session.place ? session.steps[session.place - 1].times : session.opened.times;
+  // The base, and the lines of the steps that are done since.
+  Page.present = () => ({ base: session.opened.base, lines: Page.journal() });
+
+  Page.timesNow = () => settled.times;
+
+  // A mark of the network that is shown, as which each step comes back that changed it.
+  let last = 0;
+  const markNow = () => session.place ? session.steps[session.place - 1].mark : session.opened.mark;
+  Page.markNow = markNow;
+  const markAfter = (network, before, mark) => network === before ? mark : last += 1;
 
   // Opens a base with its labels and places, and shows it. Raises RunFault, and then nothing has changed.
   Page.open = (base, { title = '', labels = Page.noLabels(), places = new Map() } = {}) => {
-    const looked = Page.lookFirst(base), { times } = looked;
-    Object.assign(session, { opened: { base, times, title, labels, network: looked.network }, steps: [], place: 0 });
+    const { session: opened, network, times } = Page.openFirst(base);
+    settled = Page.prepared(opened, () => ({ network, times, ...Page.look(opened) }));
+    close();
+    kept = opened;
+    Object.assign(session, { opened: { base, times, title, labels, network, mark: last += 1 }, steps: [], place: 0 });
     Object.assign(Page, { labels, places, chosen: null, chosenLine: null, view: null });
     Page.forgetSearch();
-    show(looked);
+    show({ ...settled });
   };
 
-  // What a run tells, or null where it ends by a fault, which is told.
-  const looks = (base, lines) => {
+  const close = () => {
+    if (kept) kept.close();
+    [kept, told, tried] = [null, settled, null];
+  };
+
+  // Does something with the session, which is opened at the present step where it is not open. After a fault it is opened anew, so
+  // that nothing is lost; where memory was wanted, that is done once more at once.
+  const withSession = (act, isAgain = false) => {
     try {
-      return Page.look(base, lines);
+      const { base, lines } = Page.present();
+      kept = kept || Page.openSession(base, [...base.setup, ...lines]);
+      return act();
     } catch (fault) {
+      close();
+      if (fault.isWanting && !isAgain) return withSession(act, true);
+      throw fault;
+    }
+  };
+
+  // The same; a fault is told, and null given.
+  const toldWith = act => {
+    try {
+      return withSession(act);
+    } catch (fault) {
+      if (!(fault instanceof Page.RunFault)) throw fault;
       Page.say(fault.message, true);
       return null;
     }
   };
 
-  // What the present lines and some more make, where none of these is refused; null, and the refusal is told, where one is.
-  const tried = more => {
-    const { base, lines } = present(), looked = looks(base, [...lines, ...more]);
-    if (!looked) return null;
-    const refused = more.findIndex((_, place) => looked.replies[lines.length + place][0] !== 'ok');
-    if (refused < 0) return looked;
-    Page.say(`${more[refused]} — ${looked.replies[lines.length + refused][0]}`, true);
-    return null;
+  // Has the session do some lines. Where one is refused, those before it are taken back, and the refusal is given; '' where none is.
+  const refusalOf = lines => {
+    for (const [place, line] of lines.entries()) {
+      const [reply] = kept.ask(line);
+      if (reply === 'ok') continue;
+      for (const each of Page.follow(told, lines.slice(0, place)).back) kept.ask(each);
+      return `${line} — ${reply}`;
+    }
+    return '';
   };
+
+  // What the session tells after some lines, which it has done; what they cannot have changed is not asked.
+  const lookAfter = lines => {
+    const { network, times, questions } = Page.follow(told, lines);
+    told = { ...told, network, times, ...Page.look(kept, questions) };
+    return told;
+  };
+
+  // Has the session try some lines after the present step, in the place of those tried before; false where one is refused, which is
+  // told, and then nothing has changed.
+  const tries = more => toldWith(() => {
+    const lines = [...tried ? Page.neededBefore(tried.back, more) : [], ...more], refusal = refusalOf(lines);
+    if (refusal) Page.say(refusal, true);
+    else {
+      lookAfter(lines);
+      tried = { lines: more, back: Page.follow(settled, more).back };
+    }
+    return !refusal;
+  });
+
+  const isTried = more => Boolean(tried) && tried.lines.length === more.length && tried.lines.every((line, place) => line === more[place]);
 
   // Shows what some lines would make, as a step of a drag; a title says in a planner's words what they do.
   Page.preview = (more, title = '') => {
-    const looked = tried(more);
-    if (looked) show({ ...looked, times: Page.timesAfter(Page.timesNow(), more), title, isTried: true });
+    if (tries(more)) show({ ...told, title, isTried: true });
+  };
+
+  // What was tried is of the present step from now on.
+  const settle = () => {
+    [settled, tried] = [told, null];
   };
 
   // Does some lines as one step, with other names or without, which can be undone; false where a line is refused, and then
   // nothing has changed. A title says in a planner's words what they do.
   Page.step = (more, { title = '', labels = Page.labels } = {}) => {
-    const looked = tried(more);
-    if (!looked) {
+    if (!isTried(more) && !tries(more)) {
       Page.refresh();
       return false;
     }
-    const times = Page.timesAfter(Page.timesNow(), more), made = { lines: more, times, title, labels };
-    if (present().lines.length + more.length > LINES_OF_A_BASE) made.base = Page.baseOf(looked.network, times);
+    const made = { ...tried, mark: markAfter(told.network, settled.network, markNow()), title, labels };
+    settle();
     session.steps.splice(session.place, Infinity, made);
     session.place += 1;
     Page.labels = labels;
     Page.say(title || (more.length > 1 ? `${more.length} commands` : titleOf(made)));
-    show({ ...looked, times, title });
+    show({ ...told, title });
     return true;
   };
 
   // Does steps that were done before, each with its lines and title as it was one; false where a line is refused, and then none of
   // them is done.
   Page.stepAgain = (steps, labels) => {
-    const all = steps.flatMap(({ lines }) => lines), looked = tried(all);
-    if (!looked) return false;
-    let { times } = session.opened;
-    session.steps = steps.map(({ lines, title }) => ({ lines, title, labels, times: times = Page.timesAfter(times, lines) }));
+    if (!tries(steps.flatMap(({ lines }) => lines))) return false;
+    let state = settled, mark = markNow();
+    session.steps = steps.map(({ lines, title }) => {
+      const after = Page.follow(state, lines);
+      mark = markAfter(after.network, state.network, mark);
+      state = after;
+      return { lines, back: after.back, mark, title, labels };
+    });
     session.place = steps.length;
     Page.labels = labels;
-    if (all.length > LINES_OF_A_BASE) session.steps[steps.length - 1].base = Page.baseOf(looked.network, times);
-    show({ ...looked, times });
+    settle();
+    show({ ...told });
     return true;
+  };
+
+  // Has the session take back what was tried.
+  const leaveTried = () => {
+    if (tried) toldWith(() => refusalOf(tried ? tried.back : []));
+    [told, tried] = [settled, null];
   };
 
   // Shows the present state again.
   Page.refresh = () => {
-    const { base, lines } = present(), looked = looks(base, lines);
-    if (looked) show({ ...looked, times: Page.timesNow() });
+    leaveTried();
+    show({ ...settled });
   };
 
-  const goTo = (place, told) => {
+  // Goes to the state after so many steps; where the session ends by a fault, nothing has changed.
+  const goTo = (place, word) => {
     if (place < 0 || place > session.steps.length) return;
+    const back = session.steps.slice(place, session.place).reverse().flatMap(step => step.back);
+    if (!tries([...back, ...session.steps.slice(session.place, place).flatMap(step => step.lines)])) return;
     session.place = place;
+    settle();
     Page.labels = (place ? session.steps[place - 1] : session.opened).labels;
-    Page.say(told);
-    Page.refresh();
+    Page.say(word);
+    show({ ...told });
   };
   const titleOf = ({ lines, title }) =>
     title || (!lines.length ? 'a name' : lines.length === 1 ? lines[0] : `${lines[0]} and ${lines.length - 1} more commands`);
@@ -113,10 +178,10 @@
   // All lines since the network was opened, of the steps that are done.
   Page.journal = () => session.steps.slice(0, session.place).flatMap(step => step.lines);
 
-  // The replies to questions, of which the state knows nothing.
+  // The replies to questions, of which the state knows nothing. Raises RunFault.
   Page.ask = questions => {
-    const { base, lines } = present();
-    return Page.run(base, [...lines, ...questions]).slice(lines.length);
+    leaveTried();
+    return withSession(() => questions.map(question => kept.ask(question)));
   };
 
   // Panels are drawn in the order in which they are listed; `build` where the network has other events or activities.
@@ -126,7 +191,7 @@
   const show = view => {
     const before = Page.view;
     Page.view = Object.assign(view, { labels: Page.labels, lastDomains: before ? lastDomains(before) : view.domains });
-    const isBuilt = !before || before.labels !== view.labels || !isSameShape(before.network, view.network);
+    const isBuilt = !before || before.labels !== view.labels || before.network.shape !== view.network.shape;
     if (isBuilt) {
       view.trains = Page.trainsOf(view.network);
       view.lines = Page.linesOf(view.trains);
@@ -146,13 +211,6 @@
     if (!Page.isInfeasible(view)) return view.domains;
     return new Map([...view.domains].map(([event, minutes]) => [event, minutes.length ? minutes : view.lastDomains.get(event) || []]));
   };
-
-  const isSameShape = (one, other) => one.period === other.period && one.events.length === other.events.length
-    && one.activities.size === other.activities.size && one.events.every((event, place) => event === other.events[place])
-    && [...one.activities.values()].every(each => {
-      const same = other.activities.get(each.number);
-      return same && same.first === each.first && same.last === each.last;
-    });
 
   // Does something as if a view were shown, with other names or its own.
   Page.within = (view, act, labels = view.labels) => {

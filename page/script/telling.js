@@ -16,7 +16,7 @@
     + 'the least changes that mend it.';
 
   Page.showWhy = told => {
-    answer = { ...told, ...Page.present() };
+    answer = { ...told, mark: Page.markNow() };
     Page.draw();
     Page.lead(document.querySelector('#reasons .mend'));
   };
@@ -105,8 +105,7 @@
   };
 
   const update = view => {
-    const { base, lines } = Page.present();
-    if (answer && (answer.base !== base || answer.lines.join() !== lines.join())) answer = null;
+    if (answer && answer.mark !== Page.markNow()) answer = null;
     if (Page.tab !== 'why') return;
     Page.find('reasons').replaceChildren(...(answer ? told(view.network) : [element('p', { class: 'quiet' }, NOTHING)]));
   };

@@ -42,7 +42,7 @@
     const labels = texts.labels === undefined ? Page.noLabels() : Page.readLabels(texts.labels);
     const places = texts.places === undefined ? new Map() : Page.readPlaces(texts.places);
     const open = made => Page.open(made, { title, labels, places });
-    if (lines.length <= MOST_AT_ONCE && Page.withOptima(lines).length === lines.length) return open(base);
+    if (lines.length <= MOST_AT_ONCE && !lines.some(Page.isAdopt)) return open(base);
     return Page.play(base).then(played => {
       if (played) open(played);
       return played !== null;

@@ -87,7 +87,7 @@
       : 'A file of labels names the lines and stations; with it a corridor is drawn here.';
     const { drawn, left } = isDrawn ? diagramOf(view, line) : { drawn: '', left: '' };
     Page.setText(Page.find('corridor-note'), isDrawn ? toldOf(view, told, left) : wanted);
-    holder.replaceChildren(drawn);
+    Page.renew(holder, drawn ? [drawn] : []);
   };
 
   Page.panel({ update });

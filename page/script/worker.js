@@ -5,23 +5,42 @@ Page.share(Page => {
   // A search is asked for in rising numbers of nodes, so that it can be stopped with the best that it has found.
   const FIRST_NODES = 2000, MORE = 4;
 
-  const search = ({ base, lines, most }, tell) => {
+  // The session of the network that was asked about last, by its mark. It stays open, so that a next search goes on from what was
+  // found; the Worker is ended with it to stop it.
+  let kept = { mark: null, session: null };
+
+  const sessionOf = ({ mark, base, lines }) => {
+    if (kept.mark === mark) return kept.session;
+    close();
+    kept = { mark, session: Page.openSession(base, [...base.setup, ...lines]) };
+    return kept.session;
+  };
+
+  const close = () => {
+    if (kept.session) kept.session.close();
+    kept = { mark: null, session: null };
+  };
+
+  const search = (asked, tell) => {
+    const session = sessionOf(asked), { most } = asked;
     for (let nodes = Math.min(most, FIRST_NODES); ; nodes = Math.min(most, MORE * nodes)) {
-      const found = Page.readFound(Page.run(base, [...lines, `try ${nodes}`]).pop());
+      const found = Page.readFound(session.ask(`try ${nodes}`));
       const isDone = found.kind === 'optimum' || found.kind === 'infeasible' || nodes === most;
       tell({ found, nodes, isDone });
       if (isDone) return;
     }
   };
 
-  const why = ({ base, lines, kept }, tell) => {
-    const network = Page.readNetwork(Page.run(base, [...lines, 'dump']).pop());
-    tell({ why: Page.findWhy(network, { kept: new Set(kept) }), isDone: true });
+  const why = (asked, tell) => {
+    const network = Page.readNetwork(sessionOf(asked).ask('dump'));
+    tell({ why: Page.findWhy(network, { kept: new Set(asked.members) }), isDone: true });
   };
 
   // What a base makes, as another one that has no lines to play.
   const play = ({ played }, tell) => {
-    const { network, times } = Page.lookFirst(played);
+    close();
+    const { session, network, times } = Page.openFirst(played);
+    session.close();
     tell({ base: Page.baseOf(network, times), isDone: true });
   };
 
@@ -29,10 +48,14 @@ Page.share(Page => {
   const MOST_OF_A_GAIN = 100000;
 
   // The best timetable as the network is, and then with each of some lines alone.
-  const gains = ({ base, lines, questions }, tell) => {
-    const best = more => Page.readFound(Page.run(base, [...lines, ...more, `try ${MOST_OF_A_GAIN}`]).pop());
-    tell({ gain: { found: best([]) } });
-    questions.forEach((question, place) => tell({ gain: { ...question, found: best([question.line]) }, isDone: place === questions.length - 1 }));
+  const gains = (asked, tell) => {
+    const session = sessionOf(asked), best = () => Page.readFound(session.ask(`try ${MOST_OF_A_GAIN}`));
+    tell({ gain: { found: best() } });
+    asked.questions.forEach(({ back, ...question }, place) => {
+      session.ask(question.line);
+      tell({ gain: { ...question, found: best() }, isDone: place === asked.questions.length - 1 });
+      session.ask(back);
+    });
   };
 
   const WORK = { search, why, play, gains };
@@ -42,6 +65,7 @@ Page.share(Page => {
     try {
       WORK[asked.kind](asked, tell);
     } catch (fault) {
+      close();
       tell({ fault: String(fault.message || fault), isDone: true });
     }
   };

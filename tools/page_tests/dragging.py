@@ -171,7 +171,7 @@ def undoing(suite, page):
         {"lines": [*steps[:-1], "weight 1 8"], "redo": True},
         {"lines": page.lines(), "redo": page.ask("Page.find('redo').disabled")},
     )
-    # A step after so many lines begins at a base of its own, which has windows, times and lonely events too.
+    # After hundreds of steps the session is at the state of each of them, with windows, times and lonely events too.
     page.ask("for (const line of ['time 1 0', 'time 9 3', 'window 9 2 3']) Page.step([line])")
     page.ask("for (let count = 0; count < 350; count += 1) Page.step([`fix 2 ${count % 10}`])")
     state = page.state()

@@ -1,5 +1,6 @@
 """Searches in the Worker, and why there is no timetable."""
 
+import json
 import re
 
 from measuring.network import PERIOD, Numbers, activity_rows, text_of
@@ -93,6 +94,35 @@ def stopped(suite, page):
     )
 
 
+def beside_edits(suite, page):
+    """What was found stands while times are moved, goes with an edit of the network, and is back after Undo; a search goes on beside times."""
+    page.show(TWO_TRAINS)
+    page.press("optimum")
+    page.until(DONE)
+    found = page.text("#found")
+    for name, script, wanted in [
+        ("a time", "Page.step(['time 1 5', 'time 2 8'])", [found, True]), ("a weight", "Page.step(['weight 1 5'])", ["", False]),
+        ("a time after it", "Page.step(['time 1 6'])", ["", False]), ("undone", "Page.undo(); Page.undo()", [found, True]),
+        ("a weight in a drag", "Page.preview(['weight 1 7'])", [found, True]), ("left", "Page.refresh()", [found, True]),
+    ]:
+        page.ask(script)
+        suite.note(name, {"told": wanted}, {"told": [page.text("#found"), page.is_shown("adopt")]})
+    page.press("optimum")
+    page.until(DONE)
+    suite.holds("it is told again", page.text("#found").startswith("Optimum: cost 4."))
+    page.show(long_search())
+    page.press("optimum")
+    page.until("!Page.find('stop').hidden")
+    page.ask("Page.step(['time 1 5'])")
+    suite.holds("a time does not end a search", page.is_shown("stop") and page.said() == "time 1 5")
+    page.ask("Page.step(['weight 1 5'])")
+    suite.holds("a weight does", not page.is_shown("stop") and "the search has ended with it" in page.said())
+    page.ask(f"void Page.openTexts({json.dumps({**long_search(), 'lines': 'adopt'})}, 'long')")
+    page.until("!Page.find('stop').hidden")
+    page.ask("Page.step(['time 1 6'])")
+    suite.holds("a time ends an opening", not page.is_shown("stop") and "the opening has ended with it" in page.said())
+
+
 def reasons(suite, page):
     """Why there is no timetable is what the Python package tells, and a mend is done by one click."""
     page.ask("Page.openStory(Page.stories[1])")
@@ -154,4 +184,4 @@ def reasons(suite, page):
     page.ask("Page.showTab('diagram')")
 
 
-GROUPS = [optima, stopped, reasons]
+GROUPS = [optima, stopped, beside_edits, reasons]

@@ -96,18 +96,16 @@ def trapped(suite, page):
     """What was trapped is told, is not used again, and is no longer on the screen."""
     page.again()
     page.ask("""(() => {
-        const { answer } = PespModule, broken = new Set();
-        let count = 0;
-        const { say } = Page;
+        const { ask } = PespModule, broken = new Set(), { say } = Page;
         Object.assign(window, { usedAgain: 0, told: '' });
         Page.say = (text, ...more) => say(window.told += text, ...more);
-        PespModule.answer = (module, run) => {
+        PespModule.ask = (module, session, line) => {
             if (broken.has(module)) window.usedAgain += 1;
-            if (/fix 1 40/.test(run.commands) && (count += 1) === 2) {
+            if (line === 'fix 1 40') {
                 broken.add(module);
                 module.calls.pesp_answer(10, 0xfffffff0n, 100n, 0n, 0n, 0n, 0n, 0n, 0n, 0n, 0n, 0n);
             }
-            return answer(module, run);
+            return ask(module, session, line);
         };
     })()""")
     page.drag([page.minute(1, 20), page.minute(1, 40)])

@@ -1,7 +1,8 @@
 'use strict';
 
 // Answers runs by the page's module, for tools/tests/page_module.py: each line of standard input is a run in JSON, with its bytes in
-// base64, and each line of standard output what came of it. `limit` is the most memory for blocks; 0 is as much as there is.
+// base64, and each line of standard output what came of it. `limit` is the most memory for blocks; 0 is as much as there is. Where
+// `isSession`, a session is asked line by line, and in the end its cost by both of its calls.
 //
 // usage: node module_runs.js MODULE.JS MODULE.WASM
 const { readFileSync } = require('node:fs');
@@ -11,14 +12,44 @@ const PespModule = require(process.argv[2]);
 const bytesOf = text => new Uint8Array(Buffer.from(text, 'base64'));
 const MOST = 2 ** 30;
 
+const linesOf = bytes => {
+  const lines = Buffer.from(bytes).toString('latin1').split('\n');
+  if (!lines[lines.length - 1]) lines.pop();
+  return lines.map(line => new Uint8Array(Buffer.from(line, 'latin1')));
+};
+
+// Whether the cost is told as the line `cost` tells it, where there is memory for that.
+const isSameCost = (module, session) => {
+  const { cost, fault } = PespModule.cost(module, session), { output, ending } = PespModule.ask(module, session, 'cost');
+  return ending.status > 0 || Buffer.from(output).toString() === `${fault || `cost ${cost}`}\n`;
+};
+
+// What a session answers up to the first line that it does not.
+const answerByLines = (module, { commands, ...files }) => {
+  const { session, ending, fault } = PespModule.open(module, files), replies = [], ended = { ending, fault };
+  if (!session) return { output: Buffer.alloc(0), ...ended };
+  try {
+    for (const [place, line] of linesOf(commands).entries()) {
+      const came = PespModule.ask(module, session, line);
+      if (came.fault) Object.assign(ended, { ending: came.ending, fault: PespModule.faultOf({ ...came.ending, place: place + 1 }) });
+      if (came.fault) break;
+      replies.push(Buffer.from(came.output));
+    }
+    if (!isSameCost(module, session)) ended.fault = 'the cost is told otherwise';
+    return { output: Buffer.concat(replies), ...ended };
+  } finally {
+    PespModule.close(module, session);
+  }
+};
+
 (async () => {
   const module = await PespModule.start(readFileSync(process.argv[3]));
   for await (const line of createInterface({ input: process.stdin })) {
-    const { period, limit, room, ...texts } = JSON.parse(line);
+    const { period, limit, room, isSession, ...texts } = JSON.parse(line);
     const files = Object.fromEntries(Object.entries(texts).map(([name, text]) => [name, bytesOf(text)]));
     PespModule.limit(module, limit ? Number(module.calls.__heap_base.value) + limit : MOST);
     if (room) module.room = room;
-    const { output, ending, fault } = PespModule.answer(module, { period, ...files });
+    const { output, ending, fault } = isSession ? answerByLines(module, { period, ...files }) : PespModule.answer(module, { period, ...files });
     const used = [module.calls.pesp_in_use(), module.calls.pesp_most_in_use()].map(Number);
     console.log(JSON.stringify({ output: Buffer.from(output).toString('base64'), ending, fault, used }));
   }

@@ -100,9 +100,10 @@ class Node:
         words = ["node", TOP / "tools/tests/module_runs.js", TOP / "page/module.js", path]
         self.process = subprocess.Popen(words, stdin=subprocess.PIPE, stdout=subprocess.PIPE, text=True)
 
-    def answer(self, asked, limit=0, room=0):
+    def answer(self, asked, limit=0, room=0, is_session=False):
         texts = {name: base64.b64encode(value).decode() for name, value in asked._asdict().items() if name != "period"}
-        print(json.dumps({"period": asked.period, "limit": limit, "room": room, **texts}), file=self.process.stdin, flush=True)
+        how = {"limit": limit, "room": room, "isSession": is_session}
+        print(json.dumps({"period": asked.period, **how, **texts}), file=self.process.stdin, flush=True)
         came = json.loads(self.process.stdout.readline())
         return {**came, "replies": base64.b64decode(came["output"])}
 
@@ -122,16 +123,18 @@ BITS = 12, 21
 
 
 def same_bytes(suite, node):
-    """Drawn runs have the program's replies, and nothing is left after a run."""
+    """Drawn runs have the program's replies, as whole runs and by sessions, and nothing is left after either."""
     draw, lines = random.Random(4_100), 0
     for number in itertools.count():
         if lines >= LINES:
             break
         asked = drawn_run(draw)
-        came = node.answer(asked, room=draw.choice([0, 1, 100, 1 << 20]))
+        told, room = told_by(suite, asked), draw.choice([0, 1, 100, 1 << 20])
         lines += len(asked.commands.splitlines())
-        came["in use"] = came["used"][0]
-        suite.note(f"drawn run {number}, {asked}", {**told_by(suite, asked), "in use": 0}, came)
+        for is_session in (False, True):
+            came = node.answer(asked, room=room, is_session=is_session)
+            came["in use"] = came["used"][0]
+            suite.note(f"drawn run {number}, {'by a session' if is_session else 'whole'}, {asked}", {**told, "in use": 0}, came)
 
 
 def is_short(whole, came):
@@ -146,8 +149,8 @@ def little_memory(suite, node):
     for number in range(SHORT_RUNS):
         asked = drawn_run(draw)
         whole = told_by(suite, asked)
-        for limit in (int(2 ** draw.uniform(*BITS)) for _ in range(TIMES)):
-            came = node.answer(asked, limit=limit, room=1 << 12)
+        for turn, limit in enumerate(int(2 ** draw.uniform(*BITS)) for _ in range(TIMES)):
+            came = node.answer(asked, limit=limit, room=1 << 12, is_session=turn % 2 > 0)
             is_same = {name: came[name] for name in whole} == whole
             wanted_some += not is_same
             name = f"run {number} within {limit} bytes, {asked}: {came['fault']}"
@@ -162,9 +165,13 @@ def endings(suite, node):
     for period in [0, 1, 1_441, 65_536, -3, 2.5, 1_450]:
         came = node.answer(empty._replace(period=period, commands=b"cost\n"))
         suite.note(f"period {period}", {"replies": b"", "fault": "the period is not 2 to 1440"}, came)
+        came = node.answer(empty._replace(period=period), is_session=True)
+        suite.note(f"a session of period {period}", {"replies": b"", "fault": "the period is not 2 to 1440", "used": [0, came["used"][1]]}, came)
     long = b"fix 1 0\n" + b"x" * 4_097
     came = node.answer(Asked(10, TWO, b"", b"", long))
     suite.note("a long line", {"replies": b"ok\n", "fault": "line 2 is longer than 4096 bytes"}, came)
+    came = node.answer(Asked(10, TWO, b"", b"", long), is_session=True)
+    suite.note("a long line in a session", {"replies": b"ok\n", "fault": "line 2 is longer than 4096 bytes"}, came)
     many = b"#\n" * 1_000_001
     suite.note("many lines", {"fault": "more than 1000000 lines"}, node.answer(empty._replace(commands=many)))
     all_domains = b"fix 1 0\n" + b"domains\n" * 20_000

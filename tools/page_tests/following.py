@@ -1,0 +1,98 @@
+"""The session that the page keeps: after steps, steps of a drag, undo and redo it is at the state that a whole run tells, and no fault loses one."""
+
+import json
+
+from page_tests.hands import TWO_TRAINS
+from tests.harness import within
+
+FILES = {**TWO_TRAINS, "events": "7\n8\n", "windows": "1; 8; 4\n8; 2; 1\n", "times": "1; 0\n2; 3\n7; 5\n8; 2\n"}
+ACTIONS = 400
+# Draws what is done next, and compares what is shown with what a run over all lines tells; the first difference is given.
+DRAWN = """(() => {
+    let seed = SEED, refused = 0, count = 0;
+    const below = most => (seed = (seed * 48271) % 2147483647) % most, one = (...of) => of[below(of.length)];
+    const event = () => one(1, 2, 3, 7, 8), activity = () => one(1, 2, 3, 4);
+    const KINDS = [
+        () => `fix ${event()} ${below(11)}`, () => `window ${event()} ${below(10)} ${1 + below(10)}`, () => `unfix ${event()}`,
+        () => `time ${event()} ${below(10)}`, () => `time  ${event()}\\t+0${below(10)}`, () => `untime ${event()}`,
+        () => `span ${activity()} ${below(4)} ${3 + below(8)}`, () => `weight ${activity()} ${below(9)}`,
+        () => `ends ${activity()} ${event()} ${event()}`, () => `add event ${event()}`, () => `drop event ${event()}`,
+        () => `add activity ${activity()} ${event()} ${event()} ${below(4)} ${3 + below(8)} ${below(3)}`, () => `drop activity ${activity()}`,
+    ];
+    const drawn = () => [...Array(below(4))].map(() => KINDS[below(KINDS.length)]());
+    const told = view => JSON.stringify([view.network.period, view.network.events, [...view.network.windows], [...view.network.activities.values()], [...view.domains],
+        view.tensions && [...view.tensions], view.violations && [...view.violations.activities], view.violations && [...view.violations.events], String(view.cost), view.missing]);
+    const whole = more => {
+        const { base, lines } = Page.present(), all = [...lines, ...more];
+        const [dump, domains, tensions, violations, cost] = Page.run(base, [...all, 'dump', 'domains', 'tensions', 'violations', 'cost']).slice(all.length);
+        return told({ network: Page.readNetwork(dump), domains: Page.readDomains(domains), tensions: Page.readTensions(tensions), violations: Page.readViolations(violations),
+            cost: Page.readCost(cost), missing: Page.isRefused(cost) ? cost[0].replace('refused 11 ', '') : '' });
+    };
+    let shown = [];
+    const tried = lines => {
+        const before = Page.view;
+        Page.preview(lines);
+        if (Page.view === before) refused += 1;
+        else shown = lines;
+    };
+    const ACTS = {
+        tries: () => tried(drawn()), triesOn: () => tried(shown.length ? shown : drawn()),
+        does: () => { refused += !Page.step(drawn()); }, doesTried: () => Page.step(shown),
+        undoes: () => Page.undo(), redoes: () => Page.redo(), goes: () => Page.goTo(below(Page.session.steps.length + 1)), leaves: () => Page.refresh(),
+    };
+    for (count = 0; count < ACTIONS; count += 1) {
+        const name = one(...Object.keys(ACTS)), before = shown, { place, steps } = Page.session;
+        ACTS[name]();
+        const isNone = (name === 'undoes' && !place) || (name === 'redoes' && place === steps.length);
+        if (!name.startsWith('tries') && !isNone) shown = [];
+        const came = told(Page.view), wanted = whole(shown);
+        if (came !== wanted) return { name, count, before, shown, lines: Page.journal(), came, wanted };
+    }
+    return { refused };
+})()"""
+
+
+@within(120)
+def drawn_steps(suite, page):
+    """Whatever is done, what is shown is what a whole run over all lines tells, which is told the network too."""
+    page.again()
+    for seed in (11, 12, 13):
+        page.show(FILES)
+        came = page.ask(DRAWN.replace("SEED", str(seed)).replace("ACTIONS", str(ACTIONS)))
+        suite.holds(f"seed {seed}: {json.dumps(came)}", set(came) == {"refused"} and 20 < came["refused"] < ACTIONS / 2)
+
+
+# The next calls of a session want memory, or are trapped.
+FAILING = """(() => {
+    const { ask } = PespModule;
+    window.left = COUNT;
+    PespModule.ask = (module, session, line) => {
+        if (!/LINE/.test(line) || (window.left -= 1) < 0) return ask(module, session, line);
+        if (IS_TRAP) module.calls.pesp_answer(10, 0xfffffff0n, 100n, 0n, 0n, 0n, 0n, 0n, 0n, 0n, 0n, 0n);
+        return { output: new Uint8Array(0), ending: { status: 6, place: 0, reason: 0, field: 0 }, fault: 'out of memory at line 1' };
+    };
+})()"""
+
+
+def failing(suite, page):
+    """A session that fails is opened anew at the state shown, whatever it failed at; where memory was wanted, the step is done then."""
+    for name, line, is_trap, count, wanted in [
+        ("memory for a line", "fix 2 5", "false", 1, ["fix 1 2", "fix 2 5"]), ("memory for a question", "violations", "false", 1, ["fix 1 2", "fix 2 5"]),
+        ("memory again and again", "fix 2 5", "false", 2, ["fix 1 2"]), ("a trap at a line", "fix 2 5", "true", 1, ["fix 1 2"]),
+        ("a trap at a question", "domains", "true", 1, ["fix 1 2"]),
+    ]:
+        page.again()
+        page.show(FILES)
+        page.ask("Page.step(['fix 1 2']); Page.step(['time 2 5']); Page.undo()")
+        before = page.state()
+        page.ask(FAILING.replace("LINE", line).replace("IS_TRAP", is_trap).replace("COUNT", str(count)))
+        page.ask("Page.preview(['time 1 4'])")
+        is_done = page.ask("Page.step(['fix 2 5'])")
+        came = {"done": is_done, "lines": page.lines(), "same": page.state() == before, "told": "memory" in page.said() or "trapped" in page.said()}
+        isnt = len(wanted) == 1
+        suite.note(name, {"done": not isnt, "lines": wanted, "same": isnt, "told": isnt}, came)
+        page.ask("window.left = 0; Page.step(['time 8 9']); Page.undo(); if (Page.session.place === 2) Page.undo(); Page.undo(); Page.redo()")
+        suite.holds(f"{name}: nothing is lost", page.state() == before)
+
+
+GROUPS = [drawn_steps, failing]
