@@ -1,27 +1,62 @@
--- First maps for sums that are the same.
-use Rattle.std.proofs.Common.{ℕ, IfOk, Result, Ok, Err}
+-- First maps of sums of which only those below a cap are kept.
+use Rattle.std.proofs.Common.{◌≡◌, ℕ, ◌+◌, IfOk, List, Result, Ok, Err, inl, inr, sym, subst, arith}
+use Rattle.std.proofs.lemmas.Bool.{cases_lt}
 use Rattle.pesp_search_least.specs.declared.outcome.Candidate.{Candidate}
 use Rattle.pesp_search_least.specs.declared.outcome.First.{First}
 use Rattle.pesp_search_least.specs.declared.outcome.First.TheVariants.{Done, Spent}
 use Rattle.pesp_search_least.specs.Order.{IsFirst, IsFirstOutcome}
-use Rattle.pesp_search_least.specs.Sums.{IsLeast, IsWithin, Sums}
+use Rattle.pesp_search_least.specs.Sums.{InSome, IsCut, IsLeast, Sums}
+use Rattle.pesp_search_network.specs.Arcs.{Arcs, IsCosted, IsMet}
+use Rattle.pesp_search_cycles.specs.declared.boxes.Boxes.{Boxes}
+use Rattle.pesp_search_cycles.specs.declared.range.Range.{Range}
+use Rattle.pesp_search_cycles.specs.Maps.{IsAmong, IsLeft, IsSummed, Net}
+use Rattle.pesp_search_cycles.specs.Ranges.{AreIn}
 
-pub least_same : (s t : Sums) (candidate : Candidate) → IsWithin s t → IsWithin t s → IsLeast s candidate → IsLeast t candidate
-least_same s t candidate there back l = record {
-  has = there candidate.map.items candidate.cost l.has;
-  least = λ map sum h. l.least map sum (back map sum h);
+module _ (all few : Sums) (cost : ℕ) (cut : IsCut (cost + 1) all few) where
+  pub least_of_few : (candidate : Candidate) → candidate.cost ≡ cost → IsLeast all candidate → IsLeast few candidate
+  least_of_few candidate e l = record {
+    has = cut.keeps candidate.map.items candidate.cost (omega (arith, e)) l.has;
+    least = λ map sum h. l.least map sum (cut.within map sum h);
+  }
+
+  -- what costs as much as a map of least cost is one
+  least_of_all : (least candidate : Candidate) → IsLeast all least → least.cost ≡ cost → candidate.cost ≡ cost → IsLeast few candidate → IsLeast all candidate
+  least_of_all least candidate l e f h = record {
+    has = cut.within candidate.map.items candidate.cost h.has;
+    least = λ map sum has. omega (arith, l.least map sum has, e, f);
+  }
+
+  first_of_all : (least candidate : Candidate) → IsLeast all least → least.cost ≡ cost → candidate.cost ≡ cost → IsFirst few candidate → IsFirst all candidate
+  first_of_all least candidate l e f h = record {
+    least = least_of_all least candidate l e f h.least;
+    first = λ map sum has before.
+        elim (cases_lt sum (cost + 1)) [
+          | inl low ↦ h.first map sum (cut.keeps map sum low has) before
+          | inr high ↦ omega (arith, high, f)
+        ];
+  }
+
+  outcome_of_all : (least : Candidate) (first : First) → IsLeast all least → least.cost ≡ cost → IsFirstOutcome (IsFirst few) few cost first → IsFirstOutcome (IsFirst all) all cost first
+  outcome_of_all least (Done candidate) l e h = (first_of_all least candidate l e h.1 h.0, h.1)
+  outcome_of_all least (Spent candidate) l e h = (least_of_all least candidate l e h.1 h.0, h.1)
+
+  pub first_along : {E : Type 0} (least : Candidate) (result : Result First E) → IsLeast all least → least.cost ≡ cost → IfOk result (IsFirstOutcome (IsFirst few) few cost) → IfOk result (IsFirstOutcome (IsFirst all) all cost)
+  first_along least (Ok first) l e h = outcome_of_all least first l e h
+  first_along least (Err error) l e h = tt
+
+-- where the ranges have the residues of all maps, the maps of the leaves are those below the cap
+pub left_cut : (A : Arcs) (N : Net) (R : List Range) (leaves : List Boxes) (cap : ℕ) → N.network ≡ A → ((xs : List ℕ) → IsMet A xs → AreIn R xs) → IsCut cap (IsAmong A R) (InSome (IsSummed N) leaves) → IsCut cap (IsCosted A) (IsLeft N R leaves)
+left_cut A N R leaves cap e all cut = record {
+  keeps = λ xs cost less s. let r = all xs s.met in (cut.keeps xs cost less (record { costed = s; inside = r }), r);
+  within = λ xs cost s. (cut.within xs cost s.0).costed;
 }
 
-first_same : (s t : Sums) (candidate : Candidate) → IsWithin s t → IsWithin t s → IsFirst s candidate → IsFirst t candidate
-first_same s t candidate there back f = record {
-  least = least_same s t candidate there back f.least;
-  first = λ map sum h. f.first map sum (back map sum h);
-}
-
-outcome_same : (s t : Sums) (cost : ℕ) (first : First) → IsWithin s t → IsWithin t s → IsFirstOutcome (IsFirst s) s cost first → IsFirstOutcome (IsFirst t) t cost first
-outcome_same s t cost (Done candidate) there back h = (first_same s t candidate there back h.0, h.1)
-outcome_same s t cost (Spent candidate) there back h = (least_same s t candidate there back h.0, h.1)
-
-pub first_along : {E : Type 0} (s t : Sums) (cost : ℕ) (result : Result First E) → IsWithin s t → IsWithin t s → IfOk result (IsFirstOutcome (IsFirst s) s cost) → IfOk result (IsFirstOutcome (IsFirst t) t cost)
-first_along s t cost (Ok first) there back h = outcome_same s t cost first there back h
-first_along s t cost (Err e) there back h = tt
+-- the same of a region that was made of them
+pub region_cut : (A : Arcs) (V N : Net) (R S Q : List Range) (leaves kept : List Boxes) (cap : ℕ) → V.network ≡ A → N ≡ V → S ≡ R → Q ≡ R → kept ≡ leaves → ((xs : List ℕ) → IsMet A xs → AreIn R xs) → IsCut cap (IsAmong V.network S) (InSome (IsSummed V) leaves) → IsCut cap (IsCosted A) (IsLeft N Q kept)
+region_cut A V N R S Q leaves kept cap network cycles deref residues boxes all cut =
+    let here : IsCut cap (IsAmong A R) (InSome (IsSummed V) leaves) =
+    subst (λ (B : Arcs). IsCut cap (IsAmong B R) (InSome (IsSummed V) leaves)) network (subst (λ (T : List Range). IsCut cap (IsAmong V.network T) (InSome (IsSummed V) leaves)) deref cut) in
+    let there : IsCut cap (IsCosted A) (IsLeft V R leaves) = left_cut A V R leaves cap network all here in
+    subst (λ (M : Net). IsCut cap (IsCosted A) (IsLeft M Q kept)) (sym cycles)
+    (subst (λ (T : List Range). IsCut cap (IsCosted A) (IsLeft V T kept)) (sym residues)
+    (subst (λ (ls : List Boxes). IsCut cap (IsCosted A) (IsLeft V R ls)) (sym boxes) there))

@@ -1,7 +1,10 @@
+pub mod Asked
+pub mod Covered
 pub mod Firsts
 pub mod Flipped
 pub mod Floors
 pub mod Halved
+pub mod Narrowed
 pub mod Numbered
 pub mod Numbers
 pub mod Outcomes

@@ -20,10 +20,14 @@ costed_among A R all xs cost s = record { costed = s; inside = all xs s.met }
 pub within_on : (r s t : Sums) → IsWithin r s → IsWithin s t → IsWithin r t
 within_on r s t f g xs cost h = g xs cost (f xs cost h)
 
-put_has : (ranges : List Range) (n : ℕ) (z : ℕ → ℤ) (k : ℕ) (q : Range) → k < length ranges → k < n → AllIn (set ranges k q) n z → IsIn q (z k)
+pub put_has : (ranges : List Range) (n : ℕ) (z : ℕ → ℤ) (k : ℕ) (q : Range) → k < length ranges → k < n → AllIn (set ranges k q) n z → IsIn q (z k)
 put_has ranges n z k q h m a = subst (λ r. IsIn r (z k)) (get_or-set_same ranges k q no_range h) (a.each k m)
 
-module _ (A : Arcs) (R S : List Range) (event residue : ℕ) (q : Range) (h : event < length R) (e : S ≡ set R event q) where
+-- the sums of those maps whose residues are in these ranges
+abbrev pub Among : Sums → List Range → Sums
+Among sums R xs cost = sums xs cost × AreIn R xs
+
+module _ (sums : Sums) (R S : List Range) (event residue : ℕ) (q : Range) (h : event < length R) (e : S ≡ set R event q) where
   n_of : (xs : List ℕ) → AreIn R xs → event < length xs
   n_of xs a = omega (arith, a.long, h)
 
@@ -37,18 +41,18 @@ module _ (A : Arcs) (R S : List Range) (event residue : ℕ) (q : Range) (h : ev
   has xs a b = put_has R (length xs) (λ k. pos (get_or xs k 0)) event q h (n_of xs b) (subst (λ (l : List Range). AreIn l xs) e a)
 
   -- the event is held at the residue
-  pub held : ((x : ℕ) → IsIn q (pos x) ↔ (IsIn (get_or R event no_range) (pos x) × (x ≡ residue))) → IsHeld event residue (IsAmong A R) (IsAmong A S)
+  pub held : ((x : ℕ) → IsIn q (pos x) ↔ (IsIn (get_or R event no_range) (pos x) × (x ≡ residue))) → IsHeld event residue (Among sums R) (Among sums S)
   held f = record {
-    keeps = λ xs cost s is. record { costed = s.costed; inside = narrowed xs s.inside ((f (get_or xs event 0)).1 (s.inside.each event (n_of xs s.inside), is)) };
-    within = λ xs cost s. record { costed = s.costed; inside = widened xs s.inside (λ i. ((f (get_or xs event 0)).0 i).0) };
-    held = λ xs cost s. ((f (get_or xs event 0)).0 (has xs s.inside (widened xs s.inside (λ i. ((f (get_or xs event 0)).0 i).0)))).1;
+    keeps = λ xs cost s is. (s.0, narrowed xs s.1 ((f (get_or xs event 0)).1 (s.1.each event (n_of xs s.1), is)));
+    within = λ xs cost s. (s.0, widened xs s.1 (λ i. ((f (get_or xs event 0)).0 i).0));
+    held = λ xs cost s. ((f (get_or xs event 0)).0 (has xs s.1 (widened xs s.1 (λ i. ((f (get_or xs event 0)).0 i).0)))).1;
   }
 
   -- the maps with a lesser residue at the event
-  pub below_within : ((x : ℕ) → IsIn q (pos x) ↔ (IsIn (get_or R event no_range) (pos x) × (x < residue))) → IsWithin (IsAmong A S) (BelowResidue (IsAmong A R) event residue)
+  pub below_within : ((x : ℕ) → IsIn q (pos x) ↔ (IsIn (get_or R event no_range) (pos x) × (x < residue))) → IsWithin (Among sums S) (BelowResidue (Among sums R) event residue)
   below_within f xs cost s =
-      let wide = widened xs s.inside (λ i. ((f (get_or xs event 0)).0 i).0) in
-      (record { costed = s.costed; inside = wide }, ((f (get_or xs event 0)).0 (has xs s.inside wide)).1)
+      let wide = widened xs s.1 (λ i. ((f (get_or xs event 0)).0 i).0) in
+      ((s.0, wide), ((f (get_or xs event 0)).0 (has xs s.1 wide)).1)
 
-  pub below_all : ((x : ℕ) → IsIn q (pos x) ↔ (IsIn (get_or R event no_range) (pos x) × (x < residue))) → IsWithin (BelowResidue (IsAmong A R) event residue) (IsAmong A S)
-  below_all f xs cost s = record { costed = s.0.costed; inside = narrowed xs s.0.inside ((f (get_or xs event 0)).1 (s.0.inside.each event (n_of xs s.0.inside), s.1)) }
+  pub below_all : ((x : ℕ) → IsIn q (pos x) ↔ (IsIn (get_or R event no_range) (pos x) × (x < residue))) → IsWithin (BelowResidue (Among sums R) event residue) (Among sums S)
+  below_all f xs cost s = (s.0.0, narrowed xs s.0.1 ((f (get_or xs event 0)).1 (s.0.1.each event (n_of xs s.0.1), s.1)))

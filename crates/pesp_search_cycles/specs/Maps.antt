@@ -2,6 +2,7 @@
 use Rattle.std.specs.Prelude.{◌≡◌, ℕ, ◌+◌, ◌++◌, IsTrue, List, All, length, map, slice_index}
 use Rattle.pesp_base.specs.Tensions.{slack_of}
 use Rattle.pesp_search_graph.specs.declared.arc.Arc.{Arc}
+use Rattle.pesp_search_least.specs.Sums.{InSome}
 use Rattle.pesp_search_network.specs.Arcs.{AreArcs, Arcs, IsCosted, IsMet}
 use Rattle.pesp_search_cycles.specs.declared.boxes.Boxes.{Boxes}
 use Rattle.pesp_search_cycles.specs.declared.flip.FlipCut.{FlipCut}
@@ -52,6 +53,14 @@ pub record IsSummed (N : Net) (B : Boxes) (xs : List ℕ) (cost : ℕ) : Type 0 
 pub record IsAmong (A : Arcs) (residues : List Range) (xs : List ℕ) (cost : ℕ) : Type 0 where
   pub costed : IsCosted A xs cost
   pub inside : AreIn residues xs
+
+-- the cost of a map that meets everything, is in the boxes, and has its residues in these ranges
+abbrev pub IsHere : Net → List Range → Boxes → List ℕ → ℕ → Type 0
+IsHere N residues B xs cost = IsSummed N B xs cost × AreIn residues xs
+
+-- the cost of a map that meets everything, is in one of these boxes, and has its residues in these ranges
+abbrev pub IsLeft : Net → List Range → List Boxes → List ℕ → ℕ → Type 0
+IsLeft N residues leaves xs cost = InSome (IsSummed N) leaves xs cost × AreIn residues xs
 
 -- there is a range for each number
 pub record AreBoxes (N : Net) (B : Boxes) : Type 0 where

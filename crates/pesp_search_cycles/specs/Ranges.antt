@@ -1,5 +1,5 @@
 -- Ranges of whole numbers.
-use Rattle.std.specs.Prelude.{◌≡◌, ℕ, ℤ, pos, negsuc, ◌-ℤ◌, ◌*ℤ◌, ◌⊎◌, ◌<◌, ◌≤ℤ◌, int_le, List, length, slice_index, slice_index_or, if◌then◌else◌}
+use Rattle.std.specs.Prelude.{◌≡◌, ℕ, ℤ, pos, negsuc, ◌-ℤ◌, ◌*ℤ◌, ◌⊎◌, ◌↔◌, ◌<◌, ◌≤ℤ◌, int_le, List, length, slice_index, slice_index_or, if◌then◌else◌}
 use Rattle.pesp_search_cycles.specs.declared.range.Halves.{Halves}
 use Rattle.pesp_search_cycles.specs.declared.range.Range.{Range}
 
@@ -16,6 +16,15 @@ no_range = record { low = pos 0; high = pos 0 }
 pub record AllIn (ranges : List Range) (count : ℕ) (number : ℕ → ℤ) : Type 0 where
   pub long : length ranges ≡ count
   pub each : (k : ℕ) → k < count → IsIn (slice_index_or ranges k no_range) (number k)
+
+-- each range has its number, and there may be more numbers
+abbrev pub AreInFront : List Range → (ℕ → ℤ) → Type 0
+AreInFront ranges number = (k : ℕ) → k < length ranges → IsIn (slice_index_or ranges k no_range) (number k)
+
+-- the ranges in front have only the numbers that others have, too
+pub record AreNarrowed (old others new : List Range) : Type 0 where
+  pub long : length new ≡ length old
+  pub both : (n : ℕ) (z : ℕ → ℤ) → AllIn new n z ↔ (AllIn old n z × AreInFront others z)
 
 -- each range has the number at its place, and there are as many
 abbrev pub AreIn : List Range → List ℕ → Type 0

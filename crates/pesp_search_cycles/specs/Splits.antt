@@ -6,7 +6,7 @@ use Rattle.pesp_search_cycles.specs.declared.boxes.Place.TheVariants.{Number, Ro
 use Rattle.pesp_search_cycles.specs.declared.range.Halves.{Halves}
 use Rattle.pesp_search_cycles.specs.declared.range.Range.{Range}
 use Rattle.pesp_search_cycles.specs.Maps.{Net}
-use Rattle.pesp_search_cycles.specs.Ranges.{IsHalved, no_range, width}
+use Rattle.pesp_search_cycles.specs.Ranges.{AreNarrowed, IsHalved, no_range, width}
 
 -- the same ranges
 pub record AreSame (old new : Boxes) : Type 0 where
@@ -22,6 +22,11 @@ HasPlace B (Round k) = k < length B.rounds.items
 abbrev pub IsPut : Boxes → Place → Range → Boxes → Type 0
 IsPut old (Number k) range new = (new.numbers.items ≡ slice_set old.numbers.items k range) × (new.rounds.items ≡ old.rounds.items)
 IsPut old (Round k) range new = (new.numbers.items ≡ old.numbers.items) × (new.rounds.items ≡ slice_set old.rounds.items k range)
+
+-- the ranges have only the numbers that those of others have, which may be fewer
+pub record IsNarrowed (old others new : Boxes) : Type 0 where
+  pub numbers : AreNarrowed old.numbers.items others.numbers.items new.numbers.items
+  pub rounds : AreNarrowed old.rounds.items others.rounds.items new.rounds.items
 
 -- what each split lessens
 abbrev pub size : Boxes → ℕ

@@ -1,7 +1,8 @@
 //! Ranges of a network's numbers, and of the times of walks.
 
-ghost use Rattle.std.specs.Prelude.{IfOk};
-ghost use Rattle.pesp_search_cycles.specs.Splits.{AreSame, HasPlace, IsPut};
+ghost use Rattle.std.specs.Prelude.{◌≤◌, IfOk, length};
+ghost use Rattle.pesp_search_cycles.specs.Ranges.{AreNarrowed};
+ghost use Rattle.pesp_search_cycles.specs.Splits.{AreSame, HasPlace, IsNarrowed, IsPut};
 
 use crate::Range;
 use pesp_base::Memory;
@@ -22,7 +23,27 @@ pub(crate) enum Place {
     Round(usize),
 }
 
+/// Narrows the ranges in front to those of others.
+fn narrow(ranges: &mut [Range], others: &[Range])
+    requires { length others.now ≤ length ranges.old }
+    ensures { AreNarrowed ranges.old others.now ranges.new }
+{
+    for index in 0..others.len() {
+        ranges[index] = ranges[index].both(others[index]);
+    }
+}
+
 impl Boxes {
+    /// Narrows the ranges in front to those of other boxes.
+    pub(crate) fn narrow(&mut self, others: &Boxes)
+        requires numbers { length others.now.numbers.items ≤ length self.old.numbers.items }
+        requires rounds { length others.now.rounds.items ≤ length self.old.rounds.items }
+        ensures { IsNarrowed self.old others.now self.new }
+    {
+        narrow(&mut self.numbers, &others.numbers);
+        narrow(&mut self.rounds, &others.rounds);
+    }
+
     /// The same ranges once more.
     fn copy(&self) -> Result<Boxes, Memory>
         ensures { IfOk result (AreSame self.now) }

@@ -9,7 +9,7 @@ ghost use Rattle.pesp_search_cycles.specs.Ranges.{AreIn};
 use crate::flip::{Flip, FlipCut, flip_cut};
 use crate::graph::{Graph, units_of};
 use crate::node::Node;
-use crate::phase::Seeking;
+use crate::phase::{Seeking, spent_of};
 use crate::proposer::Proposer;
 use crate::root::root;
 use crate::separate::separate;
@@ -271,14 +271,6 @@ fn flips_of(alloc: Global, site: &Site, budget: &mut Budget) -> Result<Vec<Flip>
         stage = round(alloc, site, stage, &candidates, budget)?;
     }
     Ok(stage.flips)
-}
-
-/// What was spent of what was left.
-pub(crate) fn spent_of(before: Option<u64>, after: Option<u64>) -> u64 {
-    match (before, after) {
-        (Some(before), Some(after)) => before.saturating_sub(after),
-        _ => 0,
-    }
 }
 
 /// Flip cuts of a network whose events have their residues in these ranges, at all maps that it has, where maps below the cap

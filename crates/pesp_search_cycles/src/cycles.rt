@@ -1,8 +1,8 @@
 //! Networks with walks in them.
 
-ghost use Rattle.std.specs.Prelude.{◌≡◌, All, IfOk, IsTrue};
+ghost use Rattle.std.specs.Prelude.{◌≡◌, ◌++◌, All, List, IfOk, IsTrue};
 ghost use Rattle.pesp_search_cycles.specs.Maps.{AreCycles, Holds};
-ghost use Rattle.pesp_search_cycles.specs.Walks.{joins};
+ghost use Rattle.pesp_search_cycles.specs.Walks.{Path, joins};
 
 use crate::Walk;
 use crate::flip::FlipCut;
@@ -67,6 +67,30 @@ impl<'a> Cycles<'a> {
         ensures { IfOk result (λ cycles. cycles.network ≡ network.now) }
     {
         Cycles::new(alloc, network, copied(alloc, walks)?, &[])
+    }
+
+    /// The same with those of more walks that lead from their first event to their last.
+    pub(crate) fn with(&self, alloc: Global, more: &[Walk]) -> Result<Cycles<'a>, Memory>
+        ensures network { IfOk result (λ cycles. cycles.network ≡ self.now.network) }
+        ensures walks { IfOk result (λ cycles. (others : List Path)
+            × (cycles.walks ≡ self.now.walks ++ others)) }
+    {
+        let network = self.network;
+        let mut walks = copied(alloc, &self.walks)?;
+        for index in 0..more.len() {
+            let walk = more[index].copy()?;
+            if !walk.joins(network.events(), network.arcs()) {
+                continue;
+            }
+            if walks.push(walk).is_err() {
+                return Err(Memory);
+            }
+        }
+        Ok(Cycles {
+            network,
+            walks,
+            cuts: self.cuts,
+        })
     }
 
     /// What holds of all of these.

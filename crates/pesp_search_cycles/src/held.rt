@@ -1,108 +1,97 @@
-//! The first map of least cost: event by event it is asked for a lesser residue, and held.
+//! The maps of least cost whose events are held at residues, and questions for lesser ones.
 
-ghost use Rattle.std.specs.Prelude.{◌≡◌, ℕ, ◌+◌, ◌<◌, ◌^◌, All, List, IfOk, length, slice_set};
-ghost use Rattle.pesp_search_least.specs.Order.{BelowResidue, EndsUnlessSpent, IsFirst, IsFirstOutcome, IsHeld};
+ghost use Rattle.std.specs.Prelude.{◌≡◌, ◌+◌, ◌++◌, ◌<◌, ◌^◌, All, List, IfOk, length, slice_set};
 ghost use Rattle.pesp_search_least.specs.Spending.{OnlySpends};
-ghost use Rattle.pesp_search_least.specs.Sums.{IsLeast, IsLowerBound, IsOutcome, StopsWhereSpent};
-ghost use Rattle.pesp_search_network.specs.Arcs.{IsCosted, IsMet};
-ghost use Rattle.pesp_search_cycles.specs.Maps.{Holds, IsAmong};
-ghost use Rattle.pesp_search_cycles.specs.Ranges.{AreIn};
+ghost use Rattle.pesp_search_least.specs.Sums.{IsLowerBound, IsOutcome, StopsWhereSpent};
+ghost use Rattle.pesp_search_cycles.specs.Maps.{AreBoxes, IsHere};
+ghost use Rattle.pesp_search_cycles.specs.Walks.{Path};
 
-use crate::cuts::{cuts_among, spent_of};
-use crate::flip::FlipCut;
+use crate::boxes::Boxes;
 use crate::graph::{Graph, units_of};
-use crate::method::{basis_within, walks_of};
+use crate::leaves::Leaves;
 use crate::node::Node;
-use crate::phase::{Phase, Seeking, phases_of};
 use crate::proposer::Proposer;
-use crate::residues::residue_ranges;
 use crate::walk::copied;
 use crate::{Cycles, Range, Walk};
 use pesp_base::Memory;
-use pesp_search_least::{
-    Budget, Candidate, First, Limits, Outcome, Region, first as first_of, least,
-};
-use pesp_search_network::Network;
+use pesp_search_least::{Budget, Limits, Outcome, Region, least};
 use std::alloc::Global;
 
-/// The maps of a network whose events have their residues in ranges: some are held at one.
+/// The maps of leaves whose events have their residues in ranges: some are held at one.
 #[derive(Drop)]
-struct Held<'a> {
-    // The whole one: the ranges admit some of its maps.
-    network: &'a Network,
+pub(crate) struct Held<'a> {
+    // Of the whole network.
+    cycles: &'a Cycles<'a>,
     // One for each event.
     residues: Vec<Range>,
-    // Those of a basis, and those to events that are held.
+    // Boxes of these cycles.
+    leaves: Leaves,
+    // Those to events that are held.
     walks: Vec<Walk>,
-    // Each is kept by all maps.
-    cuts: Vec<FlipCut>,
-    // Knows the walks and the cuts.
-    proposer: Proposer,
     // For each node whether it is held; the origin is.
     held: Vec<bool>,
     alloc: Global,
-    ghost long: { length residues.items ≡ network.now.events },
-    ghost kept: { All (Holds network.now) cuts.items },
+    ghost long: { length residues.items ≡ cycles.now.network.events },
+    ghost fit: { All (AreBoxes cycles.now) leaves.boxes.items },
+}
+
+/// What is asked of each leaf.
+#[derive(Drop)]
+struct Question<'a> {
+    // With the walks to events that are held, and that of the question.
+    cycles: Cycles<'a>,
+    // One for each event, lesser at that which is asked for.
+    residues: Vec<Range>,
+    // From the event that is asked for.
+    walk: Option<Walk>,
+    // Which each map has at least.
+    cost: u64,
+    ghost long: { length residues.items ≡ cycles.network.events },
+    ghost room: { cost + 1 < 2 ^ 64 },
 }
 
 impl<'a> Held<'a> {
-    /// All maps of a network, of which those are sought that cost less than the cap.
-    fn new(
+    /// The maps of leaves that have these residues.
+    pub(crate) fn new(
         alloc: Global,
-        network: &'a Network,
-        seeking: Seeking,
-        cap: u64,
-        budget: &mut Budget,
+        cycles: &'a Cycles<'a>,
+        residues: Vec<Range>,
+        leaves: Leaves,
     ) -> Result<Held<'a>, Memory>
-        ensures network { IfOk result (λ held. held.network.now ≡ network.now) }
-        ensures all { IfOk result (λ held. (map : List ℕ) → IsMet network.now map
-            → AreIn held.residues.items map) }
-        ensures budget { OnlySpends budget.old.left budget.new.left }
+        requires long { length residues.items ≡ cycles.now.network.events }
+        requires fit { All (AreBoxes cycles.now) leaves.boxes.items }
+        ensures cycles { IfOk result (λ held. held.cycles.now ≡ cycles.now) }
+        ensures residues { IfOk result (λ held. held.residues ≡ residues) }
+        ensures leaves { IfOk result (λ held. held.leaves ≡ leaves) }
     {
-        let residues = residue_ranges(alloc, network)?;
-        let basis = basis_within(alloc, network, &residues, budget)?;
-        let walks = walks_of(alloc, network, &residues, basis, budget)?;
-        let plain = Cycles::without_cuts(alloc, network, &walks)?;
-        let cuts = cuts_among(alloc, &plain, &residues, seeking, cap, budget)?;
-        let copy = copied(alloc, &walks)?;
-        let proposer = Proposer::new(alloc, &Cycles::new(alloc, network, copy, &cuts)?)?;
-        let Ok(mut held) = vec![in alloc; false; network.events() + 1] else {
+        let Ok(mut held) = vec![in alloc; false; cycles.network().events() + 1] else {
             return Err(Memory);
         };
         if let Some(origin) = held.last_mut() {
             *origin = true;
         }
         Ok(Held {
-            network,
+            cycles,
             residues,
-            walks,
-            cuts,
-            proposer,
+            leaves,
+            walks: Vec::new(alloc),
             held,
             alloc,
         })
     }
 
-    /// How many numbers a question goes through before it is searched, or so.
-    fn copying(&self) -> u64 {
-        let numbers = self.network.arcs().len() + self.network.events();
-        (numbers as u64)
-            .saturating_mul(8)
-            .saturating_add(self.proposer.size() as u64)
-    }
-
     /// A walk from the event to one that is held, if there is one.
     fn walk(&self, event: usize) -> Result<Option<Walk>, Memory> {
-        let graph = Graph::of(self.alloc, self.network, &self.residues)?;
-        let period = self.network.period();
-        graph.walk_from(self.alloc, period, event, &self.held)
+        let network = self.cycles.network();
+        let graph = Graph::of(self.alloc, network, &self.residues)?;
+        graph.walk_from(self.alloc, network.period(), event, &self.held)
     }
 
     /// Takes a walk to what is held from the event.
     fn join(&mut self, event: usize) -> Result<(), Memory>
-        ensures network { self.new.network ≡ self.old.network }
+        ensures cycles { self.new.cycles ≡ self.old.cycles }
         ensures residues { self.new.residues ≡ self.old.residues }
-        ensures cuts { self.new.cuts ≡ self.old.cuts }
+        ensures leaves { self.new.leaves.boxes ≡ self.old.leaves.boxes }
     {
         let Some(walk) = self.walk(event)? else {
             return Ok(());
@@ -111,7 +100,8 @@ impl<'a> Held<'a> {
         if walk.steps.len() < 2 {
             return Ok(());
         }
-        self.proposer.push(self.alloc, self.network.arcs(), &walk)?;
+        let arcs = self.cycles.network().arcs();
+        self.leaves.take(self.alloc, arcs, &walk)?;
         if self.walks.push(walk).is_err() {
             return Err(Memory);
         }
@@ -120,7 +110,7 @@ impl<'a> Held<'a> {
 
     /// The same ranges with this one for an event.
     fn with(&self, event: usize, range: Range) -> Result<Vec<Range>, Memory>
-        requires { event < self.now.network.now.events }
+        requires { event < self.now.cycles.now.network.events }
         ensures { IfOk result (λ residues.
             residues.items ≡ slice_set self.now.residues.items event range) }
     {
@@ -130,46 +120,131 @@ impl<'a> Held<'a> {
         residues[event] = range;
         Ok(residues)
     }
+
+    /// The cycles with the walks to events that are held, and one more, if there is one.
+    fn cycles_with(&self, walk: &Option<Walk>) -> Result<Cycles<'a>, Memory>
+        ensures network { IfOk result (λ cycles. cycles.network ≡ self.now.cycles.now.network) }
+        ensures walks { IfOk result (λ cycles. (others : List Path)
+            × (cycles.walks ≡ self.now.cycles.now.walks ++ others)) }
+    {
+        let mut walks = copied(self.alloc, &self.walks)?;
+        if let Some(walk) = walk {
+            if walks.push(walk.copy()?).is_err() {
+                return Err(Memory);
+            }
+        }
+        self.cycles.with(self.alloc, &walks)
+    }
+
+    /// The question for these residues, which the event is asked for.
+    fn question(
+        &self,
+        event: usize,
+        residues: Vec<Range>,
+        cost: u64,
+    ) -> Result<Question<'a>, Memory>
+        requires long { length residues.items ≡ self.now.cycles.now.network.events }
+        requires room { cost + 1 < 2 ^ 64 }
+        ensures network { IfOk result (λ question.
+            question.cycles.network ≡ self.now.cycles.now.network) }
+        ensures walks { IfOk result (λ question. (others : List Path)
+            × (question.cycles.walks ≡ self.now.cycles.now.walks ++ others)) }
+        ensures residues { IfOk result (λ question. question.residues ≡ residues) }
+        ensures cost { IfOk result (λ question. question.cost ≡ cost) }
+    {
+        let walk = self.walk(event)?;
+        let cycles = self.cycles_with(&walk)?;
+        Ok(Question {
+            cycles,
+            residues,
+            walk,
+            cost,
+        })
+    }
+
+    /// How many numbers a question goes through before it is searched, or so.
+    fn copying(&self, proposer: &Proposer) -> u64 {
+        let network = self.cycles.network();
+        let numbers = network.arcs().len() + network.events();
+        (numbers as u64)
+            .saturating_mul(8)
+            .saturating_add(proposer.size() as u64)
+    }
+
+    /// A map of the least cost of all in a leaf that has the residues of the question; or that there is none.
+    fn answer(
+        &self,
+        leaf: usize,
+        boxes: &Boxes,
+        question: &Question,
+        budget: &mut Budget,
+    ) -> Result<Outcome, Memory>
+        requires boxes { AreBoxes self.now.cycles.now boxes.now }
+        requires network { question.now.cycles.network ≡ self.now.cycles.now.network }
+        requires walks { (others : List Path)
+            × (question.now.cycles.walks ≡ self.now.cycles.now.walks ++ others) }
+        requires floor { IsLowerBound
+            (IsHere self.now.cycles.now question.now.residues.items boxes.now) question.now.cost }
+        ensures outcome { IfOk result (IsOutcome
+            (IsHere self.now.cycles.now question.now.residues.items boxes.now)
+            (question.now.cost + 1)) }
+        ensures spent { IfOk result (StopsWhereSpent budget.new.left) }
+        ensures budget { OnlySpends budget.old.left budget.new.left }
+    {
+        let arcs = self.cycles.network().arcs();
+        let proposer = self
+            .leaves
+            .proposer(self.alloc, leaf, arcs, &question.walk)?;
+        budget.spend(units_of(self.copying(&proposer)));
+        let cycles = &question.cycles;
+        let Some(root) = Node::among(self.alloc, cycles, &question.residues, proposer, false)?
+        else {
+            return Err(Memory);
+        };
+        let node = root.narrowed(boxes);
+        let limits = Limits {
+            floor: question.cost,
+            cap: question.cost + 1,
+        };
+        least(self.alloc, node, limits, budget)
+    }
 }
 
 impl<'a> Region for Held<'a> {
-    ghost use Rattle.pesp_search_cycles.specs.Maps.{IsAmong};
+    ghost use Rattle.pesp_search_cycles.specs.Maps.{IsLeft};
 
-    ghost sums = { λ h. IsAmong h.network.now h.residues.items };
+    ghost sums = { λ h. IsLeft h.cycles.now h.residues.items h.leaves.boxes.items };
 
-    ghost events = { λ h. h.network.now.events };
+    ghost events = { λ h. h.cycles.now.network.events };
 
     fn events(&self) -> usize {
-        self.network.events()
+        self.cycles.network().events()
     }
 
     fn least_below(
         &self,
-        alloc: Global,
+        _alloc: Global,
         event: usize,
         residue: u16,
         cost: u64,
         budget: &mut Budget,
     ) -> Result<Outcome, Memory> {
-        budget.spend(units_of(self.copying()));
         let residues = self.with(event, self.residues[event].below(residue))?;
-        let mut walks = copied(alloc, &self.walks)?;
-        let mut proposer = self.proposer.copy()?;
-        if let Some(walk) = self.walk(event)? {
-            proposer.push(alloc, self.network.arcs(), &walk)?;
-            if walks.push(walk).is_err() {
-                return Err(Memory);
+        let question = self.question(event, residues, cost)?;
+        for leaf in 0..self.leaves.boxes.len() {
+            let boxes = &self.leaves.boxes[leaf];
+            match self.answer(leaf, boxes, &question, budget)? {
+                Outcome::NoneBelow => {}
+                Outcome::Found(found) => return Ok(Outcome::Found(found)),
+                Outcome::Spent { best, .. } => {
+                    return Ok(Outcome::Spent {
+                        best,
+                        lower_bound: cost,
+                    });
+                }
             }
         }
-        let limits = Limits {
-            floor: cost,
-            cap: cost + 1,
-        };
-        let cycles = Cycles::new(alloc, self.network, walks, &self.cuts)?;
-        let Some(root) = Node::among(alloc, &cycles, &residues, proposer, false)? else {
-            return Err(Memory);
-        };
-        least(alloc, root, limits, budget)
+        Ok(Outcome::NoneBelow)
     }
 
     fn hold(&mut self, event: usize, residue: u16) {
@@ -180,78 +255,4 @@ impl<'a> Region for Held<'a> {
         }
         self.residues[event] = self.residues[event].at(residue);
     }
-}
-
-/// The same as [`first`], with these cuts.
-fn first_by(
-    alloc: Global,
-    network: &Network,
-    seeking: Seeking,
-    candidate: Candidate,
-    budget: &mut Budget,
-) -> Result<First, Memory>
-    requires least { IsLeast (IsCosted network.now) candidate }
-    requires room { candidate.cost + 1 < 2 ^ 64 }
-    ensures first { IfOk result (IsFirstOutcome (IsFirst (IsCosted network.now)) (IsCosted network.now)
-        candidate.cost) }
-    ensures spent { IfOk result (EndsUnlessSpent budget.new.left) }
-    ensures budget { OnlySpends budget.old.left budget.new.left }
-{
-    let region = Held::new(alloc, network, seeking, candidate.cost, budget)?;
-    first_of(alloc, region, candidate, budget)
-}
-
-/// The same as [`first`], phase by phase.
-fn first_in_turn(
-    alloc: Global,
-    network: &Network,
-    phases: &[Phase],
-    candidate: Candidate,
-    budget: &mut Budget,
-) -> Result<First, Memory>
-    requires least { IsLeast (IsCosted network.now) candidate }
-    requires room { candidate.cost + 1 < 2 ^ 64 }
-    ensures first { IfOk result (IsFirstOutcome (IsFirst (IsCosted network.now)) (IsCosted network.now)
-        candidate.cost) }
-    ensures spent { IfOk result (EndsUnlessSpent budget.new.left) }
-    ensures budget { OnlySpends budget.old.left budget.new.left }
-{
-    let Some((phase, rest)) = phases.split_first() else {
-        return first_by(alloc, network, Seeking::Everywhere, candidate, budget);
-    };
-    let Some(units) = phase.units else {
-        return first_by(alloc, network, phase.seeking, candidate, budget);
-    };
-    let mut part = budget.part(units);
-    let given = part.left;
-    let begun = first_by(alloc, network, phase.seeking, candidate, &mut part)?;
-    budget.spend(spent_of(given, part.left));
-    let First::Spent(found) = begun else {
-        return Ok(begun);
-    };
-    if budget.is_spent() {
-        return Ok(First::Spent(found));
-    }
-    first_in_turn(alloc, network, rest, found, budget)
-}
-
-/// From a map of least cost to the first one of that cost.
-///
-/// Of two maps that one comes first that has the smaller residue at the first event at which they differ.
-pub fn first(
-    alloc: Global,
-    network: &Network,
-    candidate: Candidate,
-    budget: &mut Budget,
-) -> Result<First, Memory>
-    requires least { IsLeast (IsCosted network.now) candidate }
-    requires room { candidate.cost + 1 < 2 ^ 64 }
-    ensures first { IfOk result (IsFirstOutcome (IsFirst (IsCosted network.now)) (IsCosted network.now)
-        candidate.cost) }
-    ensures spent { IfOk result (EndsUnlessSpent budget.new.left) }
-    ensures budget { OnlySpends budget.old.left budget.new.left }
-{
-    // Without that of a tree: each part of the search finds the cycles that it has the units for.
-    let phases = phases_of(None);
-    first_in_turn(alloc, network, &phases[1..], candidate, budget)
 }

@@ -6,10 +6,10 @@ ghost use Rattle.pesp_search_least.specs.Sums.{IsLowerBound, IsOutcome, IsStop, 
 ghost use Rattle.pesp_search_network.specs.Arcs.{IsCosted, IsMet};
 ghost use Rattle.pesp_search_cycles.specs.Ranges.{AreIn};
 
-use crate::cuts::{cuts_among, spent_of};
+use crate::cuts::cuts_among;
 use crate::graph::{Basis, Graph, units_of};
 use crate::node::Node;
-use crate::phase::{Phase, first_of, phases_of};
+use crate::phase::{Phase, first_phase, phases_of, spent_of};
 use crate::proposer::Proposer;
 use crate::residues::residue_ranges;
 use crate::{Cycles, Range, Walk};
@@ -57,6 +57,16 @@ pub fn is_of_use(alloc: Global, network: &Network) -> Result<bool, Memory> {
     Ok(cycles <= MOST_CYCLES && cycles.saturating_mul(numbers) <= MOST_ENTRIES)
 }
 
+/// How many units it takes to find narrow cycles, or none where there are too many.
+pub(crate) fn units_of_narrow(
+    alloc: Global,
+    network: &Network,
+    residues: &[Range],
+) -> Result<Option<u64>, Memory> {
+    let graph = Graph::of(alloc, network, residues)?;
+    graph.units_of_narrow(alloc, network.period())
+}
+
 /// Narrow cycles where finding them takes at most a quarter of the budget, and else those of a tree.
 pub(crate) fn basis_within(
     alloc: Global,
@@ -64,8 +74,8 @@ pub(crate) fn basis_within(
     residues: &[Range],
     budget: &Budget,
 ) -> Result<Basis, Memory> {
-    let graph = Graph::of(alloc, network, residues)?;
-    match (graph.units_of_narrow(alloc, network.period())?, budget.left) {
+    let narrow = units_of_narrow(alloc, network, residues)?;
+    match (narrow, budget.left) {
         (None, _) => Ok(Basis::Tree),
         (Some(units), Some(left)) if left / 4 <= units => Ok(Basis::Tree),
         (Some(_), _) => Ok(Basis::Narrow),
@@ -165,10 +175,9 @@ impl Method for ByCycles {
     ) -> Result<Outcome, Memory> {
         budget.spend(1);
         let residues = residue_ranges(alloc, network)?;
-        let graph = Graph::of(alloc, network, &residues)?;
-        let narrow = graph.units_of_narrow(alloc, network.period())?;
+        let narrow = units_of_narrow(alloc, network, &residues)?;
         let phases = phases_of(narrow);
-        let first = first_of(narrow, budget);
+        let first = first_phase(narrow, budget);
         least_in_turn(alloc, network, &residues, &phases[first..], limits, budget)
     }
 }

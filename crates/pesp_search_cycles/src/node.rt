@@ -1,18 +1,19 @@
 //! Nodes of the search: boxes that admit some maps of a network, with a lower bound of what these cost.
 
-ghost use Rattle.std.specs.Prelude.{◌≡◌, ℕ, ◌+◌, ◌<◌, IfNone, IfOk, IfSome, IsTrue, MatchOption, drop, length};
+ghost use Rattle.std.specs.Prelude.{◌≡◌, ℕ, ◌+◌, ◌<◌, ◌≤◌, IfNone, IfOk, IfSome, IsTrue, MatchOption, drop, length};
 ghost use Rattle.std.specs.Option.{ForNone, ForSome};
-ghost use Rattle.pesp_search_least.specs.Sums.{AreHalves, IsCandidate, IsEmpty, IsLeast, IsLowerBound, IsWithin};
+ghost use Rattle.pesp_search_least.specs.Spending.{OnlySpends};
+ghost use Rattle.pesp_search_least.specs.Sums.{IsCandidate, IsEmpty, IsLeast, IsLowerBound, IsWithin};
 ghost use Rattle.pesp_search_cycles.specs.Maps.{AreBoxes, AreCycles, IsAmong, IsSummed};
-ghost use Rattle.pesp_search_cycles.specs.Splits.{AreSingle, HasPlace, IsCut, size};
+ghost use Rattle.pesp_search_cycles.specs.Splits.{AreSingle, IsNarrowed, size};
 ghost use Rattle.pesp_search_cycles.specs.Terms.{greater};
+
+mod splits;
 
 use crate::admitted::{admitted_cost, only_map};
 use crate::boxes::Boxes;
-use crate::cut::{Choice, last_cut, number_cut, round_cut};
 use crate::empty::{has_empty, has_lost_event};
 use crate::flip::Flip;
-use crate::gap::gap_at;
 use crate::graph::units_of;
 use crate::proposer::Proposer;
 use crate::root::root;
@@ -82,6 +83,8 @@ impl<'a> Node<'a> {
         is_polished: bool,
     ) -> Result<Option<Node<'a>>, Memory>
         requires { length residues.now ≡ cycles.now.network.events }
+        ensures cycles { IfOk result (λ found. IfSome found (λ node.
+            node.cycles.now ≡ cycles.now)) }
         ensures all { IfOk result (λ found. IfSome found (λ node.
             IsWithin (IsAmong cycles.now.network residues.now) (IsSummed node.cycles.now node.boxes))) }
         ensures within { IfOk result (λ found. IfSome found (λ node.
@@ -149,36 +152,40 @@ impl<'a> Node<'a> {
         self.bound = greater(self.bound, told);
     }
 
-    /// Keeps the maps below the cut, and hands out those above it.
-    fn halve(&mut self, choice: Choice) -> Result<Node<'a>, Memory>
-        requires place { HasPlace self.old.boxes choice.place }
-        requires cut { IsCut self.old.cycles.now self.old.boxes choice.place choice.halves }
-        ensures halves { IfOk result (λ other. AreHalves
-            (IsSummed self.old.cycles.now self.old.boxes)
-            (IsSummed self.new.cycles.now self.new.boxes)
-            (IsSummed other.cycles.now other.boxes)) }
-        ensures first { IfOk result (λ _. size self.new.boxes < size self.old.boxes) }
-        ensures second { IfOk result (λ other. size other.boxes < size self.old.boxes) }
+    /// Works towards a better bound of maps below the cap.
+    pub(crate) fn solve(&mut self, cap: u64, budget: &mut Budget)
+        ensures cycles { self.new.cycles ≡ self.old.cycles }
+        ensures boxes { self.new.boxes ≡ self.old.boxes }
+        ensures budget { OnlySpends budget.old.left budget.new.left }
     {
-        let Ok(rates) = self.rates.clone() else {
-            return Err(Memory);
-        };
-        let Ok(multipliers) = self.multipliers.clone() else {
-            return Err(Memory);
-        };
-        let proposer = self.proposer.waiting()?;
-        let above = self.boxes.with(choice.place, choice.halves.above)?;
-        self.boxes.put(choice.place, choice.halves.below);
-        self.is_polished = false;
-        Ok(Node {
-            cycles: self.cycles,
-            boxes: above,
-            bound: self.bound,
-            rates,
-            multipliers,
-            proposer,
-            is_polished: false,
-        })
+        let most = most_of(budget);
+        let work = self.proposer.solve(&self.boxes, cap, most);
+        budget.spend(units_of(work));
+        self.raise();
+    }
+
+    /// The same of the maps that other boxes, which may have fewer walks, have too.
+    pub(crate) fn narrowed(mut self, others: &Boxes) -> Node<'a>
+        requires numbers { length others.now.numbers.items ≤ length self.boxes.numbers.items }
+        requires rounds { length others.now.rounds.items ≤ length self.boxes.rounds.items }
+        ensures cycles { result.cycles ≡ self.entry.cycles }
+        ensures boxes { IsNarrowed self.entry.boxes others.now result.boxes }
+    {
+        self.boxes.narrow(others);
+        self
+    }
+
+    /// How many entries its tableau has.
+    pub(crate) fn entries(&self) -> usize {
+        self.proposer.size()
+    }
+
+    /// The boxes, and what is proposed in them.
+    pub(crate) fn into_parts(self) -> (Boxes, Proposer)
+        ensures boxes { result.0 ≡ self.entry.boxes }
+        ensures fit { AreBoxes self.entry.cycles.now self.entry.boxes }
+    {
+        (self.boxes, self.proposer)
     }
 
     /// A map with its cost, if the boxes admit it.
@@ -194,68 +201,6 @@ impl<'a> Node<'a> {
         match found {
             Some(cost) => Ok(Some(Candidate { cost, map })),
             None => Ok(None),
-        }
-    }
-
-    /// The split that promises most, the half to be gone into first before the other one.
-    fn proposed(&self) -> Option<Choice>
-        ensures place { IfSome result (λ choice. HasPlace self.now.boxes choice.place) }
-        ensures cut { IfSome result (λ choice.
-            IsCut self.now.cycles.now self.now.boxes choice.place choice.halves) }
-    {
-        let proposal = self.proposer.split(self.cycles.period())?;
-        let choice = round_cut(self.cycles, &self.boxes, proposal.walk, proposal.at)?;
-        if proposal.is_above_first {
-            Some(choice.swapped())
-        } else {
-            Some(choice)
-        }
-    }
-
-    /// The split of an event's range where its row lacks the residue of the tableau.
-    fn at_gap(&self) -> Option<Choice>
-        ensures place { IfSome result (λ choice. HasPlace self.now.boxes choice.place) }
-        ensures cut { IfSome result (λ choice.
-            IsCut self.now.cycles.now self.now.boxes choice.place choice.halves) }
-    {
-        let network = self.cycles.network();
-        let residues = self.residues();
-        let arcs = network.arcs().len();
-        for event in 0..residues.len() {
-            let number = arcs + event;
-            let residue = self.proposer.number(number);
-            if let Some(at) = gap_at(network.row(event), residues[event], residue) {
-                if let Some(choice) = number_cut(&self.boxes, number, at) {
-                    return Some(choice);
-                }
-            }
-        }
-        None
-    }
-
-    /// The split that promises most, or one at a gap of a row.
-    fn first_choice(&self) -> Option<Choice>
-        ensures place { IfSome result (λ choice. HasPlace self.now.boxes choice.place) }
-        ensures cut { IfSome result (λ choice.
-            IsCut self.now.cycles.now self.now.boxes choice.place choice.halves) }
-    {
-        match self.proposed() {
-            Some(choice) => Some(choice),
-            None => self.at_gap(),
-        }
-    }
-
-    /// Which range is split. None is left where each event has one residue at most.
-    fn choice(&self) -> Option<Choice>
-        ensures place { IfSome result (λ choice. HasPlace self.now.boxes choice.place) }
-        ensures cut { IfSome result (λ choice.
-            IsCut self.now.cycles.now self.now.boxes choice.place choice.halves) }
-        ensures none { IfNone result (AreSingle (drop (length self.now.cycles.now.network.arcs)
-            self.now.boxes.numbers.items)) }
-    {
-        match self.first_choice() {
-            Some(choice) => Some(choice),
-            None => last_cut(self.cycles, &self.boxes),
         }
     }
 
@@ -317,10 +262,7 @@ impl<'a> Relaxation for Node<'a> {
     }
 
     fn tighten(&mut self, cap: u64, budget: &mut Budget) {
-        let most = most_of(budget);
-        let work = self.proposer.solve(&self.boxes, cap, most);
-        budget.spend(units_of(work));
-        self.raise();
+        self.solve(cap, budget);
     }
 
     fn candidate(&self, alloc: Global) -> Result<Option<Candidate>, Memory> {
@@ -336,8 +278,8 @@ impl<'a> Relaxation for Node<'a> {
     }
 
     fn split(&mut self, alloc: Global) -> Result<Split<Self>, Memory> {
-        match self.choice() {
-            Some(choice) => Ok(Split::Halves(self.halve(choice)?)),
+        match self.halves()? {
+            Some(other) => Ok(Split::Halves(other)),
             None => match self.last(alloc)? {
                 Some(candidate) => Ok(Split::Solved(candidate)),
                 None => Ok(Split::Empty),

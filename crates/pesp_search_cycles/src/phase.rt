@@ -8,8 +8,9 @@ use pesp_search_least::Budget;
 /// How many times as many units as narrow cycles take to be found the cycles of a tree have before them.
 const TREE_SHARE: u64 = 4;
 
-/// How many units the first phase of narrow cycles has: some seconds, in which a region of 110 events ends.
-const UNITS: u64 = 1_000_000;
+/// How many units narrow cycles have before cuts are sought at a first node whose bound is 0, too: most of a minute, in which
+/// most networks end that end at all.
+const UNITS_BEFORE_CUTS: u64 = 10_000_000;
 
 /// Where cuts are sought.
 #[derive(Clone, Copy, PartialEq, Eq)]
@@ -25,7 +26,7 @@ pub(crate) enum Seeking {
 pub(crate) struct Phase {
     // By which cycles.
     pub(crate) basis: Basis,
-    // Whether cuts are sought before.
+    // Where cuts are sought before.
     pub(crate) seeking: Seeking,
     // None where it goes on to the end.
     pub(crate) units: Option<u64>,
@@ -50,9 +51,9 @@ impl Phase {
 /// by the cycles of a tree.
 ///
 /// With cuts a node takes some ten times as long. Where spans are wide there are up to a thousand times fewer nodes then, and
-/// else about as many, so both are tried by turns. Their units do not depend on the budget, so that a larger one never does
-/// other work as far as a smaller one goes.
-pub(crate) fn phases_of(narrow: Option<u64>) -> [Phase; 5] {
+/// else about as many. Their units do not depend on the budget, so that a larger one never does other work as far as a smaller
+/// one goes.
+pub(crate) fn phases_of(narrow: Option<u64>) -> [Phase; 3] {
     let units = match narrow {
         Some(units) => Some(units.saturating_mul(TREE_SHARE)),
         None => None,
@@ -62,22 +63,25 @@ pub(crate) fn phases_of(narrow: Option<u64>) -> [Phase; 5] {
         seeking: Seeking::Nowhere,
         units,
     };
-    [
-        tree,
-        Phase::narrow(Seeking::Bounded, Some(UNITS)),
-        Phase::narrow(Seeking::Everywhere, Some(2 * UNITS)),
-        Phase::narrow(Seeking::Nowhere, Some(10 * UNITS)),
-        Phase::last(),
-    ]
+    let narrow = Phase::narrow(Seeking::Bounded, Some(UNITS_BEFORE_CUTS));
+    [tree, narrow, Phase::last()]
 }
 
 /// The phase to begin with: narrow cycles at once where units are not counted.
-pub(crate) fn first_of(narrow: Option<u64>, budget: &Budget) -> usize
+pub(crate) fn first_phase(narrow: Option<u64>, budget: &Budget) -> usize
     ensures { result ≤ 1 }
 {
     if narrow.is_some() && budget.left.is_none() {
         1
     } else {
         0
+    }
+}
+
+/// What was spent of what was left.
+pub(crate) fn spent_of(before: Option<u64>, after: Option<u64>) -> u64 {
+    match (before, after) {
+        (Some(before), Some(after)) => before.saturating_sub(after),
+        _ => 0,
     }
 }

@@ -166,6 +166,16 @@ impl Range {
         }
     }
 
+    /// The numbers that are in both.
+    pub(crate) fn both(self, other: Range) -> Range
+        ensures { (z : ℤ) → IsIn result z ↔ (IsIn self z × IsIn other z) }
+    {
+        Range {
+            low: self.low.max(other.low),
+            high: self.high.min(other.high),
+        }
+    }
+
     /// Whether the number is in the range.
     pub(crate) fn has(self, number: i64) -> bool
         ensures { MatchBool result (IsIn self number) (IsIn self number → ⊥) }

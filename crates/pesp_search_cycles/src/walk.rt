@@ -1,6 +1,6 @@
 //! Walks along and against arcs.
 
-ghost use Rattle.std.specs.Prelude.{◌≡◌, ℕ, List};
+ghost use Rattle.std.specs.Prelude.{◌≡◌, ℕ, List, IfOk};
 ghost use Rattle.pesp_search_cycles.specs.Walks.{joins, leads};
 
 use pesp_base::Memory;
@@ -34,7 +34,9 @@ impl Walk {
     }
 
     /// The same walk once more.
-    pub(crate) fn copy(&self) -> Result<Walk, Memory> {
+    pub(crate) fn copy(&self) -> Result<Walk, Memory>
+        ensures { IfOk result (λ copy. copy ≡ self.now) }
+    {
         let Ok(steps) = self.steps.clone() else {
             return Err(Memory);
         };
@@ -76,7 +78,9 @@ fn leads_to(arcs: &[Arc], from: usize, steps: &[Step], to: usize) -> bool
 }
 
 /// Walks once more.
-pub(crate) fn copied(alloc: Global, walks: &[Walk]) -> Result<Vec<Walk>, Memory> {
+pub(crate) fn copied(alloc: Global, walks: &[Walk]) -> Result<Vec<Walk>, Memory>
+    ensures { IfOk result (λ copy. copy.items ≡ walks.now) }
+{
     let mut copy = Vec::new(alloc);
     for index in 0..walks.len() {
         if copy.push(walks[index].copy()?).is_err() {

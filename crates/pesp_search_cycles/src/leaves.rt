@@ -1,0 +1,221 @@
+//! The leaves of a search for all maps of least cost: boxes that have each of them.
+
+ghost use Rattle.std.specs.Prelude.{◌≡◌, ◌+◌, ◌++◌, ◌∷◌, ◌^◌, ◌<◌, [], All, IfOk, OnOk, length};
+ghost use Rattle.pesp_search_least.specs.Spending.{OnlySpends};
+ghost use Rattle.pesp_search_least.specs.Sums.{InSome, IsCut, IsWithin};
+ghost use Rattle.pesp_search_cycles.specs.Leaves.{IsNext};
+ghost use Rattle.pesp_search_cycles.specs.Maps.{AreBoxes, IsAmong, IsSummed};
+
+use crate::boxes::Boxes;
+use crate::node::Node;
+use crate::proposer::Proposer;
+use crate::{Cycles, Range, Walk};
+use pesp_base::Memory;
+use pesp_search_graph::Arc;
+use pesp_search_least::{Budget, Limits, Relaxation};
+use std::alloc::Global;
+
+/// How many leaves there are at most: more are as dear to ask as all maps together.
+const MOST_LEAVES: usize = 64;
+
+/// How many entries their tableaus have together at most: 16 MB.
+const MOST_ENTRIES: usize = 2_097_152;
+
+/// Boxes, and what is proposed in each.
+#[derive(Drop)]
+pub(crate) struct Leaves {
+    // Of one network, with the same walks.
+    pub(crate) boxes: Vec<Boxes>,
+    // One for each of the boxes: it knows walks more, and nothing that it says is relied upon.
+    proposers: Vec<Proposer>,
+}
+
+/// What becomes of a node.
+#[derive(Drop)]
+pub(crate) enum Next<'a> {
+    /// Each of its maps costs too much.
+    Nothing,
+    /// It is a leaf.
+    Leaf,
+    /// It is one half now, and this is the other one.
+    Halves(Node<'a>),
+}
+
+impl Leaves {
+    fn new(alloc: Global) -> Leaves
+        ensures { result.boxes.items ≡ [] }
+    {
+        Leaves {
+            boxes: Vec::new(alloc),
+            proposers: Vec::new(alloc),
+        }
+    }
+
+    /// Takes one leaf more.
+    fn push(&mut self, node: Node) -> Result<(), Memory>
+        ensures boxes { OnOk result (self.new.boxes.items ≡ self.old.boxes.items ++ node.entry.boxes ∷ []) }
+        ensures fit { AreBoxes node.entry.cycles.now node.entry.boxes }
+    {
+        let (boxes, proposer) = node.into_parts();
+        if self.proposers.push(proposer).is_err() || self.boxes.push(boxes).is_err() {
+            return Err(Memory);
+        }
+        Ok(())
+    }
+
+    /// What is proposed in a leaf, with a walk more, if there is one.
+    pub(crate) fn proposer(
+        &self,
+        alloc: Global,
+        leaf: usize,
+        arcs: &[Arc],
+        walk: &Option<Walk>,
+    ) -> Result<Proposer, Memory> {
+        let Some(proposer) = self.proposers.get(leaf) else {
+            return Err(Memory);
+        };
+        let mut copy = proposer.copy()?;
+        if let Some(walk) = walk {
+            copy.push(alloc, arcs, walk)?;
+        }
+        Ok(copy)
+    }
+
+    /// Takes one walk more in each.
+    pub(crate) fn take(&mut self, alloc: Global, arcs: &[Arc], walk: &Walk) -> Result<(), Memory>
+        ensures { self.new.boxes ≡ self.old.boxes }
+    {
+        for leaf in 0..self.proposers.len() {
+            self.proposers[leaf].push(alloc, arcs, walk)?;
+        }
+        Ok(())
+    }
+}
+
+/// How many leaves whose tableaus have so many entries are kept.
+fn most_of(entries: usize) -> usize {
+    (MOST_ENTRIES / entries.max(1)).clamp(1, MOST_LEAVES)
+}
+
+/// Goes on with a node, unless the search is over. It is a leaf then, and where its maps cost what the floor is at least and one
+/// of them is at hand, and where it cannot be split.
+fn go_on<'a>(
+    alloc: Global,
+    node: &mut Node<'a>,
+    limits: Limits,
+    is_over: bool,
+    budget: &mut Budget,
+) -> Result<Next<'a>, Memory>
+    ensures cycles { node.new.cycles ≡ node.old.cycles }
+    ensures next { IfOk result (IsNext limits.cap node.old node.new) }
+    ensures budget { OnlySpends budget.old.left budget.new.left }
+{
+    if is_over {
+        return Ok(Next::Leaf);
+    }
+    budget.spend(1);
+    node.solve(limits.cap, budget);
+    let Some(bound) = node.bound() else {
+        return Ok(Next::Nothing);
+    };
+    if limits.cap <= bound {
+        return Ok(Next::Nothing);
+    }
+    if limits.floor <= bound && node.candidate(alloc)?.is_some() {
+        return Ok(Next::Leaf);
+    }
+    match node.halves()? {
+        Some(other) => Ok(Next::Halves(other)),
+        None => Ok(Next::Leaf),
+    }
+}
+
+/// Puts both halves on the stack, with the first one on top.
+fn push_halves<'a>(
+    nodes: &mut Vec<Node<'a>>,
+    first: Node<'a>,
+    second: Node<'a>,
+) -> Result<(), Memory>
+    ensures { OnOk result (nodes.new.items ≡ (nodes.old.items ++ second.entry ∷ []) ++ first.entry ∷ []) }
+{
+    if nodes.push(second).is_err() || nodes.push(first).is_err() {
+        return Err(Memory);
+    }
+    Ok(())
+}
+
+/// The leaves of a node that may have maps below the cap: `most` and one more, and then all that are open, where there are more;
+/// and all that are open where the budget is spent.
+fn leaves_below<'a>(
+    alloc: Global,
+    root: Node<'a>,
+    limits: Limits,
+    most: usize,
+    budget: &mut Budget,
+) -> Result<Leaves, Memory>
+    ensures cut { IfOk result (λ leaves. IsCut limits.cap (IsSummed root.entry.cycles.now root.entry.boxes)
+        (InSome (IsSummed root.entry.cycles.now) leaves.boxes.items)) }
+    ensures fit { IfOk result (λ leaves. All (AreBoxes root.entry.cycles.now) leaves.boxes.items) }
+    ensures budget { OnlySpends budget.old.left budget.new.left }
+{
+    let mut leaves = Leaves::new(alloc);
+    let mut nodes = Vec::new(alloc);
+    if nodes.push(root).is_err() {
+        return Err(Memory);
+    }
+    'nodes: while let Some(mut node) = nodes.pop() {
+        let is_over = budget.is_spent() || most < leaves.boxes.len();
+        match go_on(alloc, &mut node, limits, is_over, budget)? {
+            Next::Nothing => {}
+            Next::Leaf => leaves.push(node)?,
+            Next::Halves(other) => push_halves(&mut nodes, node, other)?,
+        }
+    }
+    Ok(leaves)
+}
+
+/// The node of all maps with these residues.
+fn whole<'a>(alloc: Global, cycles: &'a Cycles<'a>, residues: &[Range]) -> Result<Node<'a>, Memory>
+    requires { length residues.now ≡ cycles.now.network.events }
+    ensures cycles { IfOk result (λ node. node.cycles.now ≡ cycles.now) }
+    ensures all { IfOk result (λ node. IsWithin (IsAmong cycles.now.network residues.now)
+        (IsSummed cycles.now node.boxes)) }
+    ensures within { IfOk result (λ node. IsWithin (IsSummed cycles.now node.boxes)
+        (IsAmong cycles.now.network residues.now)) }
+{
+    let proposer = Proposer::new(alloc, cycles)?;
+    match Node::among(alloc, cycles, residues, proposer, true)? {
+        Some(node) => Ok(node),
+        None => Err(Memory),
+    }
+}
+
+/// Boxes that have each map with these residues of this cost, where none costs less: few, or those of all maps.
+pub(crate) fn leaves_of<'a>(
+    alloc: Global,
+    cycles: &'a Cycles<'a>,
+    residues: &[Range],
+    cost: u64,
+    budget: &mut Budget,
+) -> Result<Leaves, Memory>
+    requires long { length residues.now ≡ cycles.now.network.events }
+    requires room { cost + 1 < 2 ^ 64 }
+    ensures cut { IfOk result (λ leaves. IsCut (cost + 1) (IsAmong cycles.now.network residues.now)
+        (InSome (IsSummed cycles.now) leaves.boxes.items)) }
+    ensures fit { IfOk result (λ leaves. All (AreBoxes cycles.now) leaves.boxes.items) }
+    ensures budget { OnlySpends budget.old.left budget.new.left }
+{
+    let root = whole(alloc, cycles, residues)?;
+    let most = most_of(root.entries());
+    let limits = Limits {
+        floor: cost,
+        cap: cost + 1,
+    };
+    let leaves = leaves_below(alloc, root, limits, most, budget)?;
+    if leaves.boxes.len() <= most {
+        return Ok(leaves);
+    }
+    let mut leaves = Leaves::new(alloc);
+    leaves.push(whole(alloc, cycles, residues)?)?;
+    Ok(leaves)
+}
