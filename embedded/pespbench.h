@@ -132,6 +132,37 @@ void pesp_times(struct pesp_session *session, uint16_t *out, size_t out_length, 
  * where there is no such event, which is `place`. */
 void pesp_domain(struct pesp_session *session, uint32_t event, uint8_t *out, size_t out_length, struct pesp_told *told);
 
+/* What a search has come to. */
+enum pesp_search_state {
+    PESP_NOTHING_YET = 0, /* it stopped with no timetable; there may be one */
+    PESP_BEST_SO_FAR = 1, /* it stopped with a timetable that meets everything */
+    PESP_OPTIMUM = 2,     /* the optimum is known, and told */
+    PESP_NO_TIMETABLE = 3 /* it is known that no timetable meets everything */
+};
+
+/* How good the timetable is that a search tells; costs are as in pesp_cost. */
+struct pesp_found {
+    uint64_t cost;        /* of that timetable; 0 where none is told */
+    uint64_t lower_bound; /* what each that meets everything costs at least; for PESP_OPTIMUM `cost`; 0 where there is none */
+    uint32_t state;       /* of pesp_search_state */
+};
+
+/* Looks for the optimum within so many nodes, as the line `try` does, and tells the timetable that it comes to, what that
+ * costs, and what none can undercut. Instance and working timetable stay.
+ *
+ * nodes: any number. With 0 nothing is searched but what needs no node, as an event whose domain is empty: what is known is
+ *     told again, or the best timetable so far, as long as it meets everything; the bound of that is 0.
+ * out: the time of each event in that timetable, as in pesp_times; for PESP_OPTIMUM those that `optimum` tells. Where no
+ *     timetable is told, `told->length` is 0, and `out` as it was. Where it has less room, ask once more with 0 nodes.
+ * found: is filled in whole where `told->status` is PESP_DONE, and else as it was. PESP_CLOSED; PESP_MEMORY.
+ *
+ * What is known stays until an edit that may change it, and till then `optimum`, `adopt` and this call are answered at once.
+ * Of a search that stopped the next one has the timetable alone, and else begins anew: ask with twice the nodes each time, so
+ * that all calls take about twice what the last one does, and keep the greatest bound. docs/FORMATS.md says what a node is.
+ * No call can be stopped. */
+void pesp_search(struct pesp_session *session, uint64_t nodes, uint16_t *out, size_t out_length, struct pesp_found *found,
+                 struct pesp_told *told);
+
 #ifdef __cplusplus
 }
 #endif

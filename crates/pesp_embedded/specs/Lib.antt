@@ -3,4 +3,5 @@ pub mod Bits
 pub mod Faults
 pub mod Handles
 pub mod Numbers
+pub mod Searches
 pub mod Sessions

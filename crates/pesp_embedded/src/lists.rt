@@ -53,11 +53,17 @@ pub(crate) fn show_events(bench: &Bench<CountKeeper>, room: &mut [u32]) -> Told
     Told::ended(instance.event_count() as u64, 0, 0)
 }
 
+/// Puts the times of a timetable in front of the room, and tells how many events there are.
+pub(crate) fn show_timetable(room: &mut [u16], instance: &Instance, times: &Timetable) -> Told
+    ensures { AreShown (map (time_or_none times.now) (event_ids instance.now)) room.old room.new result }
+{
+    put_times(room, instance, times);
+    Told::ended(instance.event_count() as u64, 0, 0)
+}
+
 /// Puts the working timetable in front of the room, and tells how many events there are.
 pub(crate) fn show_times(bench: &Bench<CountKeeper>, room: &mut [u16]) -> Told
     ensures { AreShown (times_in (work_of bench.now)) room.old room.new result }
 {
-    let instance = bench.instance();
-    put_times(room, instance, bench.timetable());
-    Told::ended(instance.event_count() as u64, 0, 0)
+    show_timetable(room, bench.instance(), bench.timetable())
 }

@@ -4,7 +4,8 @@
 
 mod raw;
 
-use raw::{Raw, Told, pesp_ask, pesp_close, pesp_cost, pesp_domain, pesp_events, pesp_open, pesp_times, pesp_try_move};
+use raw::{Found, Raw, Told};
+use raw::{pesp_ask, pesp_close, pesp_cost, pesp_domain, pesp_events, pesp_open, pesp_search, pesp_times, pesp_try_move};
 use std::fmt;
 use std::ptr;
 
@@ -12,6 +13,10 @@ use std::ptr;
 const LEAST_ROOM: usize = 128;
 
 const DONE: u32 = 0;
+// Of `pesp_search_state`; one more says that there is no timetable.
+const NOTHING_YET: u32 = 0;
+const BEST_SO_FAR: u32 = 1;
+const OPTIMUM: u32 = 2;
 /// In the place of the time of an event without one.
 const NO_TIME: u16 = 65_535;
 
@@ -21,6 +26,24 @@ pub struct Files<'a> {
     pub activities: &'a [u8],
     pub fixed: &'a [u8],
     pub times: &'a [u8],
+}
+
+/// What a search has come to. Times are in the order of [`Session::events`].
+#[derive(Clone, Debug, PartialEq, Eq)]
+pub enum Search {
+    /// It stopped: the best timetable so far, if there is one, and what every timetable that meets everything costs at least.
+    Stopped { best: Option<Best>, lower_bound: u64 },
+    /// The optimum is known.
+    Optimum(Best),
+    /// No timetable meets everything.
+    NoTimetable,
+}
+
+/// A timetable that meets everything, with its cost.
+#[derive(Clone, Debug, PartialEq, Eq)]
+pub struct Best {
+    pub cost: u64,
+    pub times: Vec<u16>,
 }
 
 /// Why a call did nothing, in the numbers of pespbench.h.
@@ -157,6 +180,26 @@ impl Session {
         Ok(times.into_iter().map(|time| (time != NO_TIME).then_some(time)).collect())
     }
 
+    fn sought(&mut self, nodes: u64, times: &mut Vec<u16>) -> Result<(Found, usize), Fault> {
+        let (mut found, mut told) = (Found::default(), Told::default());
+        unsafe { pesp_search(&mut self.raw, nodes, times.as_mut_ptr(), times.len(), &mut found, &mut told) };
+        told.ended()?;
+        Ok((found, told.length as usize))
+    }
+
+    /// Looks for the optimum within so many nodes, as the line `try` does. The working timetable stays.
+    pub fn search(&mut self, nodes: u64) -> Result<Search, Fault> {
+        let mut times = vec![0; self.events()?.len()];
+        let (Found { cost, lower_bound, state }, length) = self.sought(nodes, &mut times)?;
+        times.truncate(length);
+        Ok(match state {
+            NOTHING_YET => Search::Stopped { best: None, lower_bound },
+            BEST_SO_FAR => Search::Stopped { best: Some(Best { cost, times }), lower_bound },
+            OPTIMUM => Search::Optimum(Best { cost, times }),
+            _ => Search::NoTimetable,
+        })
+    }
+
     /// The domain of an event: its residues, ascending.
     pub fn domain(&mut self, event: u32) -> Result<Vec<u16>, Fault> {
         let raw = &mut self.raw;
@@ -209,6 +252,21 @@ mod tests {
         session.ask("fix 1 0")?;
         assert_eq!(session.domain(2)?, [4, 5]);
         assert_eq!(session.domain(3).map_err(refused), Err((13, 2, 3)));
+        Ok(())
+    }
+
+    #[test]
+    fn a_search_tells_how_good_its_timetable_is() -> Result<(), Fault> {
+        let mut session = Session::open(10, TWO)?;
+        assert_eq!(session.search(0)?, Search::Stopped { best: None, lower_bound: 0 });
+        let best = |cost| Best { cost, times: vec![0, 4] };
+        assert_eq!(session.search(1_000)?, Search::Optimum(best(4)));
+        assert_eq!(session.times()?, [Some(0), None]);
+        session.ask("weight 1 3")?;
+        assert_eq!(session.search(0)?, Search::Stopped { best: Some(best(5)), lower_bound: 0 });
+        assert_eq!(session.search(u64::MAX)?, Search::Optimum(best(5)));
+        session.ask("span 1 3 3")?;
+        assert_eq!(session.search(1_000)?, Search::NoTimetable);
         Ok(())
     }
 

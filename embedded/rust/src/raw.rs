@@ -13,6 +13,15 @@ pub struct Told {
     pub field: u32,
 }
 
+/// What a search has come to, in the numbers of the header.
+#[repr(C)]
+#[derive(Clone, Copy, Debug, Default)]
+pub struct Found {
+    pub cost: u64,
+    pub lower_bound: u64,
+    pub state: u32,
+}
+
 /// A session, of which only the library reads or writes what is in it. One that is not open is closed.
 #[repr(C)]
 pub struct Raw {
@@ -40,4 +49,5 @@ extern "C" {
     pub fn pesp_events(session: *mut Raw, out: *mut u32, out_length: usize, told: *mut Told);
     pub fn pesp_times(session: *mut Raw, out: *mut u16, out_length: usize, told: *mut Told);
     pub fn pesp_domain(session: *mut Raw, event: u32, out: *mut u8, out_length: usize, told: *mut Told);
+    pub fn pesp_search(session: *mut Raw, nodes: u64, out: *mut u16, out_length: usize, found: *mut Found, told: *mut Told);
 }

@@ -5,15 +5,17 @@ ghost use Rattle.pesp_base.specs.declared.refusal.Refusal.TheVariants as no;
 ghost use Rattle.std.specs.List.Sorted.{IsStrictlyIncreasing};
 ghost use Rattle.pesp_tension.specs.Timetables.{timed_events};
 ghost use Rattle.pesp_search.specs.declared.answer.Answer.TheVariants as answers;
+ghost use Rattle.pesp_instance.specs.Network.{Network};
 ghost use Rattle.pesp_search.specs.Optima.{IsAnswer};
-ghost use Rattle.pesp_bench.specs.Asked.{IsAdopted, IsAttempt, IsLent, IsNoOptimum, IsNotAdopted, IsSearched, IsUnsearched};
+ghost use Rattle.pesp_search.specs.Tried.{IsEnd};
+ghost use Rattle.pesp_bench.specs.Asked.{IsAdopted, IsAttempt, IsLent, IsNoOptimum, IsNotAdopted, IsSearched, IsSought, IsUnsearched};
 
 use crate::candidate::{candidate_cost, or_candidate};
 use crate::costing::KeptCost;
-use crate::{Attempt, Bench};
+use crate::{Attempt, Bench, Sought};
 use pesp_base::{Memory, Refusal};
 use pesp_domains::Keeper;
-use pesp_search::{Answer, Best, Tried, best, best_within};
+use pesp_search::{Answer, Best, Known, best, known_within};
 use pesp_tension::Timetable;
 use std::alloc::Global;
 
@@ -40,6 +42,16 @@ fn keep_found(alloc: Global, found: &Option<Best>, candidate: &mut Option<Timeta
         if let Ok(copy) = copy_of(alloc, &best.times) {
             *candidate = Some(copy);
         }
+    }
+}
+
+/// What a search found that came to its end.
+fn answer_of(best: Option<Best>) -> Answer
+    ensures { (I : Network) → IsEnd I best → IsAnswer I result }
+{
+    match best {
+        Some(Best { cost, times }) => Answer::Optimal { cost, times },
+        None => Answer::Infeasible,
     }
 }
 
@@ -101,8 +113,48 @@ impl<K: Keeper> Bench<K> {
         Ok(self.known.as_ref().unwrap())
     }
 
-    /// Looks for the optimum by at most so many nodes, where it is not known, or refusal 10.
+    /// Looks for the optimum by at most so many nodes, where it is not known, and tells how good that is which it comes to.
+    ///
+    /// No timetable that meets everything costs less than the lower bound. Refusal 10 comes before the first node.
     #[tactic(auto, using(pesp_search::proofs::Sizes::no_nodes))]
+    pub fn seek_optimum(&mut self, alloc: Global, limit: u64) -> Result<Sought, Refusal>
+        ensures ok { IfOk result (IsSought self.old.instance self.new limit) }
+        ensures searched { IsSearched self.old self.new }
+        ensures times { self.new.times ≡ self.old.times }
+        ensures refused { IfErr result (λ refusal. refusal ≡ no.Memory) }
+        ensures unsearched { OnErr result (IsUnsearched self.old self.new) }
+    {
+        self.nodes = 0;
+        if let Some(answer) = &self.known {
+            return Ok(Sought::done(answer));
+        }
+        let bound = candidate_cost(self.keeper.instance(), &self.candidate);
+        let Ok((known, nodes)) = known_within(alloc, &mut self.keeper, bound, limit) else {
+            return Err(Refusal::Memory);
+        };
+        self.nodes = nodes;
+        let Known {
+            best,
+            lower_bound,
+            is_stopped,
+        } = known;
+        if is_stopped {
+            let found = or_candidate(best, bound, &mut self.candidate);
+            keep_found(alloc, &found, &mut self.candidate);
+            let attempt = Attempt::Stopped(found);
+            return Ok(Sought {
+                attempt,
+                lower_bound,
+            });
+        }
+        let answer = answer_of(best);
+        let sought = Sought::done(&answer);
+        self.known = Some(answer);
+        self.candidate = None;
+        Ok(sought)
+    }
+
+    /// What [`Bench::seek_optimum`] comes to, without the bound.
     pub fn try_optimum(&mut self, alloc: Global, limit: u64) -> Result<Attempt, Refusal>
         ensures ok { IfOk result (IsAttempt self.new limit) }
         ensures searched { IsSearched self.old self.new }
@@ -110,27 +162,7 @@ impl<K: Keeper> Bench<K> {
         ensures refused { IfErr result (λ refusal. refusal ≡ no.Memory) }
         ensures unsearched { OnErr result (IsUnsearched self.old self.new) }
     {
-        self.nodes = 0;
-        if self.known.is_some() {
-            return Ok(Attempt::Done);
-        }
-        let bound = candidate_cost(self.keeper.instance(), &self.candidate);
-        let Ok((tried, nodes)) = best_within(alloc, &mut self.keeper, bound, limit) else {
-            return Err(Refusal::Memory);
-        };
-        self.nodes = nodes;
-        match tried {
-            Tried::Done(answer) => {
-                self.known = Some(answer);
-                self.candidate = None;
-                Ok(Attempt::Done)
-            }
-            Tried::Stopped { best } => {
-                let found = or_candidate(best, bound, &mut self.candidate);
-                keep_found(alloc, &found, &mut self.candidate);
-                Ok(Attempt::Stopped(found))
-            }
-        }
+        Ok(self.seek_optimum(alloc, limit)?.attempt)
     }
 
     /// Finds the optimum and makes it the working timetable.

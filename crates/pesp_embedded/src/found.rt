@@ -1,0 +1,50 @@
+//! How good a timetable is, in numbers.
+
+ghost use Rattle.std.specs.Prelude.{◌≡◌};
+ghost use Rattle.pesp_embedded.specs.Searches.{found_answer, found_stop};
+
+use pesp_search::{Answer, Best};
+
+/// What a search has come to, in numbers, which `embedded/pespbench.h` lists.
+#[repr(C)]
+#[derive(Clone, Copy, Debug, PartialEq, Eq)]
+pub struct Found {
+    /// Of the timetable that is told; 0 where none is.
+    pub cost: u64,
+    /// What every timetable that meets everything costs at least; 0 where there is none.
+    pub lower_bound: u64,
+    /// 0 and 1 at a stop without and with a timetable; 2 and 3 where the optimum is known, or that there is none.
+    pub state: u32,
+}
+
+impl Found {
+    /// The optimum is known, or that there is none.
+    pub(crate) fn of_answer(answer: &Answer) -> Found
+        ensures { result ≡ found_answer answer.now }
+    {
+        let (cost, state) = match answer {
+            Answer::Optimal { cost, .. } => (*cost, 2),
+            Answer::Infeasible => (0, 3),
+        };
+        Found {
+            cost,
+            lower_bound: cost,
+            state,
+        }
+    }
+
+    /// A search stopped with this.
+    pub(crate) fn of_stop(best: &Option<Best>, lower_bound: u64) -> Found
+        ensures { result ≡ found_stop best.now lower_bound }
+    {
+        let (cost, state) = match best {
+            Some(best) => (best.cost, 1),
+            None => (0, 0),
+        };
+        Found {
+            cost,
+            lower_bound,
+            state,
+        }
+    }
+}

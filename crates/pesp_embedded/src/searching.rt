@@ -1,0 +1,110 @@
+//! A search for the optimum, told in numbers.
+
+ghost use Rattle.std.specs.Prelude.{◌≡◌, ◌≢◌, None, Some, IfErr, IfOk, IfSome, IsSome, IsSomeAnd, OnErr, option_map};
+ghost use Rattle.pesp_shell_replies.specs.Legal.{work_of};
+ghost use Rattle.pesp_bench.specs.Asked.{IsSearched, IsUnsearched};
+ghost use Rattle.pesp_embedded.specs.Faults.{told_fault};
+ghost use Rattle.pesp_embedded.specs.Searches.{IsSearchTold, known_in, timetable_in, times_told};
+ghost use Rattle.pesp_embedded.specs.Sessions.{AreShown, work_in};
+ghost use Rattle.pesp_embedded.specs.declared.fault.Fault.TheVariants as fault;
+
+use crate::lists::show_timetable;
+use crate::{Fault, Found, Session, Told};
+use pesp_bench::{Attempt, Bench};
+use pesp_counts::CountKeeper;
+use pesp_instance::Instance;
+use pesp_search::{Answer, Best};
+use std::alloc::Global;
+
+/// Puts the times of the optimum in front of the room, if there is one.
+fn show_answer(room: &mut [u16], instance: &Instance, answer: &Answer) -> Told
+    ensures { AreShown (times_told instance.now (timetable_in answer.now)) room.old room.new result }
+{
+    match answer {
+        Answer::Optimal { times, .. } => show_timetable(room, instance, times),
+        Answer::Infeasible => Told::ended(0, 0, 0),
+    }
+}
+
+/// Puts the times that a search stopped with in front of the room, if there are any.
+fn show_stop(room: &mut [u16], instance: &Instance, best: &Option<Best>) -> Told
+    ensures { AreShown (times_told instance.now (option_map (λ b. b.times) best.now)) room.old
+        room.new result }
+{
+    match best {
+        Some(best) => show_timetable(room, instance, &best.times),
+        None => Told::ended(0, 0, 0),
+    }
+}
+
+/// Looks for the optimum, puts the times that it comes to in front of the room, and tells how good they are.
+fn search(
+    alloc: Global,
+    bench: &mut Bench<CountKeeper>,
+    nodes: u64,
+    room: &mut [u16],
+) -> Result<(Found, Told), Fault>
+    ensures told { IfOk result (λ r.
+        IsSearchTold bench.old.instance nodes bench.new.known room.old room.new r.0 r.1) }
+    ensures searched { IsSearched bench.old bench.new }
+    ensures unchanged { work_of bench.new ≡ work_of bench.old }
+    ensures refused { IfErr result (λ f. f ≡ fault.Memory) }
+    ensures unsearched { OnErr result (IsUnsearched bench.old bench.new) }
+    ensures untouched { OnErr result (room.new ≡ room.old) }
+{
+    let Ok(sought) = bench.seek_optimum(alloc, nodes) else {
+        return Err(Fault::Memory);
+    };
+    let instance = bench.instance();
+    match &sought.attempt {
+        Attempt::Done => {
+            let answer = bench.known().unwrap();
+            let told = show_answer(room, instance, answer);
+            Ok((Found::of_answer(answer), told))
+        }
+        Attempt::Stopped(best) => {
+            let told = show_stop(room, instance, best);
+            Ok((Found::of_stop(best, sought.lower_bound), told))
+        }
+    }
+}
+
+/// Looks for the optimum by at most so many nodes, as the line `try` with that number does.
+///
+/// The time of each event in the timetable that it comes to stands in front of `out`, by ascending events, as many as it
+/// has room for, and what comes after them stays as it was. `found` has how good that timetable is, and `told` how many
+/// events there are; 0 where no timetable is told. What is found serves later searches and lines of the session.
+/// Without memory nothing is told, and no optimum was or is known.
+#[unsafe(no_mangle)]
+pub extern "C" fn pesp_search(
+    alloc: Global,
+    session: &mut Session,
+    nodes: u64,
+    out: &mut [u16],
+    found: &mut Found,
+    told: &mut Told,
+)
+    ensures answered { told.new.status ≡ 0 → IsSomeAnd (work_in session.old.handle.kept) (λ w.
+        IsSearchTold w.instance nodes (known_in session.new.handle.kept) out.old out.new found.new told.new) }
+    ensures closed { work_in session.old.handle.kept ≡ None → told.new ≡ told_fault fault.Closed }
+    ensures fault { IsSome (work_in session.old.handle.kept) → told.new.status ≢ 0
+        → (told.new ≡ told_fault fault.Memory) × (known_in session.old.handle.kept ≡ None)
+        × (known_in session.new.handle.kept ≡ None) }
+    ensures unchanged { work_in session.new.handle.kept ≡ work_in session.old.handle.kept }
+    ensures kept { IfSome (known_in session.old.handle.kept) (λ answer.
+        known_in session.new.handle.kept ≡ Some answer) }
+    ensures untouched { told.new.status ≢ 0 → (out.new ≡ out.old) × (found.new ≡ found.old) }
+{
+    let Some(mut kept) = session.take(alloc) else {
+        *told = Fault::Closed.told();
+        return;
+    };
+    *told = match search(alloc, &mut kept.bench, nodes, out) {
+        Ok((now, shown)) => {
+            *found = now;
+            shown
+        }
+        Err(fault) => fault.told(),
+    };
+    session.put(kept);
+}

@@ -1,0 +1,213 @@
+"""Searches of sessions in numbers, beside the lines `try` and `optimum` of the program and of other sessions. For the group
+`embedded`."""
+
+import ctypes
+import random
+from pathlib import Path
+from types import ModuleType
+from typing import Callable, Dict, List, Tuple, TypedDict
+
+from tests.drawn_runs import GREATEST_SHORT, Asked, drawn_run, told_by
+from tests.file_cases import TWO
+from tests.harness import Suite, rows_of, run
+from tests.rules import Row
+from tests.sessions import DONE, MEMORY, Library, Number, Numbers, Searched, lines_of
+
+DRAWN = 60
+# Lines with their nodes.
+SEARCHES = {b"try %d" % limit: limit for limit in [0, 1, 2, 5, 20, 100, 1000]}
+NOTHING_YET, BEST_SO_FAR, OPTIMUM, NO_TIMETABLE = range(4)
+WORDS = {"stopped": BEST_SO_FAR, "optimum": OPTIMUM}
+
+
+class Answer(TypedDict):
+    """What a reply to `try` or `optimum` tells."""
+
+    state: int
+    cost: int
+    times: List[int]
+
+
+def read(reply: bytes) -> Answer:
+    """State, cost and times of a reply to `try` or `optimum`."""
+    first, *rows = reply.decode().splitlines()
+    if first in ("stopped none", "infeasible"):
+        return {"state": NOTHING_YET if first == "stopped none" else NO_TIMETABLE, "cost": 0, "times": []}
+    word, cost, _ = first.split()
+    return {"state": WORDS[word], "cost": int(cost), "times": [int(row.split()[1]) for row in rows]}
+
+
+def with_searches(draw: random.Random, asked: Asked) -> Asked:
+    """The run with lines `try` among its lines."""
+    lines: List[bytes] = []
+    for line in lines_of(asked.commands):
+        lines.append(line)
+        while draw.randrange(3) == 0:
+            lines.append(draw.choice([*SEARCHES]))
+    return asked._replace(commands=b"\n".join([*lines, b"try 1000"]))
+
+
+def meets_all(library: Library, times: Numbers) -> Tuple[bool, Number]:
+    """Whether the times meet everything, and what they cost; they are the working timetable then."""
+    for event, time in zip(library.events(), times):
+        library.ask(b"time %d %d" % (event, time))
+    return library.ask(b"violations") == b"violations 0\n", library.cost()
+
+
+def judged(suite: Suite, title: str, found: Searched, apart: Library) -> None:
+    """A bound that the optimum keeps, and times that meet everything at the cost; `apart` has the same instance."""
+    state, cost, bound, times = found
+    if state in (BEST_SO_FAR, OPTIMUM):
+        suite.note(f"{title}: times", {"meet all, cost": (True, cost)}, {"meet all, cost": meets_all(apart, times)})
+    best = read(apart.ask(b"optimum"))
+    if best["state"] == OPTIMUM:
+        suite.holds(f"{title}: the bound {bound} is not above {best['cost']}", bound <= best["cost"] <= (cost if times else best["cost"]))
+    ends: Dict[int, Searched] = {OPTIMUM: (OPTIMUM, best["cost"], best["cost"], best["times"]), NO_TIMETABLE: (best["state"], 0, 0, [])}
+    suite.note(f"{title}: the end", {"found": ends.get(state, found)}, {"found": found})
+
+
+def drawn_searches(suite: Suite, by_lines: Library, by_number: Library, apart: Library) -> None:
+    """A search tells what `try` tells in a session with the same lines, and leaves all that is asked but the optimum as it was."""
+    draw = random.Random(71)
+    for number in range(DRAWN):
+        asked = with_searches(draw, drawn_run(draw))
+        opened = [library.open(asked.period, asked.activities, asked.fixed, asked.times) for library in (by_lines, by_number, apart)]
+        if opened != [DONE] * 3:
+            continue
+        replies = b""
+        for line in lines_of(asked.commands):
+            title, limit, reply = f"drawn session {number} at {line!r}", SEARCHES.get(line), by_lines.ask(line)
+            replies += reply
+            if limit is None:
+                suite.note(title, {"reply": reply}, {"reply": by_number.ask(line)})
+                apart.ask(line)
+                continue
+            before = by_number.times(), by_number.cost()
+            found = by_number.search(limit)
+            suite.note(title, read(reply), {"state": found[0], "cost": found[1], "times": found[3]})
+            suite.note(f"{title}: what was", {"left": before}, {"left": (by_number.times(), by_number.cost())})
+            if asked.period <= GREATEST_SHORT:
+                judged(suite, title, found, apart)
+        suite.note(f"drawn session {number} in the program", told_by(suite, asked), {"replies": replies, "fault": ""})
+        for library in (by_lines, by_number, apart):
+            library.close()
+
+
+def drawn_activities(draw: random.Random) -> List[Row]:
+    """Forty activities between twenty events, with spans of twenty times around those of some timetable."""
+    times = [draw.randrange(60) for _ in range(20)]
+    activities: List[Row] = []
+    for number in range(1, 41):
+        start, end = draw.sample(range(20), 2)
+        lower = (times[end] - times[start] - draw.randrange(20)) % 60
+        activities.append((number, start + 1, end + 1, lower, lower + 19, draw.randrange(1, 9)))
+    return activities
+
+
+def growing_searches(suite: Suite, library: Library) -> None:
+    """With nodes that double no cost rises, the optimum keeps each bound, and some stops tell one above 0."""
+    draw = random.Random(73)
+    of_stops: List[int] = []
+    for number in range(5):
+        library.open(60, rows_of(drawn_activities(draw)), b"", b"")
+        found = [library.search(0)]
+        while found[-1][0] < OPTIMUM and len(found) < 16:
+            found.append(library.search(2 ** (len(found) - 1)))
+        state, least, bound, _ = found[-1]
+        suite.note(f"drawn activities {number} end", {"state, bound": (OPTIMUM, least)}, {"state, bound": (state, bound)})
+        costs = [cost for state, cost, _, _ in found if state != NOTHING_YET]
+        suite.holds(f"drawn activities {number}: no cost rises in {costs}", costs == sorted(costs, reverse=True))
+        bounds = [bound for _, _, bound, _ in found]
+        suite.holds(f"drawn activities {number}: the optimum at {least} keeps {bounds}", max(bounds) <= least)
+        of_stops += bounds[:-1]
+        library.close()
+    suite.holds(f"a stop tells a bound above 0: {of_stops}", any(of_stops))
+
+
+def uses(suite: Suite, library: Library) -> None:
+    """What a search leaves serves later lines and searches, and nothing of the working timetable is told."""
+
+    def line(text: bytes) -> str:
+        return library.ask(text).decode()
+
+    steps: List[Tuple[str, Callable[[], object], object]] = [
+        ("open", lambda: library.open(10, TWO, b"", b"1; 7\n2; 7\n"), DONE),
+        ("nothing is searched", lambda: library.search(0), (NOTHING_YET, 0, 0, [])),
+        ("the optimum with room for one time", lambda: (library.search(1000, room=1), library.told.length), ((OPTIMUM, 4, 4, [0]), 2)),
+        ("the same with no node", lambda: library.search(0), (OPTIMUM, 4, 4, [0, 4])),
+        ("the optimum by a line", lambda: line(b"optimum"), "optimum 4 2\n1 0\n2 4\n"),
+        ("the working timetable after that", library.times, [7, 7]),
+        ("an edit that keeps it", lambda: line(b"weight 2 1"), "ok\n"),
+        ("no node after it", lambda: library.search(0), (OPTIMUM, 4, 4, [0, 4])),
+        ("an edit that does not", lambda: line(b"weight 1 3"), "ok\n"),
+        ("the old timetable", lambda: library.search(0), (BEST_SO_FAR, 5, 0, [0, 4])),
+        ("as many nodes as there can be", lambda: library.search(2**64 - 1), (OPTIMUM, 5, 5, [0, 4])),
+        ("adopted", lambda: (line(b"adopt"), library.times()), ("ok\n", [0, 4])),
+        ("no timetable any more", lambda: line(b"span 1 3 3"), "ok\n"),
+        ("which a search finds", lambda: (library.search(1000), library.told.length), ((NO_TIMETABLE, 0, 0, []), 0)),
+        ("and tells again", lambda: library.search(0), (NO_TIMETABLE, 0, 0, [])),
+        ("an empty domain", lambda: line(b"span 1 3 5") + line(b"fix 1 0") + line(b"fix 2 9"), "ok\nok\nok\n"),
+        ("needs no node", lambda: library.search(0), (NO_TIMETABLE, 0, 0, [])),
+        ("close", library.close, None),
+        ("no event", lambda: library.open(10, b"", b"", b""), DONE),
+        ("costs nothing", lambda: library.search(0), (OPTIMUM, 0, 0, [])),
+        ("close that", library.close, None),
+    ]
+    for title, call, wanted in steps:
+        suite.note(f"searches: {title}", {"came": wanted}, {"came": call()})
+
+
+# The system's memory, of which a request is refused when so many have been served; none while the number is negative.
+REFUSING = r"""
+#include <stddef.h>
+long requests_left = -1;
+void *__real_malloc(size_t);
+void *__real_realloc(void *, size_t);
+static int is_refused(void) { return requests_left == 0 || (requests_left > 0 && (requests_left -= 1, 0)); }
+void *__wrap_malloc(size_t size) { return is_refused() ? NULL : __real_malloc(size); }
+void *__wrap_realloc(void *block, size_t size) { return is_refused() ? NULL : __real_realloc(block, size); }
+"""
+
+# A ring of events, with a chord: what is found at once, and is not all at slack 0.
+RING = [(1, 1, 2, 3, 9, 2), (2, 2, 3, 4, 8, 1), (3, 3, 4, 1, 7, 5), (4, 4, 5, 6, 12, 1), (5, 5, 1, 2, 6, 3), (6, 2, 5, 3, 8, 4)]
+
+
+def refused_once(suite: Suite, library: Library, served: int) -> bool:
+    """Whether a search is refused memory after so many requests; then nothing changed, and with memory it answers as ever."""
+    left = ctypes.c_long.in_dll(library.loaded, "requests_left")
+    library.open(10, rows_of(RING), b"", b"1; 7\n")
+    before = library.times(), library.ask(b"dump")
+    left.value = served
+    found = library.search(1000)
+    left.value = -1
+    is_refused: bool = library.told.status == MEMORY
+    title = f"a search after {served} requests for memory"
+    if is_refused:
+        suite.note(title, {"refused": (7, 7, 7, (MEMORY, 0, 0))}, {"refused": found})
+        suite.note(f"{title}: what was", {"left": before}, {"left": (library.times(), library.ask(b"dump"))})
+        found = library.search(1000)
+    best = read(library.ask(b"optimum"))
+    wanted = (OPTIMUM, best["cost"], best["cost"], best["times"])
+    suite.note(f"{title}: the optimum", {"found": wanted}, {"found": found})
+    library.close()
+    return is_refused
+
+
+def refused_memory(suite: Suite, module: ModuleType, compiler: str, heap: Path, archive: Path) -> None:
+    """Each request for memory of a search is refused in turn."""
+    source, path = suite.file("refusing.c", REFUSING.encode()), suite.folder / "librefusing.so"
+    words = [compiler, "-shared", "-fPIC", "-Wl,--wrap=malloc", "-Wl,--wrap=realloc", "-o", path, source, heap]
+    made = run([*words, "-Wl,--whole-archive", archive, "-Wl,--no-whole-archive"], seconds=100)
+    suite.note("the library over memory that is refused", {"status": 0}, {"status": made["status"]})
+    if made["status"] == 0:
+        library, served = Library(module, path), 0
+        while refused_once(suite, library, served):
+            served += 1
+        suite.holds(f"{served} requests were refused", served > 0)
+
+
+def searches(suite: Suite, module: ModuleType, path: Path) -> None:
+    libraries = [Library(module, path) for _ in range(3)]
+    uses(suite, libraries[0])
+    drawn_searches(suite, *libraries)
+    growing_searches(suite, libraries[0])
