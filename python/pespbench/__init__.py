@@ -14,12 +14,14 @@ from pespbench.faults import BadReply, Ended, Fault, FileFault, NoLibrary, NotKe
 from pespbench.labels import EventLabel, Labels
 from pespbench.network import Activity, Network, Window
 from pespbench.parts import optimum_in_parts
+from pespbench.progress import Progress
+from pespbench.searching import Search
 from pespbench.variants import variants
 from pespbench.wording import Names
 from pespbench.workers import Lost
 
 __all__ = [
     "Activity", "Answer", "BadReply", "Bench", "Domain", "Ended", "Engine", "EventLabel", "Fault", "FileFault", "Found",
-    "Infeasible", "Labels", "Lost", "Names", "Network", "NoLibrary", "NotKept", "Optimum", "PespbenchError", "Refused", "Stopped",
-    "Tension", "Violations", "Window", "optimum_in_parts", "variants",
+    "Infeasible", "Labels", "Lost", "Names", "Network", "NoLibrary", "NotKept", "Optimum", "PespbenchError", "Progress",
+    "Refused", "Search", "Stopped", "Tension", "Violations", "Window", "optimum_in_parts", "variants",
 ]

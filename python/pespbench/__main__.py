@@ -14,7 +14,7 @@ from pespbench.ending import INTERRUPTS, status_of, terminated
 from pespbench.faults import PespbenchError, WrongWords
 from pespbench.terminal import complain, shown
 
-MODULES = ["shell", "search", "why", "report", "compare", "lintim", "drawn"]
+MODULES = ["shell", "search", "why", "helps", "report", "compare", "lintim", "drawn"]
 
 
 class Parser(argparse.ArgumentParser):

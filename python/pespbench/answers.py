@@ -94,6 +94,10 @@ class Stopped:
     cost: Optional[int] = None
     times: Mapping[int, int] = field(default_factory=dict)
 
+    def is_below(self, cost: Optional[int]) -> bool:
+        """Whether there is a timetable, and it is cheaper than a cost, or than none."""
+        return self.cost is not None and (cost is None or self.cost < cost)
+
     def text(self) -> str:
         """The reply of the program."""
         return "stopped none\n" if self.cost is None else _timetable("stopped", self.cost, self.times)
@@ -105,4 +109,11 @@ def _timetable(word: str, cost: int, times: Mapping[int, int]) -> str:
 
 
 Found = Union[Optimum, Infeasible, Stopped]
+
+
+def cost_of(found: Found) -> Optional[int]:
+    """What the timetable costs that a search found, or None where it found none."""
+    return None if isinstance(found, Infeasible) else found.cost
+
+
 Answer = Union[None, int, str, Domain, Dict[int, Domain], Dict[int, Tension], Violations, Optimum, Infeasible, Stopped]

@@ -4,30 +4,25 @@ from __future__ import annotations
 
 import os
 import re
-import time as clock
 from operator import index
 from typing import Iterable, List, Mapping, Optional, Tuple, Union
 
 from pespbench import files
-from pespbench.answers import Answer, Found, Stopped
-from pespbench.commands import MOST_NODES, checked
+from pespbench.answers import Answer, Stopped
+from pespbench.commands import checked
 from pespbench.curing import cured
 from pespbench.engines import Engine
 from pespbench.faults import Ended, Fault, Refused
 from pespbench.journal import journal_of
 from pespbench.kept import Kept
 from pespbench.labels import Labels
-from pespbench.methods import found_by
+from pespbench.searching import Search, Watcher, check_limits
 from pespbench.session import Cost, Outcome, Session
-from pespbench.transport import OutOfTime
-from pespbench.watching import Watch
 from pespbench.work import Work
 
 Path = Union[str, "os.PathLike[str]"]
 # The comment in which a script tells its period.
 PERIOD_COMMENT = re.compile("[ \t]*#[ \t]+period[ \t]+([0-9]{1,9})(?=[ \t\r]|$)")
-MOST_SECONDS = 1_000_000
-SECONDS_TEXT = f"a search takes from 0 to {MOST_SECONDS:,} seconds"
 
 
 class Bench(Kept):
@@ -182,7 +177,7 @@ class Bench(Kept):
 
     def ask(self, command: str) -> Answer:
         """The answer to a command line: None for an edit. Raises ValueError for a line that has no reply."""
-        return self._one(command, None)
+        return self._session.answer(checked(command))
 
     def many(self, commands: Iterable[str]) -> List[Outcome]:
         """The answers to command lines, which are written while replies are read.
@@ -207,37 +202,20 @@ class Bench(Kept):
             return Stopped()
         return Stopped(self.cost(), self.times)
 
-    def search(self, seconds: float, nodes: int = 1_000, watch: Optional[Watch] = None) -> Found:
-        """The optimum where it is found within a time, and else the best timetable that is known.
+    def search(self, seconds: float, nodes: int = 1_000, watch: Optional[Watcher] = None) -> Search:
+        """A search for the optimum within a time, that tells what it has as it goes: `for progress in bench.search(10.0)`.
 
-        The working timetable is one where it meets everything. It tries `nodes` nodes, twice as many, and so on; what is
-        under way when the time is over is given up. `watch` is told what it comes to, and so has the best timetable where
-        anything is raised. Raises ValueError for seconds that are not from 0 to 1,000,000.
+        It begins with the working timetable, where that meets everything; searches through `nodes` nodes, twice as many, and so
+        on; and ends where the optimum is known, or that there is no timetable (`found` of the last Progress is Infeasible, as
+        `optimum` answers it), or where the time is over, or where the caller stops. A lower bound is told as it goes by the
+        library alone; at a gap of 0 it goes on until the first of the cheapest timetables is known.
+
+        `bench.search(10.0).found()` gives what it comes to at the end. `watch` is called with each Progress, too. At Ctrl-C
+        KeyboardInterrupt is raised, and what was found is `progress` of the search. Network, working timetable and journal
+        stay as they are. Raises ValueError for seconds that are not from 0 to 1,000,000, or nodes from 1 to 10**12.
         """
-        if not 0 <= seconds <= MOST_SECONDS:
-            raise ValueError(SECONDS_TEXT)
-        deadline = clock.monotonic() + seconds
-        watch = Watch() if watch is None else watch
-        watch.take(self.standing())
-        while True:
-            try:
-                found = found_by(self._one(f"try {nodes}", deadline))
-            except OutOfTime:
-                return watch.best
-            if not isinstance(found, Stopped):
-                return found
-            watch.take(found)
-            if nodes == MOST_NODES:
-                return watch.best
-            nodes = min(2 * nodes, MOST_NODES)
-
-    # How a command is asked.
-
-    def _one(self, command: str, deadline: Optional[float]) -> Answer:
-        [outcome] = self._session.outcomes([checked(command)], deadline)
-        if isinstance(outcome, (Refused, Fault)):
-            raise outcome
-        return outcome
+        check_limits(seconds, nodes)
+        return Search(self._session, self.standing(), seconds, nodes, watch)
 
     def _all(self, commands: Iterable[str]) -> None:
         """Does commands, of which none may be refused. Raises the first refusal or fault."""

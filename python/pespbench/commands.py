@@ -8,6 +8,8 @@ from typing import List, Tuple
 LONGEST_LINE = 4_096
 MOST_LINES = 1_000_000
 MOST_NODES = 1_000_000_000_000
+# The bounds of a span are this far from 0 at most.
+GREATEST_BOUND = 1_000_000
 
 TWO_WORDS = ("add", "drop")
 # Beside `adopt`, these are the commands that change the network or the working timetable.

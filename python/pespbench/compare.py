@@ -40,7 +40,7 @@ class Side:
             Ended: the program ended.
             Refused: the program refused for another reason than a missing time.
         """
-        copy = Network(bench.period, dict(bench.network.windows), dict(bench.network.activities))
+        copy = bench.network.copy()
         times = dict(bench.times)
         try:
             return cls(copy, bench.labels, times, bench.tensions(), bench.violations(), bench.cost())

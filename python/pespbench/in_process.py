@@ -8,13 +8,16 @@ import signal
 import threading
 import time as clock
 import weakref
-from typing import Iterator, List, Mapping, Optional, Sequence, Tuple, Union
+from functools import partial
+from typing import Callable, Iterator, List, Mapping, Optional, Sequence, Tuple, TypeVar, Union
 
+from pespbench.answers import Found, Infeasible, Optimum, Stopped
 from pespbench.faults import BadReply, Ended
-from pespbench.library import DONE, FILES, Calls, Handle, Told, ended_by, fault
-from pespbench.transport import AfterMove, OutOfTime, Transport
+from pespbench.library import BEST_SO_FAR, DONE, FILES, NO_TIMETABLE, NOTHING_YET, OPTIMUM, Calls, Handle, Told, ToldFound, ended_by, fault
+from pespbench.transport import AfterMove, OutOfTime, Reached, Transport
 
 Path = Union[str, "os.PathLike[str]"]
+Kind = TypeVar("Kind")
 # The program's (docs/FORMATS.md, *Limits*).
 LEAST_PERIOD, GREATEST_PERIOD = 2, 1_440
 LONGEST_FILE = 67_108_864
@@ -47,7 +50,6 @@ class InProcess(Transport):
         # Whether a call is under way in a thread, and what it came to; whether its session is let go, or ended from outside.
         self._is_searching = self._is_given_up = self._is_ended = False
         self._is_over = threading.Event()
-        self._found: Union[bytes, Exception] = b""
         # Where nobody closes it, or its search is given up, it goes with the last that uses it.
         self._let_go = weakref.finalize(self, let_go, calls, self._handle, os.getpid())
         self._let_go.atexit = False
@@ -66,7 +68,8 @@ class InProcess(Transport):
             if self._is_ended:
                 raise given_up()
             is_long = deadline is not None or command.split()[0] in SEARCHES
-            reply = self._searched(command.encode(), deadline) if is_long else self._answered(command.encode())
+            ask = partial(self._answered, command.encode())
+            reply = self._in_time(ask, deadline) if is_long else ask()
             *lines, rest = reply.decode(errors="replace").split("\n")
             if rest or not lines:
                 raise BadReply(rest or f"nothing to {command}")
@@ -83,22 +86,25 @@ class InProcess(Transport):
             # The reply to a question, which is asked once more.
             self._make_room(length)
 
-    def _searched(self, line: bytes, deadline: Optional[float]) -> bytes:
+    def _in_time(self, ask: Callable[[], Kind], deadline: Optional[float]) -> Kind:
+        """What a call that may take long comes to."""
         if deadline is not None and deadline <= clock.monotonic():
             raise OutOfTime
         self._is_over.clear()
         if self._is_ended:
             raise given_up()
         self._is_searching = True
-        threading.Thread(target=self._search, args=(line,), name="pespbench search", daemon=True).start()
+        came: List[Union[Kind, Exception]] = []
+        threading.Thread(target=self._search, args=(ask, came), name="pespbench search", daemon=True).start()
         is_over = self._is_over_by(deadline)
         if self._is_ended:
             raise given_up()
         if not is_over:
             raise OutOfTime
-        if isinstance(self._found, Exception):
-            raise self._found
-        return self._found
+        [found] = came
+        if isinstance(found, Exception):
+            raise found
+        return found
 
     def _is_over_by(self, deadline: Optional[float]) -> bool:
         """Waits for the search a little at a time, since a signal that comes just before a wait does not end it."""
@@ -107,11 +113,11 @@ class InProcess(Transport):
             left = LITTLE if deadline is None else min(LITTLE, deadline - clock.monotonic())
         return self._is_over.is_set()
 
-    def _search(self, line: bytes) -> None:
+    def _search(self, ask: Callable[[], Kind], came: List[Union[Kind, Exception]]) -> None:
         try:
-            self._found = self._answered(line)
+            came.append(ask())
         except Exception as raised:
-            self._found = raised
+            came.append(raised)
         # Either this thread sees that it was given up, or who gives up sees that it does not search.
         self._is_searching = False
         if self._is_given_up:
@@ -145,6 +151,20 @@ class InProcess(Transport):
         self._calls.cost(self._at, self._cost_at, self._told_at)
         return self._cost.value if self._told.status == DONE else None
 
+    def searched(self, nodes: int, events: Sequence[int], deadline: Optional[float] = None) -> Optional[Reached]:
+        """What a search comes to, by the call for it, where the library has one."""
+        call = self._calls.search
+        return None if call is None else self._in_time(partial(self._reached, call, nodes, events), deadline)
+
+    def _reached(self, call: Callable[..., None], nodes: int, events: Sequence[int]) -> Reached:
+        times, came = (ctypes.c_uint16 * len(events))(), ToldFound()
+        call(self._at, nodes, ctypes.addressof(times), len(events), ctypes.addressof(came), self._told_at)
+        if self._told.status != DONE:
+            raise ended_by(self._told)
+        if self._told.length != (len(events) if came.state in (BEST_SO_FAR, OPTIMUM) else 0):
+            raise BadReply(f"{self._told.length} times of {len(events)} events in state {came.state}")
+        return Reached(found_by(came.state, came.cost, dict(zip(events, times))), came.lower_bound)
+
     def kill(self) -> None:
         """Gives the session's memory back, or leaves that to the search that is under way."""
         self._is_given_up = True
@@ -155,6 +175,17 @@ class InProcess(Transport):
         """Has who waits for a search, or asks next, be raised Ended, from whatever thread."""
         self._is_ended = True
         self._is_over.set()
+
+
+def found_by(state: int, cost: int, times: Mapping[int, int]) -> Found:
+    """What the library says that a search found. Raises BadReply for a state that cannot be."""
+    if state == BEST_SO_FAR:
+        return Stopped(cost, times)
+    if state == OPTIMUM:
+        return Optimum(cost, times)
+    if state not in (NOTHING_YET, NO_TIMETABLE):
+        raise BadReply(f"state {state} of the library")
+    return Infeasible() if state == NO_TIMETABLE else Stopped()
 
 
 def let_go(calls: Calls, handle: Handle, owner: int) -> None:

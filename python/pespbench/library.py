@@ -8,7 +8,7 @@ import functools
 import os
 from contextlib import suppress
 from pathlib import Path
-from typing import Callable, Iterator, NamedTuple, Union
+from typing import Callable, Iterator, NamedTuple, Optional, Union
 
 from pespbench.faults import BadReply, Ended, NoLibrary
 from pespbench.process import find_program
@@ -66,6 +66,12 @@ class Told(ctypes.Structure):
     ]
 
 
+class ToldFound(ctypes.Structure):
+    """What a search tells of what it came to."""
+
+    _fields_ = [("cost", ctypes.c_uint64), ("lower_bound", ctypes.c_uint64), ("state", ctypes.c_uint32)]
+
+
 class Handle(ctypes.Structure):
     """A session, which the library alone reads and writes."""
 
@@ -79,6 +85,8 @@ class Calls(NamedTuple):
     ask: Callable[..., None]
     cost: Callable[..., None]
     close: Callable[..., None]
+    # An older library has none; there a search is a line.
+    search: Optional[Callable[..., None]] = None
 
 
 ADDRESS, LENGTH = ctypes.c_void_p, ctypes.c_size_t
@@ -88,7 +96,9 @@ PARAMETERS = {
     "pesp_ask": [ADDRESS, *BYTES, ADDRESS, LENGTH, ADDRESS],
     "pesp_cost": [ADDRESS, ADDRESS, ADDRESS],
     "pesp_close": [ADDRESS],
+    "pesp_search": [ADDRESS, ctypes.c_uint64, ADDRESS, LENGTH, ADDRESS, ADDRESS],
 }
+NEWER = ("pesp_search",)
 
 
 @functools.lru_cache(maxsize=None)
@@ -98,16 +108,18 @@ def loaded(path: str) -> Calls:
         library = ctypes.CDLL(path)
     except OSError as fault:
         raise NoLibrary(f"{path} is no library that can be loaded: {fault}") from None
-    missing = [name for name in PARAMETERS if not hasattr(library, name)]
+    there = [name for name in PARAMETERS if hasattr(library, name)]
+    missing = [name for name in PARAMETERS if name not in (*there, *NEWER)]
     if missing:
         raise NoLibrary(f"{path} is no library of this version of pespbench: it has no {missing[0]}")
-    calls = [getattr(library, name) for name in PARAMETERS]
-    for call, parameters in zip(calls, PARAMETERS.values()):
-        call.argtypes, call.restype = parameters, None
+    calls = [getattr(library, name) for name in there]
+    for name, call in zip(there, calls):
+        call.argtypes, call.restype = PARAMETERS[name], None
     return Calls(*calls)
 
 
 DONE, MEMORY, LONG_LINE = 0, 6, 7
+NOTHING_YET, BEST_SO_FAR, OPTIMUM, NO_TIMETABLE = range(4)
 FILES = ("activities", "fixed", "times")
 REASONS = (
     "wrong number of fields", "field {} is not a number", "field {} is out of range", "weight has a fraction",

@@ -53,6 +53,10 @@ class Network:
         """The events, ascending."""
         return sorted(self.windows)
 
+    def copy(self) -> "Network":
+        """The same network, apart from what commands make of this one."""
+        return Network(self.period, dict(self.windows), dict(self.activities))
+
     def script(self) -> List[str]:
         """The commands that make the network from nothing, as `dump` has them, without its first line."""
         lines = [f"add event {event}" for event in self.events]

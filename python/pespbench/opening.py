@@ -5,7 +5,8 @@ from __future__ import annotations
 import argparse
 import os
 
-from pespbench.client import MOST_SECONDS, SECONDS_TEXT, Bench
+from pespbench.client import Bench
+from pespbench.searching import MOST_SECONDS, SECONDS_TEXT
 
 
 def add_network(parser: argparse.ArgumentParser) -> None:

@@ -14,7 +14,7 @@ from pespbench.faults import BadReply
 from pespbench.network import Activity, Network
 from pespbench.variants import Base, Task, answer_task, at_work, hands_of
 from pespbench.watching import Watch
-from pespbench.workers import Driver, Lost, Progress
+from pespbench.workers import Bar, Driver, Lost
 
 
 @dataclass(frozen=True)
@@ -78,7 +78,7 @@ def optimum_in_parts(
     if spans < 1 or ranges < 1:
         raise ValueError("there is at least one span, and one range of it")
     parts = parts_of(bench.network, spans, ranges)
-    bar = Progress(len(parts), progress if watch is None else False)
+    bar = Bar(len(parts), progress if watch is None else False)
     base = Base.of(bench)
     search = Search(parts, base, bar, Watch() if watch is None else watch)
     search.begin(bench.standing())
@@ -92,7 +92,7 @@ def optimum_in_parts(
 class Search:
     """The parts, and the first of the cheapest timetables that came."""
 
-    def __init__(self, parts: List[Part], base: Base, bar: Progress, watch: Watch) -> None:
+    def __init__(self, parts: List[Part], base: Base, bar: Bar, watch: Watch) -> None:
         self._parts = parts
         self._base = base
         self._bar = bar

@@ -7,7 +7,7 @@ import sys
 from pathlib import Path
 from typing import Optional, Tuple
 
-from pespbench.answers import Found, Infeasible, Stopped
+from pespbench.answers import Found, Infeasible, Stopped, cost_of
 from pespbench.client import Bench
 from pespbench.ending import INTERRUPTS, status_of, uninterrupted
 from pespbench.faults import FileFault, PespbenchError
@@ -54,7 +54,7 @@ def run(words: argparse.Namespace) -> int:
         raise ended
     if ended is not None:
         return status_of(ended)
-    return 1 if isinstance(found, Infeasible) or found.cost is None else 0
+    return 1 if cost_of(found) is None else 0
 
 
 def looked_for(bench: Bench, words: argparse.Namespace) -> Tuple[Found, Optional[BaseException]]:
@@ -70,14 +70,13 @@ def sought(bench: Bench, words: argparse.Namespace, watch: Watch) -> Found:
     """What the search finds that was asked for."""
     if words.parts:
         return optimum_in_parts(bench, spans=words.spans, ranges=words.ranges, workers=words.workers, watch=watch)
-    return bench.search(words.seconds, watch=watch)
+    return bench.search(words.seconds, watch=watch).found()
 
 
 def take_better(bench: Bench, found: Found, folder: str) -> Found:
     """Makes what was found the working timetable, or the one that a folder has, where that meets everything and is cheaper."""
     there = standing_in(bench, folder)
-    cost = None if isinstance(found, Infeasible) else found.cost
-    if there.cost is not None and (cost is None or there.cost < cost):
+    if there.is_below(cost_of(found)):
         found = there
     if not isinstance(found, Infeasible) and found.cost is not None:
         bench.set_times(found.times)

@@ -10,8 +10,9 @@ from pespbench.commands import CHANGES, name_of, split
 from pespbench.engines import Engine, Path
 from pespbench.faults import BadReply, Fault, Refused
 from pespbench.journal import Change, Journal
+from pespbench.methods import found_by
 from pespbench.replies import answer_of, is_reply_to
-from pespbench.transport import Transport
+from pespbench.transport import Reached, Transport
 from pespbench.work import Work, work_of
 
 Outcome = Union[Answer, Refused, Fault]
@@ -100,6 +101,13 @@ class Session:
         for start in range(0, len(commands), BATCH):
             yield from self._batch(commands[start : start + BATCH], deadline)
 
+    def answer(self, command: str, deadline: Optional[float] = None) -> Answer:
+        """The answer to one command. Raises what `outcomes` raises, and Refused and Fault."""
+        [outcome] = self.outcomes([command], deadline)
+        if isinstance(outcome, (Refused, Fault)):
+            raise outcome
+        return outcome
+
     def _batch(self, commands: Sequence[str], deadline: Optional[float]) -> Iterator[Outcome]:
         # What is adopted is told by no reply but that of `optimum`, which is known then.
         lines = [line for command in commands for line in ([command, "optimum"] if command.split() == ["adopt"] else [command])]
@@ -149,6 +157,14 @@ class Session:
         times = self.work.times
         self.journal.append((event, time, times.get(event)))
         times[event] = time
+
+    def searched(self, nodes: int, deadline: float) -> Reached:
+        """What a search of so many nodes comes to, which leaves all as it was. Raises what `answer` raises."""
+        with self._whole():
+            reached = self._ready(1).searched(nodes, self.work.network.events, deadline)
+        if reached is not None:
+            return reached
+        return Reached(found_by(self.answer(f"try {nodes}", deadline)))
 
     def set_time(self, event: int, time: int) -> bool:
         """Sets a time where the engine does that at once and it is accepted; else nothing has changed."""

@@ -101,7 +101,7 @@ def _search(bench: Bench, time: str) -> str:
         raise ValueError(str(fault)) from None
     with Line() as line:
         try:
-            found: Found = bench.search(limit, watch=line)
+            found: Found = bench.search(limit, watch=line).found()
         except KeyboardInterrupt:
             found = line.best
     return text_of("optimum", found) + (f"# {found_text(found)}\n" if isinstance(found, Stopped) else "")

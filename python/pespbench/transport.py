@@ -3,7 +3,9 @@
 from __future__ import annotations
 
 import re
-from typing import Iterator, List, Optional, Sequence, Tuple, Union
+from typing import Iterator, List, NamedTuple, Optional, Sequence, Tuple, Union
+
+from pespbench.answers import Found
 
 # The cost after a move, or the replies to `time` and to `cost` where they are others.
 AfterMove = Union[int, Tuple[List[str], List[str]]]
@@ -12,6 +14,13 @@ COST = re.compile("cost ([0-9]+)")
 
 class OutOfTime(Exception):
     """The deadline came before the reply."""
+
+
+class Reached(NamedTuple):
+    """What a search came to, and what each timetable that meets everything costs at least, where that is told."""
+
+    found: Found
+    lower_bound: Optional[int] = None
 
 
 class Transport:
@@ -39,6 +48,13 @@ class Transport:
 
     def cost(self) -> Optional[int]:
         """The cost where it can be told at once."""
+        return None
+
+    def searched(self, nodes: int, events: Sequence[int], deadline: Optional[float] = None) -> Optional[Reached]:
+        """What a search of so many nodes comes to, where it tells more than a reply; `events` are all, ascending.
+
+        Raises what `replies` raises.
+        """
         return None
 
     def is_full(self, lines: int) -> bool:

@@ -15,7 +15,7 @@ from pespbench.engines import Engine
 from pespbench.faults import Fault, Refused
 from pespbench.session import Outcome, Session
 from pespbench.work import work_of
-from pespbench.workers import Driver, Hands, LentHands, Lost, OwnHands, Progress
+from pespbench.workers import Bar, Driver, Hands, LentHands, Lost, OwnHands
 
 # How many variants an executor of the caller is given at once, where it is not said.
 AT_ONCE = 1_000
@@ -119,7 +119,7 @@ def variants(
     shared = Base.of(base)
     tasks = (Task(shared, edits, checked(ask)) for edits in lists)
     answers: List[Union[Outcome, Lost]] = [None] * len(lists)
-    bar = Progress(len(lists), progress)
+    bar = Bar(len(lists), progress)
     hands = hands_of(executor, workers, AT_ONCE)
     with at_work(hands, shared):
         for place, answer in Driver(answer_task, hands).run(tasks):

@@ -8,6 +8,7 @@ import time
 from typing import Optional, TextIO
 
 from pespbench.answers import Stopped
+from pespbench.progress import Progress
 
 
 class Watch:
@@ -18,9 +19,15 @@ class Watch:
         self.bound: Optional[int] = None
         self.parts = ""
 
+    def __call__(self, progress: Progress) -> None:
+        """What a search has come to."""
+        self.take(Stopped(progress.cost, progress.times or {}))
+        if progress.lower_bound is not None:
+            self.take_bound(progress.lower_bound)
+
     def take(self, found: Stopped) -> None:
         """A timetable that meets everything; it is the best one where it is cheaper than all before."""
-        if found.cost is not None and (self.best.cost is None or found.cost < self.best.cost):
+        if found.is_below(self.best.cost):
             self.best = found
 
     def take_bound(self, cost: int) -> None:

@@ -7,15 +7,17 @@ import os
 import signal
 import sys
 import threading
+import time
 from concurrent.futures import Executor, Future, ProcessPoolExecutor
 from concurrent.futures.process import BrokenProcessPool
 from multiprocessing.connection import wait
-from queue import SimpleQueue
+from queue import Empty, SimpleQueue
 from typing import Any, Callable, Dict, Generic, Iterable, Iterator, List, Optional, Tuple, TypeVar, Union
 
 from pespbench import ending
 from pespbench.faults import Ended, PespbenchError
 from pespbench.process import kill_all
+from pespbench.transport import OutOfTime
 
 Task = TypeVar("Task")
 Result = TypeVar("Result")
@@ -133,18 +135,30 @@ class Driver(Generic[Task, Result]):
         self._done: "SimpleQueue[Future[Result]]" = SimpleQueue()
         self._again: List[Tuple[int, Task, int]] = []
 
-    def run(self, tasks: Iterable[Task]) -> Iterator[Tuple[int, Union[Result, Lost]]]:
+    def run(self, tasks: Iterable[Task], deadline: Optional[float] = None) -> Iterator[Tuple[int, Union[Result, Lost]]]:
         """Each task's place and result, as they come. The tasks are taken one by one, when there is a hand for them.
 
-        What `call` raises is raised, but for Ended, by which a program died, and for what tells that a worker died.
+        What `call` raises is raised, but for Ended, by which a program died, and for what tells that a worker died; and
+        OutOfTime at the deadline, one of `time.monotonic`.
         """
         coming = ((place, task, 1) for place, task in enumerate(tasks))
         try:
             while self._give(coming) or self._running:
-                yield from self._take(self._done.get())
+                yield from self._take(self._next_done(deadline))
         finally:
             for future in list(self._running):
                 future.cancel()
+
+    def _next_done(self, deadline: Optional[float]) -> "Future[Result]":
+        if deadline is None:
+            return self._done.get()
+        left = deadline - time.monotonic()
+        if left <= 0:
+            raise OutOfTime
+        try:
+            return self._done.get(timeout=left)
+        except Empty:
+            raise OutOfTime from None
 
     def _give(self, coming: Iterator[Tuple[int, Task, int]]) -> bool:
         """Gives tasks out while there are hands; whether one was given."""
@@ -193,7 +207,7 @@ def death_of(future: "Future[Any]") -> Optional[BaseException]:
     return raised if is_death else None
 
 
-class Progress:
+class Bar:
     """A bar on standard error, where that is a terminal."""
 
     WIDTH = 30
@@ -208,6 +222,11 @@ class Progress:
         """One more is done."""
         self._done += 1
         self._show()
+
+    def end(self) -> None:
+        """Ends the line, where nothing more is done."""
+        if self._is_shown and self._done < self._total:
+            print(file=sys.stderr, flush=True)
 
     def _show(self) -> None:
         if self._is_shown:

@@ -4,26 +4,32 @@ from __future__ import annotations
 
 import ctypes
 import re
-from typing import Callable, Dict, MutableSequence, Union
+from array import array
+from typing import Callable, Dict, List, MutableSequence, Optional, Union
 
-from pespbench.library import Calls, Handle, Told
+from pespbench.library import Calls, Handle, Told, ToldFound
 
 Answer = Union[bytes, int]
 MEMORY, REFUSED = 6, 13
+# The state of a search by the first words of the reply to `try`.
+STATES = {b"stopped none": 0, b"stopped": 1, b"optimum": 2, b"infeasible": 3}
 
 
 class StandIn:
-    """Answers by the reply to a line, or by the status that is told in its place. It counts what was opened and closed."""
+    """Answers by the reply to a line, or by the status that is told in its place. It counts what was opened and closed.
 
-    def __init__(self, answer: Callable[[bytes], Answer], status: int = 0) -> None:
-        self.answer, self.status = answer, status
+    Where it has the lower bound that a search of so many nodes tells, it has the call for searches, too.
+    """
+
+    def __init__(self, answer: Callable[[bytes], Answer], status: int = 0, bound: Optional[Callable[[int], int]] = None) -> None:
+        self.answer, self.status, self.bound = answer, status, bound
         self.opened = self.closed = 0
         # What was asked.
         self.lines: MutableSequence[bytes] = []
 
     def calls(self) -> Calls:
         """The calls, as those of a library."""
-        return Calls(self._open, self._ask, self._cost, self._close)
+        return Calls(self._open, self._ask, self._cost, self._close, self._search if self.bound else None)
 
     def _open(self, *given: int) -> None:
         Told.from_address(given[-1]).status = self.status
@@ -47,6 +53,23 @@ class StandIn:
         Told.from_address(told).status = answer if isinstance(answer, int) else 0 if found else REFUSED
         if found:
             ctypes.c_uint64.from_address(cost).value = int(found[1])
+
+    def _search(self, _: int, nodes: int, room: int, room_length: int, found: int, told: int) -> None:
+        self.lines.append(b"pesp_search %d" % nodes)
+        answer, telling = self.answer(b"try %d" % nodes), Told.from_address(told)
+        telling.status = answer if isinstance(answer, int) else 0
+        if isinstance(answer, bytes):
+            first, *rows = answer.splitlines()
+            self._tell_found(ToldFound.from_address(found), first.split(), nodes)
+            times = array("H", [int(row.split()[1]) for row in rows])
+            telling.length = len(times)
+            ctypes.memmove(room, times.tobytes(), 2 * min(room_length, len(times)))
+
+    def _tell_found(self, found: ToldFound, words: List[bytes], nodes: int) -> None:
+        """Tells what the first words of a reply say, and the bound."""
+        found.state = STATES[b" ".join(words) if words[-1] == b"none" else words[0]]
+        found.cost = int(words[1]) if found.state in (1, 2) else 0
+        found.lower_bound = self.bound(nodes) if self.bound else 0
 
     def _close(self, handle: int) -> None:
         self.closed += Handle.from_address(handle).is_open

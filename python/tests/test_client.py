@@ -28,7 +28,7 @@ class Commands(Case):
         self.assertEqual(bench.attempt(0), Stopped())
         self.assertEqual(bench.optimum(), Optimum(4, {1: 0, 2: 4}))
         self.assertEqual(bench.attempt(0), Optimum(4, {1: 0, 2: 4}))
-        self.assertEqual(bench.search(5), Optimum(4, {1: 0, 2: 4}))
+        self.assertEqual(bench.search(5).found(), Optimum(4, {1: 0, 2: 4}))
         self.assertEqual(bench.dump(), bench.network.text())
 
     def test_edits(self) -> None:

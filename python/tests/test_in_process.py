@@ -128,7 +128,7 @@ class StandIns(Case):
     def test_deadline(self) -> None:
         bench, _, may_end = self.searching()
         began = time.monotonic()
-        self.assertEqual(bench.search(0.3), Stopped(7, {1: 3}))
+        self.assertEqual(bench.search(0.3).found(), Stopped(7, {1: 3}))
         self.assertLess(time.monotonic() - began, 3)
         self.goes_on(bench, may_end)
 

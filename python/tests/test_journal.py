@@ -181,7 +181,7 @@ class StartedAgain(Hard):
         bench = self.hard()
         before = bench.dump()
         began = time.monotonic()
-        found = bench.search(1.5)
+        found = bench.search(1.5).found()
         self.assertLess(time.monotonic() - began, 3)
         self.assertIsInstance(found, Stopped)
         self.assertEqual(bench.dump(), before)
@@ -189,8 +189,8 @@ class StartedAgain(Hard):
 
     def test_search_that_ends(self) -> None:
         with self.drawn(1, 12, 20) as bench:
-            self.assertEqual(bench.search(60), bench.optimum())
-            self.assertIsInstance(bench.search(60), Optimum)
+            self.assertEqual(bench.search(60).found(), bench.optimum())
+            self.assertIsInstance(bench.search(60).found(), Optimum)
 
 
 class Interrupted(Hard):

@@ -4,6 +4,7 @@ from __future__ import annotations
 
 import ctypes.util
 import os
+import shutil
 import signal
 import subprocess
 import sys
@@ -13,7 +14,7 @@ from pathlib import Path
 from typing import Any, Dict, List, Tuple, Union
 from unittest import mock
 
-from pespbench import Bench, Ended, Engine, FileFault, NoLibrary, PespbenchError, variants
+from pespbench import Bench, Ended, Engine, FileFault, NoLibrary, Optimum, PespbenchError, Stopped, variants
 from pespbench.library import find_library, loaded
 from tests.common import LIBRARY, OVER_LIBRARY, OVER_PROGRAM, TOP, Case, drawn_script, needs_library
 
@@ -99,6 +100,66 @@ class Finding(Case):
         words = [sys.executable, "-c", "import pespbench, sys; print('ctypes' in sys.modules)"]
         done = subprocess.run(words, env={**os.environ, "PYTHONPATH": str(TOP / "python")}, stdout=subprocess.PIPE)
         self.assertEqual(done.stdout, b"False\n")
+
+
+# A library of two events whose searches tell what they are asked.
+STAND_IN = """
+#include <stdbool.h>
+#include <stddef.h>
+#include <stdint.h>
+#include <string.h>
+
+struct told { uint64_t length, place; uint32_t status, reason, field; };
+struct found { uint64_t cost, lower_bound; uint32_t state; };
+struct session { void *at; bool is_open; };
+static const char dump[] = "# period 10 lines 2\\nadd event 3\\nadd event 5\\n", stopped[] = "stopped 9 2\\n3 1\\n5 4\\n";
+
+void pesp_open(uint16_t period, const char *a, size_t b, const char *c, size_t d, const char *e, size_t f, struct session *session,
+               struct told *told) { session->is_open = true; told->status = 0; }
+void pesp_ask(struct session *session, const char *line, size_t length, char *out, size_t room, struct told *told) {
+    const char *reply = line[0] == 'd' ? dump : line[0] == 't' ? stopped : "refused 11 event 3 has no time\\n";
+    told->status = 0;
+    told->length = strlen(reply);
+    memcpy(out, reply, told->length);
+}
+void pesp_cost(struct session *session, uint64_t *cost, struct told *told) { told->status = 13; }
+void pesp_close(struct session *session) { session->is_open = false; }
+#ifdef NEWER
+void pesp_search(struct session *session, uint64_t nodes, uint16_t *out, size_t length, struct found *found, struct told *told) {
+    for (size_t place = 0; place < length; place++) out[place] = place + 7;
+    found->cost = nodes + 1;
+    found->lower_bound = nodes;
+    found->state = nodes > UINT32_MAX ? 2 : 1;
+    told->status = 0;
+    told->length = length;
+}
+#endif
+"""
+
+
+@unittest.skipUnless(shutil.which("gcc"), "there is no gcc to compile a library with")
+class Compiled(Case):
+    """Over a library in C that stands in for the one in process."""
+
+    def library(self, *options: str) -> Path:
+        """The library, compiled."""
+        source, library = self.folder / "library.c", self.folder / "library.so"
+        source.write_text(STAND_IN)
+        subprocess.run(["gcc", "-shared", "-fPIC", *options, "-o", library, source], check=True)
+        return library
+
+    def test_with_the_call_for_searches(self) -> None:
+        """Numbers of 64 bits go in and come out; a search tells cost, bound and times."""
+        with Bench.open(None, period=10, engine="library", library=self.library("-DNEWER")) as bench:
+            first, *_, last = bench.search(60, nodes=2**31)
+        self.assertEqual((first.found, first.lower_bound), (Stopped(2**31 + 1, {3: 7, 5: 8}), 2**31))
+        self.assertEqual((last.found, last.is_ended, last.lower_bound), (Optimum(2**32 + 1, {3: 7, 5: 8}), True, 2**32 + 1))
+
+    def test_without_it(self) -> None:
+        """An older library opens, and a search goes by lines."""
+        with Bench.open(None, period=10, engine="library", library=self.library()) as bench:
+            first = next(bench.search(60))
+        self.assertEqual((first.found, first.lower_bound), (Stopped(9, {3: 1, 5: 4}), None))
 
 
 # A search without an end that is broken off, and then a process that ends.

@@ -20,7 +20,7 @@ from pespbench.parts import Search, parts_of
 from pespbench.variants import Base
 from pespbench.watching import Watch
 from pespbench.why import Possible, why
-from pespbench.workers import Progress
+from pespbench.workers import Bar
 from tests.common import EXAMPLES, PROGRAM, TOP, Case
 from tests.test_command_line import TWO, called
 
@@ -166,7 +166,7 @@ class Standing(Case):
         times.write_text(ROWS.format(8))
         with Bench.open(EXAMPLES / "two-trains/activities", times=times, program=self.stand_in(nothing)) as bench:
             self.assertEqual(why(bench, seconds=0.1), Possible({1: 0, 2: 8}))
-            self.assertEqual(bench.search(0.1), Stopped(5, {1: 0, 2: 8}))
+            self.assertEqual(bench.search(0.1).found(), Stopped(5, {1: 0, 2: 8}))
 
     def test_standing(self) -> None:
         bench = self.two_trains()
@@ -180,7 +180,7 @@ class Standing(Case):
         bench = self.two_trains()
         parts = parts_of(bench.network, 2, 3)
         watch = Watch()
-        search = Search(parts, Base.of(bench), Progress(len(parts), False), watch)
+        search = Search(parts, Base.of(bench), Bar(len(parts), False), watch)
         self.assertEqual(len(list(search.tasks())), 9)
         search.begin(Stopped(3, {1: 0, 2: 4}))
         self.assertEqual([part.constant for part in parts][:5], [0, 1, 2, 2, 3])

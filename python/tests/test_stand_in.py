@@ -88,7 +88,7 @@ class StandIns(Case):
         bench = self.opened(before_usual('if line == "try 2000":\n    time.sleep(600)'))
         bench.add_event(1)
         began = time.monotonic()
-        self.assertEqual(bench.search(0.5), Stopped())
+        self.assertEqual(bench.search(0.5).found(), Stopped())
         self.assertLess(time.monotonic() - began, 2)
         bench.add_event(2)
         self.assertEqual((bench.network.events, self.starts()), ([1, 2], 2))

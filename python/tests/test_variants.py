@@ -16,7 +16,7 @@ from unittest import mock
 from pespbench import Bench, Fault, Infeasible, Lost, Optimum, Refused, optimum_in_parts, variants
 from pespbench.network import Activity, Network
 from pespbench.parts import parts_of, ranges_of
-from pespbench.workers import Progress
+from pespbench.workers import Bar
 from tests.common import PATIENCE, Case, over_both
 
 
@@ -108,11 +108,11 @@ def at_step(step: int, do: Callable[[], None]) -> Iterator[None]:
     """Does something once, when so many tasks are done."""
     steps = itertools.count(1)
 
-    def stepped(_: Progress) -> None:
+    def stepped(_: Bar) -> None:
         if next(steps) == step:
             do()
 
-    with mock.patch.object(Progress, "step", stepped):
+    with mock.patch.object(Bar, "step", stepped):
         yield
     assert next(steps) > step, "too few steps"
 

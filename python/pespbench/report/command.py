@@ -64,7 +64,7 @@ def places_for(words: argparse.Namespace) -> Optional[dict[str, Place]]:
 def searched(bench: Bench, limit: float) -> Optional[Found]:
     """What a search found; its timetable, where there is one, is the working timetable from then on."""
     with Line() as line:
-        found = bench.search(limit, watch=line)
+        found = bench.search(limit, watch=line).found()
     times = getattr(found, "times", {})
     if times:
         bench.set_times(times)

@@ -6,9 +6,10 @@ import time
 from dataclasses import replace
 from typing import Callable, Optional
 
+from pespbench.commands import GREATEST_BOUND
 from pespbench.why.answers import Mend
 from pespbench.why.members import Bounds, Held, Kept, Member, Span, Verdict
-from pespbench.why.probe import GREATEST_BOUND, Probe
+from pespbench.why.probe import Probe
 from pespbench.why.shapes import Shape
 
 RANKS = {Verdict.POSSIBLE: 0, None: 1, Verdict.UNDECIDED: 2, Verdict.INFEASIBLE: 3}

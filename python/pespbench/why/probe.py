@@ -10,12 +10,12 @@ from typing import Iterable, Optional
 
 from pespbench.answers import Domain, Infeasible, Optimum, Stopped
 from pespbench.client import Bench
+from pespbench.commands import GREATEST_BOUND
 from pespbench.faults import PespbenchError
 from pespbench.network import Window, window_command
 from pespbench.session import Outcome
 from pespbench.why.members import Bounds, Held, Kept, Member, Of, Span, Verdict, members_of
 
-GREATEST_BOUND = 1_000_000
 Timetable = dict[int, int]
 
 

@@ -1,0 +1,75 @@
+"""Asks what would help: each span of some kinds that is a little wider is a variant of its own."""
+
+from __future__ import annotations
+
+import time as clock
+from concurrent.futures import Executor
+from contextlib import suppress
+from dataclasses import replace
+from typing import Callable, Collection, Optional
+
+from pespbench.answers import Found, Infeasible, Optimum, Stopped
+from pespbench.client import Bench
+from pespbench.helps.answers import Helps
+from pespbench.helps.questions import questions
+from pespbench.searching import check_limits
+from pespbench.transport import OutOfTime
+from pespbench.variants import AT_ONCE, Base, Task, answer_task, at_work, hands_of
+from pespbench.workers import Driver
+
+# What is called with what is known.
+Watcher = Callable[[Helps], object]
+
+
+def helps(
+    bench: Bench,
+    kinds: Optional[Collection[str]] = None,
+    *,
+    minutes: int = 1,
+    seconds: float = 60.0,
+    nodes: int = 100_000,
+    executor: Optional[Executor] = None,
+    workers: Optional[int] = None,
+    watch: Optional[Watcher] = None,
+) -> Helps:
+    """How much cheaper the best timetable would be if an activity could take so many minutes more, for each alone.
+
+    `kinds` are those that may change, by the bench's labels; where they are None, all but runs, dwells and headways. Where
+    `minutes` is below 0, so many are taken off the least ones. Each is a search of at most `nodes` nodes, and so is that of
+    the best timetable as it is. Those that cost most in the working timetable are asked first, side by side: `executor` and
+    `workers` are as in `variants`.
+
+    What has no answer within `seconds` is left out. `watch` is called with what is known before the first question and after
+    each: so it has that at Ctrl-C, too, where KeyboardInterrupt is raised. The bench stays as it is. Raises WrongWords for an
+    unknown kind; ValueError for no minutes, no nodes, no workers, and seconds that are not from 0 to 1,000,000; and BadReply.
+    """
+    check_limits(seconds, nodes)
+    if not minutes:
+        raise ValueError("0 minutes change nothing")
+    until, asked, base = clock.monotonic() + seconds, questions(bench, kinds, minutes), Base.of(bench)
+    hands, answer = hands_of(executor, workers, AT_ONCE), Helps(minutes, Stopped(), len(asked))
+    with suppress(OutOfTime), at_work(hands, base):
+        answer = replace(answer, before=best_within(bench, nodes, until))
+        tell(watch, answer)
+        tasks = (Task(base, (question.edit,), f"try {nodes}") for question in asked)
+        for place, found in Driver(answer_task, hands).run(tasks, until):
+            if isinstance(found, (Optimum, Infeasible, Stopped)):
+                answer = replace(answer, answers=(*answer.answers, asked[place].gain(answer.before, found)))
+                tell(watch, answer)
+    return answer
+
+
+def best_within(bench: Bench, nodes: int, until: float) -> Found:
+    """What a search of so many nodes comes to until a time, or the working timetable where that is cheaper."""
+    standing = bench.standing()
+    try:
+        found, _ = bench._session.searched(nodes, until)
+    except OutOfTime:
+        return standing
+    return standing if isinstance(found, Stopped) and not found.is_below(standing.cost) else found
+
+
+def tell(watch: Optional[Watcher], answer: Helps) -> None:
+    """Tells what is known to who wants to be told."""
+    if watch is not None:
+        watch(answer)

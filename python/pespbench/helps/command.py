@@ -1,0 +1,85 @@
+"""The subcommand `helps`."""
+
+from __future__ import annotations
+
+import argparse
+from typing import Optional
+
+from pespbench.client import Bench
+from pespbench.ending import INTERRUPTS, status_of, uninterrupted
+from pespbench.faults import PespbenchError
+from pespbench.helps.answers import Helps
+from pespbench.helps.asking import helps
+from pespbench.helps.telling import text_of
+from pespbench.opening import add_network, open_network, seconds, whole
+from pespbench.terminal import tell
+from pespbench.wording import Names
+from pespbench.workers import Bar
+
+
+def add_parser(subparsers: "argparse._SubParsersAction[argparse.ArgumentParser]") -> None:
+    """Adds the subcommand's parser."""
+    parser = subparsers.add_parser("helps", help="which activity with a minute more would save most")
+    add_network(parser)
+    parser.add_argument("--kinds", metavar="KINDS", help="kinds that may change, as change,turnaround [default: all but run,dwell,headway]")
+    parser.add_argument("--minutes", type=some_minutes, default=1, help="how many more; below 0, by how many the least are lowered [default: 1]")
+    parser.add_argument("--seconds", type=seconds, default=60.0, help="how long is asked [default: 60]")
+    parser.add_argument("--workers", type=whole, help="how many programs run side by side [default: one for each processor]")
+    parser.set_defaults(run=run)
+
+
+def some_minutes(text: str) -> int:
+    """A whole number other than 0. Raises ArgumentTypeError."""
+    try:
+        number = int(text)
+    except ValueError:
+        number = 0
+    if not number:
+        raise argparse.ArgumentTypeError(f"it is a whole number other than 0, and not {text!r}")
+    return number
+
+
+class Latest:
+    """What is known, with a bar that shows how far it is."""
+
+    def __init__(self) -> None:
+        self.answer: Optional[Helps] = None
+        self._bar: Optional[Bar] = None
+
+    def __call__(self, answer: Helps) -> None:
+        self.answer = answer
+        if self._bar is None:
+            self._bar = Bar(answer.asked)
+        else:
+            self._bar.step()
+
+    def end(self) -> None:
+        """Nothing more is asked."""
+        if self._bar is not None:
+            self._bar.end()
+
+
+def run(words: argparse.Namespace) -> int:
+    """Tells what would help, on standard output. Raises what ended it before its time, once what is known is told; an
+    interrupt is told by the status.
+    """
+    latest = Latest()
+    with open_network(words) as bench:
+        ended = asked(bench, words, latest)
+        with uninterrupted():
+            latest.end()
+            if latest.answer is not None:
+                tell(text_of(latest.answer, Names(bench.labels, bench.network.activities)))
+    if isinstance(ended, PespbenchError):
+        raise ended
+    return 0 if ended is None else status_of(ended)
+
+
+def asked(bench: Bench, words: argparse.Namespace, latest: Latest) -> Optional[BaseException]:
+    """Asks, and gives what has ended that before its time."""
+    kinds = None if words.kinds is None else [kind for kind in map(str.strip, words.kinds.split(",")) if kind]
+    try:
+        helps(bench, kinds, minutes=words.minutes, seconds=words.seconds, workers=words.workers, watch=latest)
+    except (*INTERRUPTS, PespbenchError) as ended:
+        return ended
+    return None

@@ -1,0 +1,94 @@
+"""A search for the best timetable, step by step, with what it has come to after each."""
+
+from __future__ import annotations
+
+import time as clock
+from typing import Callable, Iterator, Optional
+
+from pespbench.answers import Found, Optimum, Stopped
+from pespbench.commands import MOST_NODES
+from pespbench.progress import Progress
+from pespbench.session import Session
+from pespbench.transport import OutOfTime, Reached
+
+MOST_SECONDS = 1_000_000
+SECONDS_TEXT = f"a search takes from 0 to {MOST_SECONDS:,} seconds"
+# What is called with each Progress.
+Watcher = Callable[[Progress], object]
+
+
+def check_limits(seconds: float, nodes: int) -> None:
+    """Raises ValueError for limits that no search can have."""
+    if not 0 <= seconds <= MOST_SECONDS:
+        raise ValueError(SECONDS_TEXT)
+    if not 1 <= nodes <= MOST_NODES:
+        raise ValueError(f"a search takes from 1 to {MOST_NODES:,} nodes")
+
+
+class Search:
+    """Goes on while it is iterated over, and gives its Progress after each step; `progress` is the last that was told.
+
+    A step asks anew, with twice as many nodes as the one before: so what is gone through again is at most as much as all
+    before it. It is likely to take twice as long, too. One is begun where more time is left than the last one took, and given
+    up where the time is over, which goes on between the steps.
+    """
+
+    def __init__(self, session: Session, standing: Stopped, seconds: float, nodes: int, watch: Optional[Watcher]) -> None:
+        """A search of so many nodes at first, from a timetable that is known, or from none."""
+        self._session, self._nodes, self._watch = session, nodes, watch
+        self._network = session.work.network.copy()
+        self._began = clock.monotonic()
+        self._until = self._began + seconds
+        # The seconds that the last step took.
+        self._took = 0.0
+        self.progress = Progress(standing, None, False, 0.0)
+        self._rest = self._steps()
+
+    def __iter__(self) -> Iterator[Progress]:
+        return self
+
+    def __next__(self) -> Progress:
+        """What the next step comes to. Raises ValueError where the network is another one than at first, Ended and BadReply."""
+        return next(self._rest)
+
+    def found(self) -> Found:
+        """What the search comes to at its end. Raises what a step raises."""
+        for _ in self:
+            pass
+        return self.progress.found
+
+    def _steps(self) -> Iterator[Progress]:
+        if self.progress.cost is not None:
+            yield self._told(Reached(Stopped()))
+        while not self.progress.is_ended and self._has_room():
+            began = clock.monotonic()
+            reached = self._step()
+            self._took, self._nodes = clock.monotonic() - began, 2 * self._nodes
+            yield self._told(reached)
+        if not self.progress.is_ended:
+            yield self._told(Reached(Stopped()))
+
+    def _has_room(self) -> bool:
+        return self._nodes <= MOST_NODES and self._until - clock.monotonic() > self._took
+
+    def _step(self) -> Reached:
+        if self._session.work.network != self._network:
+            raise ValueError("the network is another one than when the search began")
+        try:
+            return self._session.searched(self._nodes, self._until)
+        except OutOfTime:
+            return Reached(Stopped())
+
+    def _told(self, reached: Reached) -> Progress:
+        """Tells what is known with what was reached: neither is its cost above that of before, nor its bound below."""
+        before, found, bounds = self.progress, reached.found, [self.progress.lower_bound, reached.lower_bound]
+        if isinstance(found, Stopped) and not found.is_below(before.cost):
+            found = before.found
+        if isinstance(found, Optimum):
+            bounds.append(found.cost)
+        bound = max((each for each in bounds if each is not None), default=None)
+        is_ended = not (isinstance(found, Stopped) and self._has_room())
+        self.progress = Progress(found, bound, is_ended, clock.monotonic() - self._began)
+        if self._watch is not None:
+            self._watch(self.progress)
+        return self.progress
