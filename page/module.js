@@ -8,14 +8,19 @@
 //   const { session, ending, fault } = PespModule.open(module, { period, activities, fixed, times });
 //   const { output, ending, fault } = PespModule.ask(module, session, 'fix 1 0');
 //   const { cost, ending, fault } = PespModule.cost(module, session);
+//   const { bits, ending, fault } = PespModule.domains(module, session, [1, 2], 10);
+//   const { state, cost, lowerBound, times, ending, fault } = PespModule.search(module, session, 1000);
 //   PespModule.close(module, session);
 //
 // `program` is what PespModule.compile made, or the bytes of the module. Files, commands and a line are bytes or text, and
 // nothing where they are left out. `output` is the replies, as a Uint8Array. `ending` is how the call ended, as
 // embedded/pespbench.h lists it: { status, place, reason, field }; its status is 0 where all lines are answered. `fault` is then
 // '', and else the program's own text for it, without its name, in which the one line of `ask` is line 1. `session` is null
-// where the files have a fault. `cost` is a BigInt; null where an event has no time. After an instance that was trapped, as by a
-// stack that is too short, a call throws; its sessions are lost, and `start` makes a new one, or `startNow`.
+// where the files have a fault. `cost` is a BigInt; null where an event has no time. `bits` are the domains of events at a period,
+// one after another, each in as many whole bytes as hold a bit for each time. A search is that of `try` with so many nodes:
+// `state` is of enum pesp_search_state, `cost` and `lowerBound` are BigInts, and `times` a Uint16Array, a time for each event,
+// ascending; none where it came to no timetable. After an instance that was trapped, as by a stack that is too short, a call
+// throws; its sessions are lost, and `start` makes a new one, or `startNow`.
 const makePespModule = () => {
   const FILES = ['activities', 'fixed', 'times'];
   const ENDINGS = {
@@ -51,9 +56,10 @@ const makePespModule = () => {
 
   // The number of bytes of what the module tells: two numbers of 64 bits, three of 32, and what C adds to them.
   const TOLD = 32;
-  // Those of a session, which has an address of 64 bits and a mark; of a cost; the room for a line at first; and that in which
-  // each reply to a change fits, which is not asked for twice.
-  const SESSION = 16, COST = 8, LINE = 1 << 10, OF_A_CHANGE = 128;
+  // Those of a session, which has an address of 64 bits and a mark; of a cost, and of what a search has come to; the room for a line
+  // at first; and that in which each reply to a change fits, which is not asked for twice.
+  const SESSION = 16, COST = 8, FOUND = 24, LINE = 1 << 10, OF_A_CHANGE = 128;
+  // A search is not asked for twice either: the times of all events that there may be fit in.
   const LEAST_ROOM = 1 << 20;
 
   // The module after a text in base64 that was packed by deflate, compiled: this can be sent to a Worker, which starts it sooner.
@@ -142,7 +148,7 @@ const makePespModule = () => {
 
   // The blocks that a session has until it is closed, each with its bytes; null where there is no memory for them.
   const blocksOfSession = module => {
-    const room = Math.max(module.room, OF_A_CHANGE), blocks = [SESSION, TOLD, COST, LINE, room].map(length => take(module, length));
+    const room = Math.max(module.room, OF_A_CHANGE), blocks = [SESSION, TOLD, Math.max(COST, FOUND), LINE, room].map(length => take(module, length));
     if (blocks.every(Boolean)) {
       const [at, told, number, line, out] = blocks;
       // One of zeros is closed.
@@ -208,13 +214,53 @@ const makePespModule = () => {
     return { cost: value, ending, fault: faultOf(ending) };
   };
 
+  // Whether the module tells domains in bits.
+  const canTellDomains = module => Boolean(module.calls.pesp_domain);
+
+  // Puts the domains into a room of so many bytes each, as far as they are told, and gives how the last call ended.
+  const putDomains = (module, { at, told, out }, events, bytes) => {
+    let place = out.block;
+    for (const event of events) {
+      module.calls.pesp_domain(at, event, place, BigInt(bytes), told);
+      const { ending } = toldAt(module, told);
+      if (ending.status) return ending;
+      place += BigInt(bytes);
+    }
+    return ended(0);
+  };
+
+  // The domains of events; where one is not told, none of them.
+  const domains = (module, session, events, period) => {
+    const { out } = session, bytes = Math.ceil(period / 8), length = bytes * events.length;
+    const ending = isRoom(module, out, length) ? putDomains(module, session, events, bytes) : ended(5);
+    return { bits: outputAt(module, out.block, ending.status ? 0 : length), ending, fault: faultOf(ending) };
+  };
+
+  // Whether the module tells what a search has come to in numbers.
+  const canSearch = module => Boolean(module.calls.pesp_search);
+
+  const foundAt = (module, block) => {
+    const view = new DataView(module.calls.memory.buffer, Number(block), FOUND);
+    return { state: view.getUint32(16, true), cost: view.getBigUint64(0, true), lowerBound: view.getBigUint64(8, true) };
+  };
+
+  // Looks for the optimum in so many nodes; null for all of it where that is not answered.
+  const search = (module, session, nodes) => {
+    const { at, told, number, out } = session;
+    module.calls.pesp_search(at, BigInt(nodes), out.block, BigInt(out.length >> 1), number, told);
+    const { length, ending } = toldAt(module, told);
+    if (ending.status) return { state: null, cost: null, lowerBound: null, times: null, ending, fault: faultOf(ending) };
+    const times = new Uint16Array(module.calls.memory.buffer, Number(out.block), length).slice();
+    return { ...foundAt(module, number), times, ending, fault: '' };
+  };
+
   // Closes a session, which is not used again.
   const close = (module, session) => {
     module.calls.pesp_close(session.at);
     forget(module, session);
   };
 
-  return { compile, start, startNow, limit, answer, open, ask, cost, close, faultOf };
+  return { compile, start, startNow, limit, answer, open, ask, cost, canTellDomains, domains, canSearch, search, close, faultOf };
 };
 
 const PespModule = makePespModule();

@@ -77,9 +77,12 @@
   Page.rowOf = (name, cells, more = {}) => Page.element('tr', more, Page.element('th', { scope: 'row' }, name),
     ...cells.map(each => typeof each === 'object' ? each : Page.element('td', {}, each)));
 
+  // Whether keys get somewhere there; a browser takes them from what went away a little later.
+  const hasKeys = node => node !== document.body && !node.disabled && node.getClientRects().length > 0;
+
   // Brings the keys to an element where they are nowhere, since what had them went away.
   Page.lead = node => {
-    if (node && document.activeElement === document.body) node.focus();
+    if (node && !hasKeys(document.activeElement)) node.focus();
   };
 
   // Tells that there is something to be seen, and how many milliseconds after the page was asked for.

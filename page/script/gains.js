@@ -46,12 +46,12 @@
     const way = find('gain-way').value, questions = questionsOf(Page.view, way);
     if (!questions.length) return Page.say('No activity of these kinds has a span that rules anything out.', true);
     asked = { mark: Page.markNow(), way, count: questions.length, before: null, came: [], isEnded: false };
-    Page.askFor({ kind: 'gains', questions });
+    Page.askFor({ kind: 'gains', questions }, { tell: ({ gain }) => showGain(gain), end: endGains });
     return Page.draw();
   };
 
   // What one search came to; the first one is of the network as it is.
-  Page.showGain = gain => {
+  const showGain = gain => {
     if (gain.number === undefined) asked.before = gain.found;
     else asked.came.push(gain);
     drawn = null;
@@ -78,11 +78,9 @@
     Page.step([line, ...Page.timeLines(found.times)], { title });
   };
 
-  const isSure = ({ kind }) => kind === 'optimum' || kind === 'infeasible';
-
   const savedText = ({ saved, found }) => {
     if (saved === null) return `then there is a timetable, of cost ${found.cost.toLocaleString('en')}`;
-    return `${saved.toLocaleString('en')}${isSure(found) ? '' : ', or more'}`;
+    return `${saved.toLocaleString('en')}${Page.isSure(found) ? '' : ', or more'}`;
   };
 
   const row = (view, gain) => {
@@ -126,8 +124,7 @@
   Page.panel({ build, update });
 
   // Nothing more comes.
-  Page.endGains = () => {
-    if (!asked) return;
+  const endGains = () => {
     asked.isEnded = true;
     drawn = null;
     if (Page.view) update(Page.view);

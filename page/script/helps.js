@@ -10,8 +10,8 @@
       + 'they are held. At 0 all is met.'],
     narrowed: ['Narrowed', 'So many events cannot be at each minute any more, by what is held and by the spans: their blue is not '
       + 'the whole strip.'],
-    cases: ['Cases', 'The search looks at one case after another: “Try” at so many, “Find the optimum” until none is left. No '
-      + 'timetable costs less than what “none costs less than” says.'],
+    cases: ['Cases', 'The search looks at one case after another: “Try” at so many, “Find the optimum” until none is left. “At most '
+      + '2 % above the best”: no timetable is cheaper by more than that.'],
     minutes: ['Minutes', 'At all others there is no timetable, by what is held. “Held from … for …” allows just these; “time” is '
       + 'that of the timetable shown. 6:15 may be typed for 375.'],
     activity: ['Activities', '“From … to”: the least and most minutes between its two events. “Takes”: the minutes in the timetable '

@@ -14,7 +14,7 @@
   }
   const views = [Page.startHead, Page.startTabs, Page.startEvents, Page.startDiagram, Page.startChoosing, Page.startLines, Page.startLining, Page.startVariants];
   const helps = [Page.startHelps, Page.startLegend, Page.startFinding, Page.startStations];
-  const files = [Page.startSearching, Page.startGains, Page.startPrinting, Page.startOpening, Page.startSaving, Page.startHanding];
+  const files = [Page.startAsking, Page.startSearching, Page.startTelling, Page.startGains, Page.startPrinting, Page.startOpening, Page.startSaving, Page.startHanding];
   for (const start of [...views, ...helps, ...files]) start();
   if (told) Page.openReport(told);
   else Page.openStory(Page.stories[0]);

@@ -29,14 +29,21 @@ Page.share(Page => {
       return { output: decoder.decode(output), fault };
     };
 
-    // A session of files, with a fault or '': it answers lines until it is closed.
+    // A session of files, with a fault or '': it answers lines until it is closed, and tells domains and searches in numbers, where
+    // the module does.
     Page.openFiles = files => {
       const owner = moduleNow(), { session, fault } = called(owner, each => PespModule.open(each, files));
-      const ask = line => {
-        const { output, ending, fault: why } = called(owner, each => PespModule.ask(each, session, line));
-        return { text: decoder.decode(output), fault: why, isWanting: MEMORY.includes(ending.status) };
+      const told = call => {
+        const { ending, fault: why, ...more } = called(owner, call);
+        return { ...more, fault: why, isWanting: MEMORY.includes(ending.status) };
       };
-      return { fault, ask, close: () => called(owner, each => PespModule.close(each, session)) };
+      const ask = line => {
+        const { output, ...more } = told(each => PespModule.ask(each, session, line));
+        return { text: decoder.decode(output), ...more };
+      };
+      const domains = PespModule.canTellDomains(owner) ? (...of) => told(each => PespModule.domains(each, session, ...of)) : null;
+      const search = PespModule.canSearch(owner) ? nodes => told(each => PespModule.search(each, session, nodes)) : null;
+      return { fault, ask, domains, search, close: () => called(owner, each => PespModule.close(each, session)) };
     };
   };
 });

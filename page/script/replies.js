@@ -87,4 +87,18 @@ Page.share(Page => {
     if (words[1] === 'none') return { kind: 'none' };
     return { kind: words[0], cost: Page.exactly(words[1]), times: new Map(reply.slice(1).map(numbersOf)) };
   };
+
+  // The same by the number of its state, as embedded/pespbench.h has them.
+  const STATES = ['none', 'stopped', 'optimum', 'infeasible'];
+
+  // The same of a search that is told in numbers, with a bound below which no timetable costs.
+  Page.foundIn = ({ state, cost, lowerBound, times }, events) => {
+    const kind = STATES[state], bound = Page.exactly(String(lowerBound));
+    if (kind === 'infeasible') return { kind };
+    if (kind === 'none') return { kind, bound };
+    return { kind, bound, cost: Page.exactly(String(cost)), times: new Map(events.map((event, place) => [event, times[place]])) };
+  };
+
+  // Whether a search has come to its end.
+  Page.isSure = ({ kind }) => kind === 'optimum' || kind === 'infeasible';
 });

@@ -26,21 +26,29 @@ Page.share(Page => {
     if (reply[0] !== 'ok') throw new Page.RunFault(`${line}: ${reply[0]}`);
   };
 
-  // A session of the files of a base. `ask` gives the reply to a line, and the same one where it is told again. Raises RunFault.
+  // What a session tells, where it is no fault.
+  const toldBy = ({ fault, isWanting, ...told }) => {
+    if (fault) throw new Page.RunFault(fault, isWanting);
+    return told;
+  };
+
+  // A session of the files of a base. `ask` gives the reply to a line, and the same one where it is told again; `domains` those of a
+  // network; `search` what a search of so many nodes has come to, its times by some events, with a bound where the module tells one.
+  // Raises RunFault.
   const openFiles = base => {
-    const { fault, ask, close } = Page.openFiles(base), told = new Map();
+    const { fault, ask: askText, domains, search, close } = Page.openFiles(base), told = new Map(), read = Page.domainReader();
     if (fault) throw new Page.RunFault(fault);
+    const ask = line => {
+      const { text } = toldBy(askText(line)), before = told.get(line);
+      if (before && before.text === text) return before.reply;
+      const reply = Page.linesOfReply(text);
+      if (QUESTIONS.includes(line)) told.set(line, { text, reply });
+      return reply;
+    };
     return {
-      close,
-      ask: line => {
-        const { text, fault: why, isWanting } = ask(line);
-        if (why) throw new Page.RunFault(why, isWanting);
-        const before = told.get(line);
-        if (before && before.text === text) return before.reply;
-        const reply = Page.linesOfReply(text);
-        if (QUESTIONS.includes(line)) told.set(line, { text, reply });
-        return reply;
-      },
+      close, ask,
+      domains: ({ events, period }) => domains ? read(toldBy(domains(events, period)).bits, events, period) : Page.readDomains(ask('domains')),
+      search: (nodes, events) => search ? Page.foundIn(toldBy(search(nodes)), events) : Page.readFound(ask(`try ${nodes}`)),
     };
   };
 
@@ -54,24 +62,30 @@ Page.share(Page => {
     }
   };
 
+  // Has a session do some lines. Raises RunFault.
+  Page.does = (session, lines) => lines.forEach(line => isDone(line, session.ask(line)));
+
   // A session after some lines, which are those of a base, or of it and of steps since. Raises RunFault.
   Page.openSession = (base, lines = base.setup) => {
     const session = openFiles(base);
-    Page.prepared(session, () => lines.forEach(line => isDone(line, session.ask(line))));
+    Page.prepared(session, () => Page.does(session, lines));
     return session;
   };
 
   const QUESTIONS = ['domains', 'tensions', 'violations', 'cost'];
 
   const READ = {
-    domains: reply => ({ domains: Page.readDomains(reply) }),
-    tensions: reply => ({ tensions: Page.readTensions(reply) }),
-    violations: reply => ({ violations: Page.readViolations(reply) }),
-    cost: reply => ({ cost: Page.readCost(reply), missing: Page.isRefused(reply) ? reply[0].replace(/^refused 11 /, '') : '' }),
+    domains: (session, network) => ({ domains: session.domains(network) }),
+    tensions: session => ({ tensions: Page.readTensions(session.ask('tensions')) }),
+    violations: session => ({ violations: Page.readViolations(session.ask('violations')) }),
+    cost: session => {
+      const reply = session.ask('cost');
+      return { cost: Page.readCost(reply), missing: Page.isRefused(reply) ? reply[0].replace(/^refused 11 /, '') : '' };
+    },
   };
 
   // What a session tells of its network and its timetable, of all of it or of some questions.
-  Page.look = (session, questions = QUESTIONS) => Object.assign({}, ...questions.map(question => READ[question](session.ask(question))));
+  Page.look = (session, network, questions = QUESTIONS) => Object.assign({}, ...questions.map(question => READ[question](session, network)));
 
   // A session of a base that was never looked at, with its network and its times. An `adopt` comes after an `optimum`, whose
   // reply has the times; the program searches once for both. Raises RunFault.

@@ -1,157 +1,108 @@
 'use strict';
 
-// Work that a click stops, in a Worker: searches, whose best timetable is adopted by another click, why there is none, what would
-// help, and long files of lines.
+// Searches for the best timetable. What they have come to is told as they go, adopted by a click, while one runs too, and gone on from.
 (() => {
-  // `asked` is what the Worker does now, since the step `from`, `settle` ends the promise of what it plays, and `found` is what
-  // searches of one network came to: its best timetable, and what the last search said.
-  let worker = null, asked = null, from = null, settle = null, found = null, began = 0, wasShown = false;
+  const { find } = Page;
+  // The most that a search can be asked for.
+  const EVERY_CASE = 1e12;
 
-  const stepNow = () => Page.session.steps[Page.session.place - 1] || Page.session.opened;
+  // What searches of one network, by its mark, have come to; whether it was offered; and the seconds before the search that runs.
+  let found = null, wasOffered = false, before = 0;
 
-  // The Worker has the parts that are shared, the module's caller and the module, and nothing else.
-  const start = () => {
-    const parts = Page.shared.map(body => `Page.share(${body});`);
-    const text = ["'use strict';", 'const Page = { share: body => body(Page) };', PespModule.text, ...parts, `(${listen})(Page);`].join('\n');
-    const address = URL.createObjectURL(new Blob([text], { type: 'text/javascript' }));
-    worker = new Worker(address);
-    URL.revokeObjectURL(address);
-    worker.addEventListener('message', event => answered(event.data));
-    worker.addEventListener('error', event => answered({ fault: event.message, isDone: true }));
-    worker.postMessage({ program: Page.program });
+  // It is told as long as its network is shown, with whatever times.
+  const isOfNow = () => Boolean(found) && found.mark === Page.markNow();
+
+  // The cheapest timetable that is known to meet everything: the one that was found, or the one that is shown.
+  const bestKnown = () => {
+    const { times, cost, isTried } = Page.view, isMet = !isTried && Page.countViolated(Page.view) === 0;
+    if (isMet && !(found.cost <= cost)) return { times, cost };
+    return found.times ? { times: found.times, cost: found.cost } : null;
   };
 
-  const listen = Page => {
-    let waiting = null, isReady = false;
-    self.addEventListener('message', async ({ data }) => {
-      if (data.kind) waiting = data;
-      else {
-        await Page.startProgram(data.program);
-        isReady = true;
-      }
-      if (!isReady || !waiting) return;
-      const { id } = waiting, given = waiting;
-      waiting = null;
-      Page.work(given, told => self.postMessage({ ...told, id }));
-    });
+  // A search that was stopped, or ended without being sure, is gone on with.
+  const search = most => {
+    if (!isOfNow()) found = { kind: 'none', nodes: 0, seconds: 0, mark: Page.markNow() };
+    const { nodes, seconds } = Page.isSure(found) ? { nodes: 0, seconds: 0 } : found;
+    before = seconds;
+    found = { ...found, isStopped: true };
+    const question = { kind: 'search', first: 2 * nodes, most, best: bestKnown(), events: Page.view.network.events };
+    Page.askFor(question, { tell: hear, end });
   };
 
-  const ask = question => {
-    Page.stopSearch();
-    if (!worker) start();
-    asked = { id: performance.now(), mark: Page.markNow(), ...Page.present(), ...question };
-    from = stepNow();
-    if (!isOfNow(found)) found = null;
-    began = performance.now();
-    worker.postMessage(asked);
-    update();
+  const hear = ({ found: now, nodes, isDone }) => {
+    const seconds = before + Page.askedNow().seconds;
+    found = { ...Page.betterFound(found, { ...now, nodes, seconds }), mark: found.mark, isStopped: !isDone };
+    if (Page.isSure(found) && !isDone) Page.stopAsking();
   };
 
-  Page.askFor = ask;
-
-  // What a base makes, as another one without lines; null where it was stopped. Rejected with the fault's text.
-  Page.play = played => new Promise((done, fail) => {
-    ask({ kind: 'play', played });
-    settle = { done, fail };
-  });
-
-  // Ends what the Worker does; what it has found until now stays.
-  Page.stopSearch = () => {
-    if (!asked) return;
-    worker.terminate();
-    worker = null;
-    ended();
-    if (found) found.isStopped = true;
-    update();
+  const end = seconds => {
+    if (!found) return;
+    if (found.isStopped && !Page.isSure(found)) found = { ...found, seconds: before + seconds };
+    Page.tellSearch();
+    Page.lead(find(found.kind === 'infeasible' ? 'ask-mends' : 'adopt'));
   };
 
-  const ended = () => {
-    asked = null;
-    Page.endGains();
-    if (settle) settle.done(null);
-    settle = null;
-  };
-
-  // The same, where another network takes the place of the one that is shown.
+  // Another network takes the place of the one that is shown.
   Page.forgetSearch = () => {
-    Page.stopSearch();
     found = null;
-    wasShown = false;
+    wasOffered = false;
+    Page.stopAsking();
   };
 
-  const answered = told => {
-    if (!asked || (told.id !== undefined && told.id !== asked.id)) return;
-    const { kind, mark } = asked;
-    if (told.found) found = Page.betterFound(found, { ...told, mark, seconds: (performance.now() - began) / 1000 });
-    else if (settle) settle[told.fault ? 'fail' : 'done'](told.fault ? new Error(told.fault) : told.base);
-    else if (told.fault) Page.say(told.fault, true);
-    else if (kind === 'why') Page.showWhy(told.why);
-    else if (kind === 'gains') Page.showGain(told.gain);
-    if (told.isDone) ended();
-    const isInfeasible = told.found && told.found.kind === 'infeasible';
-    if (isInfeasible) Page.say('No timetable meets everything. “Why?” tells what cannot be met together.', true);
-    update();
-    if (told.isDone && told.found) Page.lead(Page.find('adopt'));
+  // The seconds that pass, or those that a search took.
+  const clockText = (asked, isSearching) => {
+    if (asked) return `${Math.floor(asked.seconds + (isSearching ? before : 0))} s`;
+    return isOfNow() ? Page.tookText(found) : '';
   };
 
-  const BUSY = { why: 'Looking for what cannot be met together …', play: 'Doing the commands …', search: 'Searching …', gains: 'Asking what would help …' };
+  const BUTTONS = ['optimum', 'try', 'ask-why', 'ask-gains'];
 
-  // What is found is of the network for which it was asked, and is offered as long as that is shown, with whatever times.
-  const isOfNow = each => each && each.mark === Page.markNow();
+  const tellButtons = asked => {
+    const isOpen = isOfNow() && !Page.isSure(found) && !asked;
+    Page.setText(find('optimum'), isOpen ? 'Go on' : 'Find the optimum');
+    find('ask-mends').hidden = Boolean(asked) || !isOfNow() || found.kind !== 'infeasible';
+    find('stop').hidden = !asked;
+    for (const name of BUTTONS) find(name).disabled = Boolean(asked);
+  };
 
-  const update = () => {
-    const isShown = Boolean(isOfNow(found)), isOffered = Boolean(isShown && found.times), isSearching = Boolean(asked && asked.kind === 'search');
-    const isBusyElse = asked && !(isSearching && isShown);
-    Page.setText(Page.find('found'), isBusyElse ? BUSY[asked.kind] : isShown ? Page.foundText(found, isSearching) : '');
-    const compared = isOffered ? Page.comparedText(found, Page.view) : { told: '', adopt: 'Adopt it' };
-    Page.setText(Page.find('compared'), compared.told);
-    Page.setText(Page.find('adopt'), compared.adopt);
-    Page.find('adopt').hidden = !isOffered;
-    Page.find('stop').hidden = !asked;
-    for (const name of ['optimum', 'try', 'ask-why', 'ask-gains']) Page.find(name).disabled = Boolean(asked);
-    wasShown = isOffered;
+  // What the Worker does now, or what searches of the network have come to.
+  Page.tellSearch = () => {
+    const asked = Page.askedNow(), isSearching = Boolean(asked) && asked.kind === 'search', isOffered = isOfNow() && Boolean(found.times);
+    const isTold = isOfNow() && (isSearching ? found.nodes > 0 : !asked);
+    Page.setText(find('clock'), clockText(asked, isSearching));
+    Page.setText(find('found'), isTold ? Page.foundText(found) : asked ? asked.busy : '');
+    find('found').classList.toggle('alarm', isTold && found.kind === 'infeasible');
+    const compared = isOffered ? Page.comparedText(found, Page.view, isSearching) : { told: '', adopt: '' };
+    Page.setText(find('compared'), compared.told);
+    find('adopt').hidden = !compared.adopt;
+    if (compared.adopt) Page.setText(find('adopt'), compared.adopt);
+    tellButtons(asked);
+    wasOffered = isOffered;
   };
 
   // Times are set by lines of their own, so that nothing is searched again when these lines are given once more.
   const adopt = () => {
-    const lines = Page.timeLines(found.times), { cost, kind } = found;
-    Page.forgetSearch();
-    if (Page.step(lines)) Page.say(`adopted: ${kind === 'optimum' ? 'the optimum' : 'the best that was found'}, cost ${cost.toLocaleString('en')}`);
+    const { cost, kind, times } = found;
+    if (Page.step(Page.timeLines(times))) Page.say(`adopted: ${kind === 'optimum' ? 'the optimum' : 'the best that was found'}, cost ${cost.toLocaleString('en')}`);
+    Page.lead(find(Page.askedNow() ? 'stop' : 'optimum'));
   };
-
-  const ENDS = { why: 'the search for a conflict has ended with it', play: 'the opening has ended with it', search: 'the search has ended with it', gains: 'asking what would help has ended with it' };
-
-  // What is opened takes the place of whatever is shown, so that any step ends it.
-  const isIdle = () => asked.kind === 'play' ? from !== stepNow() : !isOfNow(asked);
 
   // A step ends what was asked of the network before it, and what was found for that is there again when it is taken back.
   Page.panel({
     update: () => {
-      const ending = asked && isIdle() ? ENDS[asked.kind] : '', isLeft = wasShown && !isOfNow(found);
-      if (ending) Page.stopSearch();
+      const isLeft = wasOffered && !isOfNow(), left = Page.leaveAsked();
       const kept = isLeft ? `the timetable of cost ${found.cost.toLocaleString('en')} that was found before it is offered again after Undo` : '';
-      update();
-      if (ending || kept) Page.sayMore([ending, kept].filter(Boolean).join('; '));
+      Page.tellSearch();
+      if (left || kept) Page.sayMore([left, kept].filter(Boolean).join('; '));
     },
   });
 
-  const STOPPED = { why: 'stopped', gains: 'stopped; what was found is listed', play: 'the opening was stopped, and nothing has changed', search: 'the search was stopped' };
-
   Page.startSearching = () => {
-    Page.find('optimum').addEventListener('click', () => ask({ kind: 'search', most: 1e12 }));
-    Page.find('try-form').addEventListener('submit', event => {
+    find('optimum').addEventListener('click', () => search(EVERY_CASE));
+    find('try-form').addEventListener('submit', event => {
       event.preventDefault();
-      ask({ kind: 'search', most: Number(Page.find('nodes').value) });
+      search(Number(find('nodes').value));
     });
-    Page.find('stop').addEventListener('click', () => {
-      const { kind } = asked;
-      Page.stopSearch();
-      Page.say(STOPPED[kind]);
-    });
-    Page.find('adopt').addEventListener('click', adopt);
-    Page.find('ask-why').addEventListener('click', () => {
-      Page.showTab('why');
-      ask({ kind: 'why', members: Page.keptMembers() });
-    });
+    find('adopt').addEventListener('click', adopt);
   };
 })();

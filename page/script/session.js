@@ -27,7 +27,7 @@
   // Opens a base with its labels and places, and shows it. Raises RunFault, and then nothing has changed.
   Page.open = (base, { title = '', labels = Page.noLabels(), places = new Map() } = {}) => {
     const { session: opened, network, times } = Page.openFirst(base);
-    settled = Page.prepared(opened, () => ({ network, times, ...Page.look(opened) }));
+    settled = Page.prepared(opened, () => ({ network, times, ...Page.look(opened, network) }));
     close();
     kept = opened;
     Object.assign(session, { opened: { base, times, title, labels, network, mark: last += 1 }, steps: [], place: 0 });
@@ -80,7 +80,7 @@
   // What the session tells after some lines, which it has done; what they cannot have changed is not asked.
   const lookAfter = lines => {
     const { network, times, questions } = Page.follow(told, lines);
-    told = { ...told, network, times, ...Page.look(kept, questions) };
+    told = { ...told, network, times, ...Page.look(kept, network, questions) };
     return told;
   };
 

@@ -15,14 +15,13 @@
   const NOTHING = 'Where no timetable meets everything, “Why?” finds a least set of spans and windows that cannot be met together, and '
     + 'the least changes that mend it.';
 
-  Page.showWhy = told => {
+  const showWhy = told => {
     answer = { ...told, mark: Page.markNow() };
     Page.draw();
-    Page.lead(document.querySelector('#reasons .mend'));
   };
 
   // The members of the kinds that are not to be changed; `fixed` are fixed times and windows.
-  Page.keptMembers = () => {
+  const keptMembers = () => {
     const kinds = new Set(Page.find('kept-kinds').value.split(',').map(kind => kind.trim()).filter(Boolean));
     const { activities, windows } = Page.view.network;
     const spans = [...activities.keys()].filter(number => kinds.has(Page.labels.kinds.get(number))).map(number => ({ of: 'activity', number }));
@@ -111,4 +110,13 @@
   };
 
   Page.panel({ update });
+
+  const ask = () => {
+    Page.showTab('why');
+    Page.askFor({ kind: 'why', members: keptMembers() }, { tell: ({ why }) => showWhy(why), end: () => Page.lead(document.querySelector('#reasons .mend')) });
+  };
+
+  Page.startTelling = () => {
+    for (const name of ['ask-why', 'ask-mends']) Page.find(name).addEventListener('click', ask);
+  };
 })();

@@ -2,30 +2,44 @@
 
 // What the Worker does, so that the page stays usable: searches, why there is no timetable, what would help, and long files of lines.
 Page.share(Page => {
-  // A search is asked for in rising numbers of nodes, so that it can be stopped with the best that it has found.
-  const FIRST_NODES = 2000, MORE = 4;
+  // A search is asked for in rising numbers of nodes, each of which tells more, so that it can be stopped with what it has come to.
+  // It begins anew each time; what is asked once more is no more than what is new.
+  const FIRST_NODES = 1000, MORE = 2;
 
-  // The session of the network that was asked about last, by its mark. It stays open, so that a next search goes on from what was
-  // found; the Worker is ended with it to stop it.
-  let kept = { mark: null, session: null };
+  // The session of the network that was asked about last, by its mark, and what the best timetable costs with which its searches
+  // begin. It stays open, so that a next search goes on from what was found; the Worker is ended with it to stop it.
+  const NOTHING = { mark: null, session: null, cost: Infinity };
+  let kept = NOTHING;
 
   const sessionOf = ({ mark, base, lines }) => {
     if (kept.mark === mark) return kept.session;
     close();
-    kept = { mark, session: Page.openSession(base, [...base.setup, ...lines]) };
+    kept = { ...NOTHING, mark, session: Page.openSession(base, [...base.setup, ...lines]) };
     return kept.session;
   };
 
   const close = () => {
     if (kept.session) kept.session.close();
-    kept = { mark: null, session: null };
+    kept = NOTHING;
   };
 
+  // The same, whose searches begin with the best timetable that is known, where it has not found one as cheap.
+  const primedFor = asked => {
+    const session = sessionOf(asked), { best } = asked;
+    if (best && best.cost < kept.cost && Page.canPrime(best.times)) {
+      const primed = Page.primedSession(session.ask('dump'), best.times);
+      session.close();
+      kept = { ...kept, session: primed, cost: best.cost };
+    }
+    return kept.session;
+  };
+
+  // Begins with `first` nodes, and has at most `most`.
   const search = (asked, tell) => {
-    const session = sessionOf(asked), { most } = asked;
-    for (let nodes = Math.min(most, FIRST_NODES); ; nodes = Math.min(most, MORE * nodes)) {
-      const found = Page.readFound(session.ask(`try ${nodes}`));
-      const isDone = found.kind === 'optimum' || found.kind === 'infeasible' || nodes === most;
+    const session = primedFor(asked), { first, most, events } = asked;
+    for (let nodes = Math.min(most, Math.max(FIRST_NODES, first)); ; nodes = Math.min(most, MORE * nodes)) {
+      const found = session.search(nodes, events), isDone = Page.isSure(found) || nodes === most;
+      if (found.times) kept.cost = found.cost;
       tell({ found, nodes, isDone });
       if (isDone) return;
     }
@@ -56,6 +70,8 @@ Page.share(Page => {
       tell({ gain: { ...question, found: best() }, isDone: place === asked.questions.length - 1 });
       session.ask(back);
     });
+    // What was found with other spans stands in the place of what a search would begin with.
+    kept = { ...kept, cost: Infinity };
   };
 
   const WORK = { search, why, play, gains };

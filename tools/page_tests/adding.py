@@ -2,14 +2,15 @@
 
 import tempfile
 
-from page_tests.hands import TWO_TRAINS
+from page_tests.hands import TWO_TRAINS, Hands
 from page_tests.keys import CTRL
 from page_tests.untouched import placed
+from tests.harness import Suite
 
 KINDS = "[...Page.labels.kinds]"
 
 
-def activity_added(suite, page):
+def activity_added(suite: Suite, page: Hands) -> None:
     """An activity is added between two events that are clicked, with kind, span and weight, and is undone with its kind."""
     page.again()
     size = page.text("#size")
@@ -48,7 +49,7 @@ def activity_added(suite, page):
     page.again()
 
 
-def dropped_by_hand(suite, page):
+def dropped_by_hand(suite: Suite, page: Hands) -> None:
     """Activities and events are dropped by a button that names them, and come back by Undo."""
     page.show(TWO_TRAINS)
     state = page.state()
@@ -67,7 +68,7 @@ def dropped_by_hand(suite, page):
     suite.note("and all is back", {"state": True, "lines": []}, {"state": page.state() == state, "lines": page.lines()})
 
 
-def named_by_hand(suite, page):
+def named_by_hand(suite: Suite, page: Hands) -> None:
     """An event is named; what is not saved then is known, and an undo takes the name back."""
     page.show({"activities": TWO_TRAINS["activities"], "period": "10"})
     suite.note("without a name", {"name": "event 1"}, {"name": page.text("#chosen-name")})
@@ -84,7 +85,7 @@ def named_by_hand(suite, page):
     suite.note("and done again", {"name": name}, {"name": page.text("#chosen-name")})
 
 
-def labels_added(suite, page):
+def labels_added(suite: Suite, page: Hands) -> None:
     """A file of labels alone is added to what is open, in one step, and leaves the other labels as they are."""
     page.again()
     page.drag([page.minute(1, 20), page.minute(1, 30)])
@@ -102,7 +103,7 @@ def labels_added(suite, page):
     page.press("opening-close")
 
 
-def line_added(suite, page):
+def line_added(suite: Suite, page: Hands) -> None:
     """A line with its stops is added in both directions by one step, with names, and reads as typed."""
     page.again()
     page.press("tab-tables")

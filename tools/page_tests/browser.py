@@ -7,6 +7,7 @@ import shutil
 import subprocess
 import tempfile
 import threading
+from typing import Any, Dict, List, Optional, Sequence, Tuple, Union
 
 NAMES = ("chromium", "chromium-browser", "google-chrome")
 QUIET = (
@@ -24,9 +25,11 @@ QUIET = (
     "--js-flags=--stack-size=2000",
 )
 SECONDS = 90
+# A point of the page, from its left and its top.
+Place = Tuple[float, float]
 
 
-def found():
+def found() -> Optional[str]:
     """The path of a browser, or None."""
     return next(filter(None, map(shutil.which, NAMES)), None)
 
@@ -38,8 +41,11 @@ class Failed(Exception):
 class Browser:
     """A browser with one page. `log` has what the page and the browser wrote, `requests` the addresses that were asked for."""
 
-    def __init__(self, binary, size=(1440, 900)):
-        self.size, self.log, self.requests, self.downloads = size, [], [], []
+    def __init__(self, binary: str, size: Tuple[int, int] = (1440, 900)) -> None:
+        self.size = size
+        self.log: List[str] = []
+        self.requests: List[str] = []
+        self.downloads: List[str] = []
         self.folder = tempfile.mkdtemp(prefix="pespbench-browser-")
         to_browser, self._writer = os.pipe()
         self._reader, from_browser = os.pipe()
@@ -51,16 +57,20 @@ class Browser:
             f"--user-data-dir={self.folder}/profile",
         ]
 
-        def at_three_and_four():
+        def at_three_and_four() -> None:
             low, high = os.dup(to_browser), os.dup(from_browser)
             os.dup2(low, 3)
             os.dup2(high, 4)
 
-        quiet = {"stdin": subprocess.DEVNULL, "stdout": subprocess.DEVNULL, "stderr": subprocess.DEVNULL}
-        self.process = subprocess.Popen(command, pass_fds=(3, 4), preexec_fn=at_three_and_four, **quiet)
+        quiet = subprocess.DEVNULL
+        self.process = subprocess.Popen(
+            command, pass_fds=(3, 4), preexec_fn=at_three_and_four, stdin=quiet, stdout=quiet, stderr=quiet
+        )
         os.close(to_browser)
         os.close(from_browser)
-        self._answers, self._last, self._session, self._turn = queue.Queue(), 0, None, threading.Lock()
+        self._answers: "queue.Queue[Dict[str, Any]]" = queue.Queue()
+        self._session: Optional[str] = None
+        self._last, self._turn = 0, threading.Lock()
         self.asked_to_stay = 0
         threading.Thread(target=self._read, daemon=True).start()
         target = self.call("Target.createTarget", url="about:blank")["targetId"]
@@ -69,13 +79,13 @@ class Browser:
             self.call(f"{domain}.enable")
         self.resize(*size)
 
-    def resize(self, width, height, scale=1):
+    def resize(self, width: int, height: int, scale: float = 1) -> None:
         """Gives the page a size in its own pixels; at 200 per cent that is half of the screen's."""
         self.call(
             "Emulation.setDeviceMetricsOverride", width=width, height=height, deviceScaleFactor=scale, mobile=False
         )
 
-    def _read(self):
+    def _read(self) -> None:
         rest = b""
         while data := os.read(self._reader, 1 << 16):
             *messages, rest = (rest + data).split(b"\0")
@@ -86,7 +96,7 @@ class Browser:
                     self._note(message["method"], message.get("params", {}))
         self._answers.put({"id": None})
 
-    def _note(self, method, params):
+    def _note(self, method: str, params: Dict[str, Any]) -> None:
         if method == "Network.requestWillBeSent":
             self.requests.append(params["request"]["url"])
         elif method == "Page.javascriptDialogOpening":
@@ -101,7 +111,7 @@ class Browser:
         elif method == "Runtime.consoleAPICalled":
             self.log.append(" ".join(str(each.get("value", each.get("description"))) for each in params["args"]))
 
-    def _send(self, method, params):
+    def _send(self, method: str, params: Dict[str, Any]) -> int:
         """Sends a call, and gives its number."""
         with self._turn:
             self._last += 1
@@ -111,9 +121,9 @@ class Browser:
             data = json.dumps(message).encode() + b"\0"
             while data:
                 data = data[os.write(self._writer, data) :]
-            return message["id"]
+            return self._last
 
-    def call(self, method, **params):
+    def call(self, method: str, **params: Any) -> Any:
         """The result of a method of the protocol."""
         sent = self._send(method, params)
         while True:
@@ -126,14 +136,14 @@ class Browser:
             raise Failed(f"{method}: {answer['error']['message']}")
         return answer["result"]
 
-    def open(self, address):
+    def open(self, address: str) -> None:
         """Opens a page, and waits until it says that it is ready."""
         self.call("Page.navigate", url=address)
         self.until(
             "document.readyState === 'complete' && document.body.classList.contains('ready') && Page.readyAfter > 0"
         )
 
-    def ask(self, expression):
+    def ask(self, expression: str) -> Any:
         """The value of an expression in the page, once it is settled. Raises Failed with what it threw."""
         answer = self.call(
             "Runtime.evaluate", expression=expression, awaitPromise=True, returnByValue=True, userGesture=True
@@ -143,7 +153,7 @@ class Browser:
             raise Failed(details.get("exception", {}).get("description") or details["text"])
         return answer["result"].get("value")
 
-    def until(self, condition, seconds=60):
+    def until(self, condition: str, seconds: int = 60) -> Any:
         """Waits until an expression is true."""
         waits = f"""new Promise((done, fail) => {{
             const end = performance.now() + {1000 * seconds};
@@ -163,7 +173,7 @@ class Browser:
                     raise Failed(f"waited in vain for {condition}") from None
         raise Failed(f"waited in vain for {condition}")
 
-    def mouse(self, kind, x, y, count=1, modifiers=0):
+    def mouse(self, kind: str, x: float, y: float, count: int = 1, modifiers: int = 0) -> None:
         """An event of the mouse with its left button: `mousePressed`, `mouseMoved` or `mouseReleased`; modifiers as of keys."""
         self.call(
             "Input.dispatchMouseEvent",
@@ -176,7 +186,7 @@ class Browser:
             modifiers=modifiers,
         )
 
-    def drag(self, places, is_released=True, modifiers=0):
+    def drag(self, places: Sequence[Place], is_released: bool = True, modifiers: int = 0) -> None:
         """Presses at the first of some places, and moves over the others."""
         self.mouse("mousePressed", *places[0], modifiers=modifiers)
         for place in places[1:]:
@@ -186,37 +196,37 @@ class Browser:
             self.mouse("mouseReleased", *places[-1], modifiers=modifiers)
             self.frame()
 
-    def touch(self, places):
+    def touch(self, places: Sequence[Place]) -> None:
         """Puts a finger down at the first of some places, and moves it over the others."""
         for kind, place in [("touchStart", places[0]), *(("touchMove", each) for each in places[1:]), ("touchEnd", None)]:
             points = [] if place is None else [{"x": place[0], "y": place[1]}]
             self.call("Input.dispatchTouchEvent", type=kind, touchPoints=points)
             self.frame()
 
-    def click(self, x, y, count=1):
+    def click(self, x: float, y: float, count: int = 1) -> None:
         """Clicks, or clicks twice."""
         for each in range(1, count + 1):
             self.mouse("mousePressed", x, y, each)
             self.mouse("mouseReleased", x, y, each)
 
-    def frame(self):
+    def frame(self) -> None:
         """Waits until what was done is on the screen."""
         self.ask("new Promise(done => requestAnimationFrame(() => requestAnimationFrame(() => done(true))))")
 
-    def key(self, name, code=0, modifiers=0):
+    def key(self, name: str, code: int = 0, modifiers: int = 0) -> None:
         """Presses a key by its name, as `ArrowLeft`; modifiers are 1 Alt, 2 Ctrl, 4 Meta, 8 Shift."""
         more = {"key": name, "windowsVirtualKeyCode": code, "modifiers": modifiers}
         self.call("Input.dispatchKeyEvent", type="rawKeyDown", **more)
         self.call("Input.dispatchKeyEvent", type="keyUp", **more)
 
-    def picture(self, path):
+    def picture(self, path: Union[str, "os.PathLike[str]"]) -> None:
         """Writes what is seen as a PNG."""
         import base64
 
         with open(path, "wb") as file:
             file.write(base64.b64decode(self.call("Page.captureScreenshot", format="png")["data"]))
 
-    def close(self):
+    def close(self) -> None:
         """Ends the browser, and takes its folder away."""
         try:
             self._session = None

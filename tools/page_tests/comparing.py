@@ -8,10 +8,12 @@ import shutil
 import subprocess
 import sys
 import tempfile
+from pathlib import Path
+from typing import Any, Dict
 
-from page_tests.hands import TWO_TRAINS
+from page_tests.hands import TWO_TRAINS, Hands
 from page_tests.keys import CTRL, SHIFT
-from tests.harness import TOP
+from tests.harness import TOP, Suite
 
 BOTH = "[...document.querySelectorAll('#view-compare .beside th b')].map(each => each.textContent).join()"
 LISTED = """[...document.querySelectorAll('#view-compare ul li')].map(each => each.textContent)"""
@@ -20,12 +22,12 @@ FIGURES = """Object.fromEntries([...document.querySelectorAll('#view-compare .be
 STATE = "JSON.stringify([[...Page.view.network.activities.values()], [...Page.view.network.windows], [...Page.view.times]])"
 
 
-def keep(page, name):
+def keep(page: Hands, name: str) -> None:
     page.key(name, ord(name), SHIFT)
     page.frame()
 
 
-def kept(suite, page):
+def kept(suite: Suite, page: Hands) -> None:
     """What is shown is kept by a button or a key as A and as B; the other is what is shown until it is kept too."""
     page.again()
     page.press("tab-compare")
@@ -47,7 +49,7 @@ def kept(suite, page):
     suite.note("B is forgotten", {"both": "A,what is shown"}, {"both": page.ask(BOTH)})
 
 
-def in_fields(suite, page):
+def in_fields(suite: Suite, page: Hands) -> None:
     """The letters that keep are letters in a field."""
     page.again()
     page.click(*page.middle("#finder input"))
@@ -55,7 +57,7 @@ def in_fields(suite, page):
     suite.note("typed", {"text": "AB", "kept": ""}, {"text": page.ask("document.querySelector('#finder input').value"), "kept": page.ask(BOTH)})
 
 
-def taken(suite, page):
+def taken(suite: Suite, page: Hands) -> None:
     """One of them is taken over in one step, which undo takes back; what is exchanged is only named otherwise."""
     page.again()
     page.show(TWO_TRAINS)
@@ -78,7 +80,7 @@ def taken(suite, page):
     suite.note("every step is there", {"steps": ["B is taken over", "A is taken over"]}, {"steps": page.ask("Page.session.steps.slice(-2).map(Page.titleOf)")})
 
 
-def of_others(suite, page):
+def of_others(suite: Suite, page: Hands) -> None:
     """A stays when something else is opened, of another period too, which is told and not taken over."""
     page.show(TWO_TRAINS, "a pair")
     keep(page, "A")
@@ -100,7 +102,7 @@ CHANGES = ["span 1 9 22", "weight 3 77", "fix 2 5", "window 30 50 15", "drop act
            "time 300 12", "time 7 1", "ends 90 5 8"]  # fmt: skip
 
 
-def said(page):
+def said(page: Hands) -> Any:
     """What the page says as the package's command does."""
     return page.ask("""(() => {
         const [before, after] = [window.first, Page.view], { network, times } = Page.differences(before, after), costs = Page.costsBeside(before, after);
@@ -108,7 +110,7 @@ def said(page):
     })()""")
 
 
-def by_package(page, folder):
+def by_package(page: Hands, folder: Path) -> Dict[str, Any]:
     """What the package's `compare` says of the files of both."""
     for name, view in (("before", "window.first"), ("after", "Page.view")):
         files = page.ask(f"Page.within({view}, () => Page.filesOf({view}.network, {view}.times))")
@@ -116,7 +118,7 @@ def by_package(page, folder):
         for file, text in files.items():
             (folder / name / file).write_text(text)
     more = {"PESPBENCH": str(TOP / "tools/pespbench_module"), "PYTHONPATH": str(TOP / "python"), "PYTHONDONTWRITEBYTECODE": "1"}
-    words = [sys.executable, "-m", "pespbench", "compare", folder / "before", folder / "after"]
+    words = [sys.executable, "-m", "pespbench", "compare", str(folder / "before"), str(folder / "after")]
     text = subprocess.run(words, env={**os.environ, **more}, capture_output=True, text=True, check=True).stdout
     parts = dict(re.findall(r"^(\w[\w ]*)\n((?:  .*\n)+)", text, re.M))
     rows = {name: [row.strip() for row in part.splitlines() if row.strip() != "no change"] for name, part in parts.items()}
@@ -128,7 +130,7 @@ def by_package(page, folder):
     }
 
 
-def as_package(suite, page):
+def as_package(suite: Suite, page: Hands) -> None:
     """What they differ in is what the Python package's `compare` says."""
     if not shutil.which("node"):
         return
@@ -143,7 +145,7 @@ def as_package(suite, page):
             suite.note(title, by_package(page, pathlib.Path(name)), said(page))
 
 
-def drawn_beside(suite, page):
+def drawn_beside(suite: Suite, page: Hands) -> None:
     """The chosen line of both is in one drawing and one table, and connections with what they take in each."""
     page.again()
     keep(page, "A")

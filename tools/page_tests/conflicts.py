@@ -1,8 +1,12 @@
 """What is violated is seen where it is, and all that is drawn is chosen by a click and by keys."""
 
+from typing import Any, Callable, Dict, Set
+
+from page_tests.hands import Hands
 from page_tests.keys import CODES
 from page_tests.moving import TRAINS, begun, piece
 from page_tests.whole import LOOK
+from tests.harness import Suite
 
 # Of the two trains a run, a dwell, a change and a headway are violated, and an event that is held.
 LINES = ["span 1 13 14", "span 2 4 6", "span 4 6 8", "span 6 4 56", "fix 4 30"]
@@ -19,22 +23,22 @@ ITEMS = "[...document.querySelectorAll('#view-violated .violated')].map(each => 
 TEXTS = "[...document.querySelectorAll('SELECTOR')].map(each => each.firstChild ? each.firstChild.data : '').filter(Boolean)"
 
 
-def violated(page, tab="diagram"):
+def violated(page: Hands, tab: str = "diagram") -> None:
     """The two trains with what is violated, and a view beside them."""
     begun(page, tab)
     page.ask(f"Page.step({LINES})")
     page.frame()
 
 
-def texts(page, selector):
+def texts(page: Hands, selector: str) -> Any:
     return page.ask(TEXTS.replace("SELECTOR", selector))
 
 
-def colors(page, selector, name):
+def colors(page: Hands, selector: str, name: str) -> Set[str]:
     return set(page.ask(f"[...document.querySelectorAll('{selector}')].map(each => getComputedStyle(each).{name})"))
 
 
-def in_rows(suite, page):
+def in_rows(suite: Suite, page: Hands) -> None:
     """A row tells what ends there, and of other trains what begins there too; its time and diamond are red."""
     violated(page)
     for event, told, note in [
@@ -54,8 +58,8 @@ def in_rows(suite, page):
     suite.note("all of it", {"title": 2}, {"title": len(title.split("\n"))})
     page.again()
     page.show({**TRAINS, "activities": TRAINS["activities"].replace("1; 1; 2; 10; 12", "1; 1; 2; 13; 14")})
-    came = [texts(page, f'[data-row="{event}"] .conflict') for event in (1, 2)]
-    suite.note("as it is opened", {"rows": [[], [f"✕ {RUN} run"]]}, {"rows": came})
+    rows = [texts(page, f'[data-row="{event}"] .conflict') for event in (1, 2)]
+    suite.note("as it is opened", {"rows": [[], [f"✕ {RUN} run"]]}, {"rows": rows})
     page.ask("Page.showRow(2)")
     for _ in range(2):
         page.key("Tab", CODES["Tab"])
@@ -64,7 +68,7 @@ def in_rows(suite, page):
     suite.note("the bar", {"told": "✕ not at :30"}, {"told": page.text('[data-way="1"] ~ .note')})
 
 
-def in_views(suite, page):
+def in_views(suite: Suite, page: Hands) -> None:
     """The diagram, the netgraph, the tables and the list have the minutes had and wanted, in red."""
     violated(page)
     came = sorted(texts(page, "#diagram text.broken"))
@@ -78,8 +82,8 @@ def in_views(suite, page):
     for time, had, minutes in [(10, 58, 2), (12, 0, 0)]:
         page.ask(f"Page.step(['time 5 {time}', 'time 6 {time + 15}'])")
         way = page.ask("document.querySelector('#diagram path[data-activity=\"6\"]').getBBox().width * 60 / 754")
-        came = {"told": texts(page, '#diagram text[data-activity="6"]'), "minutes": round(way, 1)}
-        suite.note(f"a headway of {had}", {"told": [f"{had} not 4–56 headway"], "minutes": minutes}, came)
+        drawn = {"told": texts(page, '#diagram text[data-activity="6"]'), "minutes": round(way, 1)}
+        suite.note(f"a headway of {had}", {"told": [f"{had} not 4–56 headway"], "minutes": minutes}, drawn)
         page.press("undo")
     page.ask("Page.showTab('corridor'); Page.chooseCorridor(['Ashford', 'Cranley'])")
     page.frame()
@@ -94,8 +98,8 @@ def in_views(suite, page):
     suite.note("its numbers", {"red": [1, 2, 3, 4, 5]}, {"red": numbers})
     page.press("tab-tables")
     told = "[...document.querySelectorAll('#tables td[data-told]')].map(each => [each.dataset.event, each.dataset.told])"
-    wanted = {"2": f"✕ {RUN} run +1", "3": f"✕ {DWELL} dwell +1", "4": "not at :30", "5": f"✕ {CHANGE} change +1"}
-    suite.note("the tables", wanted, dict(page.ask(told)))
+    in_tables = {"2": f"✕ {RUN} run +1", "3": f"✕ {DWELL} dwell +1", "4": "not at :30", "5": f"✕ {CHANGE} change +1"}
+    suite.note("the tables", in_tables, dict(page.ask(told)))
     suite.note("their color", {"it": {RED}}, {"it": colors(page, "#tables td.alarm", "color")})
     page.ask("window.dispatchEvent(new Event('beforeprint'))")
     came = sorted(texts(page, "#printed .front text.broken"))
@@ -122,7 +126,7 @@ SPOT = """(() => {{
 }})()"""
 
 
-def many(suite, page):
+def many(suite: Suite, page: Hands) -> None:
     """Of very many that are violated some are drawn, soon, and words say so."""
     more = "".join(f"{number}; 3; 5; 30; 40; 1\n" for number in range(100, 3_100))
     begun(page, activities=TRAINS["activities"] + more)
@@ -132,12 +136,12 @@ def many(suite, page):
     suite.holds(told, told in page.text("#diagram-note"))
 
 
-def led(page):
+def led(page: Hands) -> Any:
     """Which event is chosen, and which activity has the keys."""
     return page.ask("[Page.chosen, Number(document.activeElement.closest('.card.chosen')?.dataset.activity || 0)]")
 
 
-def leading(suite, page):
+def leading(suite: Suite, page: Hands) -> None:
     """Each thing in red leads by a click to its activity, and each line of the list, by keys too."""
     for place, wanted in enumerate([[1, 1], [2, 2], [2, 4], [3, 6], [4, 0]]):
         violated(page, "violated")
@@ -167,7 +171,7 @@ def leading(suite, page):
         suite.note(name, {"led": wanted}, {"led": led(page)})
 
 
-def turning(page):
+def turning(page: Hands) -> None:
     """A train that waits at Dale, and goes back, so that the diagram draws its turn."""
     back = "7; B; Benton; Dale; departure\n8; B; Benton; Benton; arrival\nactivity;"
     labels = TRAINS["labels"].replace("activity;", back) + "7; turn\n8; run\n"
@@ -177,7 +181,7 @@ def turning(page):
     page.frame()
 
 
-def choosing(suite, page):
+def choosing(suite: Suite, page: Hands) -> None:
     """What is drawn is chosen by a click: ends of ways, texts, stations, other lines, lanes, numbers and cells."""
     begun(page)
     for name, place, wanted in [
@@ -190,7 +194,7 @@ def choosing(suite, page):
         page.frame()
         came = {"chosen": page.ask("Page.chosen"), "keys": page.ask("document.activeElement.id"), "lines": page.lines()}
         suite.note(name, {"chosen": wanted, "keys": "diagram", "lines": []}, came)
-    for name, tab, selector, wanted in [
+    for name, tab, selector, chosen in [
         ("the minute at an end", "diagram", '#diagram text.end[data-event="1"]', [1]),
         ("a station, again and again", "diagram", '#diagram [data-station="Benton"]', [5, 2, 3, 5]),
         ("a number", "netgraph", '#netgraph tspan[data-event="4"]', [4]),
@@ -203,7 +207,7 @@ def choosing(suite, page):
         begun(page, tab)
         page.ask("Page.choose(1); Page.chooseCorridor(['Ashford', 'Cranley'])")
         page.frame()
-        for event in wanted if len(wanted) == 1 else wanted[1:]:
+        for event in chosen if len(chosen) == 1 else chosen[1:]:
             page.click(*page.middle(selector))
             page.frame()
             came = {"chosen": page.ask("Page.chosen"), "keys": page.ask("document.activeElement.id")}
@@ -217,7 +221,7 @@ def choosing(suite, page):
     suite.note("a mark of what is possible", {"chosen": 2}, {"chosen": page.ask("Page.chosen")})
 
 
-def other_lines(suite, page):
+def other_lines(suite: Suite, page: Hands) -> None:
     """The way of another line in grey is chosen by a click, and its line is drawn then."""
     page.ask("Page.openStory(Page.stories[0]); Page.showTab('diagram')")
     page.frame()
@@ -237,7 +241,7 @@ def other_lines(suite, page):
     suite.holds("it is another one", came[1] != "R1")
 
 
-def all_by_keys(suite, page):
+def all_by_keys(suite: Suite, page: Hands) -> None:
     """In each view arrow keys go through all events, and Enter goes to the row."""
     for tab in ("diagram", "netgraph", "corridor", "tables"):
         begun(page, tab)
@@ -255,12 +259,13 @@ def all_by_keys(suite, page):
         suite.note(f"{tab}, Enter", {"keys": str(order[-2])}, {"keys": page.ask("document.activeElement.dataset.event")})
 
 
-def fitting(suite, page):
+def fitting(suite: Suite, page: Hands) -> None:
     """With what is violated nothing is wider than the page, and no text is cut, on wide and on small screens."""
     for width, height in [(1360, 850), (800, 900), (390, 844)]:
         page.resize(width, height)
-        for name, show in [("two trains", lambda: violated(page)), ("a region", lambda: moved_region(page))]:
-            show()
+        shows: Dict[str, Callable[[Hands], None]] = {"two trains": violated, "a region": moved_region}
+        for name, show in shows.items():
+            show(page)
             for tab in ("diagram", "corridor", "netgraph", "tables", "violated"):
                 page.ask(f"Page.showTab('{tab}'); Page.chooseCorridor(Page.view.lines[0].stations)")
                 page.frame()
@@ -271,7 +276,7 @@ def fitting(suite, page):
     page.ask("Page.showTab('diagram')")
 
 
-def moved_region(page):
+def moved_region(page: Hands) -> None:
     """The region with each of its trains moved by some minutes."""
     page.ask("Page.openStory(Page.stories[0])")
     move = "(train, place) => Page.moveTrain(train.events[3], 2 * place - 7, place % 2 === 1)"

@@ -2,8 +2,10 @@
 
 import pathlib
 import tempfile
+from typing import Dict, List, Mapping, Tuple, Union
 
-from page_tests.hands import TWO_TRAINS
+from page_tests.hands import TWO_TRAINS, Hands
+from tests.harness import Suite
 
 HEADER = "activity; from; to; lower; upper; weight\n"
 ROW = HEADER + "1; 1; 2; 3; 5; 2\n"
@@ -12,7 +14,7 @@ UTF_16, TABBED, POINTS = "read as UTF-16", "tabs taken as separators", "decimal 
 NAMES = "event; line; to; station; kind\n1; Ü; Nürnberg; Fürth; departure\n2; Ü; Nürnberg; Nürnberg; arrival\n"
 
 
-def given(page, files):
+def given(page: Hands, files: Mapping[str, Union[bytes, str]]) -> None:
     """Drops files that exist, by their bytes, on a page that nobody has touched."""
     page.again()
     with tempfile.TemporaryDirectory() as folder:
@@ -22,10 +24,10 @@ def given(page, files):
         page.drop(*paths)
 
 
-def converted(suite, page):
+def converted(suite: Suite, page: Hands) -> None:
     """Activities in other forms are the same activity, and a word says what was converted."""
     activity = {"number": 1, "first": 1, "last": 2, "lower": 3, "upper": 5, "weight": 2}
-    for name, data, told in [
+    forms: List[Tuple[str, Union[bytes, str], str]] = [
         ("as it is", ROW, ""),
         ("UTF-16", ROW.encode("utf-16"), UTF_16),
         ("UTF-16, the greater byte first", b"\xfe\xff" + ROW.encode("utf-16-be"), UTF_16),
@@ -41,16 +43,17 @@ def converted(suite, page):
         ("tabs beside semicolons", ROW.replace("; ", ";\t"), ""),
         ("tabs beside commas", ROW.replace("; ", ",\t"), ""),
         ("Windows-1252", b"# f\xfcr\n" + ROW.encode(), "read as Windows-1252"),
-    ]:
+    ]
+    for name, data, told in forms:
         given(page, {"activities": data, "period": "10"})
         said = "opened: activities, period" + (f" — activities: {told}" if told else "")
         came = {"said": page.said(), "activity": page.ask("Page.view.network.activities.get(1)")}
         suite.note(name, {"said": said, "activity": activity}, came)
 
 
-def others(suite, page):
+def others(suite: Suite, page: Hands) -> None:
     """Files of times, windows, names and places are converted too, each with its word."""
-    files = {
+    files: Dict[str, Union[bytes, str]] = {
         "activities": TWO_TRAINS["activities"].replace("; ", "\t").encode("utf-16"),
         "times": "1; 0,0\n2; 3,0\n",
         "windows": "2\t3\t2\n",
@@ -89,7 +92,7 @@ def others(suite, page):
     suite.note("what is saved is of the usual form", {"row": "1; 1; 2; 3; 5; 2"}, {"row": saved.splitlines()[1]})
 
 
-def doubtful(suite, page):
+def doubtful(suite: Suite, page: Hands) -> None:
     """What can be read in two ways, or has no whole number, is refused at its record, with what mends it."""
     for name, data, told, word in [
         ("thousands", f"{ROW}2; 2; 1; 4; 6; 1,000\n", "record 3: field 6 is not a number", "1,000 can be 1 or 1000."),

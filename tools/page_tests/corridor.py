@@ -2,13 +2,18 @@
 
 import re
 import time
+from typing import Any, Dict, List, Sequence, Tuple
 
 from page_tests import large
+from page_tests.browser import Place
 from page_tests.fingers import tap, touch
-from tests.harness import within
+from page_tests.hands import Hands
+from tests.harness import Suite, within
 
+# A line, where it goes, and its stations with minutes.
+Train = Tuple[str, str, Sequence[Tuple[str, int]]]
 # A line that stops at B and an express that passes it, two of each in an hour, a train back, and one of elsewhere.
-TRAINS = [
+TRAINS: List[Train] = [
     ("L", "C", [("A", 0), ("B", 10), ("B", 12), ("C", 20)]),
     ("L", "C", [("A", 30), ("B", 40), ("B", 42), ("C", 50)]),
     ("X", "C", [("A", 5), ("C", 20)]),
@@ -18,9 +23,12 @@ TRAINS = [
 ]
 
 
-def texts_of(trains, headways, period=60):
+def texts_of(trains: Sequence[Train], headways: Sequence[Tuple[int, int, int, int]], period: int = 60) -> Dict[str, str]:
     """The files of trains, each a line, where it goes and its stations with minutes, and of headways between events."""
-    events, times, rows, kinds = [], [], [], []
+    events: List[str] = []
+    times: List[str] = []
+    rows: List[str] = []
+    kinds: List[str] = []
     for line, to, stops in trains:
         for place, (station, minute) in enumerate(stops):
             number = len(events) + 1
@@ -43,17 +51,17 @@ HOURLY = texts_of(TRAINS, [(1, 9, 4, 57)])
 NUMBER = r"(-?[0-9.]+)"
 
 
-def ring(page, station):
+def ring(page: Hands, station: str) -> Place:
     """The middle of a station on the netgraph."""
     return page.middle(f'#netgraph [data-station="{station}"] .ring')
 
 
-def corridor(page):
+def corridor(page: Hands) -> Any:
     """The stations of the corridor."""
     return page.ask("Page.corridor.stations")
 
 
-def points(page, selector):
+def points(page: Hands, selector: str) -> List[List[List[Tuple[int, str]]]]:
     """Of each path of the corridor's diagram its points in minutes and stations; the drawing is 754 units wide from 110 on."""
     heights = page.ask(
         """Object.fromEntries([...document.querySelectorAll('#corridor .station')].map((each, place) =>
@@ -70,7 +78,7 @@ def points(page, selector):
     ]
 
 
-def stations_chosen(suite, page):
+def stations_chosen(suite: Suite, page: Hands) -> None:
     """Stations are chosen on the netgraph by clicks, keys and a finger, and by name; ways between them are filled in."""
     page.again()
     page.press("tab-netgraph")
@@ -111,7 +119,7 @@ def stations_chosen(suite, page):
     suite.note("in another network", {"stations": []}, {"stations": corridor(page)})
 
 
-def traffic(suite, page):
+def traffic(suite: Suite, page: Hands) -> None:
     """All trains of all lines on the stations are drawn with their minutes, two in an hour and those that pass stations too."""
     page.again()
     page.show(HOURLY)
@@ -157,7 +165,7 @@ def traffic(suite, page):
     suite.note("without times", {"ways": [], "told": True}, came)
 
 
-def bands(suite, page):
+def bands(suite: Suite, page: Hands) -> None:
     """After a train its headways are a band along its run, as wide as the minutes that they keep free."""
     page.again()
     page.show(HOURLY)
@@ -184,7 +192,7 @@ def bands(suite, page):
 
 
 @within(120)
-def many_trains(suite, page):
+def many_trains(suite: Suite, page: Hands) -> None:
     """In a network of 2,048 events a corridor through a region is chosen and drawn soon."""
     page.again()
     page.show(large.texts())

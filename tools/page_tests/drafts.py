@@ -3,9 +3,11 @@
 import os
 import signal
 import time
+from typing import List, Tuple
 
-from page_tests.hands import TWO_TRAINS
+from page_tests.hands import TWO_TRAINS, Hands
 from page_tests.keys import CTRL
+from tests.harness import Suite
 
 KEPT = "Object.keys(localStorage).filter(key => key.startsWith('pespbench-draft-')).length"
 NO_STORAGE = "Object.defineProperty(window, 'localStorage', { get() { throw new DOMException('no', 'SecurityError'); } }); 0"
@@ -18,14 +20,14 @@ FILLED = """for (let size = 1 << 22; size > 4; size >>= 1) {
 }"""
 
 
-def forget(page):
+def forget(page: Hands) -> None:
     """A page with nothing kept."""
     page.again()
     page.ask("localStorage.clear()")
     page.again()
 
 
-def tick(page):
+def tick(page: Hands) -> str:
     """Ticks or unticks that a draft is kept, by a click."""
     page.press("save")
     page.press("keep-draft")
@@ -34,7 +36,7 @@ def tick(page):
     return told
 
 
-def crash(page):
+def crash(page: Hands) -> None:
     """Kills what draws the page, by its number, and opens the page anew."""
     session, page._session = page._session, None
     processes = page.call("SystemInfo.getProcessInfo")["processInfo"]
@@ -47,11 +49,11 @@ def crash(page):
     page.again()
 
 
-def is_kept(page):
+def is_kept(page: Hands) -> None:
     page.until(f"{KEPT} === 1")
 
 
-def draft_kept(suite, page):
+def draft_kept(suite: Suite, page: Hands) -> None:
     """Nothing is kept before the planner says so; then what is not saved is there after a crash, with all of its steps."""
     forget(page)
     page.drag([page.minute(1, 20), page.minute(1, 30)])
@@ -85,12 +87,13 @@ def draft_kept(suite, page):
     suite.holds("and it is the draft from then on", "1 step," in page.text("#drafts p") and page.ask(KEPT) == 1)
 
 
-def draft_of_names(suite, page):
+def draft_of_names(suite: Suite, page: Hands) -> None:
     """Names that were given and activities that were added are in a draft, with the names alone too."""
-    for name, script, lines in [
+    scripts: List[Tuple[str, str, List[str]]] = [
         ("names alone", "Page.addLabels('event\\n1; R9; Inworth; Gorsley; departure\\n')", []),
         ("and a step", "Page.addLabels('event\\n1; R9; Inworth; Gorsley; departure\\n'); Page.step(['fix 1 30'])", ["fix 1 30"]),
-    ]:
+    ]
+    for name, script, lines in scripts:
         forget(page)
         tick(page)
         page.ask(script)
@@ -108,7 +111,7 @@ def draft_of_names(suite, page):
     page.ask("localStorage.clear()")
 
 
-def drafts_dropped(suite, page):
+def drafts_dropped(suite: Suite, page: Hands) -> None:
     """A draft is gone when it is dropped, when all is saved, and when no draft is to be kept."""
     forget(page)
     tick(page)
@@ -133,7 +136,7 @@ def drafts_dropped(suite, page):
     suite.note("and nothing is", {"keys": 0}, {"keys": page.ask("localStorage.length")})
 
 
-def draft_asked(suite, page):
+def draft_asked(suite: Suite, page: Hands) -> None:
     """A draft is opened on work that is not saved by a second click alone; each of two pages has its own."""
     forget(page)
     tick(page)
@@ -155,7 +158,7 @@ def draft_asked(suite, page):
     suite.note("both are offered", {"they": ["A draft of “A region of 112 events", "A draft of “two trains"]}, {"they": told})
 
 
-def drafts_strange(suite, page):
+def drafts_strange(suite: Suite, page: Hands) -> None:
     """What is no draft is told as such and can be dropped; nothing in one acts, and a line that is refused opens nothing."""
     forget(page)
     base = '{"title":"<img src=x onerror=hostile=1>","at":0,"labels":"","files":{"activities":"1; 1; 2; 3; 5; 2\\\\n","period":"10"},"steps":STEPS}'
@@ -183,7 +186,7 @@ def drafts_strange(suite, page):
     page.ask("localStorage.clear()")
 
 
-def drafts_refused(suite, page):
+def drafts_refused(suite: Suite, page: Hands) -> None:
     """A browser that lets nothing be kept, or has no room, is told of, and the page works on."""
     forget(page)
     page.ask(NO_STORAGE)

@@ -1,9 +1,10 @@
 """What is dragged on strips and tracks, taken back and done again."""
 
-from page_tests.hands import TWO_TRAINS
+from page_tests.hands import TWO_TRAINS, Hands
+from tests.harness import Suite
 
 
-def holding(suite, page):
+def holding(suite: Suite, page: Hands) -> None:
     """A drag on a strip holds an event, and each of its steps is shown; a click changes nothing."""
     page.show(TWO_TRAINS)
     before = page.shown()
@@ -52,7 +53,7 @@ def holding(suite, page):
     suite.holds("and all is as before", page.shown() == before)
 
 
-def windows(suite, page):
+def windows(suite: Suite, page: Hands) -> None:
     """The ends of a window are dragged, and the whole of it, over the end of the period too."""
     page.show(TWO_TRAINS)
     page.ask("Page.step(['window 1 2 3'])")
@@ -81,7 +82,7 @@ def windows(suite, page):
     )
 
 
-def times(suite, page):
+def times(suite: Suite, page: Hands) -> None:
     """The time of an event is dragged: tension, cost and violations follow at each step."""
     page.show(TWO_TRAINS)
     page.drag([page.grip(2, "now"), page.minute(2, 4)], is_released=False)
@@ -107,7 +108,7 @@ def times(suite, page):
     suite.note("and given back", {"times": [[1, 0], [2, 4]]}, {"times": page.ask("[...Page.view.times]")})
 
 
-def spans(suite, page):
+def spans(suite: Suite, page: Hands) -> None:
     """The ends of a span are dragged, and all of it; an end stops at the other one."""
     page.show(TWO_TRAINS)
     page.click(*page.minute(1, 8))
@@ -137,7 +138,7 @@ def spans(suite, page):
     suite.note("what is not met", {"told": "✕ not met: takes 3 minutes, counted as 13, slack 8, costs 16"}, {"told": told})
 
 
-def undoing(suite, page):
+def undoing(suite: Suite, page: Hands) -> None:
     """Each step is taken back and done again, and the state is then the same; a step after an undo ends what could be done again."""
     page.show(TWO_TRAINS)
     steps = [
@@ -183,7 +184,7 @@ def undoing(suite, page):
     suite.note("hundreds of steps", wanted, came)
 
 
-def refusals(suite, page):
+def refusals(suite: Suite, page: Hands) -> None:
     """A line that is refused changes nothing, and its reply is told."""
     page.show(TWO_TRAINS)
     page.ask("Page.showTab('lines')")

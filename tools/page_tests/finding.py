@@ -1,22 +1,24 @@
 """A station, a line or an event is found by what is typed of its name."""
 
 import time
+from typing import Any, Callable, Dict
 
 from page_tests import large
 from page_tests.corridor import TRAINS, texts_of
 from page_tests.fingers import tap, touch
-from tests.harness import within
+from page_tests.hands import Hands
+from tests.harness import Suite, within
 
 FIELD = "#finder input"
 FOUND = "[...document.querySelectorAll('#finder [role=option]')].map(each => each.textContent)"
 
 
-def found(page):
+def found(page: Hands) -> Any:
     """What the list shows."""
     return page.ask(FOUND)
 
 
-def found_by_typing(suite, page):
+def found_by_typing(suite: Suite, page: Hands) -> None:
     """Enter takes the best of what is found, and shows it where it is."""
     page.again()
     for text, first, wanted in [
@@ -36,7 +38,7 @@ def found_by_typing(suite, page):
         suite.holds(f"{text}: its row is seen", 0 <= top <= 900 - height)
 
 
-def led_to_a_bar(suite, page):
+def led_to_a_bar(suite: Suite, page: Hands) -> None:
     """A train that is found has the keys on its bar, and arrows move it; without times they are in its first row."""
     page.again()
     page.type("/")
@@ -53,7 +55,7 @@ def led_to_a_bar(suite, page):
     suite.note("without times", {"row": "41"}, {"row": page.ask("document.activeElement.dataset.event")})
 
 
-def listed(suite, page):
+def listed(suite: Suite, page: Hands) -> None:
     """The list is gone through by keys, taken from by a mouse and a finger, and closed by Escape."""
     page.again()
     page.ask("document.activeElement.blur()")
@@ -73,7 +75,12 @@ def listed(suite, page):
     page.fill(FIELD, "norwood")
     page.key("Escape", 27)
     suite.note("Escape", {"shown": False}, {"shown": page.ask("document.querySelector('#finder ul').getClientRects().length > 0")})
-    for name, act in [("a click", page.click), ("a tap", lambda *place: tap(page, place))]:
+
+    def tapped(x: float, y: float) -> None:
+        tap(page, (x, y))
+
+    acts: Dict[str, Callable[[float, float], None]] = {"a click": page.click, "a tap": tapped}
+    for name, act in acts.items():
         page.fill(FIELD, "norwood")
         touch(page, name == "a tap")
         wanted = found(page)[3]
@@ -88,7 +95,7 @@ def listed(suite, page):
     suite.note("no line is done by it", {"lines": []}, {"lines": page.lines()})
 
 
-def found_names(suite, page):
+def found_names(suite: Suite, page: Hands) -> None:
     """Names are found without their accents, and what is in them stays a text; without labels there are events alone."""
     page.again()
     page.show(texts_of([("Ü1", "<b>Zürich</b>", [("Genève", 0), ("<b>Zürich</b>", 10)]), *TRAINS], []))
@@ -113,7 +120,7 @@ def found_names(suite, page):
 
 
 @within(120)
-def found_soon(suite, page):
+def found_soon(suite: Suite, page: Hands) -> None:
     """Among 2,048 events each letter is answered soon, and a long list says how many more there are."""
     page.again()
     page.show(large.texts())

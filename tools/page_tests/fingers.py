@@ -1,7 +1,11 @@
 """A finger on the page, by real events of touch."""
 
+from typing import Sequence
 
-def touch(page, is_on=True):
+from page_tests.browser import Browser, Place
+
+
+def touch(page: Browser, is_on: bool = True) -> None:
     """Gives the screen fingers, or takes them away."""
     page.call("Emulation.setTouchEmulationEnabled", enabled=is_on, maxTouchPoints=1)
     # Buttons are larger for fingers, which moves what lies below them.
@@ -9,7 +13,7 @@ def touch(page, is_on=True):
     page.frame()
 
 
-def swipe(page, places):
+def swipe(page: Browser, places: Sequence[Place]) -> None:
     """A finger goes down at the first of some places, over the others, and up."""
     for kind, (x, y) in [("touchStart", places[0]), *(("touchMove", place) for place in places[1:])]:
         page.call("Input.dispatchTouchEvent", type=kind, touchPoints=[{"x": x, "y": y}])
@@ -18,12 +22,12 @@ def swipe(page, places):
     page.frame()
 
 
-def tap(page, place):
+def tap(page: Browser, place: Place) -> None:
     """A finger taps."""
     swipe(page, [place])
 
 
-def scroll(page, place, distance):
+def scroll(page: Browser, place: Place, distance: float) -> None:
     """A finger that scrolls goes down or, where the distance is below 0, up."""
     x, y = place
     swipe(page, [(x, y + distance * part / 6) for part in range(7)])

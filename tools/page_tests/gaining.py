@@ -1,11 +1,12 @@
 """What would help: the best timetable with a minute more at each activity, listed as it comes, stopped, and taken over."""
 
 import json
+from typing import Any, List, Sequence
 
-from page_tests.hands import TWO_TRAINS
+from page_tests.hands import TWO_TRAINS, Hands
 from page_tests.keys import CTRL
 from page_tests.searching import long_search
-from tests.harness import within
+from tests.harness import Suite, within
 
 DONE = "Page.find('stop').hidden"
 ROWS = "[...document.querySelectorAll('#gains [data-gain]')].map(row => [Number(row.dataset.gain), row.querySelector('.saved').textContent])"
@@ -18,26 +19,29 @@ TURNS = {
 }
 
 
-def choose(page, kinds, way="more"):
+def choose(page: Hands, kinds: Sequence[str], way: str = "more") -> None:
     """Ticks just some kinds, and chooses what each is given."""
     page.press("tab-gains")
     page.ask(f"""document.querySelectorAll('#allowed-kinds input').forEach(box => {{ box.checked = {json.dumps(kinds)}.includes(box.value); }});
         Page.find('gain-way').value = '{way}'""")
 
 
-def best(page, lines=()):
-    """The cost of the best timetable with some lines more; None where there is none."""
+def best(page: Hands, lines: Sequence[str] = ()) -> int:
+    """The cost of the best timetable with some lines more, which is there."""
     reply = page.ask(f"(() => {{ const {{ base, lines }} = Page.present(); return Page.run(base, [...lines, ...{json.dumps(list(lines))}, 'optimum']).pop()[0]; }})()")
-    return int(reply.split()[1]) if reply.startswith("optimum") else None
+    words = reply.split()
+    assert words[0] == "optimum"
+    return int(words[1])
 
 
-def spans(page):
+def spans(page: Hands) -> Any:
     return page.ask("[...Page.view.network.activities.values()].map(({ number, lower, upper, weight }) => [number, lower, upper, weight])")
 
 
-def wanted(page, numbers, way):
+def wanted(page: Hands, numbers: Sequence[int], way: str) -> List[List[Any]]:
     """What each activity saves, the most first, by a run for each."""
-    before, found = best(page), []
+    before = best(page)
+    found: List[List[Any]] = []
     for number, lower, upper, weight in spans(page):
         if number in numbers:
             line = f"span {number} {lower} {upper + 1}" if way == "more" else f"span {number} {lower - 1} {upper}"
@@ -48,7 +52,7 @@ def wanted(page, numbers, way):
 
 
 @within(240)
-def gains_asked(suite, page):
+def gains_asked(suite: Suite, page: Hands) -> None:
     """Each of the kinds that are ticked is asked, and listed by what it saves; the others are not."""
     page.again()
     ticked = page.ask("[...document.querySelectorAll('#allowed-kinds input:checked')].map(box => box.value)")
@@ -68,7 +72,7 @@ def gains_asked(suite, page):
     suite.note("none is ticked", {"said": "No activity of these kinds has a span that rules anything out."}, {"said": page.said()})
 
 
-def gains_taken(suite, page):
+def gains_taken(suite: Suite, page: Hands) -> None:
     """One is taken over with its best timetable, by a click or by keys, in one step; the list is there again after Undo."""
     page.again()
     page.show(TURNS)
@@ -102,7 +106,7 @@ def gains_taken(suite, page):
         suite.note(f"{hands}: undone", {"rows": rows}, {"rows": page.ask(ROWS)})
 
 
-def gains_watched(suite, page):
+def gains_watched(suite: Suite, page: Hands) -> None:
     """The list grows while it is asked, is stopped at once, and stays; a step ends the asking too."""
     page.again()
     choose(page, ["change", "turnaround"])
@@ -129,14 +133,14 @@ def gains_watched(suite, page):
     suite.holds("a network that takes long leaves the page usable", page.ask("Page.chosen") == 3 and not page.is_shown("stop"))
 
 
-def gains_without_any(suite, page):
+def gains_without_any(suite: Suite, page: Hands) -> None:
     """Where there is no timetable, those are listed that let one be."""
     page.again()
     page.show({**TWO_TRAINS, "times": "", "activities": "1; 1; 2; 3; 4; 2\n2; 2; 1; 4; 5; 1\n"})
     choose(page, ["run", "activity"])
     page.press("ask-gains")
     page.until(DONE)
-    came = page.ask(ROWS)
+    came: List[List[str]] = page.ask(ROWS)
     suite.note("each helps", {"rows": [[2, "then there is a timetable, of cost 4"], [1, "then there is a timetable, of cost 5"]]}, {"rows": sorted(came, key=lambda row: row[1])})
     suite.holds("as it is there is none", "As it is, no timetable meets everything." in page.text("#gains"))
 

@@ -8,8 +8,9 @@ import tempfile
 import time
 import zlib
 
-from page_tests.hands import TWO_TRAINS
+from page_tests.hands import TWO_TRAINS, Hands
 from page_tests.keys import CTRL
+from tests.harness import Suite
 
 MOST_LETTERS, MOST_UNPACKED = 30_000, 4_000_000
 NAMES = "[Page.session.opened.title, [...Page.places], [...Page.labels.events], [...Page.labels.kinds]]"
@@ -19,31 +20,31 @@ CONNECTIONS = """[...document.querySelectorAll('#printed .connections tbody tr')
     .map(row => [...row.cells].map(each => each.textContent))"""
 
 
-def fragment(data):
+def fragment(data: bytes) -> str:
     """The fragment of a link that has these bytes."""
     packer = zlib.compressobj(9, zlib.DEFLATED, -15)
     packed = base64.urlsafe_b64encode(packer.compress(data) + packer.flush()).decode().rstrip("=")
     return f"#network={zlib.crc32(data):08x}.{packed}"
 
 
-def linked(page):
+def linked(page: Hands) -> str:
     """The link that the dialog gives."""
     page.press("save")
     page.press("copy-link")
     page.until("Page.find('link-told').textContent !== ''")
-    link = page.ask("Page.find('link-text').value")
+    link: str = page.ask("Page.find('link-text').value")
     page.press("saving-close")
     return link
 
 
-def reload(page):
+def reload(page: Hands) -> None:
     """Opens the address that the page has in a new page."""
     page.ask("window.isOld = true")
     page.call("Page.reload")
     page.until("!window.isOld && document.body.classList.contains('ready')")
 
 
-def named(suite, page):
+def named(suite: Suite, page: Hands) -> None:
     """A name that is typed is the page's, the archive's and its folder's, and comes back with them."""
     page.again()
     with tempfile.TemporaryDirectory() as folder:
@@ -65,8 +66,8 @@ def named(suite, page):
     page.fill("#saving-name", "another")
     page.key("Escape", 27)
     page.frame()
-    came = {"title": page.text("#title"), "open": page.is_shown("saving")}
-    suite.note("left by Escape", {"title": "Nürnberg- draft 3-b", "open": False}, came)
+    left = {"title": page.text("#title"), "open": page.is_shown("saving")}
+    suite.note("left by Escape", {"title": "Nürnberg- draft 3-b", "open": False}, left)
     page.resize(390, 844)
     for name, wanted in [("..", "network"), ("", "network"), ("a" * 120, "a" * 99), ('<b>"x"|', "b-x")]:
         page.press("save")
@@ -78,7 +79,7 @@ def named(suite, page):
     page.resize(1440, 900)
 
 
-def links_opened(suite, page):
+def links_opened(suite: Suite, page: Hands) -> None:
     """A link opens as the network that it was made of, in a new page and in one that is open, and by the clipboard."""
     page.again()
     page.drag([page.minute(1, 20), page.minute(1, 30)])
@@ -111,7 +112,7 @@ def links_opened(suite, page):
     suite.holds("steps were made for it", len(lines) == 2)
 
 
-def link_asked(suite, page):
+def link_asked(suite: Suite, page: Hands) -> None:
     """A link on work that is not saved is opened by a click alone."""
     page.again()
     link = linked(page)
@@ -126,7 +127,7 @@ def link_asked(suite, page):
     suite.note("given up", {"title": "A region of 112 events"}, {"title": page.text("#title")})
 
 
-def links_refused(suite, page):
+def links_refused(suite: Suite, page: Hands) -> None:
     """Links that are too long, damaged, bombs or no networks are refused with a word, and nothing is lost."""
     page.again()
     page.show(TWO_TRAINS)
@@ -174,7 +175,7 @@ def links_refused(suite, page):
     suite.note("a fault in it", {"told": "activities file, record 1: lower bound above upper bound"}, {"told": page.opening()["told"]})
 
 
-def too_large(suite, page):
+def too_large(suite: Suite, page: Hands) -> None:
     """A network that is too large for a link is told, and gives none."""
     page.again()
     rows = ((each, each * 7919 % 50_000, each * 104_729 % 50_000 + 50_000, each * 31 % 997) for each in range(9_000))
@@ -188,7 +189,7 @@ def too_large(suite, page):
     page.press("saving-close")
 
 
-def link_without(suite, page):
+def link_without(suite: Suite, page: Hands) -> None:
     """Where a browser lends no clipboard the link is copied as a selection is, and one that cannot pack says so."""
     page.again()
     page.ask("Object.defineProperty(navigator, 'clipboard', { value: undefined }); 0")
@@ -204,7 +205,7 @@ def link_without(suite, page):
     page.again()
 
 
-def on_paper(suite, page):
+def on_paper(suite: Suite, page: Hands) -> None:
     """On paper stand the name, the date, the netgraph with its times, and the connections of each station."""
     page.again()
     page.press("tab-netgraph")
@@ -238,7 +239,7 @@ def on_paper(suite, page):
     page.press("tab-diagram")
 
 
-def unmet_on_paper(suite, page):
+def unmet_on_paper(suite: Suite, page: Hands) -> None:
     """A connection that is not met is marked on paper, and one without times has none."""
     events = "1; A; X; S; arrival\n2; B; Y; S; departure\n3; A; X; S; departure\n"
     labels = f"event; line; to; station; kind\n{events}activity; kind\n1; change\n2; dwell\n3; headway\n"

@@ -1,8 +1,9 @@
 """The page in a browser, and where its handles are."""
 
 import json
+from typing import Any, Dict, List, Mapping
 
-from page_tests.browser import Browser, Failed
+from page_tests.browser import Browser, Failed, Place
 
 # The two trains of README.md, at period 10, with a timetable and names.
 TWO_TRAINS = {
@@ -16,21 +17,21 @@ TWO_TRAINS = {
 class Hands(Browser):
     """A browser with the page in it."""
 
-    def __init__(self, binary, address):
+    def __init__(self, binary: str, address: str) -> None:
         super().__init__(binary)
         self.address = address
         self.open(address)
 
-    def show(self, texts, title="a test"):
+    def show(self, texts: Mapping[str, str], title: str = "a test") -> None:
         """Opens the texts of files by their kinds; nothing of before is left."""
         self.ask(
             f"document.querySelectorAll('dialog[open]').forEach(each => each.close()); Page.openTexts({json.dumps(texts)}, {json.dumps(title)})"
         )
         self.frame()
 
-    def box(self, selector):
+    def box(self, selector: str) -> List[float]:
         """The left and top edge, the width and the height of an element, which is scrolled to where it is seen."""
-        return self.ask(
+        edges: List[float] = self.ask(
             f"""(() => {{
             const found = document.querySelector({json.dumps(selector)});
             found.scrollIntoView({{ block: 'nearest' }});
@@ -38,53 +39,56 @@ class Hands(Browser):
             return [left, top, width, height];
         }})()"""
         )
+        return edges
 
-    def middle(self, selector):
+    def middle(self, selector: str) -> Place:
         """The middle of an element."""
         left, top, width, height = self.box(selector)
         return left + width / 2, top + height / 2
 
-    def minute(self, event, minute):
+    def minute(self, event: int, minute: float) -> Place:
         """Where a minute is on the strip of an event."""
         left, top, width, height = self.box(f'.strip[data-event="{event}"]')
         return left + width * (minute + 0.5) / self.ask("Page.view.network.period"), top + height / 2
 
-    def unit(self, activity, minutes):
+    def unit(self, activity: int, minutes: float) -> Place:
         """Where so many minutes are on the track of an activity."""
         left, top, width, height = self.box(f'[data-activity="{activity}"] .track')
         least, count = self.ask(f"Page.rangeShown({activity})")
         return left + width * (minutes - least + 0.5) / count, top + height / 2
 
-    def grip(self, event, name):
+    def grip(self, event: int, name: str) -> Place:
         """The middle of a handle on the strip of an event: `first`, `last` or `now`."""
         return self.middle(f'.strip[data-event="{event}"] [data-grip="{name}"]')
 
-    def lines(self):
+    def lines(self) -> List[str]:
         """The lines of the steps that are done."""
-        return self.ask("Page.journal()")
+        lines: List[str] = self.ask("Page.journal()")
+        return lines
 
-    def said(self):
+    def said(self) -> str:
         """What is told below the buttons."""
         return self.text("#said")
 
-    def text(self, selector):
+    def text(self, selector: str) -> str:
         """The text of an element."""
-        return self.ask(f"document.querySelector({json.dumps(selector)}).textContent")
+        text: str = self.ask(f"document.querySelector({json.dumps(selector)}).textContent")
+        return text
 
-    def row(self, event, part):
+    def row(self, event: int, part: str) -> str:
         """The text of a part of an event's row: `time` or `note`."""
         return self.text(f'[data-row="{event}"] .{part}')
 
-    def press(self, identifier):
+    def press(self, identifier: str) -> None:
         """Clicks what has an id, where it is."""
         self.click(*self.middle(f"#{identifier}"))
         self.frame()
 
-    def again(self):
+    def again(self) -> None:
         """Opens the page anew, as nobody has touched it."""
         self.open(self.address)
 
-    def type(self, text):
+    def type(self, text: str) -> None:
         """Types a text, key by key; a line feed is Enter."""
         for letter in text.replace("\n", "\r"):
             name = {"key": "Enter", "windowsVirtualKeyCode": 13} if letter == "\r" else {"key": letter}
@@ -92,12 +96,12 @@ class Hands(Browser):
             self.call("Input.dispatchKeyEvent", type="keyUp", **name)
         self.frame()
 
-    def fill(self, selector, text):
+    def fill(self, selector: str, text: str) -> None:
         """Types a text in a field, in the place of what stands there."""
         self.click(*self.middle(selector), count=3)
         self.type(text)
 
-    def drop(self, *paths):
+    def drop(self, *paths: object) -> None:
         """Drops files and folders that exist on the page, and waits until they are opened or looked at."""
         self.ask("Page.say('')")
         data = {"items": [], "files": [str(path) for path in paths], "dragOperationsMask": 1}
@@ -106,30 +110,33 @@ class Hands(Browser):
         self.until("Page.find('opening').open || Page.find('said').textContent !== '' || !Page.find('stop').hidden")
         self.frame()
 
-    def opening(self):
+    def opening(self) -> Dict[str, Any]:
         """What the dialog of files tells: whether it is open, its fault and its help."""
         is_open = self.ask("Page.find('opening').open")
         return {"open": is_open, "told": self.text("#opening-fault"), "help": self.text("#opening-help")}
 
-    def is_shown(self, identifier):
+    def is_shown(self, identifier: str) -> bool:
         """Whether what has an id is there to be seen."""
-        return self.ask(f"Page.find({json.dumps(identifier)})?.getClientRects().length > 0")
+        is_shown: bool = self.ask(f"Page.find({json.dumps(identifier)})?.getClientRects().length > 0")
+        return is_shown
 
-    def state(self):
+    def state(self) -> str:
         """All that the program told of the state shown, as one text."""
-        return self.ask(
+        state: str = self.ask(
             """(({ network, domains, times, tensions, cost }) => JSON.stringify([
                 network.events, [...network.windows], [...network.activities.values()], [...domains], [...times],
                 tensions && [...tensions], cost,
             ]))(Page.view)"""
         )
+        return state
 
-    def shown(self):
+    def shown(self) -> str:
         """What is drawn, as one text: rows with their strips and what stands in them, figures, and the chosen event's activities."""
-        return self.ask(
+        drawn: str = self.ask(
             """[...document.querySelectorAll('[data-row] path, [data-row] .time, [data-row] .note, .figure, .told, .fields input')]
             .map(each => each.getAttribute('d') || each.value || each.textContent).join('|')"""
         )
+        return drawn
 
 
 __all__ = ["Failed", "Hands", "TWO_TRAINS"]

@@ -1,6 +1,7 @@
 """The page by the keyboard alone, and what a screen reader is told."""
 
-from page_tests.hands import TWO_TRAINS
+from page_tests.hands import TWO_TRAINS, Hands
+from tests.harness import Suite
 
 SHIFT, CTRL = 8, 2
 CODES = {
@@ -15,7 +16,7 @@ CODES = {
 }
 
 
-def strips(suite, page):
+def strips(suite: Suite, page: Hands) -> None:
     """What holds an event is moved, lengthened and let go by keys."""
     page.show(TWO_TRAINS)
     page.ask("Page.showRow(1)")
@@ -45,7 +46,7 @@ def strips(suite, page):
     suite.note("Ctrl and y", {"said": "done again: unfix 1"}, {"said": page.said()})
 
 
-def handles(suite, page):
+def handles(suite: Suite, page: Hands) -> None:
     """Each handle is reached by Tab, and arrow keys move it."""
     page.show(TWO_TRAINS)
     page.ask("Page.step(['window 1 2 3']); Page.showRow(1)")
@@ -64,7 +65,7 @@ def handles(suite, page):
     suite.note("the whole span", {"line": "span 1 3 7"}, {"line": page.lines()[-1]})
 
 
-def told(suite, page):
+def told(suite: Suite, page: Hands) -> None:
     """Each handle has a role, a name and a value, and each button, field and view a name."""
     page.show(TWO_TRAINS)
     page.ask("Page.step(['window 1 2 3']); Page.showRow(1)")

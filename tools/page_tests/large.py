@@ -1,15 +1,17 @@
 """A network of some 2,000 events: regions side by side, each with stations and lines of its own."""
 
 import re
+from typing import Dict, List, Mapping
 
 from pespbench.drawn import draw_region
 
 REGIONS = 19
 
 
-def with_train(texts):
+def with_train(texts: Mapping[str, str]) -> Dict[str, str]:
     """The same files, where the first line's trains are one of 20 events: what turns at its end dwells there."""
-    first, labels = "", []
+    first = ""
+    labels: List[str] = []
     for row in texts["labels"].splitlines():
         number, *fields = [field.strip() for field in row.split(";")]
         if number.isdigit() and len(fields) == 4 and int(number) <= 20:
@@ -19,16 +21,20 @@ def with_train(texts):
     return {**texts, "labels": "".join(f"{row}\n" for row in labels)}
 
 
-def texts(count=REGIONS):
+def texts(count: int = REGIONS) -> Dict[str, str]:
     """The texts of its files by their kinds."""
-    activities, times, events, kinds, shift = [], [], [], [], 0
+    activities: List[str] = []
+    times: List[str] = []
+    events: List[str] = []
+    kinds: List[str] = []
+    shift = 0
     for seed in range(1, count + 1):
         region = draw_region(seed)
-        for each in region.events:
+        for event in region.events:
             events.append(
-                f"{each.number + shift}; {each.line}.{seed}; {each.to} {seed}; {each.station} {seed}; {each.kind}"
+                f"{event.number + shift}; {event.line}.{seed}; {event.to} {seed}; {event.station} {seed}; {event.kind}"
             )
-            times.append(f"{each.number + shift}; {each.time}")
+            times.append(f"{event.number + shift}; {event.time}")
         for each in region.activities:
             number = len(activities) + 1
             activities.append(

@@ -3,21 +3,23 @@
 import json
 from itertools import combinations
 from math import dist
+from typing import Any, Dict, Iterable, Sequence, Tuple
 
-from pespbench.drawn import draw_region
-from tests.harness import within
+from page_tests.hands import Hands
+from pespbench.drawn import Region, draw_region
+from tests.harness import Suite, within
 
 CLEARANCE = 26
 
 
-def laid_out_by(page, stations, lengths):
+def laid_out_by(page: Hands, stations: Sequence[str], lengths: Sequence[Tuple[str, int]]) -> Any:
     """The places of stations between some of which tracks of a length lie."""
     rows = [[json.dumps(sorted(ends)), length] for ends, length in lengths]
     tracks = f"new Map({json.dumps(rows)}.map(([ends, length]) => [Page.trackOf(...JSON.parse(ends)), length]))"
     return page.ask(f"Object.fromEntries(Page.layOut({json.dumps(stations)}, {tracks}))")
 
 
-def distances(suite, page):
+def distances(suite: Suite, page: Hands) -> None:
     """Stations are laid out about as far apart as trains need."""
     places = laid_out_by(page, ["a", "b", "c", "d"], [("ab", 10), ("bc", 20), ("cd", 30)])
     along = [places[station][0] for station in "abcd"]
@@ -33,7 +35,7 @@ def distances(suite, page):
     suite.holds("in one place", min(dist(one, other) for one, other in combinations(spread, 2)) > 40)
 
 
-def texts_of(region):
+def texts_of(region: Region) -> Dict[str, str]:
     """The files of a region, without places."""
     rows = {
         "activities": [f"{each.number}; {each.first}; {each.last}; {each.lower}; {each.upper}; {each.weight}" for each in region.activities],
@@ -46,7 +48,7 @@ def texts_of(region):
 
 
 @within(120)
-def room(suite, page):
+def room(suite: Suite, page: Hands) -> None:
     """On the netgraph of a region stations keep clear of each other, and each line is known with its stations in order."""
     for seed in range(1, 9):
         page.show(texts_of(draw_region(seed)))
@@ -63,17 +65,17 @@ def room(suite, page):
     page.ask("Page.showTab('diagram')")
 
 
-def labelled(page, labels, steps):
+def labelled(page: Hands, labels: Sequence[Sequence[str]], steps: Sequence[Tuple[int, int, str]]) -> None:
     """Opens events with labels, numbered from 1, and activities between them."""
     rows = ["event; line; to; station; kind", *(f"{number}; {'; '.join(label)}" for number, label in enumerate(labels, 1))]
     rows += ["activity; kind", *(f"{number}; {kind}" for number, (_, _, kind) in enumerate(steps, 1) if kind)]
     activities = [f"{number}; {first}; {last}; 5; 6; 1" for number, (first, last, _) in enumerate(steps, 1)]
     alone = sorted(set(range(1, len(labels) + 1)) - {event for first, last, _ in steps for event in (first, last)})
-    files = {"activities": activities, "labels": rows, "period": ["60"], "events": map(str, alone)}
+    files: Dict[str, Iterable[str]] = {"activities": activities, "labels": rows, "period": ["60"], "events": map(str, alone)}
     page.show({name: "".join(f"{row}\n" for row in listed) for name, listed in files.items()})
 
 
-def trains(suite, page):
+def trains(suite: Suite, page: Hands) -> None:
     """A train is a chain of runs and dwells, which may be a ring; lines are in the order of their names, in which numbers count."""
     stations = "XYYZZX"
     labelled(page, [("C", "", stations[place], ("departure", "arrival")[place % 2]) for place in range(6)], [(place, place % 6 + 1, "") for place in range(1, 7)])
@@ -86,14 +88,14 @@ def trains(suite, page):
     suite.note("names", {"lines": ["7", "A", "R2", "R10"]}, {"lines": page.ask("Page.view.lines.map(line => line.name)")})
 
 
-def axes(suite, page):
+def axes(suite: Suite, page: Hands) -> None:
     """No axis has more than a dozen marks, of which two are at most half an hour apart in an hour."""
     most = page.ask("Math.max(...[...Array(1439).keys()].map(each => (each + 2) / Page.stepOf(each + 2)))")
     suite.holds(f"at most a dozen marks, here {most}", most <= 12)
     suite.note("up to an hour", {"steps": [1, 1, 2, 5, 5, 5]}, {"steps": page.ask("[10, 12, 13, 30, 31, 60].map(Page.stepOf)")})
 
 
-def minutes_told(suite, page):
+def minutes_told(suite: Suite, page: Hands) -> None:
     """Runs of minutes, and bare ones of tables, are told with the hour above an hour."""
     for period, runs, bare in [(60, ":00–:01, :05", ["07", "59"]), (120, "0:00–0:01, 0:05", ["0:07", "0:59"])]:
         page.show({"activities": "1; 1; 2; 3; 5; 2\n", "period": f"{period}\n"})

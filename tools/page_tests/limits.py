@@ -4,11 +4,12 @@ import pathlib
 import tempfile
 import time
 import zipfile
+from typing import Dict, List
 
-from page_tests.hands import TWO_TRAINS
+from page_tests.hands import TWO_TRAINS, Hands
 from page_tests.searching import DONE
 from page_tests.untouched import placed
-from tests.harness import within
+from tests.harness import Suite, within
 
 LONGEST = 67_108_864
 # What the page may take to draw, on a machine on which other tests run too.
@@ -28,7 +29,7 @@ TIMES_TOLD = """(() => {
 })()"""
 
 
-def at_the_limits(suite, page):
+def at_the_limits(suite: Suite, page: Hands) -> None:
     """At period 1,440, with as many events and activities as may be, times are opened, set, adopted and taken back."""
     events, count = 1_666, 8_333
     rows = ((number, number % events + 1, (number + 1 + number // events) % events + 1) for number in range(count))
@@ -44,18 +45,17 @@ def at_the_limits(suite, page):
     came = {"size": page.text("#size"), "time": page.row(1_441, "time"), "fault": page.text("#opening-fault")}
     suite.note("opened", {"size": "1666 events, 8333 activities, period 24:00", "time": "0:01", "fault": ""}, came)
     page.fill("#time-at", "6:15\n")
-    came = {"lines": page.lines(), "time": page.row(1, "time")}
-    suite.note("a time", {"lines": ["time 1 375"], "time": "6:15"}, came)
+    suite.note("a time", {"lines": ["time 1 375"], "time": "6:15"}, {"lines": page.lines(), "time": page.row(1, "time")})
     page.press("try")
     page.until(DONE)
     page.press("adopt")
-    came = {"lines": len(page.lines()), "violated": page.text("#figure-violations b")}
-    suite.note("adopted", {"lines": 1 + events, "violated": "0"}, came)
+    adopted = {"lines": len(page.lines()), "violated": page.text("#figure-violations b")}
+    suite.note("adopted", {"lines": 1 + events, "violated": "0"}, adopted)
     page.press("undo")
     suite.note("undone", {"time": "6:15"}, {"time": page.row(1, "time")})
 
 
-def followed(suite, page):
+def followed(suite: Suite, page: Hands) -> None:
     """Times that are followed are those that the program has, which the tension from a clock at 0 tells."""
     page.again()
     page.show({**TWO_TRAINS, "events": "7\n8\n", "times": "event; time\n+1; -3\n2; 0017\n7; 25\n9; 3\n"})
@@ -67,7 +67,7 @@ def followed(suite, page):
 
 
 @within(240)
-def long_files(suite, page):
+def long_files(suite: Suite, page: Hands) -> None:
     """A file has as many bytes as the program reads, in an archive too; one more is told, and no more is unpacked."""
     row, told = b"1; 1; 2; 3; 5; 2\n", f"activities file is too long: it has more than {LONGEST:,} bytes"
     with tempfile.TemporaryDirectory() as name:
@@ -99,9 +99,11 @@ def long_files(suite, page):
         suite.note("many long files in one archive", {"told": told}, page.opening())
 
 
-def lines_of(count, stations):
+def lines_of(count: int, stations: int) -> Dict[str, str]:
     """A network of so many lines, each between stations of its own, with labels and times."""
-    events, activities, kinds = [], [], []
+    events: List[str] = []
+    activities: List[str] = []
+    kinds: List[str] = []
     for line in range(count):
         names = [f"S{line * stations + place}" for place in range(stations)]
         for place, name in enumerate(names):
@@ -115,7 +117,7 @@ def lines_of(count, stations):
     return {"activities": "".join(activities), "labels": labels, "times": times, "period": "60\n"}
 
 
-def drawn_in_time(suite, page, name, tab, wanted):
+def drawn_in_time(suite: Suite, page: Hands, name: str, tab: str, wanted: str) -> None:
     """A view of what is open is drawn soon, with a word that says that it is elided."""
     began = time.monotonic()
     page.press(f"tab-{tab}")
@@ -125,7 +127,7 @@ def drawn_in_time(suite, page, name, tab, wanted):
 
 
 @within(300)
-def elided(suite, page):
+def elided(suite: Suite, page: Hands) -> None:
     """Networks that are too large to draw are drawn in part, soon, with a word that says so."""
     for lines, stations, tab, wanted in [
         (1, 349, "netgraph", ""),
@@ -156,7 +158,7 @@ def elided(suite, page):
     drawn_in_time(suite, page, "all are violated", "violated", wanted)
 
 
-def exact(suite, page):
+def exact(suite: Suite, page: Hands) -> None:
     """A cost beyond what a number of a script tells exactly is shown as it is, in its digits."""
     weights = [1_000_000_000 - (number <= 3_750) for number in range(7_500)]
     many = "".join(

@@ -5,8 +5,10 @@ import re
 import shutil
 import subprocess
 import sys
+from typing import Any, Dict, Sequence, Set
 
-from tests.harness import TOP, within
+from page_tests.hands import Hands
+from tests.harness import TOP, Suite, within
 
 SCRIPTS = TOP / "page/script"
 # Debian's modules, which another Node does not look for.
@@ -17,9 +19,9 @@ TOGETHER = re.compile(r"Object\.assign\(Page, \{([^}]*)\}")
 NAMED = re.compile(r"(\w+)(?=[,:]| *$)")
 
 
-def told_by(suite, what, command, **how):
+def told_by(suite: Suite, what: str, command: Sequence[object], **how: Any) -> None:
     """Runs a checker, which tells nothing where all is right; False where it is not installed."""
-    if not shutil.which(command[0]):
+    if not shutil.which(str(command[0])):
         print(f"  nothing was tried of {what}: {command[0]} is not installed")
         return
     env = {**os.environ, "NODE_PATH": MODULES, "PYTHONDONTWRITEBYTECODE": "1"}
@@ -28,29 +30,29 @@ def told_by(suite, what, command, **how):
 
 
 @within(120)
-def types_of_scripts(suite, page):
+def types_of_scripts(suite: Suite, page: Hands) -> None:
     """The scripts pass TypeScript's checker."""
     words = ["tsc", "--allowJs", "--checkJs", "--noEmit", "--target", "es2022", "--lib", "es2022,dom,dom.iterable"]
     told_by(suite, "types of scripts", [*words, TOP / "page/types.d.ts", *sorted(SCRIPTS.glob("*.js"))])
 
 
 @within(120)
-def lint_of_scripts(suite, page):
+def lint_of_scripts(suite: Suite, page: Hands) -> None:
     """They and the module's caller pass eslint, by the rules of page/eslintrc.json."""
     words = ["eslint", "-f", "unix", "--no-eslintrc", "-c", TOP / "page/eslintrc.json"]
     told_by(suite, "lint of scripts", [*words, "page/script", "page/module.js"], cwd=TOP)
 
 
-def set_in(text):
+def set_in(text: str) -> Set[str]:
     """The members of Page that a script sets."""
     together = [name for part in TOGETHER.findall(text) for name in NAMED.findall(part)]
     return {*SET.findall(text), *together} - {"null"}
 
 
-def what_scripts_share(suite, page):
+def what_scripts_share(suite: Suite, page: Hands) -> None:
     """Each member of Page is set in one script, and none is read that no script sets, or set and read nowhere."""
     texts = {path.name: path.read_text() for path in SCRIPTS.glob("*.js")}
-    places = {}
+    places: Dict[str, Set[str]] = {}
     for name, text in texts.items():
         for member in set_in(text):
             places.setdefault(member, set()).add(name)
@@ -65,7 +67,7 @@ def what_scripts_share(suite, page):
 
 
 @within(120)
-def tools_of_page(suite, page):
+def tools_of_page(suite: Suite, page: Hands) -> None:
     """What makes the page passes a type checker, and that with its tests and the report a checker of names."""
     told_by(suite, "names in tools", ["pyflakes3", *(TOP / "tools" / name for name in ("page", "test_page", "measure_page", "paging", "page_tests")), TOP / "python/pespbench/report"])
     if shutil.which("mypy"):

@@ -2,9 +2,10 @@
 
 from page_tests.corridor import TRAINS, texts_of
 from page_tests.fingers import scroll, swipe, tap, touch
+from page_tests.hands import Hands
 from page_tests.whole import LOOK
 from page_tests.words import TABS
-from tests.harness import within
+from tests.harness import Suite, within
 
 # Texts that have too little contrast with what lies below them, 4.5 to 1, by the colors that a browser computes.
 PALE = """(() => {
@@ -47,7 +48,7 @@ WIDE = [("Regionalexpress Oberland–Unterland", LONG, [(OLD, 0), (LONG, 10), (L
 
 
 @within(240)
-def sizes(suite, page):
+def sizes(suite: Suite, page: Hands) -> None:
     """With long names, at 390 points and at 200 per cent, nothing is wider than the page, no text is cut, and a row says all it has to."""
     for width, height, scale in [(1360, 850, 1), (800, 1000, 1), (390, 800, 1), (390, 800, 2), (680, 425, 2)]:
         page.resize(width, height, scale)
@@ -71,7 +72,7 @@ def sizes(suite, page):
     page.ask("Page.showTab('diagram')")
 
 
-def colors(suite, page):
+def colors(suite: Suite, page: Hands) -> None:
     """Light and dark, each text can be read on what lies below it; paper is light."""
     for scheme in ("light", "dark"):
         page.call("Emulation.setEmulatedMedia", features=[{"name": "prefers-color-scheme", "value": scheme}])
@@ -97,7 +98,7 @@ def colors(suite, page):
     page.call("Emulation.setEmulatedMedia", media="", features=[])
 
 
-def fingers(suite, page):
+def fingers(suite: Suite, page: Hands) -> None:
     """Under a finger the strips scroll up and down and change nothing; across it drags, and a tap chooses."""
     page.resize(390, 800)
     page.again()
@@ -126,7 +127,7 @@ def fingers(suite, page):
     page.resize(1440, 900)
 
 
-def images(suite, page):
+def images(suite: Suite, page: Hands) -> None:
     """Each drawing has a name, on paper too, and the netgraph's stations have theirs."""
     page.again()
     for tab in TABS:

@@ -1,7 +1,11 @@
 """Trains that are moved as a whole, and from an event on: by a mouse, a finger and keys."""
 
+from typing import Callable, List, Tuple
+
 from page_tests.fingers import scroll, swipe, tap, touch
+from page_tests.hands import Hands
 from page_tests.keys import CODES, CTRL, SHIFT
+from tests.harness import Suite
 
 ALT = 1
 # A train from Ashford over Benton to Cranley, and one that leaves Benton after it, at a cost of 5.
@@ -31,20 +35,20 @@ BROKEN = "[...document.querySelectorAll('#diagram text.broken')].map(each => eac
 FROM_HERE = ["time 3 13", "time 4 33"]
 
 
-def begun(page, tab="diagram", **texts):
+def begun(page: Hands, tab: str = "diagram", **texts: str) -> None:
     """The two trains, and a view beside them."""
     page.show({**TRAINS, **texts})
     page.ask(f"Page.choose(1); Page.showTab('{tab}'); Page.find('from-here').checked = false")
     page.frame()
 
 
-def bar(page, event=1):
+def bar(page: Hands, event: int = 1) -> Tuple[float, float, float]:
     """The middle of the bar of the train that begins with an event, and the pixels of a minute there."""
     x, y = page.middle(f'[data-way="{event}"]')
     return x, y, page.box(f'[data-way="{event}"]')[2] / 60
 
 
-def piece(page, event, part=0.5, view="diagram"):
+def piece(page: Hands, event: int, part: float = 0.5, view: str = "diagram") -> Tuple[float, float, float]:
     """A place on the way of a train in a diagram, after an event, and the pixels of a minute there."""
     page.box(f"#{view} svg")
     x, y, width = page.ask(
@@ -57,12 +61,12 @@ def piece(page, event, part=0.5, view="diagram"):
     return x, y, width
 
 
-def figures(page):
+def figures(page: Hands) -> List[str]:
     """What is shown of cost and violations, with their changes."""
     return [page.text(f"#figure-{name} {part}") for name in ("cost", "violations") for part in ("b", "small")]
 
 
-def bars(suite, page):
+def bars(suite: Suite, page: Hands) -> None:
     """A train is dragged by its bar: each step is shown with its change, and the last one is one step."""
     begun(page)
     state, (x, y, minute) = page.state(), bar(page)
@@ -92,7 +96,7 @@ def bars(suite, page):
     suite.note("by a finger", {"lines": LATER}, {"lines": page.lines()})
 
 
-def ways(suite, page):
+def ways(suite: Suite, page: Hands) -> None:
     """A train is dragged by its way in the diagram; with Shift, or the box, a run from its departure on, a dwell from its end."""
     begun(page)
     state = page.state()
@@ -127,7 +131,7 @@ def ways(suite, page):
     suite.holds("Escape leaves it", page.state() == state)
 
 
-def in_corridor(suite, page):
+def in_corridor(suite: Suite, page: Hands) -> None:
     """A train is dragged in a corridor too, with all others there: by a mouse, from here on, a finger and keys."""
     begun(page, "corridor")
     page.ask("Page.chooseCorridor(['Ashford', 'Cranley'])")
@@ -159,7 +163,7 @@ def in_corridor(suite, page):
     page.ask("Page.chooseCorridor([]); Page.showTab('diagram')")
 
 
-def by_taps(suite, page):
+def by_taps(suite: Suite, page: Hands) -> None:
     """A finger on a train that goes up or down scrolls, a tap chooses, and beside all trains it scrolls across."""
     begun(page)
     page.resize(390, 800)
@@ -171,9 +175,10 @@ def by_taps(suite, page):
     page.frame()
     suite.note("a tap on a bar", {"line": "B", "lines": []}, {"line": page.ask("Page.labelOf(Page.chosen).line"), "lines": page.lines()})
     page.ask("Page.choose(1)")
-    for name, view, place in [("a way", "views", lambda: piece(page, 1)[:2]), ("a bar", "events", lambda: bar(page)[:2])]:
+    places: List[Tuple[str, str, Callable[[], Tuple[float, ...]]]] = [("a way", "views", lambda: piece(page, 1)), ("a bar", "events", lambda: bar(page))]
+    for name, view, place in places:
         page.ask(f"Page.find('{view}').scrollIntoView({{ block: 'center' }})")
-        x, y = place()
+        x, y = place()[:2]
         before = page.ask("window.scrollY + Page.find('events').scrollTop")
         scroll(page, (x, y), 200 if y < 500 else -200)
         moved = abs(page.ask("window.scrollY + Page.find('events').scrollTop") - before)
@@ -188,7 +193,7 @@ def by_taps(suite, page):
     page.resize(1440, 900)
 
 
-def diamonds(suite, page):
+def diamonds(suite: Suite, page: Hands) -> None:
     """The diamond of an event moves its train with Ctrl, and with Shift from here on; alone it moves itself."""
     for modifiers, lines in [(0, ["time 3 13"]), (CTRL, LATER), (SHIFT, FROM_HERE), (CTRL + SHIFT, FROM_HERE)]:
         begun(page)
@@ -197,7 +202,7 @@ def diamonds(suite, page):
         suite.note(f"a diamond with {modifiers}", {"lines": lines}, {"lines": page.lines()})
 
 
-def by_keys(suite, page):
+def by_keys(suite: Suite, page: Hands) -> None:
     """Keys move a train on its bar, in a row and in each view, each time by one step."""
     for name, focus, key, modifiers, lines in [
         ("a bar", "[data-way='1']", "ArrowRight", 0, LATER),
@@ -226,7 +231,7 @@ def by_keys(suite, page):
         suite.note("the keys stay there, and one undo is enough", {"it": (True, [])}, {"it": (still, page.lines())})
 
 
-def by_fields(suite, page):
+def by_fields(suite: Suite, page: Hands) -> None:
     """The chosen event's train is moved by typed minutes, from here on with the box."""
     begun(page)
     page.click(*page.minute(3, 40))
@@ -247,7 +252,7 @@ def by_fields(suite, page):
     suite.note("the step is listed", {"listed": listed}, {"listed": page.text("#steps")})
 
 
-def held(suite, page):
+def held(suite: Suite, page: Hands) -> None:
     """An event that would leave its window or fixed time goes on, and it is told in its row, on the bar and in the diagram."""
     for line, told in [("fix 3 12", "not at :12"), ("window 3 10 3", "not from :10 to :12")]:
         begun(page)
@@ -270,7 +275,7 @@ def held(suite, page):
         suite.note("it is done all the same", {"lines": [line, *LATER]}, {"lines": page.lines()})
 
 
-def lacking(suite, page):
+def lacking(suite: Suite, page: Hands) -> None:
     """Events without a time are left, and where nothing can be moved it is told."""
     begun(page, times="1; 0\n2; 10\n3; 12\n")
     page.ask("Page.find('diagram').focus()")

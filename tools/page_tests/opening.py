@@ -4,10 +4,11 @@ import base64
 import json
 import pathlib
 import tempfile
+from typing import Dict, List, Mapping, Tuple, Union
 
-from page_tests.hands import TWO_TRAINS
+from page_tests.hands import TWO_TRAINS, Hands
 from pespbench import Labels
-from tests.harness import TOP
+from tests.harness import TOP, Suite
 
 EXAMPLES = TOP / "examples"
 # What would act on the page if it were taken as markup or as a script.
@@ -16,7 +17,7 @@ HOSTILE = (
 )
 
 
-def drop(page, given):
+def drop(page: Hands, given: Mapping[str, Union[bytes, str]]) -> None:
     """Drops files with their texts on the page."""
     listed = {
         name: text if isinstance(text, str) else {"base64": base64.b64encode(text).decode()}
@@ -36,11 +37,11 @@ def drop(page, given):
     page.frame()
 
 
-def forget(page):
+def forget(page: Hands) -> None:
     page.ask("document.querySelectorAll('dialog[open]').forEach(each => each.close()); Page.say('')")
 
 
-def dropping(suite, page):
+def dropping(suite: Suite, page: Hands) -> None:
     """Files that are dropped are opened at once where their names and the period tell all, and else after a look."""
     page.show(TWO_TRAINS)
     forget(page)
@@ -102,11 +103,11 @@ def dropping(suite, page):
     suite.note("lines, of which a search is not done again", {"times": [[1, 0], [2, 3]], "setup": []}, came)
 
 
-def refused(suite, page):
+def refused(suite: Suite, page: Hands) -> None:
     """A file that cannot be read is refused with the program's text, and what was shown stays."""
     page.show(TWO_TRAINS)
     state = page.state()
-    for name, given, told in [
+    cases: List[Tuple[str, Dict[str, Union[bytes, str]], str]] = [
         (
             "bounds",
             {"activities": "1; 1; 2; 5; 3; 2\n", "period": "10"},
@@ -158,7 +159,8 @@ def refused(suite, page):
             {"activities": bytes(range(256)) * 40, "period": "10"},
             "activities file, record 1: wrong number of fields",
         ),
-    ]:
+    ]
+    for name, given, told in cases:
         forget(page)
         drop(page, given)
         came = {
@@ -170,7 +172,7 @@ def refused(suite, page):
     forget(page)
 
 
-def hostile(suite, page):
+def hostile(suite: Suite, page: Hands) -> None:
     """Names that look like markup, scripts or styles stay texts, wherever they are drawn."""
     label = '"' + HOSTILE.replace('"', '""') + '"'
     labels = "event; line; to; station; kind\n" + "".join(

@@ -3,12 +3,15 @@
 import base64
 import pathlib
 import tempfile
+from typing import Any, Dict
 
+from page_tests.hands import Hands
 from pespbench.report.page import EMPTY, written
+from tests.harness import Suite
 
 NAME = "</script><script>alert('&')</script><img src=x onerror=alert(1)>"
 # Two trains at period 10, of which the second waits a minute too long.
-CONTENT = {
+CONTENT: Dict[str, Any] = {
     "title": f"Two {NAME}",
     "network": {"period": 10, "events": [1, 2], "windows": [[1, 0, 1]], "activities": [[1, 1, 2, 3, 5, 2], [2, 2, 1, 4, 6, 1]]},
     "labels": {"events": [[1, "M", "Benton", "Ashford", "departure"], [2, "M", "Benton", NAME, "arrival"]], "kinds": [[1, "run"]]},
@@ -17,7 +20,7 @@ CONTENT = {
 }  # fmt: skip
 
 
-def opened(page, content):
+def opened(page: Hands, content: Dict[str, Any]) -> pathlib.Path:
     """Opens a report in the place of the page, and gives where it is."""
     folder = tempfile.mkdtemp(prefix="pespbench-report-")
     path = pathlib.Path(folder) / "report.html"
@@ -28,7 +31,7 @@ def opened(page, content):
     return path
 
 
-def closed(page, path):
+def closed(page: Hands, path: pathlib.Path) -> None:
     """Leaves the report for the page, and takes it away."""
     page.again()
     page.requests.clear()
@@ -36,7 +39,7 @@ def closed(page, path):
     path.parent.rmdir()
 
 
-def read(suite, page):
+def read(suite: Suite, page: Hands) -> None:
     """A report shows what the program said, with names as texts, and has no hands and asks for nothing."""
     path = opened(page, CONTENT)
     shown = page.text("#printed")
@@ -58,7 +61,7 @@ def read(suite, page):
     closed(page, path)
 
 
-def worked_on(suite, page):
+def worked_on(suite: Suite, page: Hands) -> None:
     """One click, or Enter, opens it in the workbench with times, names and places; a step can be made and undone."""
     content = {**CONTENT, "title": "Two trains", "places": [["Ashford", [1, 2]]]}
     path = opened(page, content)
@@ -78,7 +81,7 @@ def worked_on(suite, page):
     closed(page, path)
 
 
-def without_times(suite, page):
+def without_times(suite: Suite, page: Hands) -> None:
     """Where there is no timetable, that is said above all."""
     path = opened(page, {**CONTENT, "times": [], "tensions": None, "violations": None, "cost": None, "missing": "event 1 has no time"})
     suite.note("the headline", {"it": "There is no timetable yet."}, {"it": page.text("#printed .headline")})

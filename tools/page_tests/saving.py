@@ -8,14 +8,15 @@ import tempfile
 import time
 import zipfile
 
-from page_tests.hands import TWO_TRAINS
+from page_tests.hands import TWO_TRAINS, Hands
 from page_tests.opening import EXAMPLES, drop, forget
 from pespbench import Labels, files
 from pespbench.drawn import draw_region
 from pespbench.report import read_places
+from tests.harness import Suite
 
 
-def saving(suite, page):
+def saving(suite: Suite, page: Hands) -> None:
     """What is saved reads as the state shown: in the page, by the Python package, and from an archive."""
     forget(page)
     page.ask("Page.openStory(Page.stories[0])")
@@ -99,7 +100,7 @@ def saving(suite, page):
     suite.note("the script", {"script": script}, {"script": page.ask("Page.ask(['dump'])[0].join('\\n')")})
 
 
-def archived(suite, page):
+def archived(suite: Suite, page: Hands) -> None:
     """The archive that is saved opens with the network, its times, names and places, in the page and in the package."""
     page.again()
     page.drag([page.minute(1, 20), page.minute(1, 30)])
@@ -137,7 +138,7 @@ def archived(suite, page):
     page.again()
 
 
-def stories(suite, page):
+def stories(suite: Suite, page: Hands) -> None:
     """The stories in the page are the examples', and the region that the package draws."""
     kept = {story["title"]: story["texts"] for story in page.ask("Page.stories")}
     two, night, region = (

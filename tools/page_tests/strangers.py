@@ -3,8 +3,9 @@
 import pathlib
 import tempfile
 
-from page_tests.hands import TWO_TRAINS
+from page_tests.hands import TWO_TRAINS, Hands
 from page_tests.untouched import placed
+from tests.harness import Suite
 
 TWO_EVENTS = "add event 1\nadd event 2\n"
 # A network of 600 events, each joined to three others by spans that overlap, of which a search takes long.
@@ -15,7 +16,7 @@ LONG = "".join(f"add event {event}\n" for event in range(600)) + "".join(
 )
 
 
-def played(suite, page):
+def played(suite: Suite, page: Hands) -> None:
     """A file of lines that searches, or has many lines, is played where it can be stopped, and changes nothing then."""
     with tempfile.TemporaryDirectory() as folder:
         page.again()
@@ -45,7 +46,7 @@ def played(suite, page):
         suite.note("one that finds none", {"told": "adopt: refused 12 infeasible"}, {"told": page.opening()["told"]})
 
 
-def commands(suite, page):
+def commands(suite: Suite, page: Hands) -> None:
     """A field of the page's own files is no command, whatever is in its quotes, and a line that is too long is told."""
     two = {"activities": "1; 1; 2; 3; 5; 2\n", "period": "10"}
     for name, texts, told in [
@@ -71,7 +72,7 @@ def commands(suite, page):
     suite.note("a line that is typed", {"said": "line 1 is longer than 4096 bytes"}, {"said": page.said()})
 
 
-def names(suite, page):
+def names(suite: Suite, page: Hands) -> None:
     """A kind, a line or a first field that is a word of JavaScript is a word."""
     events = "1; toString; __proto__; valueOf; constructor\n2; M; Benton; Benton; hasOwnProperty\n"
     labels = f"event; line; to; station; kind\n{events}activity; kind\n1; constructor\n"
@@ -92,7 +93,7 @@ def names(suite, page):
         suite.note("a row", {"told": "labels file, record 2: field 1 is not a number"}, page.opening())
 
 
-def trapped(suite, page):
+def trapped(suite: Suite, page: Hands) -> None:
     """What was trapped is told, is not used again, and is no longer on the screen."""
     page.again()
     page.ask("""(() => {
@@ -116,7 +117,7 @@ def trapped(suite, page):
     suite.note("a step after it", {"used again": 0, "line": ["fix 2 30"]}, came)
 
 
-def helped(suite, page):
+def helped(suite: Suite, page: Hands) -> None:
     """A file of another form that is not converted is told with what it has, and with what mends it."""
     rows = "activity; from; to; lower; upper; weight\n1; 1; 2; 3; 5; 2\n"
     decimal = "It has decimal commas. Write whole numbers, as 2, or with a point"

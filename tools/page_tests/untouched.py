@@ -2,10 +2,12 @@
 
 import pathlib
 import tempfile
+from typing import List, Mapping, Union
 
-from page_tests.hands import TWO_TRAINS
+from page_tests.hands import TWO_TRAINS, Hands
 from page_tests.keys import CODES, CTRL
-from page_tests.searching import DONE, long_search
+from page_tests.searching import DONE, soon_found
+from tests.harness import Suite
 
 # A Worker that gives these answers to each search, one after another, the last of which ends it.
 STAND_IN = """window.Worker = class {
@@ -21,7 +23,7 @@ STAND_IN = """window.Worker = class {
 }"""
 
 
-def placed(folder, texts):
+def placed(folder: Union[str, pathlib.Path], texts: Mapping[str, str]) -> List[pathlib.Path]:
     """Files that exist, with these texts by their names."""
     paths = []
     for name, text in texts.items():
@@ -30,7 +32,7 @@ def placed(folder, texts):
     return paths
 
 
-def shortcuts(suite, page):
+def shortcuts(suite: Suite, page: Hands) -> None:
     """Undo, redo, open and save by their keys, on a page that nobody has touched."""
     page.again()
     page.key("s", 83, CTRL)
@@ -64,7 +66,7 @@ def shortcuts(suite, page):
     page.click(*page.middle("#large"))
 
 
-def typed(suite, page):
+def typed(suite: Suite, page: Hands) -> None:
     """What is typed for minutes may be a time of the clock, and is no other number than that."""
     for period, field, text, line, said in [
         ("1440", "#time-at", "6:15", "time 1 375", "time 1 375"),
@@ -89,7 +91,7 @@ def typed(suite, page):
     suite.note("a limit of a search", {"stop": False}, {"stop": page.is_shown("stop")})
 
 
-def saved(suite, page):
+def saved(suite: Suite, page: Hands) -> None:
     """A step is saved where each file that it changes was given, or the archive; other files do not count."""
     for wanted, given in [(1, ["period"]), (1, ["labels"]), (0, ["fixed"]), (0, ["period", "fixed"]), (0, ["save-all"])]:
         page.again()
@@ -106,7 +108,7 @@ def saved(suite, page):
         suite.note(f"given: {', '.join(given)}", {"asked": wanted}, {"asked": page.asked_to_stay - before})
 
 
-def replaced(suite, page):
+def replaced(suite: Suite, page: Hands) -> None:
     """Files that are dropped on work that is not saved are opened by a click alone, below a word on what is lost."""
     with tempfile.TemporaryDirectory() as folder:
         paths = placed(folder, TWO_TRAINS)
@@ -138,7 +140,7 @@ def replaced(suite, page):
         suite.note("a folder", {"title": "whole"}, {"title": page.text("#title")})
 
 
-def frames(suite, page):
+def frames(suite: Suite, page: Hands) -> None:
     """Both ends of a frame can be taken where the diamond lies in it, and the diamond too."""
     page.again()
     time = page.ask("Page.view.times.get(1)")
@@ -158,12 +160,12 @@ def frames(suite, page):
         suite.note(f"the {grip} of a frame", {"met": grip, "line": line}, {"met": met, "line": page.lines()[-1]})
 
 
-def edited(suite, page):
+def edited(suite: Suite, page: Hands) -> None:
     """An edit during a search says what becomes of what was found, and its undo gives that back."""
     page.again()
-    page.show(long_search())
+    page.show(soon_found())
     page.press("optimum")
-    page.until("!Page.find('stop').hidden && /^Found: cost/.test(Page.find('found').textContent)")
+    page.until("!Page.find('stop').hidden && /^Cost/.test(Page.find('found').textContent)")
     page.drag([page.minute(1, 20), page.minute(1, 30)])
     told = page.said()
     word = "fix 1 30 — the search has ended with it; the timetable of cost "
@@ -173,13 +175,13 @@ def edited(suite, page):
     page.key("z", 90, CTRL)
     page.frame()
     cost = told.split("cost ")[1].split(" ")[0]
-    came = {"adopt": page.is_shown("adopt"), "found": page.text("#found").startswith(f"Found: cost {cost}, ")}
+    came = {"adopt": page.is_shown("adopt"), "found": page.text("#found").startswith(f"Cost {cost}, ")}
     suite.note("undone", {"adopt": True, "found": True}, came)
     page.press("adopt")
     suite.note("and adopted", {"cost": cost}, {"cost": page.text("#figure-cost b")})
 
 
-def compared(suite, page):
+def compared(suite: Suite, page: Hands) -> None:
     """Of several answers the best is kept, and one that is dearer than the timetable shown is offered with that word."""
     page.again()
     page.show({**TWO_TRAINS, "times": ""})
@@ -187,12 +189,12 @@ def compared(suite, page):
     page.ask(STAND_IN.replace("ANSWERS", f"[{better}, {worse}]"))
     page.press("optimum")
     page.until(DONE)
-    told = page.text("#found")
-    suite.holds(f"the best of two: {told}", told.startswith("Found: cost 4, perhaps not the best (20 cases, "))
+    told, took = page.text("#found"), page.text("#clock")
+    suite.holds(f"the best of two: {told}, {took}", told == "Cost 4, perhaps not the best" and took.startswith("after 20 cases, "))
     page.press("optimum")
     page.ask(STAND_IN.replace("ANSWERS", f"[{worse}]"))
     page.until(DONE)
-    suite.holds("and of two searches", page.text("#found").startswith("Found: cost 4, "))
+    suite.holds("and of two searches", page.text("#found").startswith("Cost 4, "))
     page.press("adopt")
     suite.note("adopted", {"lines": ["time 1 0", "time 2 4"]}, {"lines": page.lines()})
     page.again()

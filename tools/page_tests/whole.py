@@ -5,8 +5,8 @@ import pathlib
 import re
 import tempfile
 
-from page_tests.hands import TWO_TRAINS
-from tests.harness import within
+from page_tests.hands import TWO_TRAINS, Hands
+from tests.harness import Suite, within
 
 # The most bytes that the page may have.
 MOST_BYTES = 650_000
@@ -43,7 +43,7 @@ LOOK = """(() => {
 })()"""
 
 
-def quiet(suite, page):
+def quiet(suite: Suite, page: Hands) -> None:
     """No request leaves the page, nothing is written to the browser's log, and the policy refuses what would."""
     page.open(page.address)
     suite.note(
@@ -70,7 +70,7 @@ def quiet(suite, page):
     suite.note("addresses in the page", {"they": set()}, {"they": addresses})
 
 
-def left(suite, page):
+def left(suite: Suite, page: Hands) -> None:
     """The page asks before it is left with steps that are not saved, and not else."""
     for name, script, wanted in [
         ("nothing was done", "", 0),
@@ -86,7 +86,7 @@ def left(suite, page):
         suite.note(name, {"asked": wanted}, {"asked": page.asked_to_stay - before})
 
 
-def unstarted(suite, page):
+def unstarted(suite: Suite, page: Hands) -> None:
     """A page whose module is broken says that it cannot start."""
     with tempfile.TemporaryDirectory() as folder:
         broken = pathlib.Path(folder) / "broken.html"
@@ -100,7 +100,7 @@ def unstarted(suite, page):
         page.open(page.address)
 
 
-def said_of_itself(suite, page):
+def said_of_itself(suite: Suite, page: Hands) -> None:
     """The page says what is proved, and what is not."""
     told = page.text("footer")
     suite.holds("what is proved", "pespbench is proved" in " ".join(told.split()))
@@ -108,7 +108,7 @@ def said_of_itself(suite, page):
 
 
 @within(240)
-def laid_out(suite, page):
+def laid_out(suite: Suite, page: Hands) -> None:
     """On a wide screen, at 200 per cent and on a small one, nothing is wider than the page, and no text is cut in a drawing."""
     for width, height, scale in [(1440, 900, 1), (720, 450, 2), (1024, 700, 1), (400, 800, 2)]:
         page.resize(width, height, scale)
@@ -123,7 +123,7 @@ def laid_out(suite, page):
     page.ask("Page.showTab('diagram')")
 
 
-def drawn(suite, page):
+def drawn(suite: Suite, page: Hands) -> None:
     """The diagram and the netgraph show the times that replies tell, and follow each step."""
     page.ask("Page.openStory(Page.stories[0]); Page.showTab('netgraph')")
     wanted = page.ask(
@@ -164,7 +164,7 @@ def drawn(suite, page):
     page.ask("Page.showTab('diagram')")
 
 
-def printed(suite, page):
+def printed(suite: Suite, page: Hands) -> None:
     """On paper there is a timetable for each line, and nothing else."""
     page.ask("Page.openStory(Page.stories[0])")
     paper = base64.b64decode(page.call("Page.printToPDF", printBackground=True, preferCSSPageSize=True)["data"])

@@ -4,6 +4,8 @@ import re
 
 from page_tests.corridor import texts_of
 from page_tests.fingers import tap, touch
+from page_tests.hands import Hands
+from tests.harness import Suite
 
 TABS = ("diagram", "corridor", "netgraph", "tables", "compare", "violated", "lines", "why", "gains")
 # Words of the program and of its commands, which are none of a planner.
@@ -13,7 +15,7 @@ TEXTS = """[document.body.innerText, ...[...document.querySelectorAll('[title], 
     ['title', 'aria-label', 'placeholder', 'aria-valuetext'].map(name => each.getAttribute(name) || ''))].join('\\n')"""
 
 
-def legend(suite, page):
+def legend(suite: Suite, page: Hands) -> None:
     """At the top each mark is shown with its name, on a wide screen and on a small one."""
     page.again()
     for width, height in [(1360, 850), (390, 800)]:
@@ -25,7 +27,7 @@ def legend(suite, page):
     page.resize(1440, 900)
 
 
-def help_on_numbers(suite, page):
+def help_on_numbers(suite: Suite, page: Hands) -> None:
     """Each number has words on it, opened by a mouse, keys and a finger, and closed by Escape."""
     page.again()
     near = """[...document.querySelectorAll('#size, .figure, #nodes, #chosen-minutes, h3')].filter(each => !each.closest('#rows, dialog')
@@ -59,7 +61,7 @@ def help_on_numbers(suite, page):
     suite.note("nothing was done by it", {"lines": [], "tab": "diagram"}, {"lines": page.lines(), "tab": page.ask("Page.tab")})
 
 
-def planners_words(suite, page):
+def planners_words(suite: Suite, page: Hands) -> None:
     """No text has a word of the program that a planner would not say."""
     page.again()
     for story in range(3):
@@ -92,7 +94,7 @@ def planners_words(suite, page):
     suite.note("help", {"words": []}, {"words": FOREIGN.findall(helps)})
 
 
-def hours(suite, page):
+def hours(suite: Suite, page: Hands) -> None:
     """Above a period of an hour minutes are told as h:mm, and what takes an hour or more too."""
     for period, clock, length, late, taken in [
         (60, ":59", "59", 59, "59 minutes"), (90, "1:29", "1:29", 89, "1:29 h"), (1440, "23:59", "23:59", 100, "1:40 h")
@@ -109,8 +111,7 @@ def hours(suite, page):
         page.ask(f"Page.step(['span 1 45 46', 'time 2 {late}'])")
         page.press("tab-violated")
         told = page.text("#view-violated")
-        wanted = f"takes {taken}, may take 45 to 46"
-        suite.holds(f"period {period}: {told}", wanted in told)
+        suite.holds(f"period {period}: {told}", f"takes {taken}, may take 45 to 46" in told)
         page.press("tab-diagram")
     page.ask("Page.step(['window 1 1400 90', 'span 1 60 1439'])")
     page.click(*page.minute(1, 1))
@@ -127,8 +128,8 @@ def hours(suite, page):
     page.press("ask-why")
     page.until("Page.find('stop').hidden")
     told = page.text("#reasons")
-    for wanted in ("they take 4:30 to 6:50 h, and have to take 0 or 24:00:", "4:30 h more", "-3:20 to 1:20 h in place of 1:10 to 1:20"):
-        suite.holds(wanted, wanted in told)
+    for words in ("they take 4:30 to 6:50 h, and have to take 0 or 24:00:", "4:30 h more", "-3:20 to 1:20 h in place of 1:10 to 1:20"):
+        suite.holds(words, words in told)
     page.show(texts_of([("N", "C", [("A", 1380), ("B", 20), ("B", 30), ("C", 400)])], [], 1440))
     for tab in ("diagram", "corridor", "netgraph", "tables"):
         page.ask(f"Page.showTab('{tab}'); Page.chooseCorridor(['A', 'C'])")

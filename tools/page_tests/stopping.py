@@ -1,0 +1,282 @@
+"""A search as it goes: its clock, the best cost, a bound and how far it may be from the best; stopped, gone on with, adopted, and beside edits."""
+
+import re
+from typing import List, Optional
+
+from page_tests.hands import TWO_TRAINS, Hands
+from page_tests.keys import CODES, CTRL
+from page_tests.searching import DONE, soon_found
+from page_tests.untouched import STAND_IN
+from tests.harness import Suite, within
+
+FOUND, CLOCK = "Page.find('found').textContent", "Page.find('clock').textContent"
+# A timetable that is perhaps not the best, with a bound or without.
+BEST = re.compile(r"Cost ([\d,]+), (?:at most [\d,.]+ % above the best|perhaps not the best)(?: \(none can cost less than ([\d,]+)\))?$")
+IS_BEST = f"{FOUND}.startsWith('Cost ')"
+
+# Stands in for pesp_search where a module has none: the line `try` answers it, and a bound is made up of how often it was asked.
+SEARCH = """(() => {
+    const withSearch = calls => {
+        let count = 0;
+        const search = (at, nodes, out, room, found, told) => {
+            const line = new TextEncoder().encode(`try ${nodes}`), size = 1 << 20, given = calls.pesp_take(BigInt(line.length)), reply = calls.pesp_take(BigInt(size));
+            new Uint8Array(calls.memory.buffer, Number(given), line.length).set(line);
+            calls.pesp_ask(at, given, BigInt(line.length), reply, BigInt(size), told);
+            const view = new DataView(calls.memory.buffer), length = Number(view.getBigUint64(Number(told), true));
+            const [head, ...rows] = new TextDecoder().decode(new Uint8Array(calls.memory.buffer, Number(reply), length)).trim().split('\\n');
+            const [word, cost = '0'] = head.split(' '), state = head === 'stopped none' ? 0 : ['', 'stopped', 'optimum', 'infeasible'].indexOf(word);
+            const bound = state === 2 ? BigInt(cost) : state === 3 ? 0n : BigInt(((count) => MADE_UP)(count += 1));
+            view.setBigUint64(Number(found), state === 0 ? 0n : BigInt(cost), true);
+            view.setBigUint64(Number(found) + 8, bound, true);
+            view.setUint32(Number(found) + 16, state, true);
+            rows.forEach((row, place) => view.setUint16(Number(out) + 2 * place, Number(row.split(' ')[1]), true));
+            view.setBigUint64(Number(told), BigInt(rows.length), true);
+            [given, reply].forEach(calls.pesp_give_back);
+        };
+        return calls.pesp_search ? calls : { ...calls, pesp_search: search };
+    };
+    PespModule.text = `const withSearch = ${withSearch};\\n${PespModule.text.replace('calls: instance.exports', 'calls: withSearch(instance.exports)')}`;
+})()"""
+
+# Keeps what a Worker is asked.
+HEARD = """(() => {
+    const { postMessage } = Worker.prototype;
+    window.questions = [];
+    Worker.prototype.postMessage = function post(question) {
+        if (question.kind) window.questions.push(question);
+        postMessage.call(this, question);
+    };
+})()"""
+
+
+def cost_of(text: str) -> List[Optional[int]]:
+    """The cost of the best that is told, and the bound, or None."""
+    told = BEST.match(text)
+    assert told is not None
+    return [None if number is None else int(number.replace(",", "")) for number in told.groups()]
+
+
+def begun(page: Hands, by: str = "mouse") -> None:
+    """Begins a search by a click or by Enter, and waits for a timetable."""
+    if by == "mouse":
+        page.press("optimum")
+    else:
+        page.ask("Page.find('optimum').focus()")
+        page.type("\n")
+    page.until(IS_BEST)
+
+
+def in_words(suite: Suite, page: Hands) -> None:
+    """What searches have come to is told in a planner's words, exactly, and never as better than it is."""
+    for answer, told in [
+        ("kind: 'none'", "No timetable yet"),
+        ("kind: 'none', bound: 14502", "No timetable yet; none can cost less than 14,502"),
+        ("kind: 'stopped', cost: 14816, bound: 14502", "Cost 14,816, at most 2.2 % above the best (none can cost less than 14,502)"),
+        ("kind: 'stopped', cost: 14502, bound: 14500", "Cost 14,502, at most 0.1 % above the best (none can cost less than 14,500)"),
+        ("kind: 'stopped', cost: 14816", "Cost 14,816, perhaps not the best"),
+        ("kind: 'stopped', cost: 14816, bound: 0", "Cost 14,816, perhaps not the best"),
+        ("kind: 'stopped', cost: 14816, bound: 3", "Cost 14,816, perhaps not the best (none can cost less than 3)"),
+        ("kind: 'stopped', cost: 9007199254740995n, bound: 9007199254740993n", "Cost 9,007,199,254,740,995, at most 0.1 % above the best (none can cost less than 9,007,199,254,740,993)"),
+        ("kind: 'stopped', cost: 14816, bound: 14816", "Cost 14,816: no timetable costs less."),
+        ("kind: 'optimum', cost: 14816, bound: 14816", "Cost 14,816: no timetable costs less."),
+        ("kind: 'infeasible'", "✕ No timetable meets everything."),
+    ]:
+        page.again()
+        page.show({**TWO_TRAINS, "times": ""})
+        times = "[[1, 0], [2, 4]]" if "cost" in answer else "null"
+        page.ask(STAND_IN.replace("ANSWERS", f"[{{ {answer}, times: {times} }}]").replace("new Map(found.times)", "found.times && new Map(found.times)"))
+        page.press("optimum")
+        page.until(DONE)
+        suite.note(answer, {"told": told}, {"told": page.text("#found")})
+        is_open = not told.endswith(".")
+        suite.note(f"{answer}: the button", {"it": "Go on" if is_open else "Find the optimum"}, {"it": page.text("#optimum")})
+    page.again()
+
+
+def answers_kept(suite: Suite, page: Hands) -> None:
+    """Of several answers the best cost and the best bound are kept, whichever told them; where they meet, the search ends."""
+    page.again()
+    page.show({**TWO_TRAINS, "times": ""})
+    answers = [f"{{ kind: 'stopped', cost: {cost}, bound: {bound}, times: [[1, 0], [2, 4]] }}" for cost, bound in [(90, 60), (100, 80), (85, 70)]]
+    last = "{ kind: 'stopped', cost: 85, bound: 85, times: [[1, 0], [2, 4]] }"
+    page.ask(STAND_IN.replace("ANSWERS", f"[{', '.join(answers)}]"))
+    page.press("optimum")
+    page.until(DONE)
+    suite.note("the best of each", {"told": "Cost 85, at most 6.3 % above the best (none can cost less than 80)"}, {"told": page.text("#found")})
+    page.again()
+    page.show({**TWO_TRAINS, "times": ""})
+    page.ask(STAND_IN.replace("ANSWERS", f"[{answers[0]}, {last}, {answers[1]}]"))
+    page.press("optimum")
+    page.until(DONE)
+    suite.note("they meet", {"told": "Cost 85: no timetable costs less."}, {"told": page.text("#found")})
+    page.again()
+
+
+@within(240)
+def stopped_and_gone_on(suite: Suite, page: Hands) -> None:
+    """A search is stopped at once, and gone on with: its clock and what it has come to are as they were, and it asks with more."""
+    for by in ("mouse", "keys"):
+        page.again()
+        page.ask(SEARCH.replace("MADE_UP", "Math.min(250000, 100000 * count)"))
+        page.ask(HEARD)
+        page.show(soon_found())
+        begun(page, by)
+        suite.holds(f"{by}: the clock", re.match(r"\d+ s$", page.text("#clock")))
+        suite.note(f"{by}: the keys", {"at": "stop"}, {"at": page.ask("document.activeElement.id")})
+        second = int(page.text("#clock").split()[0])
+        page.until(f"Number({CLOCK}.split(' ')[0]) > {second}")
+        told = page.text("#found")
+        suite.holds(f"{by}: a bound and how far it is: {told}", cost_of(told)[1])
+        if by == "mouse":
+            page.press("stop")
+        else:
+            page.type("\n")
+            page.frame()
+        cost, bound = cost_of(page.text("#found"))
+        took = re.match(r"stopped after ([\d.]+) s$", page.text("#clock"))
+        suite.holds(f"{by}: stopped", took and not page.is_shown("stop") and page.said() == "the search was stopped")
+        assert took is not None
+        came = {"button": page.text("#optimum"), "keys": page.ask("document.activeElement.id") in ("adopt", "optimum"), "adopt": page.is_shown("adopt")}
+        suite.note(f"{by}: what can be done", {"button": "Go on", "keys": True, "adopt": True}, came)
+        page.ask("Page.find('optimum').focus()")
+        if by == "mouse":
+            page.press("optimum")
+        else:
+            page.type("\n")
+        suite.holds(f"{by}: the clock goes on", int(page.text("#clock").split()[0]) >= int(float(took[1])))
+        suite.holds(f"{by}: what it has come to stays", cost_of(page.text("#found")) == [cost, bound])
+        before, after = page.ask("window.questions.map(({ first, best }) => ({ first, best: best && Number(best.cost) }))")
+        suite.note(f"{by}: it asks with more, and begins with the best", {"best": [None, cost]}, {"best": [before["best"], after["best"]]})
+        suite.holds(f"{by}: with how many", before["first"] == 0 and after["first"] >= 2000)
+        page.press("stop")
+
+
+@within(240)
+def adopted_meanwhile(suite: Suite, page: Hands) -> None:
+    """What is found is adopted while the search runs, and taken back by one Undo; the search goes on, and offers what is better."""
+    for by in ("mouse", "keys"):
+        page.again()
+        page.show(soon_found())
+        begun(page, by)
+        if by == "mouse":
+            page.press("adopt")
+        else:
+            page.ask("Page.find('adopt').focus()")
+            page.type("\n")
+        cost = page.text("#figure-cost b")
+        suite.holds(f"{by}: adopted", page.ask("Page.session.place") == 1 and page.said() == f"adopted: the best that was found, cost {cost}")
+        suite.holds(f"{by}: it goes on", page.is_shown("stop"))
+        if page.text("#found").startswith(f"Cost {cost},"):
+            came = {"told": page.text("#compared"), "adopt": page.is_shown("adopt"), "keys": page.ask("document.activeElement.id")}
+            suite.note(f"{by}: it is told", {"told": "it is the timetable shown", "adopt": False, "keys": "stop"}, came)
+        page.key("z", 90, CTRL)
+        came = {"place": page.ask("Page.session.place"), "cost": page.text("#figure-cost b"), "stop": page.is_shown("stop"), "adopt": page.is_shown("adopt")}
+        suite.note(f"{by}: undone", {"place": 0, "cost": "–", "stop": True, "adopt": True}, came)
+        page.press("stop")
+        page.press("adopt")
+        suite.holds(f"{by}: after the stop", page.text("#figure-violations b") == "0" and page.text("#compared") == "it is the timetable shown")
+    page.ask("Page.find('optimum').focus()")
+    page.ask(HEARD)
+    page.press("optimum")
+    page.until("window.questions.length === 1")
+    came = page.ask("String(window.questions[0].best.cost)")
+    suite.note("the timetable shown is what it begins with", {"cost": page.ask("String(Page.view.cost)")}, {"cost": came})
+    page.press("stop")
+
+
+@within(240)
+def beside_hands(suite: Suite, page: Hands) -> None:
+    """Choosing, scrolling, other views and a time that is set leave a search alone; an edit of the network ends it, and says so."""
+    page.again()
+    page.show(soon_found())
+    begun(page)
+    page.click(*page.middle('[data-row="3"] .name'))
+    for away in (400, -400):
+        page.call("Input.dispatchMouseEvent", type="mouseWheel", x=300, y=500, deltaX=0, deltaY=away)
+        page.frame()
+    for tab in ("tables", "lines", "gains", "diagram"):
+        page.press(f"tab-{tab}")
+    suite.note("chosen, scrolled, drawn", {"stop": True, "chosen": 3, "lines": []}, {"stop": page.is_shown("stop"), "chosen": page.ask("Page.chosen"), "lines": page.lines()})
+    page.fill("#time-at", "7\n")
+    suite.note("a time is set", {"stop": True, "lines": ["time 3 7"]}, {"stop": page.is_shown("stop"), "lines": page.lines()})
+    page.click(*page.minute(3, 30))
+    page.key("ArrowRight", CODES["ArrowRight"])
+    page.frame()
+    told = page.said()
+    suite.holds(f"an edit ends it: {told}", "the search has ended with it; the timetable of cost " in told and not page.is_shown("stop"))
+    came = {"found": page.text("#found"), "clock": page.text("#clock"), "button": page.text("#optimum")}
+    suite.note("nothing of it is told", {"found": "", "clock": "", "button": "Find the optimum"}, came)
+    page.key("z", 90, CTRL)
+    suite.holds("undone, it is told again", BEST.match(page.text("#found")) and page.text("#optimum") == "Go on" and page.is_shown("adopt"))
+
+
+@within(180)
+def without_any(suite: Suite, page: Hands) -> None:
+    """Where nothing meets everything it is said, and a button leads to the mends, by a click and by keys."""
+    for by in ("mouse", "keys"):
+        page.again()
+        page.ask("Page.openStory(Page.stories[1])")
+        page.frame()
+        if by == "mouse":
+            page.press("optimum")
+        else:
+            page.ask("Page.find('optimum').focus()")
+            page.type("\n")
+        page.until(DONE)
+        came = {"told": page.text("#found"), "adopt": page.is_shown("adopt"), "leads": page.is_shown("ask-mends")}
+        suite.note(f"{by}: none", {"told": "✕ No timetable meets everything.", "adopt": False, "leads": True}, came)
+        if by == "mouse":
+            page.press("ask-mends")
+        else:
+            suite.note("the keys", {"at": "ask-mends"}, {"at": page.ask("document.activeElement.id")})
+            page.type("\n")
+        page.until("Page.find('stop').hidden && document.querySelector('#reasons .mend')", seconds=90)
+        suite.note(f"{by}: the view", {"tab": "why"}, {"tab": page.ask("Page.tab")})
+        if by == "mouse":
+            page.click(*page.middle("#reasons .mend"))
+        else:
+            page.type("\n")
+        page.frame()
+        came = {"lines": len(page.lines()), "leads": page.is_shown("ask-mends"), "found": page.text("#found")}
+        suite.note(f"{by}: mended", {"lines": 1, "leads": False, "found": ""}, came)
+    page.ask("Page.showTab('diagram')")
+
+
+def in_numbers(suite: Suite, page: Hands) -> None:
+    """A module that searches in numbers tells the same as one that answers lines."""
+    found: List[List[object]] = []
+    for shim in ("", SEARCH.replace("MADE_UP", "count")):
+        page.again()
+        page.ask(shim or "0")
+        for texts in ({**TWO_TRAINS, "times": ""}, {**TWO_TRAINS, "times": "", "activities": "1; 1; 2; 3; 3; 2\n2; 2; 1; 4; 6; 1\n"}):
+            page.show(texts)
+            page.press("optimum")
+            page.until(DONE)
+            adopt = page.is_shown("adopt")
+            if adopt:
+                page.press("adopt")
+            found.append([page.text("#found"), adopt, page.ask("[...Page.view.times]")])
+    wanted = [["Cost 4: no timetable costs less.", True, [[1, 0], [2, 4]]], ["✕ No timetable meets everything.", False, []]]
+    suite.note("by lines and in numbers", {"found": wanted * 2}, {"found": found})
+
+
+@within(120)
+def on_any_screen(suite: Suite, page: Hands) -> None:
+    """What a search tells is seen whole on a wide screen and on a small one, while it runs and after."""
+    for width in (1360, 390):
+        page.again()
+        page.resize(width, 850)
+        page.show({**TWO_TRAINS, "times": ""})
+        answer = "{ kind: 'stopped', cost: 1234567, bound: 1200000, times: [[1, 0], [2, 4]] }"
+        page.ask(STAND_IN.replace("ANSWERS", f"[{answer}, {answer}]").replace("50 * place", "2000 * place"))
+        page.press("optimum")
+        page.until(IS_BEST)
+        for when in ("running", "ended"):
+            boxes = page.ask("['clock', 'found', 'adopt'].map(name => Page.find(name).getBoundingClientRect()).map(({ left, right, width }) => [left, right, width])")
+            suite.holds(f"{width} points, {when}", all(left >= 0 and right <= width and wide > 0 for left, right, wide in boxes))
+            page.until(DONE)
+    page.resize(1440, 900)
+    page.again()
+
+
+GROUPS = [in_words, answers_kept, in_numbers, stopped_and_gone_on, adopted_meanwhile, beside_hands, without_any, on_any_screen]
