@@ -154,7 +154,7 @@ class Refusal(NamedTuple):
 
 def refusals(top: pathlib.Path, lines: Sequence[str]) -> List[Refusal]:
     """What the lines of a log say of edits, each once, by its last line, in the order of the log."""
-    found: Dict[tuple, Refusal] = {}
+    found: Dict[Tuple[str, str], Refusal] = {}
     for line in lines:
         match = TOLD.fullmatch(line)
         if match:

@@ -1,8 +1,12 @@
 """The public calls that a program makes one by one, with each of its requests for memory refused in turn."""
 
 import re
+from pathlib import Path
+from typing import List, Optional, Tuple
 
-from hostile.served import Order, Served
+from hostile.inputs import Input
+from hostile.served import Came, Order, Served
+from hostile.suite import Suite, Wrong
 from tests.harness import TOP
 
 CALLER = "pesp_tests_memory"
@@ -33,10 +37,14 @@ NODES = re.compile(rb"^nodes \d+\n", re.MULTILINE)
 HEADS = re.compile(rb"^(case .*|before|answer|after|again)\n", re.MULTILINE)
 
 
-def calls_of(output):
+# What was told of a call, each part with its head.
+Call = List[Tuple[bytes, bytes]]
+
+
+def calls_of(output: bytes) -> List[Call]:
     """What was told of each call: the state before, the answer and the state after it, and the two of the call made again."""
     parts = HEADS.split(output)
-    calls = []
+    calls: List[Call] = []
     for head, text in zip(parts[1::2], parts[2::2]):
         if head == b"before":
             calls.append([])
@@ -45,12 +53,12 @@ def calls_of(output):
     return calls
 
 
-def without_nodes(name, state):
+def without_nodes(name: str, state: bytes) -> bytes:
     """The state, for a call that searches without the nodes of the last search."""
     return NODES.sub(b"", state) if name in SEARCHES else state
 
 
-def is_left(name, before, after, done):
+def is_left(name: str, before: bytes, after: bytes, done: bytes) -> bool:
     """Whether a refused call leaves what it was lent; one that searches may leave the optimum known that it finds where it is done."""
     if name not in SEARCHES:
         return after == before
@@ -58,7 +66,7 @@ def is_left(name, before, after, done):
     return is_known and KNOWN.sub(b"", without_nodes(name, after)) == KNOWN.sub(b"", without_nodes(name, before))
 
 
-def fault_of_refused(name, call, plain):
+def fault_of_refused(name: str, call: Call, plain: Call) -> Optional[str]:
     """What is wrong with a call that was refused memory and made again."""
     if [head for head, _ in call] != [b"before", b"answer", b"after", b"again", b"after"]:
         return "a call that was refused is not made again"
@@ -75,7 +83,7 @@ def fault_of_refused(name, call, plain):
     return None if without_nodes(name, last) == without_nodes(name, plain_after) else "another state after the call with ample memory"
 
 
-def judge_call(name, came, plain):
+def judge_call(name: str, came: Came, plain: Came) -> Tuple[Optional[str], bool]:
     """What is wrong with a run, if anything, and whether memory was refused inside of a call."""
     if (came.status, came.error) == OUTSIDE:
         return None if plain.output.startswith(came.output) else "another output before an input had no room", False
@@ -92,12 +100,13 @@ def judge_call(name, came, plain):
     return fault_of_refused(name, *differing[0]), True
 
 
-def refuse_in_case(suite, folder, program, name):
+def refuse_in_case(suite: Suite, folder: Path, program: Path, name: str) -> int:
     """Refuses one request after the other of a case, until none is refused any more."""
     with Served(suite.library, [program, name], folder) as served:
         plain = served.run()
         suite.holds(f"{name}: nothing is wrong where nothing is refused", (plain.status, plain.error) == (0, b""))
-        wrong, inside, is_before, request = [], 0, False, 1
+        wrong: List[Wrong] = []
+        inside, is_before, request = 0, False, 1
         while True:
             came = served.run(Order(refuse_from=request, refuse_to=request))
             if came.refused == 0:
@@ -115,7 +124,7 @@ def refuse_in_case(suite, folder, program, name):
         return inside
 
 
-def calls(suite, given):
+def calls(suite: Suite, given: Input) -> None:
     """Each case of the program, as it names them itself."""
     program = TOP / f"crates/{given.name}/out/{given.name}"
     if not program.exists():

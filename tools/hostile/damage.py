@@ -6,9 +6,11 @@ import re
 import shutil
 import tempfile
 from itertools import islice
+from typing import Dict, Iterator, List, Optional, Tuple
 
-from hostile.inputs import ends_of_replies, has_reply
-from hostile.served import Served
+from hostile.inputs import Input, ends_of_replies, has_reply
+from hostile.served import Came, Served
+from hostile.suite import Suite, Wrong
 from tests import rules
 from tests.harness import NAMES, TOP
 
@@ -32,7 +34,7 @@ REPLY_LINE = re.compile(
 )
 
 
-def damaged(text):
+def damaged(text: bytes) -> Iterator[Tuple[str, bytes]]:
     """Each text that is cut or has one byte changed, with what was done."""
     for place in range(len(text)):
         yield f"cut at byte {place}", text[:place]
@@ -42,7 +44,7 @@ def damaged(text):
             yield f"byte {place} as {other!r}", text[:place] + other + text[place + 1 :]
 
 
-def is_answered(given, output):
+def is_answered(given: bytes, output: bytes) -> bool:
     """Whether the output has a whole reply for each line of commands that has one, and nothing else."""
     lines = output.split(b"\n")
     if lines.pop() or not all(REPLY_LINE.fullmatch(line) for line in lines):
@@ -55,7 +57,7 @@ def is_answered(given, output):
     return ends[-1] == len(output) and went == [has_reply(line) for line in given.split(b"\n")]
 
 
-def fault_of_commands(given, came):
+def fault_of_commands(given: bytes, came: Came) -> Optional[str]:
     """What is wrong with a run over commands, if anything."""
     if came.status == 0 and came.error == b"":
         return None if is_answered(given, came.output) else "replies that are none"
@@ -66,7 +68,7 @@ def fault_of_commands(given, came):
 class Damage:
     """One example whose files are in a folder of their own, to be damaged and put right again."""
 
-    def __init__(self, given, served):
+    def __init__(self, given: Input, served: Served) -> None:
         self.given, self.served = given, served
         self.texts = {name: self.path(name).read_bytes() for name in NAMES if self.path(name).exists()}
         words = given.words
@@ -74,26 +76,27 @@ class Damage:
         # A run at a period of a day takes some thirty times as long as one at an hour.
         self.step = 8 if self.period > 255 else 1
 
-    def path(self, name):
+    def path(self, name: str) -> pathlib.Path:
         return self.given.folder / name
 
-    def judge(self, texts, commands, came):
+    def judge(self, texts: Dict[str, bytes], commands: bytes, came: Came) -> Optional[str]:
         if not self.given.is_check():
             return fault_of_commands(commands, came)
         wanted = rules.check(self.period, **texts)
         same = came.told() == (wanted["status"], wanted["output"], wanted["error"])
         return None if same else f"not what the rules say: {wanted}"
 
-    def twice(self, name, texts, commands):
+    def twice(self, name: str, texts: Dict[str, bytes], commands: bytes) -> List[Wrong]:
         came = self.served.run()
         fault = self.judge(texts, commands, came)
         if not fault and self.served.run().told() != came.told():
             fault = "something else on a second run"
         return [(name, fault, came)] if fault else []
 
-    def files(self, name):
+    def files(self, name: str) -> Tuple[int, List[Wrong]]:
         """How many damaged texts of a file were tried, and what was wrong."""
-        tried, wrong = 0, []
+        tried = 0
+        wrong: List[Wrong] = []
         with open(self.path(name), "r+b", buffering=0) as file:
             for done, text in islice(damaged(self.texts[name]), 0, None, self.step):
                 file.seek(0)
@@ -104,8 +107,9 @@ class Damage:
         self.path(name).write_bytes(self.texts[name])
         return tried, wrong
 
-    def commands(self):
-        tried, wrong = 0, []
+    def commands(self) -> Tuple[int, List[Wrong]]:
+        tried = 0
+        wrong: List[Wrong] = []
         for done, text in islice(damaged(self.given.given), 0, None, self.step):
             self.served.give(text)
             wrong += self.twice(done, self.texts, text)
@@ -114,18 +118,18 @@ class Damage:
         return tried, wrong
 
 
-def own_copy(given, folder):
+def own_copy(given: Input, folder: pathlib.Path) -> Input:
     """The example in a copy of examples/, since it may read the files of another one."""
     shutil.copytree(TOP / "examples", folder / "examples")
     return dataclasses.replace(given, folder=folder / "examples" / given.folder.name)
 
 
-def damage(suite, given):
+def damage(suite: Suite, given: Input) -> None:
     with tempfile.TemporaryDirectory() as name:
         damage_copy(suite, own_copy(given, pathlib.Path(name)))
 
 
-def damage_copy(suite, given):
+def damage_copy(suite: Suite, given: Input) -> None:
     with Served(suite.library, [suite.program, *given.words], given.folder, given.given) as served:
         example = Damage(given, served)
         for name in example.texts:

@@ -2,9 +2,11 @@
 
 import dataclasses
 import errno
+from typing import Callable, List, Optional
 
-from hostile.inputs import ends_of_replies
-from hostile.served import ALWAYS, Order, Served
+from hostile.inputs import Input, ends_of_replies
+from hostile.served import ALWAYS, Came, Order, Served
+from hostile.suite import Suite, Wrong
 from tests.harness import NAMES, NOT_READ, NOT_WRITTEN, unreadable
 
 READ, READ_FILE, WRITE, WRITE_FAULT, OPEN, LENGTH, CLOSE = (
@@ -24,21 +26,26 @@ TRIED_CALLS = {False: 10, True: 40}
 EARLY = b"pespbench: out of memory at line 0\n"
 
 
+# What is wrong with what came of a run at a place, if anything.
+Judge = Callable[[int, Came], Optional[str]]
+
+
 class Trial:
     """One input, what comes of it when all goes well, and where the replies to its lines end."""
 
-    def __init__(self, suite, given, served):
+    def __init__(self, suite: Suite, given: Input, served: Served) -> None:
         self.suite, self.given, self.served = suite, given, served
         self.plain = served.run()
         self.ends = ends_of_replies(given.given, self.plain.output)
 
-    def step(self, order):
+    def step(self, order: Order) -> int:
         calls = self.served.run(dataclasses.replace(order, begin=0, end=0)).calls[order.call]
         return 1 if calls <= MOST_CALLS else calls // TRIED_CALLS[self.suite.is_whole]
 
-    def each(self, name, order_at, judge):
+    def each(self, name: str, order_at: Callable[[int], Order], judge: Judge) -> None:
         """Runs the order for the first, second and each later call, until there is none left to answer otherwise."""
-        wrong, tried, place, step = [], 0, 1, self.step(order_at(1))
+        wrong: List[Wrong] = []
+        tried, place, step = 0, 1, self.step(order_at(1))
         while (came := self.served.run(order_at(place))).answered:
             fault = judge(place, came)
             wrong += [(place, fault, came)] if fault else []
@@ -46,23 +53,22 @@ class Trial:
         if tried:
             self.suite.found(f"{self.given.name}: {name}", tried, wrong)
 
-    def is_same(self, _, came):
+    def is_same(self, _: int, came: Came) -> Optional[str]:
         return None if came.told() == self.plain.told() else "something else than in a run without faults"
 
 
-def fails(call, answer, times=1, most=0):
+def fails(call: str, answer: int, times: int = 1, most: int = 0) -> Callable[[int], Order]:
     """For each number, the order in which that call and the next ones fail, so many of them; 0 for `answer` is an end."""
-    last = (lambda place: ALWAYS) if times == ALWAYS else (lambda place: place + times - 1)
-    return lambda place: Order(call=call, begin=place, end=last(place), answer=answer, most=most)
+    return lambda place: Order(call=call, begin=place, end=ALWAYS if times == ALWAYS else place + times - 1, answer=answer, most=most)
 
 
-def wants(status, error, output, came):
+def wants(status: int, error: bytes, output: bytes, came: Came) -> Optional[str]:
     if (came.status, came.error) != (status, error):
         return "another status or text"
     return None if came.output == output else "other replies"
 
 
-def one_run(trial, name, order):
+def one_run(trial: Trial, name: str, order: Order) -> None:
     """A single run, which has to be as one without faults."""
     came = trial.served.run(order)
     fault = trial.is_same(0, came)
@@ -70,13 +76,13 @@ def one_run(trial, name, order):
         trial.suite.found(f"{trial.given.name}: {name}", 1, [(0, fault, came)] if fault else [])
 
 
-def small_pieces(trial):
+def small_pieces(trial: Trial) -> None:
     for call in [call for call in MOVING if trial.plain.calls[call]]:
         for size in PIECES:
             one_run(trial, f"{call} in pieces of {size}", Order(call=call, most=size))
 
 
-def interrupted(trial):
+def interrupted(trial: Trial) -> None:
     """What a file gives and what a fault says is asked for again where a signal interrupted the call."""
     for call in [call for call in [READ_FILE, WRITE_FAULT] if trial.plain.calls[call]]:
         trial.each(f"{call} interrupted", fails(call, errno.EINTR), trial.is_same)
@@ -85,11 +91,11 @@ def interrupted(trial):
         one_run(trial, f"each second {call} interrupted, in small pieces", order)
 
 
-def failing_reads(trial):
+def failing_reads(trial: Trial) -> None:
     """Commands of which `n - 1` bytes come, and then a failure: the lines that are whole are answered."""
     given, plain = trial.given.given, trial.plain
 
-    def judge(place, came):
+    def judge(place: int, came: Came) -> Optional[str]:
         lines = given[: place - 1].count(b"\n")
         if lines < len(trial.ends) - 1 or plain.status == 0:
             return wants(1, NOT_READ, plain.output[: trial.ends[min(lines, len(trial.ends) - 1)]], came)
@@ -100,10 +106,10 @@ def failing_reads(trial):
     trial.each(f"{READ} is interrupted from then on", fails(READ, errno.EINTR, ALWAYS, most=1), judge)
 
 
-def failing_writes(trial):
+def failing_writes(trial: Trial) -> None:
     """Replies of which `n - 1` bytes go out, and then a failure, or no byte more: nothing is written again."""
 
-    def judge(place, came):
+    def judge(place: int, came: Came) -> Optional[str]:
         if came.calls[WRITE] != place:
             return "a write after the failure"
         return wants(1, NOT_WRITTEN, trial.plain.output[: place - 1], came)
@@ -115,11 +121,11 @@ def failing_writes(trial):
     trial.each(f"{WRITE} is interrupted", fails(WRITE, errno.EINTR, most=1), again)
 
 
-def failing_files(trial):
+def failing_files(trial: Trial) -> None:
     """Opening, asking for the length and reading, each of which names its file; no memory is another fault."""
     faults = {unreadable(name) for name in NAMES}
 
-    def judge(_, came):
+    def judge(_: int, came: Came) -> Optional[str]:
         return wants(1, came.error, b"", came) if came.error in faults else "no such fault"
 
     for call in [OPEN, LENGTH, READ_FILE]:
@@ -128,22 +134,22 @@ def failing_files(trial):
         trial.each(f"{call} finds no memory", fails(call, errno.ENOMEM), lambda _, came: wants(1, EARLY, b"", came))
 
 
-def failing_ends(trial):
+def failing_ends(trial: Trial) -> None:
     """What does not matter: a file that is not closed well, and a fault that cannot be written."""
     plain = trial.plain
 
-    def judge(place, came):
+    def judge(place: int, came: Came) -> Optional[str]:
         return wants(plain.status, plain.error[: place - 1], plain.output, came)
 
     trial.each("close fails", fails(CLOSE, errno.EIO), trial.is_same)
     trial.each("a fault that cannot be written", fails(WRITE_FAULT, errno.EIO, ALWAYS, most=1), judge)
 
 
-def early_ends(trial):
+def early_ends(trial: Trial) -> None:
     """Standard input that ends at each byte is answered as one that has no more."""
     given = trial.given.given
 
-    def judge(place, came):
+    def judge(place: int, came: Came) -> Optional[str]:
         trial.served.give(given[: place - 1])
         short = trial.served.run()
         trial.served.give(given)
@@ -155,7 +161,7 @@ def early_ends(trial):
 PARTS = [small_pieces, interrupted, failing_reads, failing_writes, failing_files, failing_ends, early_ends]
 
 
-def devices(suite, given):
+def devices(suite: Suite, given: Input) -> None:
     with Served(suite.library, [suite.program, *given.words], given.folder, given.given) as served:
         trial = Trial(suite, given, served)
         suite.holds(f"{given.name}: writes are seen", trial.plain.calls[WRITE] + trial.plain.calls[WRITE_FAULT])

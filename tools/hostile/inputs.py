@@ -2,6 +2,8 @@
 
 import dataclasses
 import re
+from pathlib import Path
+from typing import Iterator, List, Sequence
 
 from measuring.checks import write_files
 from measuring.network import PERIOD, Numbers, activity_rows
@@ -115,28 +117,28 @@ class Input:
     """A run to be disturbed: its name, the words after the program's name, the folder, and the commands."""
 
     name: str
-    words: list
-    folder: object
+    words: List[str]
+    folder: Path
     given: bytes = b""
 
-    def is_check(self):
+    def is_check(self) -> bool:
         return "--check" in self.words
 
 
-def stored_run(folder):
+def stored_run(folder: Path) -> Input:
     return Input("the stored run", [], folder, (TOP / "crates/pespbench/stdin").read_bytes())
 
 
-def example(folder):
+def example(folder: Path) -> Input:
     return Input(f"examples/{folder.name}", words_of(folder), folder, content(folder / "commands"))
 
 
-def words_of_two(folder):
+def words_of_two(folder: Path) -> List[str]:
     """The words for the two trains, whose files are written into the folder."""
     return words_of_files(folder, 10, NAMES, [TWO, TWO_FIXED, TWO_TIMES])
 
 
-def words_of_files(folder, period, names, texts):
+def words_of_files(folder: Path, period: int, names: Sequence[str], texts: Sequence[bytes]) -> List[str]:
     """The words for activities, fixed times and times, whose files are written into the folder by these names."""
     for name, text in zip(names, texts):
         (folder / name).write_bytes(text)
@@ -144,7 +146,7 @@ def words_of_files(folder, period, names, texts):
     return ["--period", str(period), "--fixed", fixed, "--times", times, activities]
 
 
-def drawn_search(folder, events):
+def drawn_search(folder: Path, events: int) -> Input:
     """A network whose search has some hundred nodes, asked by a try, for the optimum, and after edits."""
     numbers = Numbers(events)
     times = [numbers.below(PERIOD) for _ in range(events)]
@@ -155,17 +157,17 @@ def drawn_search(folder, events):
     return Input("a search", ["searched"], folder, "".join(f"{line}\n" for line in lines).encode())
 
 
-def script(folder, rows):
+def script(folder: Path, rows: int) -> Input:
     path, _ = write_script(folder, rows)
     return Input(f"a script of {rows} activities", [], folder, path.read_bytes() + b"dump\n")
 
 
-def large_check(folder, rows):
+def large_check(folder: Path, rows: int) -> Input:
     words, _ = write_files(folder, rows)
     return Input(f"a check of {rows} activities", [str(word) for word in words["check"]], folder)
 
 
-def inputs(folder):
+def inputs(folder: Path) -> Iterator[Input]:
     """All that the program is run on, those first that take longest."""
     words = words_of_two(folder)
     long_words = words_of_files(folder, GREATEST_PERIOD, [f"long.{name}" for name in NAMES], LONG)
@@ -185,13 +187,13 @@ def inputs(folder):
     yield from map(example, folders())
 
 
-def has_reply(line):
+def has_reply(line: bytes) -> bool:
     """Whether a line of commands has a reply: a blank one and a comment have none."""
     bare = line.strip(BLANKS)
     return bool(bare) and not bare.startswith(b"#")
 
 
-def ends_of_replies(given, output):
+def ends_of_replies(given: bytes, output: bytes) -> List[int]:
     """How many bytes are out once the first lines are answered, for each number of lines that are answered whole."""
     ends, place = [0], 0
     for line in re.split(b"\n", given):

@@ -3,8 +3,9 @@
 from hostile.calls import judge_call
 from hostile.damage import fault_of_commands
 from hostile.growths import judge
-from hostile.inputs import ends_of_replies
+from hostile.inputs import Input, ends_of_replies
 from hostile.served import Came
+from hostile.suite import Suite
 
 GIVEN = b"add event 1\n\ndomains\ncost"
 OUTPUT = b"ok\ndomains 1\n1: 0 1\ncost 0\n"
@@ -70,11 +71,11 @@ LEFT = {
 }
 
 
-def came(status, output, error):
+def came(status: int, output: bytes, error: bytes) -> Came:
     return Came(status, output, error, 1, 1, 0, {})
 
 
-def judges(suite, _):
+def judges(suite: Suite, given: Input) -> None:
     plain, ends = came(0, OUTPUT, b""), ends_of_replies(GIVEN, OUTPUT)
     for name, (status, output, error, is_right) in REFUSED.items():
         fault, _ = judge(came(status, output, error), plain, ends, (0, 0, 0))

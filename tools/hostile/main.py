@@ -6,6 +6,7 @@ import os
 import pathlib
 import tempfile
 import time
+from typing import Callable, Dict, Iterable, Iterator, Optional, Sequence, Tuple
 
 from hostile.calls import CALLER, calls
 from hostile.damage import damage
@@ -14,10 +15,11 @@ from hostile.growths import growths
 from hostile.inputs import Input, example, inputs
 from hostile.judged import judges
 from hostile.served import build_library
+from hostile.suite import Suite
 from tests.examples import folders
-from tests.harness import PROGRAM, short
+from tests.harness import PROGRAM
 
-PARTS = {"judges": judges, "calls": calls, "growths": growths, "devices": devices, "damage": damage}
+PARTS: Dict[str, Callable[[Suite, Input], None]] = {"judges": judges, "calls": calls, "growths": growths, "devices": devices, "damage": damage}
 TRIED = {
     "judges": "programs",
     "calls": "refused requests of calls",
@@ -25,51 +27,19 @@ TRIED = {
     "devices": "runs with faulty devices",
     "damage": "damaged texts, each twice",
 }
-SHOWN = 5
 
 
-class Suite:
-    """What a part is run with, and what it found: cases that passed and failed, and how much was tried."""
-
-    def __init__(self, program, library, is_whole):
-        self.program, self.library, self.is_whole = program, library, is_whole
-        self.runs = self.passed = 0
-        self.faults, self.notes = [], []
-
-    def found(self, name, runs, wrong):
-        """One case that tried so much; each wrong run has a place, what is wrong, and what came."""
-        self.runs += runs
-        if not wrong:
-            self.passed += 1
-            return
-        self.faults.append(f"FAILED {name}: {len(wrong)} of {runs} runs")
-        for place, fault, came in wrong[:SHOWN]:
-            came = {"status": came.status, "standard error": came.error, "standard output": came.output}
-            self.faults.append(f"  at {place}: {fault}: {short(came)}")
-
-    def holds(self, name, fact):
-        """One case that is true or false."""
-        self.passed += bool(fact)
-        self.faults += [] if fact else [f"FAILED {name}"]
-
-    def note(self, text):
-        self.notes.append(text)
-
-    def failed(self):
-        return sum(fault.startswith("FAILED") for fault in self.faults)
-
-
-def run_part(part, given, words, library):
+def run_part(part: str, given: Input, words: argparse.Namespace, library: pathlib.Path) -> Tuple[Suite, float]:
     """A part on one input, in a process of its own."""
     suite, began = Suite(words.program, library, words.all), time.monotonic()
     PARTS[part](suite, given)
     return suite, time.monotonic() - began
 
 
-def tasks(parts, folder):
+def tasks(parts: Sequence[str], folder: pathlib.Path) -> Iterator[Tuple[str, Input]]:
     """Each part with each of its inputs."""
     given = list(inputs(folder))
-    own = {
+    own: Dict[str, Iterable[Input]] = {
         "judges": [Input("wrong runs", [], folder)],
         "calls": [Input(CALLER, [], folder)],
         "damage": map(example, folders()),
@@ -78,7 +48,7 @@ def tasks(parts, folder):
         yield from ((part, each) for each in own.get(part, given))
 
 
-def run_all(words, folder):
+def run_all(words: argparse.Namespace, folder: pathlib.Path) -> bool:
     library, chosen = build_library(folder), words.only or list(PARTS)
     totals = dict.fromkeys(PARTS, 0)
     passed = failed = 0
@@ -94,20 +64,20 @@ def run_all(words, folder):
     return failed > 0
 
 
-def line_of(part, given, suite, seconds):
+def line_of(part: str, given: Input, suite: Suite, seconds: float) -> str:
     counts = f"{suite.passed} passed, {suite.failed()} failed"
     return ", ".join([f"{part} of {given.name}: {counts}", f"{suite.runs} {TRIED[part]}", *suite.notes, f"{seconds:.1f} s"])
 
 
-def main(words):
+def main(words: Optional[Sequence[str]]) -> int:
     parser = argparse.ArgumentParser(prog="tools/test_hostile", description="Tests the built program in hostile use.")
     parser.add_argument("--all", action="store_true", help="try each request and call of large inputs too")
     parser.add_argument("--only", action="append", choices=PARTS, help="run this part alone")
     parser.add_argument("--jobs", type=int, default=len(os.sched_getaffinity(0)), help="how many run side by side")
     parser.add_argument("program", nargs="?", type=pathlib.Path, default=PROGRAM)
-    words = parser.parse_args(words)
-    words.program = words.program.absolute()
-    if not os.access(words.program, os.X_OK):
-        parser.error(f"there is no program at {words.program}")
+    chosen = parser.parse_args(words)
+    chosen.program = chosen.program.absolute()
+    if not os.access(chosen.program, os.X_OK):
+        parser.error(f"there is no program at {chosen.program}")
     with tempfile.TemporaryDirectory() as name:
-        return run_all(words, pathlib.Path(name).resolve())
+        return run_all(chosen, pathlib.Path(name).resolve())

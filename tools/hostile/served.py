@@ -6,6 +6,7 @@ import pathlib
 import shutil
 import struct
 import subprocess
+from typing import Dict, Iterator, Sequence, Tuple
 
 SOURCE = pathlib.Path(__file__).resolve().parent / "faults.c"
 # In the order of the library's own list.
@@ -30,7 +31,7 @@ class Order:
     answer: int = 0
     most: int = 0
 
-    def packed(self):
+    def packed(self) -> bytes:
         place = CALLS.index(self.call)
         numbers = [self.refuse_from, self.refuse_to, place, self.begin, self.end, self.every, self.answer, self.most]
         return struct.pack("<9Q", *numbers, SECONDS)
@@ -46,13 +47,13 @@ class Came:
     requests: int
     refused: int
     answered: int
-    calls: dict
+    calls: Dict[str, int]
 
-    def told(self):
+    def told(self) -> Tuple[int, bytes, bytes]:
         return self.status, self.output, self.error
 
 
-def compilers():
+def compilers() -> Iterator[str]:
     """The C compiler of the toolchain, and that of the system."""
     page = subprocess.run(["rt", "doc"], capture_output=True, text=True, check=False) if shutil.which("rt") else None
     if page and page.stdout.strip():
@@ -60,17 +61,17 @@ def compilers():
     yield os.environ.get("CC", "cc")
 
 
-def build_library(folder):
+def build_library(folder: pathlib.Path) -> pathlib.Path:
     """Builds the library that is preloaded."""
     library = folder / "faults.so"
-    options = ["-O2", "-shared", "-fPIC", "-nostdlib", "-fno-builtin", "-o", library, SOURCE]
+    options = ["-O2", "-shared", "-fPIC", "-nostdlib", "-fno-builtin", "-o", str(library), str(SOURCE)]
     for compiler in filter(shutil.which, compilers()):
         if subprocess.run([compiler, *options], check=False).returncode == 0:
             return library
     raise SystemExit("tools/test_hostile: no C compiler builds tools/hostile/faults.c")
 
 
-def whole(device):
+def whole(device: int) -> bytes:
     """All bytes of a file in memory."""
     return os.pread(device, os.fstat(device).st_size, 0)
 
@@ -78,14 +79,14 @@ def whole(device):
 class Served:
     """A command line whose program waits, before its `main`, to be run again and again."""
 
-    def __init__(self, library, words, folder, given=b""):
+    def __init__(self, library: pathlib.Path, words: Sequence[object], folder: pathlib.Path, given: bytes = b"") -> None:
         self.devices = [os.memfd_create(name) for name in ["commands", "replies", "fault"]]
         self.give(given)
         orders, self.orders = os.pipe()
         self.reports, reports = os.pipe()
         names = {"LD_PRELOAD": library, "HOSTILE_ORDERS": orders, "HOSTILE_REPORTS": reports}
         self.process = subprocess.Popen(
-            words,
+            list(map(str, words)),
             stdin=self.devices[0],
             stdout=self.devices[1],
             stderr=self.devices[2],
@@ -96,21 +97,21 @@ class Served:
         os.close(orders)
         os.close(reports)
 
-    def __enter__(self):
+    def __enter__(self) -> "Served":
         return self
 
-    def __exit__(self, *_):
+    def __exit__(self, *_: object) -> None:
         os.close(self.orders)
         self.process.wait(SECONDS)
         for device in [self.reports, *self.devices]:
             os.close(device)
 
-    def give(self, commands):
+    def give(self, commands: bytes) -> None:
         """Sets what the next runs read from standard input."""
         os.ftruncate(self.devices[0], 0)
         os.pwrite(self.devices[0], commands, 0)
 
-    def run(self, order=Order()):
+    def run(self, order: Order = Order()) -> Came:
         os.write(self.orders, order.packed())
         report = os.read(self.reports, REPORT.size)
         if len(report) != REPORT.size:

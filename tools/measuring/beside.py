@@ -5,12 +5,14 @@ import random
 import shutil
 import sys
 from statistics import mean
+from typing import Dict, Iterator, List, Optional, Tuple
 
 from measuring.checks import Form, check_of
 from measuring.counting import count, peak, run
 from measuring.keeper import EVENTS_OF_A_FREE_ONE, Network, some_of
 from measuring.network import PERIOD, text_of
 from tests.limits import MOST_ACTIVITIES, MOST_EVENTS
+from tests.rules import Row
 from tests.streams import drawn_command
 
 FOLDER = pathlib.Path(__file__).resolve().parent / "plain"
@@ -25,7 +27,11 @@ COMMANDS = ["domain", "domains", "tensions", "span", "weight", "fix", "unfix", "
 PERIODS = [2, 3, 5, 7, 10, 12, 24, 60]
 
 
-def plain_program():
+# A figure: what it is, how much, and the replies that are compared.
+Figure = Tuple[str, float, str]
+
+
+def plain_program() -> Optional[pathlib.Path]:
     """The plain program, built where it is older than its sources; None where there is no rustc."""
     sources = list(FOLDER.glob("*.rs"))
     if not PLAIN.exists() or PLAIN.stat().st_mtime < max(path.stat().st_mtime for path in sources):
@@ -36,22 +42,22 @@ def plain_program():
     return PLAIN
 
 
-def is_fixed(event):
+def is_fixed(event: int) -> bool:
     return event % EVENTS_OF_A_FREE_ONE != 0
 
 
-def is_never(_):
+def is_never(_: int) -> bool:
     return False
 
 
-def timed(network):
+def timed(network: Network) -> List[object]:
     """The words that open a network with its times."""
     path = network.memory.with_name("times.beside")
     path.write_text(text_of(enumerate(network.times)))
     return [*network.words, "--times", path]
 
 
-def checks(program, folder):
+def checks(program: pathlib.Path, folder: pathlib.Path) -> Iterator[Figure]:
     """Each check: what it is, its instructions for each activity, and its replies."""
     start = count([program, "--check"], folder / "callgrind.empty")
     for form in FORMS:
@@ -61,14 +67,14 @@ def checks(program, folder):
     yield "check, sparse", (count(check, folder / "callgrind.check") - start) / SPARSE_ROWS, run(check).stdout
 
 
-def openings(program, folder):
+def openings(program: pathlib.Path, folder: pathlib.Path) -> Iterator[Figure]:
     start = count([program, "--period", str(PERIOD)], folder / "callgrind.empty")
     for rows in [SMALL_ROWS, 10 * SMALL_ROWS]:
         network = Network(program, folder, rows, rows * SMALL_EVENTS // SMALL_ROWS, is_fixed)
         yield f"opening, {rows} activities", (network.takes([]) - start) / rows, network.answers(["domains"])
 
 
-def questions(program, folder):
+def questions(program: pathlib.Path, folder: pathlib.Path) -> Iterator[Figure]:
     """A line of a reply, where each event can be at every minute."""
     network = Network(program, folder, SMALL_ROWS, SMALL_EVENTS, is_never)
     network.words = timed(network)
@@ -77,14 +83,14 @@ def questions(program, folder):
         yield f"a line of {name}", (network.takes([name]) - start) / lines, network.answers([name])
 
 
-def edits(program, folder):
+def edits(program: pathlib.Path, folder: pathlib.Path) -> Iterator[Figure]:
     """Edits of one kind spread over a network, each after those before it."""
     network = Network(program, folder, SMALL_ROWS, SMALL_EVENTS, is_fixed)
     rows = some_of(network.rows)
     free = some_of([event for event in range(SMALL_EVENTS) if not is_fixed(event)])
     drops = [f"drop activity {row[0]}" for row in rows]
     fix = [f"fix {event} {network.times[event]}" for event in free]
-    works = {
+    works: Dict[str, Tuple[List[str], List[str]]] = {
         "a span that moves nothing": ([], [f"span {name} {lower + PERIOD} {upper + PERIOD}" for name, _, _, lower, upper, _ in rows]),
         "a weight": ([], [f"weight {name} {weight}" for name, *_, weight in rows]),
         "fix": ([], fix),
@@ -96,12 +102,12 @@ def edits(program, folder):
         yield name, (network.takes([*before, *lines]) - network.takes(before)) / len(lines), network.answers([*before, *lines, "domains"])
 
 
-def is_empty(replies):
+def is_empty(replies: str) -> bool:
     """Whether all domains that are told are empty."""
     return all(len(line.split()) == 1 for line in replies.splitlines() if ":" in line)
 
 
-def emptying(program, folder):
+def emptying(program: pathlib.Path, folder: pathlib.Path) -> Iterator[Figure]:
     """Activities turned round, each alone, with which no event can be at any minute; each is turned back before the next."""
     network = Network(program, folder, SMALL_ROWS, SMALL_EVENTS, is_fixed)
     turned = [(f"ends {name} {last} {first}", f"ends {name} {first} {last}") for name, first, last, *_ in some_of(network.rows)]
@@ -112,34 +118,35 @@ def emptying(program, folder):
     yield "and back", mean(each[1::2]), ""
 
 
-def memories(program, folder):
+def memories(program: pathlib.Path, folder: pathlib.Path) -> Iterator[Figure]:
     for name, fixed in [("none fixed", is_never), ("nine of ten fixed", is_fixed)]:
         network = Network(program, folder, MOST_ACTIVITIES, MOST_EVENTS, fixed)
         yield f"kB, greatest network, {name}", peak(network.words, network.memory), ""
 
 
-def drawn_stream(draw, folder):
+def drawn_stream(draw: random.Random, folder: pathlib.Path) -> List[object]:
     """The words of a drawn network with times and fixed times, and lines of the commands that the plain program has."""
-    period, events, table = draw.choice(PERIODS), draw.randint(1, 6), []
+    period, events = draw.choice(PERIODS), draw.randint(1, 6)
+    table: List[Row] = []
     for name in draw.sample(range(1, 12), draw.randint(1, 10)):
         lower = draw.randint(-2 * period, 2 * period)
         upper = lower + draw.choice([0, 1, 2, draw.randrange(period), period])
         table.append((name, draw.randint(1, events), draw.randint(1, events), lower, upper, draw.randrange(5)))
     named = sorted({event for row in table for event in row[1:3]})
-    files = {
+    files: Dict[str, List[Row]] = {
         "activities": table,
         "fixed": [(event, draw.randint(-100, 100)) for event in named if draw.randrange(4) == 0],
         "times": [(event, draw.randint(-100, 100)) for event in named if draw.randrange(30)],
     }
-    for name, rows in files.items():
-        (folder / f"drawn.{name}").write_text(text_of(rows))
+    for kind, rows in files.items():
+        (folder / f"drawn.{kind}").write_text(text_of(rows))
     lines = [drawn_command(draw, period, draw.choice([*COMMANDS, "domains"])) for _ in range(LINES)]
     (folder / "drawn.lines").write_text("".join(f"{line}{draw.choice(['', '', '', ' 1', 'x'])}\n" for line in lines))
     words = ["--fixed", folder / "drawn.fixed", "--times", folder / "drawn.times", folder / "drawn.activities"]
     return ["--period", str(period), *words]
 
 
-def compare(name, replies, plain_replies):
+def compare(name: str, replies: str, plain_replies: str) -> None:
     """Ends where the two programs differ, with the first line that does."""
     if replies == plain_replies:
         return
@@ -149,16 +156,17 @@ def compare(name, replies, plain_replies):
     sys.exit(f"tools/measure: {name}: the plain program has another number of lines")
 
 
-def compare_streams(program, plain, folder, streams):
+def compare_streams(program: pathlib.Path, plain: pathlib.Path, folder: pathlib.Path, streams: int) -> None:
     draw = random.Random(60)
     for number in range(streams):
         words = drawn_stream(draw, folder)
-        for more, given in [([], folder / "drawn.lines"), (["--check"], None)]:
-            replies = [run([each, *words, *more], given=given).stdout for each in (program, plain)]
-            compare(f"drawn stream {number}", *replies)
+        asked: List[Tuple[List[str], Optional[pathlib.Path]]] = [([], folder / "drawn.lines"), (["--check"], None)]
+        for more, given in asked:
+            here, there = (run([each, *words, *more], given=given).stdout for each in (program, plain))
+            compare(f"drawn stream {number}", here, there)
 
 
-def print_beside(program, folder, streams):
+def print_beside(program: pathlib.Path, folder: pathlib.Path, streams: int) -> None:
     """Each figure of the program, and of the plain one where it is there, with their ratio."""
     plain = plain_program()
     print(f"\n{'instructions':<34} {'here':>11}" + (f" {'plain':>11} {'times':>7}" if plain else ""))

@@ -1,7 +1,10 @@
 """What a check takes, and reading alone."""
 
+import argparse
 import dataclasses
 import sys
+from pathlib import Path
+from typing import Dict, List, Optional, Sequence, Tuple
 
 from measuring.counting import count, peak, run
 from measuring.network import PERIOD, Numbers, activity_rows, events_of, fixed_rows, text_of
@@ -17,7 +20,7 @@ class Form:
     name: str
     activities_ascend: bool = False
     times_ascend: bool = True
-    end: int | None = None
+    end: Optional[int] = None
 
 
 UNSORTED = Form("activities in no order")
@@ -29,7 +32,7 @@ FORMS = [
 ]
 
 
-def write_files(folder, rows, form=UNSORTED):
+def write_files(folder: Path, rows: int, form: Form = UNSORTED) -> Tuple[Dict[str, List[object]], int]:
     """The words of a check and of a run that reads alone, and the number of events."""
     numbers = Numbers(rows)
     events = events_of(rows)
@@ -46,11 +49,11 @@ def write_files(folder, rows, form=UNSORTED):
     paths = {name: folder / f"{name}.{rows}" for name in texts}
     for name, path in paths.items():
         path.write_text(texts[name])
-    given = ["--period", str(PERIOD), "--check", "--fixed", paths["fixed"], paths["activities"]]
+    given: List[object] = ["--period", str(PERIOD), "--check", "--fixed", paths["fixed"], paths["activities"]]
     return {"check": [*given, "--times", paths["times"]], "reading": [*given, "--times", paths["reading"]]}, events
 
 
-def check_of(program, folder, rows, form):
+def check_of(program: Path, folder: Path, rows: int, form: Form) -> Tuple[List[object], List[object], int]:
     """The words of a check that is not refused, of a run that reads alone, and the number of events."""
     words, events = write_files(folder, rows, form)
     check, reading = ([program, *words[name]] for name in COUNTED)
@@ -59,24 +62,27 @@ def check_of(program, folder, rows, form):
     return check, reading, events
 
 
-def measure(program, folder, rows):
+def measure(program: Path, folder: Path, rows: int) -> Dict[str, int]:
     """What one number of activities takes."""
     check, reading, events = check_of(program, folder, rows, UNSORTED)
     wanted = f"pespbench: times file, record {events + 1}: wrong number of fields\n"
     if run(reading, 1).stderr != wanted:
         sys.exit(f"tools/measure: the run that reads {rows} rows alone did not end after the last of the times")
-    profile = folder / f"callgrind.{rows}"
     return {
         "rows": rows,
         "events": events,
-        "check": count(check, profile),
+        "check": count(check, profile_of(folder, rows)),
         "reading": count(reading, folder / "callgrind.reading", 1),
         "memory": peak(check, folder / "memory"),
-        "profile": profile,
     }
 
 
-def print_table(start, table):
+def profile_of(folder: Path, rows: int) -> Path:
+    """Where the profile of the check of so many rows goes."""
+    return folder / f"callgrind.{rows}"
+
+
+def print_table(start: int, table: Sequence[Dict[str, int]]) -> None:
     print(f"an empty check takes {start} instructions, which are not counted below")
     print(f"{'':>15} {'a whole check':>39}   {'reading alone':>39}")
     columns = f"{'instructions':>15} {'per activity':>14} {'growth':>8}"
@@ -94,7 +100,7 @@ def print_table(start, table):
         print(f"instructions per activity of {title} grow {overall:.2f} times {ends}")
 
 
-def measure_form(program, folder, sizes, form):
+def measure_form(program: Path, folder: Path, sizes: Sequence[int], form: Form) -> Tuple[List[int], int]:
     """The instructions of checks of one form, and the peak memory of the greatest."""
     counts = []
     for rows in sizes:
@@ -103,7 +109,7 @@ def measure_form(program, folder, sizes, form):
     return counts, peak(check, folder / "memory")
 
 
-def print_forms(start, sizes, table):
+def print_forms(start: int, sizes: Sequence[int], table: Sequence[Tuple[Form, Tuple[List[int], int]]]) -> None:
     print("\ninstructions per activity of a whole check, by the order of the rows")
     print(f"{'rows':>29} {''.join(f'{rows:>9}' for rows in sizes)} {'peak kB':>9}")
     for form, (counts, memory) in table:
@@ -111,17 +117,17 @@ def print_forms(start, sizes, table):
         print(f"{form.name:>29} {each} {memory:>9}")
 
 
-def print_profile(rows, profile):
+def print_profile(rows: int, profile: Path) -> None:
     print(f"\nat {rows} rows:")
     lines = run(["callgrind_annotate", profile]).stdout.splitlines()
     begun = next(place for place, line in enumerate(lines) if "file:function" in line)
     print("\n".join(line[:160] for line in lines[begun : begun + SHOWN_FUNCTIONS + 2]))
 
 
-def measure_checks(words, folder):
+def measure_checks(words: argparse.Namespace, folder: Path) -> None:
     start = count([words.program, "--check"], folder / "callgrind.empty")
     table = [measure(words.program, folder, rows) for rows in words.rows]
     print_table(start, table)
     print_forms(start, words.rows, [(form, measure_form(words.program, folder, words.rows, form)) for form in FORMS])
     for row in table if words.profile else []:
-        print_profile(row["rows"], row["profile"])
+        print_profile(row["rows"], profile_of(folder, row["rows"]))

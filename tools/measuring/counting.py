@@ -3,33 +3,47 @@
 import re
 import subprocess
 import sys
+from pathlib import Path
+from typing import List, Sequence, Union
 
 
-def run(command, status=0, given=None):
+# The words of a command, each told by its text, and the file that its standard input is; none is an empty one.
+Words = Sequence[object]
+Given = Union[Path, str, None]
+
+
+def run(command: Words, status: int = 0, given: Given = None) -> "subprocess.CompletedProcess[str]":
     with open(given or "/dev/null", "rb") as file:
-        done = subprocess.run(command, capture_output=True, text=True, check=False, stdin=file)
+        done = subprocess.run(list(map(str, command)), capture_output=True, text=True, check=False, stdin=file)
     if done.returncode != status:
         sys.exit(f"tools/measure: {command[0]} ended with status {done.returncode}\n{done.stderr}")
     return done
 
 
-def count(words, profile, status=0, given=None):
+def count(words: Words, profile: Path, status: int = 0, given: Given = None) -> int:
     """The instructions of one run, whose profile goes to a file."""
     counted = run(["valgrind", "--tool=callgrind", f"--callgrind-out-file={profile}", *words], status, given)
-    return int(re.search(r"Collected : (\d+)", counted.stderr).group(1))
+    return number_in(r"Collected : (\d+)", counted.stderr)
 
 
-def count_replies(words, profile, given):
+def number_in(pattern: str, text: str) -> int:
+    """The number that a pattern's group has in a text that has it."""
+    found = re.search(pattern, text, re.MULTILINE)
+    assert found is not None
+    return int(found[1])
+
+
+def count_replies(words: Words, profile: Path, given: Given) -> List[int]:
     """The instructions of one run before each of its replies, from the reply before on, where each is one write."""
     run(["valgrind", "--tool=callgrind", f"--callgrind-out-file={profile}", "--dump-before=write", *words], 0, given)
-    counts = []
+    counts: List[int] = []
     while (part := profile.with_name(f"{profile.name}.{len(counts) + 1}")).exists():
-        counts.append(int(re.search(r"^totals: (\d+)$", part.read_text(), re.MULTILINE).group(1)))
+        counts.append(number_in(r"^totals: (\d+)$", part.read_text()))
         part.unlink()
     return counts
 
 
-def peak(words, path, status=0, given=None):
+def peak(words: Words, path: Path, status: int = 0, given: Given = None) -> int:
     """The kB of memory of one run, at their most."""
     run(["/usr/bin/time", "-q", "-f", "%M", "-o", path, *words], status, given)
     return int(path.read_text())

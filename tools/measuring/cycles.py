@@ -1,11 +1,18 @@
 """The formulation by cycles: a whole number of periods for each cycle of a basis of narrow ones, and a slack for each activity."""
 
 import heapq
-from typing import Dict, List, NamedTuple
+from pathlib import Path
+from typing import Dict, Iterable, List, Mapping, NamedTuple, Sequence, Set, Tuple
+
+from tests.rules import Row
 
 ORIGIN = "origin"
 # The arcs of a cycle by their places, each with its sign: 1 along the cycle, -1 against it.
 Cycle = Dict[int, int]
+# For each node its arcs: the place, the sign, the node at the other end.
+Near = Dict[object, List[Tuple[int, int, object]]]
+# The fixed time of an event.
+Held = Tuple[int, int]
 
 
 class Arc(NamedTuple):
@@ -19,25 +26,27 @@ class Arc(NamedTuple):
     weight: int
 
 
-def arcs_of(rows, fixed, period) -> List[Arc]:
+def arcs_of(rows: Iterable[Row], fixed: Iterable[Held], period: int) -> List[Arc]:
     """All arcs but those that admit every residue at no cost."""
     arcs = [Arc(f"y{name}", first, last, lower, min(upper - lower, period - 1), weight) for name, first, last, lower, upper, weight in rows]
     held = [Arc(f"f{event}", ORIGIN, event, time, 0, 0) for event, time in fixed]
     return [arc for arc in arcs if arc.width < period - 1 or arc.weight > 0] + held
 
 
-def arcs_by_node(arcs):
+def arcs_by_node(arcs: Sequence[Arc]) -> Near:
     """For each node its arcs: the place, the sign, the node at the other end."""
-    near = {}
+    near: Near = {}
     for place, arc in enumerate(arcs):
         near.setdefault(arc.first, []).append((place, 1, arc.last))
         near.setdefault(arc.last, []).append((place, -1, arc.first))
     return near
 
 
-def least_ways(arcs, near, start) -> Dict[object, Cycle]:
+def least_ways(arcs: Sequence[Arc], near: Near, start: object) -> Dict[object, Cycle]:
     """The way from a node to each that it reaches, of least width, and of those alike with fewest arcs."""
-    ways, waiting, order = {}, [(0, 0, 0, start, {})], 0
+    ways: Dict[object, Cycle] = {}
+    waiting: List[Tuple[int, int, int, object, Cycle]] = [(0, 0, 0, start, {})]
+    order = 0
     while waiting:
         width, steps, _, node, way = heapq.heappop(waiting)
         if node in ways:
@@ -50,7 +59,7 @@ def least_ways(arcs, near, start) -> Dict[object, Cycle]:
     return ways
 
 
-def cycles_over(arcs, ways) -> List[Cycle]:
+def cycles_over(arcs: Sequence[Arc], ways: Mapping[object, Cycle]) -> List[Cycle]:
     """For each arc between nodes with ways the cycle over it and both ways, whose common part falls away; none for an arc of the ways."""
     found = []
     for place, arc in enumerate(arcs):
@@ -63,9 +72,10 @@ def cycles_over(arcs, ways) -> List[Cycle]:
     return [cycle for cycle in found if cycle]
 
 
-def independent(cycles) -> List[Cycle]:
+def independent(cycles: Iterable[Cycle]) -> List[Cycle]:
     """Those that are no sum over two of some before them."""
-    kept, reduced = [], {}
+    kept: List[Cycle] = []
+    reduced: Dict[int, int] = {}
     for cycle in cycles:
         bits = sum(1 << place for place in cycle)
         while bits and bits.bit_length() in reduced:
@@ -76,7 +86,7 @@ def independent(cycles) -> List[Cycle]:
     return kept
 
 
-def is_integral(cycles, tree) -> bool:
+def is_integral(cycles: Sequence[Cycle], tree: Set[int]) -> bool:
     """Whether each cycle is a whole sum of these: their determinant over the arcs beside a tree is 1 or -1.
 
     Over two it is only known to be odd, and then the formulation might admit what no timetable has.
@@ -97,10 +107,13 @@ def is_integral(cycles, tree) -> bool:
     return abs(last) == 1
 
 
-def basis_of(arcs) -> List[Cycle]:
+def basis_of(arcs: Sequence[Arc]) -> List[Cycle]:
     """Horton's narrow cycles where these are integral, and those over the least ways of one node of each part otherwise."""
     near = arcs_by_node(arcs)
-    trees, candidates, fundamental, tree = {}, [], [], set()
+    trees: Dict[object, object] = {}
+    candidates: List[Cycle] = []
+    fundamental: List[Cycle] = []
+    tree: Set[int] = set()
     for node in near:
         ways = least_ways(arcs, near, node)
         cycles = cycles_over(arcs, ways)
@@ -113,7 +126,7 @@ def basis_of(arcs) -> List[Cycle]:
     return narrow if is_integral(narrow, tree) else fundamental
 
 
-def range_of(arcs, cycle, period):
+def range_of(arcs: Sequence[Arc], cycle: Cycle, period: int) -> Tuple[int, int, int]:
     """The sum of the signed lower bounds, and the least and the greatest number of periods that slacks can make of it.
 
     Where no whole number is between, these are the two beside, neither of which meets the equation.
@@ -121,14 +134,15 @@ def range_of(arcs, cycle, period):
     total = sum(sign * arcs[place].lower for place, sign in cycle.items())
     least = total - sum(arcs[place].width for place, sign in cycle.items() if sign < 0)
     most = total + sum(arcs[place].width for place, sign in cycle.items() if sign > 0)
-    return total, *sorted([-(-least // period), most // period])
+    first, last = sorted([-(-least // period), most // period])
+    return total, first, last
 
 
-def signed(terms):
+def signed(terms: Iterable[Tuple[str, int]]) -> str:
     return "\n ".join(f"{'-' if factor < 0 else '+'} {abs(factor)} {name}" for name, factor in terms)
 
 
-def write_cycles(rows, fixed, period, path):
+def write_cycles(rows: Iterable[Row], fixed: Iterable[Held], period: int, path: Path) -> None:
     """The network as a whole-number program by cycles. Slacks are not asked to be whole: where all cycles are, those at a corner are."""
     arcs = arcs_of(rows, fixed, period)
     # The origin stands at 0, so that there is a row and a cost where nothing else is.

@@ -2,6 +2,8 @@
 
 import math
 import sys
+from pathlib import Path
+from typing import Callable, Dict, List, Optional, Sequence, Tuple
 
 from measuring.counting import count, peak, run
 from measuring.network import PERIOD, Numbers, activity_rows, events_of, text_of
@@ -15,27 +17,27 @@ FAULT = "pespbench: activities file, record 1: "
 TWO = "1; 1; 2; 0; 59; 1\n"
 
 
-def at_one_event(rows):
+def at_one_event(rows: int) -> str:
     return text_of((name, 1, 1, 0, 59, 1) for name in range(rows))
 
 
-def from_one_event(rows):
+def from_one_event(rows: int) -> str:
     return text_of((name, 1, 2 + name % (MOST_EVENTS - 1), 0, 59, 1) for name in range(rows))
 
 
-def reversed_rows(rows):
+def reversed_rows(rows: int) -> str:
     numbers = Numbers(rows)
     times = [numbers.below(PERIOD) for _ in range(events_of(rows))]
     return text_of(sorted(activity_rows(numbers, rows, times), reverse=True))
 
 
-def fixed_rows(rows):
+def fixed_rows(rows: int) -> str:
     """Five rows an event: the first event that comes again is told."""
     return text_of((event % events_of(rows), 0) for event in range(rows))
 
 
 # A file of activities of so many bytes, and what is told of it.
-FILES = {
+FILES: Dict[str, Tuple[Callable[[int], str], Optional[str]]] = {
     "one field": (lambda size: "1" * size, FAULT + "wrong number of fields\n"),
     "separators": (lambda size: ";" * size, FAULT + "wrong number of fields\n"),
     "a number": (lambda size: "1; 1; 2; 3; 5; ".ljust(size, "0"), None),
@@ -58,18 +60,24 @@ COMMANDS = {
 }
 
 
+# The words of a run, its commands, and what has to come of it, where that is known.
+Prepared = Tuple[List[object], Optional[Path], Optional[str]]
+Prepare = Callable[[int], Prepared]
+
+
 class Table:
     """Instructions for each byte, row or line, and whether they grow by more than the logarithm of the size."""
 
-    def __init__(self, program, folder, title, unit, sizes):
+    def __init__(self, program: Path, folder: Path, title: str, unit: str, sizes: Sequence[int]) -> None:
         self.program, self.folder, self.sizes = program, folder, sizes
         self.start = count([program, "--check"], folder / "callgrind.start")
         print(f"\n{title}: instructions per {unit}\n{'':>20} " + " ".join(f"{f'of {size}':>13}" for size in sizes), end="")
         print(f"{'growth':>9} {'peak kB':>9}")
 
-    def measure(self, name, prepare, status=0):
+    def measure(self, name: str, prepare: Prepare, status: int = 0) -> None:
         """Each size of a kind: `prepare` makes the words, the commands and what has to come."""
-        each, memory = [], 0
+        each: List[float] = []
+        memory = 0
         for size in self.sizes:
             words, given, wanted = prepare(size)
             came = run([self.program, *words], status, given)
@@ -83,30 +91,31 @@ class Table:
         print(f"{name or 'blank':>20} {figures} {growth:>8.2f} {memory:>9}{note}", flush=True)
 
 
-def measure_files(program, folder, sizes):
+def measure_files(program: Path, folder: Path, sizes: Sequence[int]) -> None:
     table, path = Table(program, folder, "a file of activities", "byte", sizes), folder / "hostile"
     for name, (text, wanted) in FILES.items():
 
-        def prepare(size, text=text, wanted=wanted):
+        def prepare(size: int, text: Callable[[int], str] = text, wanted: Optional[str] = wanted) -> Prepared:
             path.write_text(text(size))
             return ["--check", path], None, wanted
 
         table.measure(name, prepare, int(bool(wanted and wanted.startswith(FAULT))))
 
 
-def measure_networks(program, folder, sizes):
+def measure_networks(program: Path, folder: Path, sizes: Sequence[int]) -> None:
     path, fixed = folder / "hostile", folder / "hostile.fixed"
-    for title, check in {"activities opened for commands": [], "a check of activities": ["--check"]}.items():
+    checks: Dict[str, List[str]] = {"activities opened for commands": [], "a check of activities": ["--check"]}
+    for title, check in checks.items():
         table = Table(program, folder, title, "row", sizes)
         for name, rows in NETWORKS.items():
 
-            def prepare(size, rows=rows):
+            def prepare(size: int, rows: Callable[[int], str] = rows) -> Prepared:
                 path.write_text(rows(size))
                 return [*check, path], None, None
 
             table.measure(name, prepare)
 
-    def prepare_fixed(size):
+    def prepare_fixed(size: int) -> Prepared:
         path.write_text(reversed_rows(size))
         fixed.write_text(fixed_rows(size))
         fault = f"pespbench: fixed file, record {events_of(size) + 1}: event is repeated\n"
@@ -115,19 +124,19 @@ def measure_networks(program, folder, sizes):
     table.measure("and fixed times", prepare_fixed, 1)
 
 
-def measure_lines(program, folder, sizes):
+def measure_lines(program: Path, folder: Path, sizes: Sequence[int]) -> None:
     table, path, given = Table(program, folder, "commands", "line", sizes), folder / "hostile", folder / "given"
     path.write_text(TWO)
     for line, reply in COMMANDS.items():
 
-        def prepare(size, line=line, reply=reply):
+        def prepare(size: int, line: str = line, reply: str = reply) -> Prepared:
             given.write_text(f"{line}\n" * size)
             return [path], given, f"{reply}\n" * size if reply else ""
 
         table.measure(line, prepare)
 
 
-def measure_hostile(program, folder, divisor=1):
+def measure_hostile(program: Path, folder: Path, divisor: int = 1) -> None:
     """Each table; a divisor makes all sizes smaller."""
     for measure, sizes in [(measure_lines, LINES), (measure_networks, ROWS), (measure_files, BYTES)]:
         measure(program, folder, [size // divisor for size in sizes])

@@ -2,6 +2,8 @@
 
 import math
 import sys
+from pathlib import Path
+from typing import Callable, Dict, Iterable, List, Mapping, Optional, Sequence, Tuple, TypeVar
 
 from measuring.counting import count, count_replies, peak, run
 from measuring.network import PERIOD, Numbers, activity_rows, events_of, text_of
@@ -13,12 +15,23 @@ NODES = 2_000
 # Lengths of windows.
 NARROW = 2
 WIDE = 40
+Item = TypeVar("Item")
 
 
 class Network:
     """A network of which all activities are met at its times, in files, and the words that open it."""
 
-    def __init__(self, program, folder, rows, events, fixed, seed=None, widths=(8, 20), period=PERIOD):
+    def __init__(
+        self,
+        program: Path,
+        folder: Path,
+        rows: int,
+        events: int,
+        fixed: Callable[[int], object],
+        seed: Optional[int] = None,
+        widths: Tuple[int, int] = (8, 20),
+        period: int = PERIOD,
+    ) -> None:
         numbers = Numbers(seed or rows)
         self.times = [numbers.below(period) for _ in range(events)]
         self.rows = list(activity_rows(numbers, rows, self.times, True, widths, period=period))
@@ -31,43 +44,43 @@ class Network:
         activities.write_text(text_of(self.rows))
         times.write_text(text)
         faulty.write_text(text + "0\n")
-        start = [program, "--period", str(period), activities, "--fixed"]
+        start: List[object] = [program, "--period", str(period), activities, "--fixed"]
         self.words, self.reading_words = [*start, times], [*start, faulty]
 
-    def answers(self, lines):
+    def answers(self, lines: Iterable[str]) -> str:
         self.lines.write_text("".join(f"{line}\n" for line in lines))
         return run(self.words, given=self.lines).stdout
 
-    def takes(self, lines):
+    def takes(self, lines: Iterable[str]) -> int:
         self.lines.write_text("".join(f"{line}\n" for line in lines))
         return count(self.words, self.profile, 0, self.lines)
 
-    def takes_each(self, lines):
+    def takes_each(self, lines: Iterable[str]) -> List[int]:
         """What each line takes that has one reply of a line; the first one has the opening too."""
         self.lines.write_text("".join(f"{line}\n" for line in lines))
         return count_replies(self.words, self.profile, self.lines)
 
-    def reading(self):
+    def reading(self) -> int:
         """Ends at a faulty row of the fixed times, when the activities are read."""
         return count(self.reading_words, self.profile, 1)
 
-    def pairs(self, lines):
+    def pairs(self, lines: Sequence[str]) -> int:
         """How many residues all domains have after the lines."""
         replies = self.answers([*lines, "domains"]).splitlines()[len(lines) :]
         return sum(len(reply.split()) - 1 for reply in replies)
 
 
-def some_of(items):
+def some_of(items: Sequence[Item]) -> Sequence[Item]:
     """Items from all over a list."""
     return items[:: max(1, len(items) // EDITS)][:EDITS]
 
 
-def window_of(network, event, length):
+def window_of(network: Network, event: int, length: int) -> str:
     """A line that gives an event a window around its time."""
     return f"window {event} {(network.times[event] - length // 2) % PERIOD} {length}"
 
 
-def measure_windows(network, events, built):
+def measure_windows(network: Network, events: Sequence[int], built: int) -> Dict[str, float]:
     """What windows take: a narrow one where there was none, and then a wide one. NaN where the program knows none."""
     narrow, wide = ([window_of(network, event, length) for event in events] for length in [NARROW, WIDE])
     if network.answers(narrow + wide) != "ok\n" * (len(narrow) + len(wide)):
@@ -79,7 +92,7 @@ def measure_windows(network, events, built):
     }
 
 
-def measure_lone(program, folder, rows):
+def measure_lone(program: Path, folder: Path, rows: int) -> float:
     """What it takes that one residue comes back, which a window left out, where no event has a fixed time."""
     network = Network(program, folder, rows, events_of(rows), lambda event: False)
     events = some_of(range(len(network.times)))
@@ -90,7 +103,7 @@ def measure_lone(program, folder, rows):
     return (network.takes(lines) - network.takes(narrowed)) / len(events)
 
 
-def measure_edits(program, folder, rows):
+def measure_edits(program: Path, folder: Path, rows: int) -> Dict[str, float]:
     """What edits of one network take, above building it. But for each tenth event all have fixed times."""
     network = Network(program, folder, rows, events_of(rows), lambda event: event % EVENTS_OF_A_FREE_ONE)
     built = network.takes([])
@@ -124,7 +137,7 @@ def measure_edits(program, folder, rows):
     }
 
 
-def measure_search(program, folder, events):
+def measure_search(program: Path, folder: Path, events: int) -> Optional[float]:
     """What a node of a search takes, pushes and pops among it."""
     network = Network(program, folder, events * ACTIVITIES_OF_A_SEARCHED_EVENT, events, lambda event: False)
     if not network.answers([f"try {NODES}"]).startswith("stopped"):
@@ -132,7 +145,7 @@ def measure_search(program, folder, events):
     return (network.takes([f"try {NODES}"]) - network.takes([])) / NODES
 
 
-def print_edits(table):
+def print_edits(table: Iterable[Mapping[str, float]]) -> None:
     print("\ninstructions of a building for each activity, and of each edit")
     print(
         f"{'rows':>7} {'events':>7} {'building':>9} {'span':>9} {'weight':>9} {'drop':>9} {'add':>9} {'window':>9} {'wider':>9} {'lone':>9} {'fix':>9} {'unfix':>11} {'residues moved':>15} {'peak kB':>9}"
@@ -143,7 +156,7 @@ def print_edits(table):
         print(f"{row['rows']:>7} {row['events']:>7} {figures} {row['pairs']:>15.1f} {row['memory']:>9}")
 
 
-def print_searches(program, folder, sizes):
+def print_searches(program: Path, folder: Path, sizes: Iterable[int]) -> None:
     print("\ninstructions of a node of a search")
     print(f"{'events':>7} {'a node':>9}")
     for events in sizes:

@@ -1,6 +1,8 @@
 """What cheap lines in bulk take."""
 
 import sys
+from pathlib import Path
+from typing import Sequence
 
 from measuring.counting import count, run
 
@@ -16,7 +18,7 @@ CHEAP = {
 }
 
 
-def measure_lines(program, folder, line, lines, start):
+def measure_lines(program: Path, folder: Path, line: str, lines: int, start: int) -> float:
     """What each of so many lines takes, by the instructions above those of a run without lines."""
     path = folder / "lines"
     path.write_text(f"{line}\n" * lines)
@@ -26,7 +28,7 @@ def measure_lines(program, folder, line, lines, start):
     return (count([program], folder / "callgrind.lines", 0, path) - start) / lines
 
 
-def print_lines(program, folder, sizes):
+def print_lines(program: Path, folder: Path, sizes: Sequence[int]) -> None:
     start = count([program], folder / "callgrind.nothing")
     print(f"\na run without lines takes {start} instructions, which are not counted below")
     print(f"{'cheap line':>12} " + " ".join(f"{f'of {size}':>12}" for size in sizes) + "   instructions per line")

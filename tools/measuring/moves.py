@@ -1,5 +1,8 @@
 """What a move of an optimiser takes: a time set, and the cost told."""
 
+from pathlib import Path
+from typing import Sequence, Tuple
+
 from measuring.keeper import Network
 from measuring.network import PERIOD, Numbers
 
@@ -8,7 +11,7 @@ SIZES = [(108, 140), (2_048, 2_645), (20_000, 100_000)]
 MOVES = 1_000
 
 
-def measure_moves(program, folder, events, rows):
+def measure_moves(program: Path, folder: Path, events: int, rows: int) -> Tuple[float, float]:
     """The instructions of a `time` and of a `cost` after it, where each event has a time."""
     network, numbers = Network(program, folder, rows, events, lambda event: False), Numbers(events)
     timed = [f"time {event} {time}" for event, time in enumerate(network.times)]
@@ -19,7 +22,7 @@ def measure_moves(program, folder, events, rows):
     return alone / MOVES, (told - alone) / MOVES
 
 
-def print_moves(programs, folder):
+def print_moves(programs: Sequence[Path], folder: Path) -> None:
     print("\ninstructions of a move: a time set, and the cost told after it")
     print(f"{'events':>7} {'activities':>10}" + f" {'time':>10} {'cost':>10}" * len(programs))
     for events, rows in SIZES:

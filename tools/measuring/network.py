@@ -1,6 +1,9 @@
 """Networks that are the same in each run, as files and as commands."""
 
+from typing import Iterable, Iterator, List, Optional, Sequence, Tuple
+
 from tests.limits import MOST_EVENTS
+from tests.rules import Row
 
 PERIOD = 60
 ACTIVITIES_OF_AN_EVENT = 5
@@ -10,14 +13,14 @@ EVENTS_OF_A_FIXED_ONE = 10
 class Numbers:
     """Numbers that are the same in each run: a linear congruential generator."""
 
-    def __init__(self, seed):
+    def __init__(self, seed: int) -> None:
         self.state = seed
 
-    def below(self, limit):
+    def below(self, limit: int) -> int:
         self.state = (self.state * 6_364_136_223_846_793_005 + 1_442_695_040_888_963_407) % 2**64
         return (self.state >> 33) % limit
 
-    def shuffled(self, count):
+    def shuffled(self, count: int) -> List[int]:
         places = list(range(count))
         for last in range(count - 1, 0, -1):
             other = self.below(last + 1)
@@ -25,12 +28,20 @@ class Numbers:
         return places
 
 
-def events_of(rows):
+def events_of(rows: int) -> int:
     """How many events so many activities name."""
     return max(2, min(MOST_EVENTS, rows // ACTIVITIES_OF_AN_EVENT))
 
 
-def activity_rows(numbers, rows, times, are_met=False, widths=(8, 20), end=None, period=PERIOD):
+def activity_rows(
+    numbers: Numbers,
+    rows: int,
+    times: Sequence[int],
+    are_met: bool = False,
+    widths: Tuple[int, int] = (8, 20),
+    end: Optional[int] = None,
+    period: int = PERIOD,
+) -> Iterator[Row]:
     """Activities in no order of their numbers, which name each event; about a tenth of them are violated, or none.
 
     A span has the first of the widths at least, and less than both of them together. All lead to the end, where one is given.
@@ -47,11 +58,11 @@ def activity_rows(numbers, rows, times, are_met=False, widths=(8, 20), end=None,
         yield name, first, last, lower, lower + widths[0] + numbers.below(widths[1]), numbers.below(1_000)
 
 
-def fixed_rows(numbers, times):
+def fixed_rows(numbers: Numbers, times: Sequence[int]) -> Iterator[Tuple[int, int]]:
     """A fixed time for each tenth event; about a tenth of them are not kept."""
     for event in range(0, len(times), EVENTS_OF_A_FIXED_ONE):
         yield event, (times[event] + (0 if numbers.below(10) else 1)) % PERIOD
 
 
-def text_of(rows):
+def text_of(rows: Iterable[Iterable[int]]) -> str:
     return "".join("; ".join(map(str, row)) + "\n" for row in rows)

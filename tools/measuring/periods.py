@@ -2,8 +2,9 @@
 
 import sys
 from math import nan
+from pathlib import Path
 from statistics import mean
-from typing import NamedTuple, Tuple
+from typing import Callable, Dict, Mapping, NamedTuple, Tuple
 
 from measuring.counting import count, peak
 from measuring.keeper import EVENTS_OF_A_FREE_ONE, Network, some_of
@@ -39,18 +40,18 @@ GREATEST = Shape(ROWS, EVENTS, PERIOD, WIDTHS)
 SMALLER = Shape(ROWS // 20, EVENTS // 20, PERIOD, WIDTHS)
 
 
-def network_of(program, folder, shape, fixed):
+def network_of(program: Path, folder: Path, shape: Shape, fixed: Callable[[int], object]) -> Network:
     return Network(program, folder, shape.rows, shape.events, fixed, None, shape.widths, shape.period)
 
 
-def measure_check(network, folder, shape):
+def measure_check(network: Network, folder: Path, shape: Shape) -> float:
     """Of a check whose times are those at which all is met: instructions for each activity."""
     path = folder / "times.period"
     path.write_text(text_of(enumerate(network.times)))
     return count([*network.words, "--check", "--times", path], network.profile) / shape.rows
 
 
-def measure_edits(network, shape):
+def measure_edits(network: Network, shape: Shape) -> Dict[str, float]:
     """What an opening and edits take, where but for each tenth event all have fixed times; all in one run."""
     spans = [f"span {name} {lower + shape.period} {upper + shape.period}" for name, _, _, lower, upper, _ in some_of(network.rows)]
     free = some_of([event for event in range(shape.events) if event % EVENTS_OF_A_FREE_ONE == 0])
@@ -69,7 +70,7 @@ def measure_edits(network, shape):
     }
 
 
-def measure_node(program, folder, shape):
+def measure_node(program: Path, folder: Path, shape: Shape) -> float:
     """A node of a search among the first ones, with its push and its pop, and with what comes before the first."""
     network = Network(program, folder, SEARCHED_ROWS, SEARCHED_EVENTS, lambda event: False, None, shape.widths, shape.period)
     lines = ["weight 0 0", f"try {NODES}"]
@@ -78,7 +79,7 @@ def measure_node(program, folder, shape):
     return network.takes_each(lines)[-1] / NODES
 
 
-def measure_shape(program, folder, shape):
+def measure_shape(program: Path, folder: Path, shape: Shape) -> Dict[str, float]:
     fixed = network_of(program, folder, shape, lambda event: event % EVENTS_OF_A_FREE_ONE)
     figures = {"a check, for each activity": measure_check(fixed, folder, shape), **measure_edits(fixed, shape)}
     figures["a node of a search"] = measure_node(program, folder, shape)
@@ -87,7 +88,7 @@ def measure_shape(program, folder, shape):
     return {**figures, "peak kB, no event fixed": peak(free.words, free.memory)}
 
 
-def most_ratios(times, first, last):
+def most_ratios(times: int, first: Mapping[str, float], last: Mapping[str, float]) -> Dict[str, float]:
     """By how much each figure may grow: by the period, by the width of spans for each pair that moves, or by neither."""
     moved = last["residues that it takes out"] / first["residues that it takes out"]
     return {
@@ -100,7 +101,7 @@ def most_ratios(times, first, last):
     }
 
 
-def print_beside(program, folder, shape, times):
+def print_beside(program: Path, folder: Path, shape: Shape, times: int) -> None:
     """The figures at both periods, the greater divided by the smaller, and by how much they may grow."""
     first, last = (measure_shape(program, folder, each) for each in (shape, shape.at_length(times)))
     most = most_ratios(times, first, last)
@@ -111,6 +112,6 @@ def print_beside(program, folder, shape, times):
         print(f"{name:>34} {first[name]:>13.1f} {last[name]:>13.1f} {last[name] / first[name]:>9.2f} {may}".rstrip())
 
 
-def print_periods(program, folder):
+def print_periods(program: Path, folder: Path) -> None:
     print_beside(program, folder, GREATEST, 1)
     print_beside(program, folder, SMALLER, TIMES)

@@ -6,10 +6,16 @@ import shutil
 import subprocess
 import sys
 import tempfile
+from pathlib import Path
+from typing import TYPE_CHECKING, Callable, Dict, Iterator, List, Mapping, Optional, Sequence, Tuple, Union
 
 from measuring.cycles import write_cycles
 from measuring.network import PERIOD, Numbers, text_of
 from tests.harness import TOP
+from tests.rules import Row
+
+if TYPE_CHECKING:
+    from pespbench.drawn import Region
 
 SECONDS = 60
 SEEDS = range(1, 9)
@@ -21,24 +27,24 @@ FIXED = 8
 PARTS = [14, 50, 100]
 WEIGHTS = 10
 # A limit of glpsol's own would be of a clock: it has that of run_limited alone.
-SOLVERS = {
+SOLVERS: Dict[str, Callable[[str], List[str]]] = {
     "cbc": lambda model: ["cbc", model, "sec", str(SECONDS), "solve", "quit"],
     "glpsol": lambda model: ["glpsol", "--lp", model],
 }
 
 
-def draw(seed, feasible, widths):
+def draw(seed: int, feasible: bool, widths: Tuple[int, int]) -> "Region":
     sys.path.insert(0, str(TOP / "python"))
     from pespbench.drawn import draw_region
 
     return draw_region(seed, feasible, widths)
 
 
-def piece_of(region, lines):
+def piece_of(region: "Region", lines: int) -> Tuple[List[Row], Dict[int, int]]:
     """The rows of the activities of a region's first lines, and the times of their events."""
     names = list(dict.fromkeys(event.line for event in region.events))[:lines]
     times = {event.number: event.time for event in region.events if event.line in names}
-    rows = [
+    rows: List[Row] = [
         (each.number, each.first, each.last, each.lower, each.upper, each.weight)
         for each in region.activities
         if each.first in times and each.last in times
@@ -46,13 +52,13 @@ def piece_of(region, lines):
     return rows, times
 
 
-def some_fixed(times):
+def some_fixed(times: Mapping[int, int]) -> List[Tuple[int, int]]:
     """Events from all over, with their times."""
     events = sorted(times)
     return [(event, times[event]) for event in events[:: max(1, len(events) // FIXED)][:FIXED]]
 
 
-def parts_of(count):
+def parts_of(count: int) -> Iterator[Row]:
     """Pairs of events that nothing joins to one another, each with an activity there and one back."""
     numbers = Numbers(count)
     for part in range(count):
@@ -63,13 +69,13 @@ def parts_of(count):
             yield 2 * part + name + 1, start, end, lower, lower + width, 1 + numbers.below(WEIGHTS)
 
 
-def run_limited(words, given, told, most=SECONDS):
+def run_limited(words: Sequence[object], given: Union[Path, str], told: Path, most: int = SECONDS) -> Tuple[str, Optional[float], int]:
     """What a run prints, its seconds of a processor, or None where these pass the most, and its memory in kB.
 
     Seconds of a processor, and not of a clock, so that a busy machine tells the same. The memory is told by /usr/bin/time,
     since a process that Python begins has at first that of Python.
     """
-    timed = ["/usr/bin/time", "-q", "-f", "%M", "-o", told, *words]
+    timed = ["/usr/bin/time", "-q", "-f", "%M", "-o", str(told), *map(str, words)]
     with open(given, "rb") as file, tempfile.TemporaryFile() as out:
         process = subprocess.Popen(timed, stdin=file, stdout=out, stderr=subprocess.DEVNULL, preexec_fn=lambda: resource.setrlimit(resource.RLIMIT_CPU, (most, most)))
         _, status, used = os.wait4(process.pid, 0)
@@ -81,11 +87,11 @@ def run_limited(words, given, told, most=SECONDS):
     return printed, used.ru_utime + used.ru_stime, int(told.read_text())
 
 
-def shown(seconds):
+def shown(seconds: Optional[float]) -> str:
     return f"> {SECONDS}" if seconds is None else f"{seconds:.2f}"
 
 
-def write_plain(rows, fixed, period, path):
+def write_plain(rows: Sequence[Row], fixed: Sequence[Tuple[int, int]], period: int, path: Path) -> None:
     """The network as a whole-number program: a residue for each event, periods and slack for each activity."""
     times, held = {event: f"t{event}" for row in rows for event in row[1:3]}, dict(fixed)
     lines = ["Minimize", " cost: " + " + ".join(f"{row[5]} y{row[0]}" for row in rows), "Subject To"]
@@ -104,7 +110,7 @@ def write_plain(rows, fixed, period, path):
 FORMULATIONS = {"cycles": write_cycles, "plain": write_plain}
 
 
-def measure_network(programs, folder, rows, fixed):
+def measure_network(programs: Sequence[Path], folder: Path, rows: Sequence[Row], fixed: Sequence[Tuple[int, int]]) -> Tuple[str, List[str], int]:
     """The answer, its seconds with each program, and its memory with the last one."""
     activities, times, lines, told = (folder / name for name in ["activities", "fixed", "lines", "memory"])
     activities.write_text(text_of(rows))
@@ -119,7 +125,7 @@ def measure_network(programs, folder, rows, fixed):
     return answer, figures, used
 
 
-def solver_figures(columns, folder, rows, fixed):
+def solver_figures(columns: Sequence[Tuple[str, str]], folder: Path, rows: Sequence[Row], fixed: Sequence[Tuple[int, int]]) -> List[str]:
     """The seconds of each solver for the same network as a whole-number program, in each formulation."""
     model, figures = folder / "model.lp", []
     for solver, formulation in columns:
@@ -129,7 +135,7 @@ def solver_figures(columns, folder, rows, fixed):
     return figures
 
 
-def networks():
+def networks() -> Iterator[Tuple[str, List[Row], List[Tuple[int, int]]]]:
     """Each network with its name: rows of activities, and fixed times."""
     for widths in WIDTHS:
         for feasible, seeds in [(True, SEEDS), (False, INFEASIBLE_SEEDS)]:
@@ -144,7 +150,7 @@ def networks():
         yield f"{count} parts of two events", list(parts_of(count)), []
 
 
-def print_regions(programs, folder, part="", with_solvers=False):
+def print_regions(programs: Sequence[Path], folder: Path, part: str = "", with_solvers: bool = False) -> None:
     """The figures of the networks whose names have the part, with those of the solvers that are here where they are asked for."""
     columns = [(solver, formulation) for formulation in FORMULATIONS for solver in SOLVERS if with_solvers and shutil.which(solver)]
     names = [*["before", "now"][-len(programs) :], *map(" ".join, columns)]

@@ -1,12 +1,14 @@
 """What a script takes as commands of the program."""
 
 import sys
+from pathlib import Path
+from typing import Dict, Iterable, Mapping, Tuple
 
 from measuring.counting import count, run
 from measuring.network import PERIOD, Numbers, activity_rows, events_of, fixed_rows
 
 
-def write_script(folder, rows):
+def write_script(folder: Path, rows: int) -> Tuple[Path, int]:
     """A script, and the number of its lines."""
     numbers = Numbers(rows)
     events = events_of(rows)
@@ -20,7 +22,7 @@ def write_script(folder, rows):
     return path, len(lines) + 1
 
 
-def measure_commands(program, folder, rows):
+def measure_commands(program: Path, folder: Path, rows: int) -> Dict[str, int]:
     """What a script takes as commands of the program, and the dump of what came of it."""
     path, lines = write_script(folder, rows)
     script = path.read_text()
@@ -34,12 +36,12 @@ def measure_commands(program, folder, rows):
     return {"rows": rows, "lines": lines, "replay": replay, "dump": both - replay}
 
 
-def print_scripts(start, table):
+def print_scripts(start: int, table: Iterable[Mapping[str, int]]) -> None:
     print(f"\nan empty script takes {start} instructions, which are not counted below")
     print(f"{'':>15} {'replay':>35}   {'dump':>35}")
     columns = f"{'instructions':>15} {'per line':>10} {'growth':>8}"
     print(f"{'rows':>7} {'lines':>7} {columns}   {columns}")
-    before = {}
+    before: Dict[str, float] = {}
     for row in table:
         cells = []
         for name, less in [("replay", start), ("dump", 0)]:

@@ -1,6 +1,8 @@
 """What a search for the optimum takes, on a set of small networks that is the same in each run."""
 
 import time
+from pathlib import Path
+from typing import List, Optional, Sequence, Tuple
 
 from measuring.keeper import Network
 from measuring.regions import run_limited, shown
@@ -15,12 +17,12 @@ MOST_NODES = 2**17
 COUNTED_NODES = 2_000
 
 
-def ends(network, limit):
+def ends(network: Network, limit: int) -> bool:
     """Whether a search that may visit so many nodes ends."""
     return not network.answers([f"try {limit}"]).startswith("stopped")
 
 
-def nodes_of(network):
+def nodes_of(network: Network) -> Optional[int]:
     """The least limit at which the search ends, or None where it is more than the most that are tried."""
     high = 1
     while not ends(network, high):
@@ -34,13 +36,13 @@ def nodes_of(network):
     return high
 
 
-def seconds_of(network, limit):
+def seconds_of(network: Network, limit: int) -> float:
     began = time.perf_counter()
     network.answers([f"try {limit}"])
     return time.perf_counter() - began
 
 
-def measure_search(program, folder, events, seed):
+def measure_search(program: Path, folder: Path, events: int, seed: int) -> Tuple[Optional[int], float, float]:
     """The least limit that ends the search, the instructions for each node of it and the seconds, on one network of the set.
 
     Where that is great, the instructions are those of a lesser limit. By cycles a limit bounds work, and no node need be visited.
@@ -53,7 +55,7 @@ def measure_search(program, folder, events, seed):
     return nodes, instructions / counted, seconds_of(network, nodes or MOST_NODES)
 
 
-def seconds_of_optimum(program, folder, events, seed):
+def seconds_of_optimum(program: Path, folder: Path, events: int, seed: int) -> str:
     rows = events * ACTIVITIES_OF_AN_EVENT
     network = Network(program, folder, rows, events, lambda event: False, seed, WIDE)
     network.lines.write_text("optimum\n")
@@ -61,7 +63,7 @@ def seconds_of_optimum(program, folder, events, seed):
     return shown(seconds)
 
 
-def print_wide(programs, folder):
+def print_wide(programs: Sequence[Path], folder: Path) -> None:
     """The seconds of each program for the optimum of the same networks with wide spans."""
     print("\nseconds of a processor for the optimum, with spans of 8 to 27" + (", before and now" if programs[1:] else ""))
     for events in EVENTS:
@@ -70,15 +72,15 @@ def print_wide(programs, folder):
             print(f"{events:>7} {seed:>5}" + "".join(f" {figure:>9}" for figure in figures), flush=True)
 
 
-def columns(nodes, figure, seconds):
+def columns(nodes: Optional[int], figure: float, seconds: float) -> str:
     return f"{nodes or f'> {MOST_NODES}':>9} {figure:>9.0f} {seconds:>9.3f}"
 
 
-def print_searches(programs, folder):
+def print_searches(programs: Sequence[Path], folder: Path) -> None:
     """The figures of each program beside each other."""
     print("\nthe least limit of `try` that ends the search, instructions for each node of it, and seconds" + (", before and now" if programs[1:] else ""))
     print(f"{'events':>7} {'seed':>5}" + f" {'limit':>9} {'a node':>9} {'seconds':>9}" * len(programs))
-    ended = [[] for _ in programs]
+    ended: List[List[Optional[int]]] = [[] for _ in programs]
     for events in EVENTS:
         for seed in SEEDS:
             figures = [measure_search(program, folder, events, seed) for program in programs]

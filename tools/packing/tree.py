@@ -6,6 +6,7 @@ import pathlib
 import re
 import subprocess
 import tarfile
+from typing import Dict, Tuple
 
 TOP = pathlib.Path(__file__).resolve().parents[2]
 PARTS = ["README.md", "CHANGELOG.md", "SECURITY.md", "man", "completions", "docs", "examples", "embedded", "tools/install"]
@@ -17,11 +18,11 @@ class NotMade(Exception):
     """No package is made, and why."""
 
 
-def git(*words):
+def git(*words: str) -> bytes:
     """What git tells of this tree, whatever tree the environment is about."""
     env = {name: value for name, value in os.environ.items() if not name.startswith("GIT_")}
     try:
-        done = subprocess.run(["git", "-C", TOP, *words], env=env, capture_output=True)
+        done = subprocess.run(["git", "-C", str(TOP), *words], env=env, capture_output=True)
     except OSError as fault:
         raise NotMade(f"git does not start: {fault}") from None
     if done.returncode:
@@ -29,26 +30,27 @@ def git(*words):
     return done.stdout
 
 
-def committed():
+def committed() -> Dict[str, Tuple[bytes, bool]]:
     """The files that are packed, each with its bytes and whether it is run, as HEAD has them. Raises NotMade."""
     if os.path.realpath(git("rev-parse", "--show-toplevel").decode().rstrip("\n")) != str(TOP):
         raise NotMade("this folder is no clone of git, which says what belongs to it")
-    found = {}
+    found: Dict[str, Tuple[bytes, bool]] = {}
     with tarfile.open(fileobj=io.BytesIO(git("archive", "--format=tar", "HEAD", "--", *PARTS))) as tar:
         for member in tar.getmembers():
-            if member.isfile():
-                found[member.name] = tar.extractfile(member).read(), bool(member.mode & 0o100)
+            file = tar.extractfile(member) if member.isfile() else None
+            if file is not None:
+                found[member.name] = file.read(), bool(member.mode & 0o100)
             elif not member.isdir():
                 raise NotMade(f"{member.name} is neither a file nor a folder")
     return found
 
 
-def has_changes():
+def has_changes() -> bool:
     """Whether a file that is packed is other than HEAD has it."""
     return bool(git("status", "--porcelain", "--untracked-files=no", "--", *PARTS))
 
 
-def version_of(changelog):
+def version_of(changelog: str) -> str:
     """The newest version that a changelog has, with `+unreleased` where more stands above it. Raises NotMade."""
     heading = re.search(r"^## \[?([0-9][0-9.]*)", changelog, re.M)
     if heading is None:

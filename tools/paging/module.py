@@ -18,7 +18,8 @@ from paging.tree import PAGE, NotMade, run, toolchain
 TARGET = "wasm64-unknown-unknown"
 LAYOUT = "e-m:e-p:64:64-p10:8:8-p20:8:8-i64:64-i128:128-n32:64-S128-ni:1:10:20"
 CPU = "lime1"
-EXPORTS = ["pesp_answer", "pesp_open", "pesp_ask", "pesp_cost", "pesp_close"]
+EXPORTS = ["pesp_answer", "pesp_open", "pesp_close", "pesp_ask", "pesp_cost"]
+EXPORTS += ["pesp_try_move", "pesp_events", "pesp_times", "pesp_domain", "pesp_search"]
 STACK = 1024 * 1024
 
 # As rattle calls clang, but for what is of x86 alone, and at -O2, which runs as fast here and makes the module a tenth smaller

@@ -1,12 +1,14 @@
 """Help, and the words of the command line."""
 
+from typing import Any, Dict
+
 from tests.file_cases import TWO, TWO_FIXED, TWO_TIMES
-from tests.harness import SOME, run, unreadable
+from tests.harness import SOME, Suite, Words, run, unreadable
 from tests.limits import GREATEST_PERIOD, LEAST_PERIOD
 from tests.replies import EMPTY_REPLIES, FIXED_REPLIES, TWO_REPLIES
 
 
-def help_text(suite):
+def help_text(suite: Suite) -> None:
     for word in ["--help", "-h"]:
         suite.case(f"help by {word}", [word], output=SOME)
     came = run([suite.program, "--help"])["standard output"].decode()
@@ -19,8 +21,8 @@ def help_text(suite):
     suite.case("help before a missing file", ["--help", "no such file"], output=SOME)
 
 
-def refused_arguments(suite):
-    table = {
+def refused_arguments(suite: Suite) -> None:
+    table: Dict[str, Words] = {
         "an unknown option": ["--wrong"],
         "no version flag": ["--version"],
         "no short version flag": ["-V"],
@@ -57,10 +59,10 @@ def refused_arguments(suite):
         suite.case("refused arguments, standard error full", ["--wrong"], status=2, stderr=full)
 
 
-def accepted_arguments(suite):
+def accepted_arguments(suite: Suite) -> None:
     activities = suite.file("activities", TWO)
     times = suite.file("times", TWO_TIMES)
-    table = {
+    table: Dict[str, Words] = {
         "in this order": ["--period", "10", "--times", times, "--check", activities],
         "in another order": [activities, "--check", "--times", times, "--period", "10"],
         "with equals signs": ["--check", "--period=10", f"--times={times}", activities],
@@ -68,7 +70,7 @@ def accepted_arguments(suite):
     }
     for name, words in table.items():
         suite.case(f"accepted arguments: {name}", words, output=TWO_REPLIES)
-    asked = {"given": b"tensions\nviolations\ncost\n", "output": TWO_REPLIES}
+    asked: Dict[str, Any] = {"given": b"tensions\nviolations\ncost\n", "output": TWO_REPLIES}
     suite.case("accepted arguments: no --check", ["--period", "10", "--times", times, activities], **asked)
     fixed = suite.file("fixed", TWO_FIXED)
     table = {

@@ -2,6 +2,8 @@
 
 import random
 import re
+from pathlib import Path
+from typing import Dict, List, Mapping, Sequence, Tuple
 
 from tests.command_cases import CASES
 from tests.commands import text_of
@@ -17,24 +19,26 @@ ENDED = re.compile(r"^(pespbench: .*\n)?case=(\S+) run=ended status=(\d+)(.*)$",
 # What it prints on standard output is that of such cases, each after its name.
 NAMED = re.compile(r"^== (\S+)\n", re.M)
 COMPARED = "output=expected"
+# An exit status, and what was printed, or COMPARED.
+Outcome = Tuple[int, str]
 
 
 class Folder:
     """The folder of the cases, files beside it that they name, and what each should give."""
 
-    def __init__(self, top):
+    def __init__(self, top: Path) -> None:
         self.top = top
-        self.wanted = {}
-        self.data = []
+        self.wanted: Dict[str, Outcome] = {}
+        self.data: List[str] = []
         (top / "cases").mkdir()
 
-    def beside(self, name, content):
+    def beside(self, name: str, content: bytes) -> str:
         path = self.top / name
         path.write_bytes(content)
         self.data += ["--data", f"{name}={path}"]
         return name
 
-    def case(self, name, words, given, output, status=0, error=b""):
+    def case(self, name: str, words: Sequence[str], given: bytes, output: bytes, status: int = 0, error: bytes = b"") -> None:
         cases = self.top / "cases"
         (cases / name).write_bytes(given)
         (cases / f"{name}.args").write_text("".join(f"{word}\n" for word in words))
@@ -44,7 +48,7 @@ class Folder:
         self.wanted[name] = (status, (output + error).decode() if error else COMPARED)
 
 
-def write_rows(folder):
+def write_rows(folder: Folder) -> None:
     times = folder.beside("times", TWO_TIMES)
     for number, text in enumerate(ACTIVITY_FORMS.values()):
         folder.case(f"form{number}", ["--check", "--period", "10", "--times", times, "{}"], text, TWO_REPLIES)
@@ -52,13 +56,13 @@ def write_rows(folder):
         folder.case(f"fault{number}", ["--check", "{}"], text, b"", 1, record("activities", place, kind))
 
 
-def write_commands(folder):
+def write_commands(folder: Folder) -> None:
     for number, (_, period, rows, lines, replies) in enumerate(CASES):
         activities = folder.beside(f"activities{number}", text_of(rows))
         folder.case(f"table{number}", ["--period", str(period), activities], text_of(lines), text_of(replies))
 
 
-def write_streams(folder):
+def write_streams(folder: Folder) -> None:
     """Drawn streams, whose replies are those of the module."""
     draw = random.Random(5_603)
     for number in range(STREAMS):
@@ -67,7 +71,7 @@ def write_streams(folder):
         folder.case(f"stream{number}", words, lines, run([MODULE, *words], given=lines)["standard output"])
 
 
-def write_cases(top):
+def write_cases(top: Path) -> Tuple[Dict[str, Outcome], List[str]]:
     """What each case should give, and the words that name the files beside the cases."""
     folder = Folder(top)
     write_rows(folder)
@@ -76,7 +80,7 @@ def write_cases(top):
     return folder.wanted, folder.data
 
 
-def outcomes(output, errors):
+def outcomes(output: str, errors: str) -> Dict[str, Outcome]:
     """The status of each case that ended, with what it printed, or with COMPARED."""
     parts, came = NAMED.split(output), {}
     printed = dict(zip(parts[1::2], parts[2::2]))
@@ -85,7 +89,7 @@ def outcomes(output, errors):
     return came
 
 
-def told(output, errors, wanted):
+def told(output: str, errors: str, wanted: Mapping[str, Outcome]) -> List[str]:
     """What is wrong in what the toolchain said of the cases: a line for each that gave something else, or did not run."""
     came, wrong = outcomes(output, errors), []
     for name, what in wanted.items():

@@ -4,22 +4,26 @@ Each function is given the models before and after the edit, the edit's name and
 reads them. A pair is an event and a residue of the period.
 """
 
+from typing import Sequence, Set, Tuple
+
+from tests.network import Network
+
 OF_WINDOWS = ["fix", "window", "unfix"]
 
 
-def admits_anew(before, after, event):
+def admits_anew(before: Network, after: Network, event: int) -> bool:
     """Whether the event may stand at a residue at which it might not before."""
     residues = range(before.period)
     return any(after.admits(event, residue) and not before.admits(event, residue) for residue in residues)
 
 
-def is_looser(before, after, activity):
+def is_looser(before: Network, after: Network, activity: int) -> bool:
     """Whether the activity's span admits two residues that it did not admit before."""
     old, new = before.activities[activity], after.activities[activity]
     return any(after.allows(new, 0, residue) and not before.allows(old, 0, residue) for residue in range(before.period))
 
 
-def opens(before, after, name, numbers):
+def opens(before: Network, after: Network, name: str, numbers: Sequence[int]) -> bool:
     """Whether there may be a timetable that meets everything where there was none."""
     if name in OF_WINDOWS:
         return admits_anew(before, after, numbers[0])
@@ -28,7 +32,7 @@ def opens(before, after, name, numbers):
     return name not in ("add event", "add activity", "weight")
 
 
-def cheapens(before, after, name, numbers):
+def cheapens(before: Network, after: Network, name: str, numbers: Sequence[int]) -> bool:
     """Whether a timetable may meet everything that did not, or cost less, or have other events."""
     if name in OF_WINDOWS:
         return admits_anew(before, after, numbers[0])
@@ -38,7 +42,7 @@ def cheapens(before, after, name, numbers):
     return name != "add activity"
 
 
-def keeps(before, after, name, numbers):
+def keeps(before: Network, after: Network, name: str, numbers: Sequence[int]) -> bool:
     """Whether the optimum, or that there is none, stays known where it was."""
     best = before.best()
     if best is None:
@@ -47,7 +51,7 @@ def keeps(before, after, name, numbers):
     return not cheapens(before, after, name, numbers) and after.is_member(times) and after.cost_of(times) == cost
 
 
-def starts(before, after, name, numbers):
+def starts(before: Network, after: Network, name: str, numbers: Sequence[int]) -> Sequence[int]:
     """The events at which chains of restored pairs begin; an edit that has none restores nothing."""
     if name in OF_WINDOWS:
         return [numbers[0]] if admits_anew(before, after, numbers[0]) else []
@@ -55,7 +59,7 @@ def starts(before, after, name, numbers):
     return ends if name != "span" or is_looser(before, after, numbers[0]) else []
 
 
-def restored(before, after, name, numbers):
+def restored(before: Network, after: Network, name: str, numbers: Sequence[int]) -> Set[Tuple[int, int]]:
     """The pairs that an edit puts back before others are taken out again.
 
     They are reached from the starts, over activities other than the edited one, and all are outside the domains before

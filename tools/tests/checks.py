@@ -1,15 +1,17 @@
 """Replies to checks, which the rules compute too."""
 
 import random
+from typing import Dict, Optional, Sequence
 
 from tests import rules
 from tests.drawn_files import Form, damaged, drawn
 from tests.file_cases import TWO, TWO_TIMES
-from tests.harness import NAMES, missing, rows_of, words_for
+from tests.harness import NAMES, Suite, missing, rows_of, words_for
 from tests.limits import GREATEST_PERIOD, LEAST_PERIOD, MOST_ACTIVITIES, MOST_EVENTS, most_activities
+from tests.rules import Row, Times
 
 
-def check_case(suite, name, period, activities, fixed, times, form=None):
+def check_case(suite: Suite, name: str, period: int, activities: Sequence[Row], fixed: Optional[Times], times: Times, form: Optional[Form] = None) -> None:
     write = rows_of if form is None else form.write
     words = ["--period", str(period), "--times", suite.file("times", write(list(times.items())))]
     if fixed is not None:
@@ -18,7 +20,7 @@ def check_case(suite, name, period, activities, fixed, times, form=None):
     suite.check(name, words, output=rules.replies(period, activities, fixed or {}, times))
 
 
-def drawn_checks(suite):
+def drawn_checks(suite: Suite) -> None:
     draw = random.Random(1989)
     for period in [LEAST_PERIOD, 3, 10, 59, 60, GREATEST_PERIOD]:
         activities, fixed, times = drawn(draw, 400, 60)
@@ -35,12 +37,12 @@ def drawn_checks(suite):
         check_case(suite, f"drawn forms, number {number}", period, activities, fixed, times, Form(draw))
 
 
-def damaged_files(suite):
+def damaged_files(suite: Suite) -> None:
     draw = random.Random(1876)
     for number in range(400):
         activities, fixed, times = drawn(draw, draw.randint(1, 4), draw.randint(1, 3))
         form = Form(draw)
-        rows = {"activities": activities, "fixed": list(fixed.items()), "times": list(times.items())}
+        rows: Dict[str, Sequence[Sequence[int]]] = {"activities": activities, "fixed": list(fixed.items()), "times": list(times.items())}
         texts = {name: form.write(rows[name]) for name in NAMES}
         for name in draw.choice([["activities"], ["fixed"], ["times"], NAMES]):
             texts[name] = damaged(draw, texts[name])
@@ -48,7 +50,7 @@ def damaged_files(suite):
         suite.check(f"damaged files, number {number}, {texts}", words, **rules.check(10, **texts))
 
 
-def limit_checks(suite):
+def limit_checks(suite: Suite) -> None:
     greatest = 999_999_999
     corner = [
         (greatest, greatest, 0, -1_000_000, 1_000_000, 1_000_000_000),
@@ -70,7 +72,7 @@ def limit_checks(suite):
     check_case(suite, "20,000 events, each with a fixed time", 60, full, fixed, times)
 
 
-def fixed_times(suite):
+def fixed_times(suite: Suite) -> None:
     one = [(1, 1, 2, 3, 5, 2)]
     check_case(suite, "no fixed time in the file", 10, one, {}, {1: 0, 2: 3})
     check_case(suite, "no file of fixed times", 10, one, None, {1: 0, 2: 3})
@@ -90,7 +92,7 @@ def fixed_times(suite):
     suite.check("a fixed event without a time", words, output=missing(2))
 
 
-def times_of_events(suite):
+def times_of_events(suite: Suite) -> None:
     one = [(1, 1, 2, 3, 5, 2)]
     check_case(suite, "times of other events", 10, one, {}, {7: 5, 2: 3, 1: 0, 0: 1})
     check_case(suite, "times of other events between", 10, [(1, 1, 9, 3, 5, 2)], {9: 4}, {5: 5, 9: 3, 1: 0})

@@ -1,39 +1,41 @@
 """Commands by the table, and the model beside them."""
 
 import copy
+from typing import Any, Set, Tuple
 
 from tests import model
 from tests.change_cases import RESTORED
 from tests.changes import restored
 from tests.command_cases import CASES, FAULTS, REFUSALS, SILENT, SPELLINGS, TWO
 from tests.file_cases import TWO as TWO_FILE
-from tests.parsing import parse
+from tests.harness import Suite
+from tests.parsing import command_of
 from tests.rules import read_activities
 
 
-def text_of(lines):
+def text_of(lines: str) -> bytes:
     """The bytes of lines that stand with ` / ` between them; a letter stands for the byte of its number."""
     joined = "".join(f"{line}\n" for line in lines.split(" / ")) if lines else ""
     return joined.encode("latin-1" if joined.isprintable() or "\xff" in joined else "utf-8")
 
 
-def model_of(period, activities):
+def model_of(period: int, activities: bytes) -> model.Model:
     rows, _ = read_activities(period, activities)
     return model.Model(period, rows)
 
 
-def both(suite, name, period, activities, given, output, **wanted):
+def both(suite: Suite, name: str, period: int, activities: bytes, given: bytes, output: bytes, **wanted: Any) -> None:
     """One case of the program, and the same of the model, so that the model is known to be right there."""
     words = ["--period", str(period), suite.file("activities", activities)]
     suite.case(name, words, given=given, output=output, **wanted)
 
 
-def command_cases(suite):
+def command_cases(suite: Suite) -> None:
     for name, period, activities, lines, replies in CASES:
         both(suite, name, period, text_of(activities), text_of(lines), text_of(replies))
 
 
-def model_cases(suite):
+def model_cases(suite: Suite) -> None:
     """The model by the same table; a `try` is asked whether it may be answered so."""
     for name, period, activities, lines, replies in CASES:
         bench, rest, wrong = model_of(period, text_of(activities)), replies.split(" / "), []
@@ -47,24 +49,24 @@ def model_cases(suite):
         suite.note(f"the model: {name}", {"wrong": [], "left": []}, {"wrong": wrong, "left": rest})
 
 
-def pairs_of(rows):
+def pairs_of(rows: str) -> Set[Tuple[int, int]]:
     """The pairs of rows as the tables write them: ` / ` stands between events."""
     events = [row.split(": ") for row in rows.split(" / ") if row]
     return {(int(event), int(residue)) for event, residues in events for residue in residues.split()}
 
 
-def model_restores(suite):
+def model_restores(suite: Suite) -> None:
     """The model by a table of edits with what each restores."""
     for edits in RESTORED:
         bench = model_of(10, TWO_FILE)
         for line, rows in edits:
             before = copy.deepcopy(bench)
             bench.reply(line.encode())
-            came = restored(before, bench, *parse(line.encode()))
+            came = restored(before, bench, *command_of(line.encode()))
             suite.note(f"the model restores: {line}", {"pairs": pairs_of(rows)}, {"pairs": came})
 
 
-def refused_lines(suite):
+def refused_lines(suite: Suite) -> None:
     before = ["add event 3", "fix 1 0"]
     script = f"# period 10 lines 6 / add event 1 / add event 2 / add event 3 / fix 1 0 / {script_of_two()}"
     for line, reply in REFUSALS.items():
@@ -75,16 +77,16 @@ def refused_lines(suite):
         suite.note(f"the model: refused: {line}", {"reply": [reply]}, {"reply": came})
 
 
-def script_of_two():
+def script_of_two() -> str:
     return " / ".join("add activity " + row.replace("; ", " ") for row in TWO.split(" / "))
 
 
-def bytes_of(line):
+def bytes_of(line: str) -> bytes:
     """The bytes of a line of the tables: one byte for each letter, but for the byte order mark."""
     return line.encode("utf-8" if "\ufeff" in line else "latin-1")
 
 
-def faulty_lines(suite):
+def faulty_lines(suite: Suite) -> None:
     for line, reply in FAULTS.items():
         given = b"cost\n" + bytes_of(line) + b"\ndump"
         output = text_of(f"cost 0 / {reply} / # period 60 lines 0")
@@ -97,7 +99,7 @@ def faulty_lines(suite):
         both(suite, f"spelling: {line[:40]!r}", 10, TWO_FILE, bytes_of(line), text_of(reply))
 
 
-def files_and_commands(suite):
+def files_and_commands(suite: Suite) -> None:
     """What the files open: fixed times, times modulo the period, and times of other events, which are ignored."""
     activities = suite.file("two", TWO_FILE)
     times = suite.file("times", b"1; -1\n7; 23\n")

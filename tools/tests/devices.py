@@ -5,6 +5,7 @@ import resource
 import subprocess
 import threading
 import time
+from typing import IO, Any, Callable, Dict, Optional, Tuple
 
 from tests import rules
 from tests.file_cases import FIELDS, TWO, TWO_TIMES
@@ -14,6 +15,9 @@ from tests.harness import (
     NOT_WRITTEN,
     SECONDS,
     SOME,
+    Came,
+    Suite,
+    Words,
     closed_pipe,
     record,
     rows_of,
@@ -24,10 +28,10 @@ from tests.limits import FULL_PERIOD, MOST_EVENTS
 from tests.replies import EMPTY_REPLIES
 
 
-def failing_output(suite):
+def failing_output(suite: Suite) -> None:
     activities, times = suite.file("activities", TWO), suite.file("times", TWO_TIMES)
     checked = ["--check", "--period", "10", "--times", times, activities]
-    table = {
+    table: Dict[str, Tuple[Words, Optional[bytes]]] = {
         "a check": (checked, None),
         "help": (["--help"], None),
         "a check of nothing": (["--check"], None),
@@ -37,26 +41,27 @@ def failing_output(suite):
         "a reply before a faulty line": ([], b"dump\n" + b"x" * 5_000),
     }
     for name, (words, given) in table.items():
-        wanted = {"status": 1, "error": NOT_WRITTEN, "given": given}
+        wanted: Dict[str, Any] = {"status": 1, "error": NOT_WRITTEN, "given": given}
         with open("/dev/full", "wb") as full:
             suite.case(f"{name}: a full device", words, stdout=full, **wanted)
         writer = closed_pipe()
         suite.case(f"{name}: a pipe that nobody reads", words, stdout=writer, **wanted)
         os.close(writer)
-        closed = {"stdout": None, "preexec_fn": lambda: os.close(1)}
+        closed: Dict[str, Any] = {"stdout": None, "preexec_fn": lambda: os.close(1)}
         suite.case(f"{name}: standard output closed", words, **closed, **wanted)
     with open("/dev/full", "wb") as full:
         suite.case("a fault, standard error full", ["no such file"], status=1, cwd=suite.folder, stderr=full)
-        how = {"cwd": suite.folder, "stdout": full}
+        how: Dict[str, Any] = {"cwd": suite.folder, "stdout": full}
         suite.case("nothing written after a fault", ["no such file"], status=1, error=SOME, **how)
         # Nothing is written where no line has a reply, so nothing fails.
         suite.case("lines without a reply: a full device", [], stdout=full, given=b"\n# a comment\n \t\r\n")
 
 
-def closing_reader(suite):
+def closing_reader(suite: Suite) -> None:
     """A reader that takes the first replies and goes."""
     for number in range(20):
         began = subprocess.Popen([suite.program], stdin=subprocess.PIPE, stdout=subprocess.PIPE, stderr=subprocess.PIPE)
+        assert began.stdin is not None and began.stdout is not None and began.stderr is not None
         began.stdin.write(b"add event 1\n")
         began.stdin.flush()
         first = began.stdout.readline()
@@ -72,13 +77,14 @@ def closing_reader(suite):
         suite.note(f"a reader that goes after the first reply, number {number}", wanted, came)
 
 
-def failing_input(suite):
+def failing_input(suite: Suite) -> None:
     folder = os.open(suite.folder, os.O_RDONLY)
     activities = suite.file("activities", TWO)
-    for name, words in {"no files": [], "activities": ["--period", "10", activities]}.items():
-        wanted = {"status": 1, "error": NOT_READ}
+    asked: Dict[str, Words] = {"no files": [], "activities": ["--period", "10", activities]}
+    for name, words in asked.items():
+        wanted: Dict[str, Any] = {"status": 1, "error": NOT_READ}
         suite.case(f"{name}: standard input is a folder", words, stdin=folder, **wanted)
-        closed = {"stdin": None, "preexec_fn": lambda: os.close(0)}
+        closed: Dict[str, Any] = {"stdin": None, "preexec_fn": lambda: os.close(0)}
         suite.case(f"{name}: standard input closed", words, **closed, **wanted)
         with open("/dev/null", "wb") as only_written:
             suite.case(f"{name}: standard input is open to write alone", words, stdin=only_written, **wanted)
@@ -90,11 +96,12 @@ def failing_input(suite):
     os.close(folder)
 
 
-def slow_reader(suite):
+def slow_reader(suite: Suite) -> None:
     rows = [(number, 1, 2, 0, 9, 1) for number in range(50_000)]
     times, activities = suite.file("times", TWO_TIMES), suite.file("activities", rows_of(rows))
-    words = ["--check", "--period", "10", "--times", times, activities]
-    begun = subprocess.Popen([suite.program, *words], stdin=subprocess.DEVNULL, stdout=subprocess.PIPE)
+    words = ["--check", "--period", "10", "--times", str(times), str(activities)]
+    begun = subprocess.Popen([str(suite.program), *words], stdin=subprocess.DEVNULL, stdout=subprocess.PIPE)
+    assert begun.stdout is not None
     time.sleep(0.5)
     output = begun.stdout.read()
     status = begun.wait(SECONDS)
@@ -103,12 +110,12 @@ def slow_reader(suite):
     suite.note("a reader that comes late", wanted, {"status": status, "standard output": output})
 
 
-def late_reader(suite):
+def late_reader(suite: Suite) -> None:
     """Replies of many megabytes that wait for their reader, while commands wait to be read."""
-    words = [suite.program, "--period", "10", suite.file("activities", TWO)]
+    words = [str(suite.program), "--period", "10", str(suite.file("activities", TWO))]
     began = subprocess.Popen(words, stdin=subprocess.PIPE, stdout=subprocess.PIPE)
-    commands = b"dump\n" * 50_000
-    writer = threading.Thread(target=lambda: (began.stdin.write(commands), began.stdin.close()), daemon=True)
+    assert began.stdin is not None and began.stdout is not None
+    writer = threading.Thread(target=write_whole, args=(began.stdin, b"dump\n" * 50_000), daemon=True)
     writer.start()
     time.sleep(0.5)
     output = began.stdout.read()
@@ -118,16 +125,22 @@ def late_reader(suite):
     suite.note("replies wait for their reader", {"status": 0, "standard output": script * 50_000}, came)
 
 
-def narrow(megabytes):
+def write_whole(stream: IO[bytes], data: bytes) -> None:
+    """Writes all, and closes what it is written to."""
+    stream.write(data)
+    stream.close()
+
+
+def narrow(megabytes: int) -> Callable[[], None]:
     """What leaves a program so much memory, its own code among it."""
     return lambda: resource.setrlimit(resource.RLIMIT_AS, (megabytes << 20, megabytes << 20))
 
 
-def want_of_memory(suite):
+def want_of_memory(suite: Suite) -> None:
     size = 48 << 20
     spaces = b" " * size
     path = suite.file("large", spaces)
-    wanted = {"status": 1, "error": b"pespbench: out of memory at line 0\n", "preexec_fn": narrow(32)}
+    wanted: Dict[str, Any] = {"status": 1, "error": b"pespbench: out of memory at line 0\n", "preexec_fn": narrow(32)}
     for name in NAMES:
         suite.check(f"{name}: no memory for the file", words_for(name, path), **wanted)
     suite.check("activities: no memory for a pipe", ["/dev/stdin"], given=spaces, **wanted)
@@ -141,14 +154,14 @@ def want_of_memory(suite):
     path.unlink()
 
 
-def memory_of_commands(suite):
+def memory_of_commands(suite: Suite) -> None:
     """The least memory that serves three commands is looked for; with a little less, the greatest reply is refused."""
     loops = rows_of((event, event, event, 0, FULL_PERIOD - 1, 0) for event in range(MOST_EVENTS))
     words = [suite.program, "--period", str(FULL_PERIOD), suite.file("loops", loops)]
     given = b"cost\n# a comment\ndomains\ncost\n"
     enough, least = 2_048, 32
 
-    def come(quarters):
+    def come(quarters: int) -> Came:
         return run(words, given=given, preexec_fn=lambda: resource.setrlimit(resource.RLIMIT_AS, (quarters << 18,) * 2))
 
     while enough - least > 1:

@@ -6,11 +6,12 @@ import random
 import select
 import subprocess
 import time
+from typing import Callable, Dict, List, Sequence
 
 from tests import model
 from tests.commands import model_of
 from tests.file_cases import TWO
-from tests.harness import SECONDS, within
+from tests.harness import SECONDS, Suite, within
 from tests.streams import drawn_lines, followed
 
 PATIENCE = 10
@@ -20,22 +21,24 @@ NOTHING = "nothing in time"
 class Dialogue:
     """A running program, which is sent bytes and of which whole lines are read, each within a time."""
 
-    def __init__(self, words):
-        self.process = subprocess.Popen(words, stdin=subprocess.PIPE, stdout=subprocess.PIPE, bufsize=0)
+    def __init__(self, words: Sequence[object]) -> None:
+        self.process = subprocess.Popen(list(map(str, words)), stdin=subprocess.PIPE, stdout=subprocess.PIPE, bufsize=0)
+        assert self.process.stdin is not None and self.process.stdout is not None
+        self.given, self.told = self.process.stdin, self.process.stdout
         self.held = b""
         self.patience = PATIENCE
 
-    def send(self, data):
+    def send(self, data: bytes) -> None:
         try:
-            self.process.stdin.write(data)
+            self.given.write(data)
         except BrokenPipeError:
             self.patience = 0
 
-    def line(self):
+    def line(self) -> str:
         until = time.monotonic() + self.patience
         while b"\n" not in self.held:
-            ready, _, _ = select.select([self.process.stdout], [], [], max(0, until - time.monotonic()))
-            more = os.read(self.process.stdout.fileno(), 65_536) if ready else b""
+            ready, _, _ = select.select([self.told], [], [], max(0, until - time.monotonic()))
+            more = os.read(self.told.fileno(), 65_536) if ready else b""
             if not more:
                 # One silence is waited for, and no other.
                 self.patience = 0
@@ -44,25 +47,25 @@ class Dialogue:
         line, _, self.held = self.held.partition(b"\n")
         return line.decode()
 
-    def reply(self):
+    def reply(self) -> List[str]:
         """The lines of one reply."""
         first = self.line()
         return [first, *(self.line() for _ in range(followed(first)))]
 
-    def is_quiet(self):
+    def is_quiet(self) -> bool:
         """Whether nothing more comes for a moment."""
-        return not self.held and not select.select([self.process.stdout], [], [], 0.05)[0]
+        return not self.held and not select.select([self.told], [], [], 0.05)[0]
 
-    def end(self):
-        self.process.stdin.close()
-        rest = self.process.stdout.read()
-        self.process.stdout.close()
+    def end(self) -> Dict[str, object]:
+        self.given.close()
+        rest = self.told.read()
+        self.told.close()
         return {"status": self.process.wait(SECONDS), "rest": self.held + rest}
 
-    def __enter__(self):
+    def __enter__(self) -> "Dialogue":
         return self
 
-    def __exit__(self, *_):
+    def __exit__(self, *_: object) -> None:
         self.process.kill()
         self.process.wait()
 
@@ -70,10 +73,11 @@ class Dialogue:
 ENDED = {"status": 0, "rest": b""}
 
 
-def one_by_one(suite):
+def one_by_one(suite: Suite) -> None:
     text = b"domains/fix 1 0/domains/span 1 5 3//# a comment/drop event 1/optimum/adopt/cost/dump/x"
     lines = text.split(b"/")
-    for name, cut in {"in one piece": lambda _: 0, "in two pieces": lambda line: (len(line) + 1) // 2}.items():
+    cuts: Dict[str, Callable[[bytes], int]] = {"in one piece": lambda _: 0, "in two pieces": lambda line: (len(line) + 1) // 2}
+    for name, cut in cuts.items():
         bench = model_of(10, TWO)
         with Dialogue([suite.program, "--period", "10", suite.file("activities", TWO)]) as talk:
             for line in lines:
@@ -83,13 +87,13 @@ def one_by_one(suite):
                 talk.send(line[place:] + b"\n")
                 wanted = bench.reply(line)
                 came = talk.reply() if wanted else []
-                suite.note(f"{name}: {line}", {"reply": wanted, "quiet": True}, {"reply": came, **quiet})
+                suite.note(f"{name}: {line!r}", {"reply": wanted, "quiet": True}, {"reply": came, **quiet})
                 if NOTHING in came:
                     return
             suite.note(f"{name}: the end", ENDED, talk.end())
 
 
-def two_lines_in_one_piece(suite):
+def two_lines_in_one_piece(suite: Suite) -> None:
     with Dialogue([suite.program]) as talk:
         talk.send(b"cost\nadd event 1\nco")
         came = [talk.line(), talk.line()]
@@ -101,11 +105,11 @@ def two_lines_in_one_piece(suite):
         suite.holds("half a line has no reply", quiet)
         talk.send(b"dump")
         suite.holds("a line without its line feed has no reply yet", talk.is_quiet())
-        wanted = {"status": 0, "rest": b"# period 60 lines 1\nadd event 1\n"}
-        suite.note("the end of the stream ends the last line", wanted, talk.end())
+        script = b"# period 60 lines 1\nadd event 1\n"
+        suite.note("the end of the stream ends the last line", {"status": 0, "rest": script}, talk.end())
 
 
-def drawn_dialogue(suite):
+def drawn_dialogue(suite: Suite) -> None:
     """A few hundred drawn lines, each with its whole reply before the next is sent."""
     draw = random.Random(1830)
     bench = model.Model(7)
@@ -117,14 +121,14 @@ def drawn_dialogue(suite):
             came = talk.reply() if wanted else []
             if is_try and came != wanted:
                 wanted = came if bench.may_try(int(line.split()[1]), came) else wanted
-            suite.note(f"drawn dialogue: {line}", {"reply": wanted}, {"reply": came})
+            suite.note(f"drawn dialogue: {line!r}", {"reply": wanted}, {"reply": came})
             if NOTHING in came:
                 return
         suite.note("drawn dialogue: the end", ENDED, talk.end())
 
 
 @within(90)
-def long_dialogue(suite):
+def long_dialogue(suite: Suite) -> None:
     """Thousands of replies one by one, as an optimiser asks for them."""
     with Dialogue([suite.program]) as talk:
         talk.send(b"add event 1\n")
@@ -139,10 +143,11 @@ def long_dialogue(suite):
         suite.note("the end of them", ENDED, talk.end())
 
 
-def terminal(suite):
+def terminal(suite: Suite) -> None:
     """A person types: the end of input at the start of a line ends the program at once."""
     master, slave = pty.openpty()
     process = subprocess.Popen([suite.program], stdin=slave, stdout=subprocess.PIPE, bufsize=0)
+    assert process.stdout is not None
     os.close(slave)
     os.write(master, b"cost\n")
     ready = select.select([process.stdout], [], [], PATIENCE)[0]
@@ -150,7 +155,7 @@ def terminal(suite):
     suite.note("a typed line", {"reply": b"cost 0\n"}, {"reply": came})
     os.write(master, b"\x04")
     try:
-        status = process.wait(PATIENCE)
+        status: object = process.wait(PATIENCE)
     except subprocess.TimeoutExpired:
         process.kill()
         status = process.wait() and "still running"

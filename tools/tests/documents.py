@@ -2,43 +2,45 @@
 
 import os
 import re
+from pathlib import Path
+from typing import Iterator, List, Sequence, Tuple
 
 from tests.file_cases import ABSENT, ACTIVITIES, CROSSED, EVENT_TWICE, EVENTS, FIELDS, FRACTION, TWICE, bad, out
-from tests.harness import TOP, run, within
+from tests.harness import TOP, Suite, run, within
 from tests.parsing import COMMANDS
 
 
 class Shown:
     """A command of a document, the lines that are typed into it, and those that it prints."""
 
-    def __init__(self, command):
+    def __init__(self, command: str) -> None:
         self.command = command
-        self.typed = []
-        self.printed = []
+        self.typed: List[Tuple[int, str]] = []
+        self.printed: List[str] = []
 
-    def add(self, line):
+    def add(self, line: str) -> None:
         """Takes the next line of the document; one that begins with `> ` is typed."""
         if line.startswith("> "):
             self.typed.append((len(self.printed), line[2:]))
         else:
             self.printed.append(line)
 
-    def script(self):
+    def script(self) -> str:
         """The command as a shell is given it."""
         command = self.command.replace("tools/pespbench", "pespbench")
         typed = "".join(f"{line}\n" for _, line in self.typed)
         return f"{command} <<'END'\n{typed}END" if typed else command
 
-    def wanted(self):
+    def wanted(self) -> str:
         return "".join(f"{line}\n" for line in self.printed)
 
-    def shows_whole_replies(self):
+    def shows_whole_replies(self) -> bool:
         """Whether below each typed line stands its own reply: those of the lines before are whole."""
         places = [place for place, _ in self.typed]
         return set(places) <= set(ends_of_replies(self.printed))
 
 
-def ends_of_replies(lines):
+def ends_of_replies(lines: Sequence[str]) -> List[int]:
     """The places between replies: a header tells how many lines follow it."""
     place, ends = 0, [0]
     while place < len(lines):
@@ -50,7 +52,7 @@ def ends_of_replies(lines):
     return ends
 
 
-def sessions(path):
+def sessions(path: Path) -> Iterator[List[Shown]]:
     """The blocks of a document that show a session: lists of a command and the lines that it prints."""
     text = path.read_text()
     if path.suffix == ".md":
@@ -69,7 +71,7 @@ def sessions(path):
             yield session
 
 
-def play(suite, session):
+def play(suite: Suite, session: Sequence[Shown]) -> List[str]:
     """What a shell at the top of the repository prints for each command of a session."""
     mark = "-- next command --"
     script = ["exec 2>&1", "last=0"]
@@ -80,27 +82,27 @@ def play(suite, session):
     return came["standard output"].decode().split(f"{mark}\n")[1:]
 
 
-def shown_in():
+def shown_in() -> List[Path]:
     """The documents that show sessions."""
     folders = ["", "docs/", "embedded/", "python/", "examples/**/"]
     return sorted(path for pattern in [*(f"{folder}*.md" for folder in folders), "man/*.1"] for path in TOP.glob(pattern))
 
 
-def of_what_is_built(path):
+def of_what_is_built(path: Path) -> bool:
     """Whether a document's sessions want the built program's own memory, or the library in process."""
     return path.name == "SECURITY.md" or path.parent.name == "embedded"
 
 
 @within(240)
-def documents(suite):
+def documents(suite: Suite) -> None:
     play_all(suite, [path for path in shown_in() if not of_what_is_built(path)])
 
 
-def documents_of_what_is_built(suite):
+def documents_of_what_is_built(suite: Suite) -> None:
     play_all(suite, [path for path in shown_in() if of_what_is_built(path)])
 
 
-def play_all(suite, paths):
+def play_all(suite: Suite, paths: Sequence[Path]) -> None:
     commands = suite.folder / "bin"
     commands.mkdir()
     (commands / "pespbench").symlink_to(suite.program)
@@ -123,14 +125,14 @@ TEXTS += ["unknown command", "wrong number of words", "fault lower bound above u
 TEXTS += ["replies cannot be written", "is longer than 4096 bytes", "more than 1000000 lines", "out of memory at line"]
 
 
-def named_texts(suite):
+def named_texts(suite: Suite) -> None:
     for path in [TOP / "docs/FORMATS.md", TOP / "man/pespbench.1"]:
         for text in [*TEXTS, *COMMANDS]:
             found = {"found": text in path.read_text()}
             suite.note(f"{path.relative_to(TOP)} has '{text}'", {"found": True}, found)
 
 
-def shown_scripts(suite):
+def shown_scripts(suite: Suite) -> None:
     """A block of Python in a document is a part of a script of examples/."""
     scripts = [path.read_text() for path in (TOP / "examples").glob("*.py")]
     for name, wanted in {"python/README.md": "Bench.open(", "docs/FORMATS.md": "replies_of("}.items():
@@ -140,7 +142,7 @@ def shown_scripts(suite):
             suite.holds(f"{name}: {block[:40]!r} stands in examples/", any(block in script for script in scripts))
 
 
-def checks_say_so(suite):
+def checks_say_so(suite: Suite) -> None:
     """A command line that is shown without commands means a check, and says `--check`."""
     for path in shown_in():
         # The callers of the library in process are programs of their own, and have no such word.

@@ -1,12 +1,13 @@
-"""The scripts of examples/ that read replies: session.py, draw.py and read_replies.py."""
+"""The scripts of examples/ that read replies: session.py, search.py, draw.py and read_replies.py."""
 
 import os
 import random
 import sys
+from typing import List
 from xml.etree import ElementTree
 
 from tests.examples import folders, words_of
-from tests.harness import SOME, TOP, run
+from tests.harness import SOME, TOP, Suite, run
 
 PYTHON = [sys.executable, "-B"]
 DRAW = [*PYTHON, TOP / "examples/draw.py"]
@@ -14,6 +15,7 @@ PACKAGE = {**os.environ, "PYTHONPATH": str(TOP / "python")}
 SHORTEST = """changes of 4 to 8 minutes: infeasible
 changes of 4 to 9 minutes: cost 349, times {1: 3, 2: 27, 3: 29, 4: 0, 5: 36, 6: 54, 7: 2, 8: 20}
 """
+BEST = b"180 180 0.0\n{1: 0, 2: 24, 3: 26, 4: 57, 5: 30, 6: 47, 7: 5, 8: 22}\n"
 QUESTIONS = """
 import sys
 from pespbench import Bench, PespbenchError
@@ -47,7 +49,7 @@ Optimum(cost=0, times={1: 0, 2: 0})
 """
 
 
-def session_script(suite):
+def session_script(suite: Suite) -> None:
     script = TOP / "examples/session.py"
     came = run([*PYTHON, script, suite.program], cwd=TOP, env=PACKAGE)
     lines = came["standard output"].decode().splitlines()
@@ -60,7 +62,14 @@ def session_script(suite):
     suite.note("replies as the package gives them", {"status": 0, "text": ANSWERS}, {**came, "text": text})
 
 
-def pictures(suite):
+def search_script(suite: Suite) -> None:
+    """The search ends with the optimum, as `optimum` tells it."""
+    came = run([*PYTHON, TOP / "examples/search.py", suite.program], cwd=TOP, env=PACKAGE)
+    ends = b"".join(came["standard output"].splitlines(keepends=True)[-2:])
+    suite.note("what search.py tells", {"status": 0, "standard error": b"", "last lines": BEST}, {**came, "last lines": ends})
+
+
+def pictures(suite: Suite) -> None:
     """The pictures in the repository are those of the examples, byte for byte."""
     drawn = [folder for folder in folders() if (folder / "picture.svg").exists()]
     suite.holds("there is a picture", drawn)
@@ -75,14 +84,14 @@ def pictures(suite):
         suite.note(f"{name} stands alone", {"outside": []}, {"outside": outside(picture)})
 
 
-def outside(picture):
+def outside(picture: bytes) -> List[str]:
     """What a page refers to outside itself: nothing but shapes and words may stand in it."""
     allowed = {"svg", "rect", "text", "circle", "path"}
     elements = ElementTree.fromstring(picture).iter()
     return sorted({element.tag.removeprefix("{http://www.w3.org/2000/svg}") for element in elements} - allowed)
 
 
-def hostile_words(draw):
+def hostile_words(draw: random.Random) -> str:
     words = ["#", "period", "lines", "domains", "tensions", "violations", "cost", "optimum", "stopped", "none", "ok"]
     words += ["add", "event", "activity", "fix", "window", "refused", "<script>", '"/>', "&amp;", "nan", "inf", "1e9", "1_0"]
     numbers = [0, 1, 2, 3, 10, 60, 120, 121, -1, 10**9, -(10**9), 2**64, 10**400]
@@ -90,7 +99,7 @@ def hostile_words(draw):
     return " ".join(draw.choice(words) if draw.randrange(3) == 0 else str(draw.choice(numbers)) for _ in range(count))
 
 
-def hostile_replies(draw):
+def hostile_replies(draw: random.Random) -> str:
     """Replies with a few words exchanged, or lines of words that stand in replies."""
     text = (TOP / "examples/hourly-line-asked/expected").read_text()
     lines = text.splitlines()
@@ -102,7 +111,7 @@ def hostile_replies(draw):
     return "\n".join(lines)
 
 
-def hostile_pages(suite):
+def hostile_pages(suite: Suite) -> None:
     draw = random.Random(1804)
     big = ["# period 120 lines 2", "add event 1", f"fix 1 {10**15}"]
     texts = ["", "ok", "# period 60 lines 0", "# period 1 lines 0", "# period x lines 0", "domains 9999999999"]
@@ -115,25 +124,24 @@ def hostile_pages(suite):
             suite.note(f"hostile replies {number}", {"outside": []}, {"outside": outside(drawn)})
             suite.holds(f"hostile replies {number}: a page of a fair size", len(drawn) < 100_000)
         else:
-            came["one line"] = told.count(b"\n") - told.count(b"refused") - told.count(b"fault")
             suite.note(f"hostile replies {number}: {text[:80]!r}", {"status": 1, "standard output": b""}, came)
             last = told.strip().splitlines()[-1]
             suite.holds(f"hostile replies {number} are told by a text", last.startswith(b"draw.py: "))
 
 
-def windows(suite):
+def windows(suite: Suite) -> None:
     """A window is a frame over its times, in two where it goes on at the start of the period, and is told by a note."""
     lines = ["# period 10 lines 4", "add event 1", "add event 2", "window 1 8 4", "window 2 3 10"]
     came = run([*DRAW], given="\n".join(lines).encode(), env=PACKAGE)
     page = ElementTree.fromstring(came["standard output"])
     frames = [element for element in page.iter() if element.get("stroke") == "#d98200" and element.tag.endswith("rect")]
-    widths = [round(float(frame.get("width"))) for frame in frames]
+    widths = [round(float(frame.attrib["width"])) for frame in frames]
     suite.note("frames of windows", {"widths": [120, 120, 600]}, {"widths": widths})
     notes = [element.text for element in page.iter() if element.tag.endswith("text") and (element.text or "").startswith("within ")]
     suite.note("notes of windows", {"notes": ["within 8 to 1", "within all times"]}, {"notes": [note for note in notes if note != "within the span"]})
 
 
-def many_events(suite):
+def many_events(suite: Suite) -> None:
     """A page of 40 events and 60 activities with the longest numbers: each row has its own line, within the page."""
     rows = [(900_000_000 + number, 999_999_000 + number % 40, 999_999_000 + number * 7 % 40) for number in range(60)]
     lines = ["# period 120 lines 100", *(f"add event {999_999_000 + number}" for number in range(40))]
@@ -146,14 +154,14 @@ def many_events(suite):
     texts = [element for element in page.iter() if element.tag.endswith("text")]
     labels = [text for text in texts if text.get("text-anchor") == "end"]
     suite.note("each row has a label", {"labels": 100}, {"labels": len(labels)})
-    apart = {float(text.get("y")) for text in labels}
+    apart = {float(text.attrib["y"]) for text in labels}
     suite.note("each label has its own line", {"places": 100}, {"places": len(apart)})
-    left = min(float(text.get("x")) - 8 * len(text.text) for text in labels)
-    right = max(float(text.get("x")) + 8 * len(text.text) for text in texts if text.get("text-anchor") == "start")
-    suite.holds("labels and notes lie within the page", left >= 0 and right <= float(page.get("width")))
+    left = min(float(text.attrib["x"]) - 8 * len(text.text or "") for text in labels)
+    right = max(float(text.attrib["x"]) + 8 * len(text.text or "") for text in texts if text.get("text-anchor") == "start")
+    suite.holds("labels and notes lie within the page", left >= 0 and right <= float(page.attrib["width"]))
 
 
-def read_replies(suite):
+def read_replies(suite: Suite) -> None:
     script = TOP / "examples/read_replies.py"
     fine = b"tensions 1\n1 3 0\nviolations 0\ncost 0\n"
     table = {
@@ -168,4 +176,4 @@ def read_replies(suite):
         suite.note(f"read_replies.py: {name}", wanted, came)
 
 
-GROUPS = [session_script, pictures, hostile_pages, windows, many_events, read_replies]
+GROUPS = [session_script, search_script, pictures, hostile_pages, windows, many_events, read_replies]

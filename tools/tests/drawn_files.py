@@ -1,6 +1,9 @@
 """Files for tools/test_program that are drawn at random, from numbers that are the same in each run."""
 
-from tests.rules import MARK
+import random
+from typing import List, Sequence, Tuple
+
+from tests.rules import MARK, Row, Times
 
 BYTES = [bytes([byte]) for byte in b';,"\n\r #-+.029xA\0'] + [MARK, b"\xff", b";;", b'""', b"\r\n", b"1000000000"]
 
@@ -8,16 +11,17 @@ BYTES = [bytes([byte]) for byte in b';,"\n\r #-+.029xA\0'] + [MARK, b"\xff", b";
 class Form:
     """A drawn way to write rows, which stands for these rows alone."""
 
-    def __init__(self, draw):
+    def __init__(self, draw: random.Random) -> None:
         self.draw = draw
         self.separator = draw.choice([";", ","])
         self.ends = draw.choice(["\n", "\r\n", "\r", "\n\n", "\r\n \t\r\n"])
         self.mark = draw.choice(["", "\ufeff"])
-        self.header = draw.choice([[], ["number", "x y"], ['"the\nnumber"', '"a ""b""; c"'], ["Z"]])
+        headers: List[List[str]] = [[], ["number", "x y"], ['"the\nnumber"', '"a ""b""; c"'], ["Z"]]
+        self.header = draw.choice(headers)
         self.last = draw.choice(["", self.separator, f"{self.separator} "])
         self.comments = draw.choice(["#", " \t# note", '"# a\r\nb"', '# a,b "c" d'])
 
-    def field(self, number, is_weight):
+    def field(self, number: int, is_weight: bool) -> str:
         draw = self.draw
         blanks = [draw.choice(["", "", " ", "\t "]) for _ in range(4)]
         sign = "-" if number < 0 else draw.choice(["", "", "+", "-" if number == 0 else ""])
@@ -27,12 +31,12 @@ class Form:
             return blanks[0] + text + blanks[1]
         return f'"{blanks[0]}{text}{blanks[1]}"{blanks[2]}'
 
-    def write(self, rows):
+    def write(self, rows: Sequence[Sequence[int]]) -> bytes:
         draw, lines = self.draw, []
         comma = self.separator == "," or not rows
         header = [field.replace(";", ",") for field in self.header] if comma else self.header
-        for row in [header] if header else []:
-            lines.append(self.separator.join(row))
+        if header:
+            lines.append(self.separator.join(header))
         for row in rows:
             fields = [self.field(number, place == 5) for place, number in enumerate(row)]
             lines.append(self.separator.join(fields) + self.last)
@@ -42,11 +46,11 @@ class Form:
         return (self.mark + self.ends.join(lines) + ends).encode()
 
 
-def drawn(draw, count, events):
+def drawn(draw: random.Random, count: int, events: int) -> Tuple[List[Row], Times, Times]:
     """Activities with distinct numbers, and a time and perhaps a fixed time for each event that is drawn."""
     numbers = draw.sample(range(1_000_000_000), count)
     names = draw.sample(range(1_000_000_000), events)
-    activities = []
+    activities: List[Row] = []
     for number in numbers:
         lower = draw.choice([draw.randint(-90, 90), draw.randint(-1_000_000, 1_000_000)])
         upper = min(1_000_000, lower + draw.choice([0, 1, draw.randint(0, 130), 2_000_000]))
@@ -60,7 +64,7 @@ def drawn(draw, count, events):
     return activities, fixed, times
 
 
-def damaged(draw, text):
+def damaged(draw: random.Random, text: bytes) -> bytes:
     """A text with some bytes put in, taken out or exchanged, with a part of it twice, or without its end."""
     for _ in range(draw.randint(1, 2)):
         place, part = draw.randrange(len(text) + 1), draw.randrange(len(text) + 1)

@@ -1,9 +1,11 @@
 """Whole runs that are drawn: a period, three files and commands; and what the program gives for them."""
 
-from typing import NamedTuple
+import random
+from typing import List, NamedTuple, Sequence, Tuple, TypedDict
 
 from tests.drawn_files import Form, damaged, drawn
-from tests.harness import run
+from tests.harness import Suite, run
+from tests.rules import Row, Times
 from tests.streams import drawn_lines, searches
 
 LINES = 25
@@ -22,9 +24,16 @@ class Asked(NamedTuple):
     commands: bytes
 
 
-def short_rows(draw, period):
+class Told(TypedDict):
+    """What it gives."""
+
+    replies: bytes
+    fault: str
+
+
+def short_rows(draw: random.Random, period: int) -> Tuple[List[Row], Times, Times]:
     """Rows of a few events and activities, as lines name them."""
-    activities = []
+    activities: List[Row] = []
     for number in draw.sample(range(1, 7), draw.randint(0, 5)):
         lower = draw.randint(-period, period)
         ends = [draw.randint(1, 4), draw.randint(1, 4)]
@@ -35,20 +44,21 @@ def short_rows(draw, period):
     return activities, fixed, times
 
 
-def drawn_run(draw):
+def drawn_run(draw: random.Random) -> Asked:
     """A run; most often its files can be read."""
     is_short = draw.randrange(4) > 0
     period = draw.randint(2, GREATEST_SHORT) if is_short else draw.choice(LONG)
-    rows = short_rows(draw, period) if is_short else drawn(draw, draw.randint(1, 6), draw.randint(1, 6))
-    files = [Form(draw).write(part if isinstance(part, list) else list(part.items())) for part in rows]
+    activities, fixed, times = short_rows(draw, period) if is_short else drawn(draw, draw.randint(1, 6), draw.randint(1, 6))
+    rows: List[Sequence[Sequence[int]]] = [activities, list(fixed.items()), list(times.items())]
+    files = [Form(draw).write(part) for part in rows]
     if draw.randrange(5) == 0:
         place = draw.randrange(len(files))
         files[place] = damaged(draw, files[place])
     lines = [line for line in drawn_lines(draw, period, LINES) if is_short or not searches(line)]
-    return Asked(period, *files, b"\n".join(lines) + draw.choice([b"", b"\n"]))
+    return Asked(period, files[0], files[1], files[2], b"\n".join(lines) + draw.choice([b"", b"\n"]))
 
 
-def told_by(suite, asked):
+def told_by(suite: Suite, asked: Asked) -> Told:
     """What the program gives: its replies, and the text of its fault."""
     names = ["activities", "fixed", "times"]
     activities, fixed, times = (suite.file(f"given {name}", getattr(asked, name)) for name in names)

@@ -11,7 +11,7 @@ from typing import Dict, List, NamedTuple, Optional, Sequence, Set, Tuple
 
 from tests.changes import restored
 from tests.network import Network, Refused
-from tests.parsing import parse
+from tests.parsing import command_of
 
 # The numbers of events and activities of which the program tells something are below this.
 NUMBERS = 8
@@ -51,7 +51,7 @@ class Kept:
         if line == "pop":
             self.pushed.popitem()
             return "ok"
-        name, numbers = parse(line.removeprefix("push ").encode())
+        name, numbers = command_of(line.removeprefix("push ").encode())
         if line.startswith("push "):
             self.pushed[numbers[0]] = numbers[1]
             return "ok"

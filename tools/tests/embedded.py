@@ -7,55 +7,64 @@ import os
 import random
 import shutil
 import sys
+from pathlib import Path
+from types import ModuleType
+from typing import Any, Callable, Dict, Iterator, List, Mapping, Optional, Sequence, Tuple
 
 from tests.drawn_runs import drawn_run, told_by
 from tests.examples import content, folders, words_of
 from tests.file_cases import TWO
-from tests.harness import SOME, TOP, closed_pipe, run, within
+from tests.harness import SOME, TOP, Suite, closed_pipe, run, within
+from tests.searches import refused_memory, searches
 from tests.sessions import many_sessions, sessions
 
 SOURCES = TOP / "embedded"
 # tools/library makes it.
 LIBRARY = TOP / "crates/pesp_embedded/out/libpesp_embedded.a"
 DRAWN = 200
+# A call of the library, by ctypes.
+Call = Callable[..., None]
 WARNINGS = ["-std=c11", "-Wall", "-Wextra", "-Wpedantic", "-Werror", "-O2"]
 
 
-def made(suite, name, words):
+def made(suite: Suite, name: str, words: Sequence[object]) -> bool:
     came = run(words, seconds=100)
     suite.note(f"{name} is made", {"status": 0, "standard error": b""}, came)
     return came["status"] == 0
 
 
-def callers(suite):
+def callers(suite: Suite) -> Dict[str, List[object]]:
     """The commands that answer as the program does, by what they are written in."""
     folder, compiler, rustc = suite.folder, shutil.which("gcc") or shutil.which("cc"), shutil.which("rustc")
     suite.holds(f"there is {LIBRARY.relative_to(TOP)}, which tools/library makes", LIBRARY.exists())
     if not (compiler and LIBRARY.exists()):
         return {}
-    found, heap = {}, folder / "heap.o"
+    found: Dict[str, List[object]] = {}
+    heap = folder / "heap.o"
     is_shared = shared_library(suite) is not None
     if not heap.exists():
         return {}
     if made(suite, "answer.c", [compiler, *WARNINGS, "-o", folder / "in-c", SOURCES / "answer.c", heap, LIBRARY]):
         found["C"] = [folder / "in-c"]
     made(suite, "moves.c", [compiler, *WARNINGS, "-o", folder / "moves", SOURCES / "moves.c", heap, LIBRARY])
+    made(suite, "search.c", [compiler, *WARNINGS, "-o", folder / "search", SOURCES / "search.c", heap, LIBRARY])
     many_sessions(suite, compiler, heap, LIBRARY)
+    refused_memory(suite, answering(), compiler, heap, LIBRARY)
     if is_shared:
         found["Python"] = [sys.executable, "-B", SOURCES / "answer.py", shared(suite)]
     if rustc:
-        words = ["--edition=2021", "-O", "-o", folder / "in-rust", SOURCES / "answer.rs"]
+        words: List[object] = ["--edition=2021", "-O", "-o", folder / "in-rust", SOURCES / "answer.rs"]
         words += [f"-Clink-arg={heap}", f"-Clink-arg={LIBRARY}"]
         if made(suite, "answer.rs", [rustc, *words]):
             found["Rust"] = [folder / "in-rust"]
     return found
 
 
-def shared(suite):
+def shared(suite: Suite) -> Path:
     return suite.folder / "libpespbench.so"
 
 
-def shared_library(suite):
+def shared_library(suite: Suite) -> Optional[Path]:
     """The library as a shared one, made of that which tools/library has built; None where that or a compiler is not there."""
     compiler, heap = shutil.which("gcc") or shutil.which("cc"), suite.folder / "heap.o"
     if not (compiler and LIBRARY.exists()):
@@ -66,7 +75,7 @@ def shared_library(suite):
     return shared(suite) if made(suite, "the shared library", [compiler, *words]) else None
 
 
-def asked_by(words):
+def asked_by(words: Sequence[str]) -> List[str]:
     """The period and the files of a command line: PERIOD ACTIVITIES FIXED TIMES."""
     given = {"--period": "60", "--fixed": "-", "--times": "-", "": "-"}
     name = ""
@@ -79,7 +88,7 @@ def asked_by(words):
 
 
 @within(240)
-def embedded(suite):
+def embedded(suite: Suite) -> None:
     """The stories of examples/ that have commands, and drawn runs."""
     made_of = callers(suite)
     refusals(suite, made_of)
@@ -99,12 +108,13 @@ def embedded(suite):
         rooms(suite, module, call)
         periods(suite, module, call)
         sessions(suite, module, shared(suite))
+        searches(suite, module, shared(suite))
 
 
 PERIODS = ["65546", "65535", "10x", "x10", "", " 10", "10 ", "-5", "0", "1", "2", "1440", "1441", "1e1", "10.0", "+10", "++10", "+", "0010", "9" * 30]
 
 
-def odd_runs(suite):
+def odd_runs(suite: Suite) -> Iterator[Tuple[str, List[str], Dict[str, Any]]]:
     """Titles, and words PERIOD ACTIVITIES FIXED TIMES with what goes in and out, at which a caller is easily other than the program."""
     folder, two = str(suite.folder), str(suite.file("two", TWO))
     crossed, lines = str(suite.file("crossed", b"1; 1; 2; 5; 3; 2\n")), b"cost\n"
@@ -132,33 +142,34 @@ def odd_runs(suite):
         yield "commands that cannot be read", ["10", two, "-", "-"], {"stdin": memory}
 
 
-def words_to(suite, period, activities, fixed, times):
+def words_to(suite: Suite, period: str, activities: str, fixed: str, times: str) -> List[object]:
     """The program's words for those of a caller."""
     options = [f"--{name}={path}" for name, path in [("fixed", fixed), ("times", times)] if path != "-"]
     return [suite.program, "--period", period, *options, *([] if activities == "-" else [activities])]
 
 
-def refusals(suite, languages):
+def refusals(suite: Suite, languages: Mapping[str, Sequence[object]]) -> None:
     """A caller refuses what the program refuses, with its status and its line; the texts of refused words are their own."""
     for title, words, how in odd_runs(suite):
-        wanted = run(words_to(suite, *words), **how)
-        wanted["standard error"] = SOME if wanted["status"] == 2 else wanted["standard error"]
+        told = run(words_to(suite, *words), **how)
+        wanted = {**told, "standard error": SOME if told["status"] == 2 else told["standard error"]}
         for language, caller in languages.items():
             suite.note(f"{title}, in {language}", wanted, run([*caller, *words], **how))
-    for words in [[], ["10"], ["10", "-", "-", "-", "-"]]:
+    for count in [0, 1, 5]:
         for language, caller in languages.items():
-            suite.note(f"{len(words)} words, in {language}", {"status": 2, "standard error": SOME}, run([*caller, *words], given=b"cost\n"))
+            suite.note(f"{count} words, in {language}", {"status": 2, "standard error": SOME}, run([*caller, *["10", "-", "-", "-", "-"][:count]], given=b"cost\n"))
 
 
-def answering():
+def answering() -> ModuleType:
     """embedded/answer.py as a module."""
     spec = importlib.util.spec_from_file_location("answer", SOURCES / "answer.py")
+    assert spec is not None and spec.loader is not None
     module = importlib.util.module_from_spec(spec)
     spec.loader.exec_module(module)
     return module
 
 
-def drawn_runs(suite, module, call):
+def drawn_runs(suite: Suite, module: ModuleType, call: Call) -> None:
     draw = random.Random(41)
     for number in range(DRAWN):
         asked = drawn_run(draw)
@@ -166,14 +177,14 @@ def drawn_runs(suite, module, call):
         suite.note(f"drawn run {number}, {asked}", told_by(suite, asked), {"replies": replies, "fault": module.fault_of(told) or ""})
 
 
-def into_room(module, call, room, period, commands):
+def into_room(module: ModuleType, call: Call, room: bytes, period: int, commands: bytes) -> Tuple[bytes, Dict[str, int]]:
     """What a room of such bytes holds after a call, and what is told."""
     out, told = ctypes.create_string_buffer(room, len(room) + 1), module.Told(9, 9, 9, 9, 9)
     call(period, TWO, len(TWO), b"", 0, b"", 0, commands, len(commands), out, len(room), ctypes.byref(told))
     return out.raw[: len(room)], {name: getattr(told, name) for name, _ in module.Told._fields_}
 
 
-def rooms(suite, module, call):
+def rooms(suite: Suite, module: ModuleType, call: Call) -> None:
     """The replies stand in front of the room, and after them is what was there."""
     replies = b"ok\nok\n"
     told = {"length": len(replies), "place": 0, "status": 0, "reason": 0, "field": 0}
@@ -182,12 +193,11 @@ def rooms(suite, module, call):
         wanted = (replies[:length] + b"." * (length - len(replies)), told)
         suite.note(f"replies of {len(replies)} bytes in a room of {length}", {"room, told": wanted}, {"room, told": came})
     for line in ["x" * 4_097, "cost\n" * 1_000_001]:
-        came = into_room(module, call, b".", 10, line.encode())[1]
-        wanted = {"status": 7, "place": 1} if "x" in line else {"status": 8, "place": 0}
-        suite.note(f"a run of {line[:4]}..", wanted, came)
+        end = {"status": 7, "place": 1} if "x" in line else {"status": 8, "place": 0}
+        suite.note(f"a run of {line[:4]}..", end, into_room(module, call, b".", 10, line.encode())[1])
 
 
-def periods(suite, module, call):
+def periods(suite: Suite, module: ModuleType, call: Call) -> None:
     """A period that there is not leaves the room as it was."""
     for period in [0, 1, 1_441, 65_535]:
         came = into_room(module, call, b"." * 9, period, b"cost\n")
@@ -197,7 +207,7 @@ def periods(suite, module, call):
         suite.holds(f"period {period} is one", into_room(module, call, b"", period, b"")[1]["status"] == 0)
 
 
-def moved(suite, title, words):
+def moved(suite: Suite, title: str, words: Sequence[object]) -> None:
     """A local search of embedded/moves.c over a session keeps no move at which the cost rises."""
     folder = TOP / "examples/two-trains"
     came = run([*words, "10", folder / "activities", folder / "times", "1000"], env={"LD_LIBRARY_PATH": str(suite.folder / "prefix/lib")})
@@ -206,7 +216,7 @@ def moved(suite, title, words):
 
 
 @within(240)
-def installed_library(suite):
+def installed_library(suite: Suite) -> None:
     """tools/install puts header and libraries where a linker finds them, and the crate of embedded/rust is tried over them."""
     prefix, compiler, cargo = suite.folder / "prefix", shutil.which("gcc") or shutil.which("cc"), shutil.which("cargo")
     env = {**os.environ, "PESPBENCH": str(suite.program), "HOME": str(suite.folder)}
@@ -217,13 +227,14 @@ def installed_library(suite):
         suite.holds(f"{name} is there, for everybody to read", os.stat(prefix / name).st_mode & 0o444 == 0o444)
     flags, source = [f"-I{prefix / 'include'}"], SOURCES / "moves.c"
     (suite.folder / "moves.c").write_bytes(source.read_bytes())
-    for title, link in [("shared", [f"-L{prefix / 'lib'}", "-lpespbench"]), ("static", [prefix / "lib/libpespbench.a"])]:
+    links: List[Tuple[str, List[object]]] = [("shared", [f"-L{prefix / 'lib'}", "-lpespbench"]), ("static", [prefix / "lib/libpespbench.a"])]
+    for title, link in links:
         if made(suite, f"moves.c over the {title} library", [compiler, *WARNINGS, *flags, "-o", suite.folder / title, suite.folder / "moves.c", *link]):
             moved(suite, f"moves over the {title} library", [suite.folder / title])
     if shutil.which("pkg-config"):
         told = run(["pkg-config", "--cflags", "--libs", "pespbench"], env={**env, "PKG_CONFIG_PATH": str(prefix / "lib/pkgconfig")})
-        wanted = f"-I{prefix}/include -L{prefix}/lib -lpespbench".encode()
-        suite.note("what pkg-config tells", {"told": wanted.split()}, {"told": told["standard output"].split()})
+        flags = [f"-I{prefix}/include", f"-L{prefix}/lib", "-lpespbench"]
+        suite.note("what pkg-config tells", {"told": [flag.encode() for flag in flags]}, {"told": told["standard output"].split()})
     words = [sys.executable, "-B", "-c", "from pespbench import Bench; print(Bench.open(None, engine='library').program)"]
     paths = {"PYTHONPATH": str(prefix / "share/pespbench/python"), "PATH": "/usr/bin:/bin", "PESPBENCH": "", "PESPBENCH_LIB": ""}
     came = run(words, env={**env, **paths})
@@ -231,9 +242,8 @@ def installed_library(suite):
     suite.note("the library that the installed Python package finds", wanted, came)
     if cargo:
         shutil.copytree(SOURCES / "rust", suite.folder / "rust")
-        words = [cargo, "test", "--offline", "--quiet", "--target-dir", suite.folder / "target"]
         env = {**os.environ, "PESPBENCH_LIB": str(prefix / "lib")}
-        suite.note("the crate's own tests", {"status": 0}, run(words, cwd=suite.folder / "rust", env=env, seconds=200))
+        suite.note("the crate's own tests", {"status": 0}, run([cargo, "test", "--offline", "--quiet", "--target-dir", suite.folder / "target"], cwd=suite.folder / "rust", env=env, seconds=200))
 
 
 GROUPS = [embedded, installed_library]

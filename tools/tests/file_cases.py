@@ -90,11 +90,11 @@ EVENTS = "too many events"
 ACTIVITIES = "too many activities"
 
 
-def bad(field):
+def bad(field: object) -> str:
     return f"field {field} is not a number"
 
 
-def out(field):
+def out(field: object) -> str:
     return f"field {field} is out of range"
 
 

@@ -3,15 +3,17 @@
 import itertools
 import os
 import threading
+from pathlib import Path
+from typing import Any, Dict, List, Tuple
 
 from tests.file_cases import FIELDS, TWO, TWO_FIXED, TWO_TIMES
-from tests.harness import NAMES, missing, record, too_long, unreadable, words_for
+from tests.harness import NAMES, Suite, missing, record, too_long, unreadable, words_for
 from tests.replies import EMPTY_REPLIES, FIXED_REPLIES, TWO_REPLIES
 
 LONGEST = 67_108_864
 
 
-def unreadable_files(suite):
+def unreadable_files(suite: Suite) -> None:
     folder = suite.folder / "folder"
     folder.mkdir()
     table = {
@@ -27,7 +29,7 @@ def unreadable_files(suite):
             suite.check(f"{name}: {title}", words, status=1, error=unreadable(name), cwd=suite.folder)
 
 
-def long_files(suite):
+def long_files(suite: Suite) -> None:
     over = suite.file("over", b" " * (LONGEST + 1))
     sparse = suite.file("sparse", b"")
     os.truncate(sparse, 1 << 36)
@@ -42,7 +44,7 @@ def long_files(suite):
     over.unlink()
 
 
-def longest_files(suite):
+def longest_files(suite: Suite) -> None:
     spaces = b" " * LONGEST
     longest = suite.file("longest", spaces)
     for name in NAMES:
@@ -57,29 +59,29 @@ def longest_files(suite):
 class Writer:
     """Writes to a named pipe beside a run, and ends with it, also where the run did not open the pipe."""
 
-    def __init__(self, fifo, content):
+    def __init__(self, fifo: Path, content: bytes) -> None:
         self.fifo = fifo
         self.thread = threading.Thread(target=self.write, args=(content,), daemon=True)
 
-    def write(self, content):
+    def write(self, content: bytes) -> None:
         try:
             self.fifo.write_bytes(content)
         except BrokenPipeError:
             pass
 
-    def __enter__(self):
+    def __enter__(self) -> None:
         self.thread.start()
 
-    def __exit__(self, *_):
+    def __exit__(self, *_: object) -> None:
         # A reader that comes and goes lets a writer go that still waits for one.
         os.close(os.open(self.fifo, os.O_RDONLY | os.O_NONBLOCK))
         self.thread.join()
 
 
-def pipes(suite):
+def pipes(suite: Suite) -> None:
     fifo = suite.folder / "fifo"
     os.mkfifo(fifo)
-    table = [
+    table: List[Tuple[str, bytes, Dict[str, Any]]] = [
         ("a named pipe", TWO_TIMES, {"output": TWO_REPLIES}),
         ("a named pipe with too much", b"\n" * (LONGEST + 1), {"status": 1, "error": too_long("times")}),
     ]
@@ -94,13 +96,15 @@ def pipes(suite):
     suite.check("an empty device", words, output=EMPTY_REPLIES)
 
 
-def order_of_faults(suite):
+def order_of_faults(suite: Suite) -> None:
     """Three files, each of them fine, faulty, not there or too long."""
     fine = {"activities": TWO, "fixed": TWO_FIXED, "times": TWO_TIMES}
     sparse = suite.file("sparse", b"")
     os.truncate(sparse, LONGEST + 1)
     for states in itertools.product(["fine", "faulty", "missing", "too long"], repeat=3):
-        words, early, late = ["--period", "10"], [], []
+        words: List[object] = ["--period", "10"]
+        early: List[bytes] = []
+        late: List[bytes] = []
         for name, state in zip(NAMES, states):
             paths = {"missing": "no such file", "too long": sparse}
             content = fine[name] if state == "fine" else b"0"
@@ -108,13 +112,12 @@ def order_of_faults(suite):
             early += {"missing": [unreadable(name)], "too long": [too_long(name)]}.get(state, [])
             late += [record(name, 1, FIELDS)] if state == "faulty" else []
         faults = early + late
-        wanted = {"status": 1, "error": faults[0]} if faults else {"output": FIXED_REPLIES}
+        wanted: Dict[str, Any] = {"status": 1, "error": faults[0]} if faults else {"output": FIXED_REPLIES}
         title = ", ".join(f"{name} {state}" for name, state in zip(NAMES, states))
         suite.check(f"order of faults: {title}", words, cwd=suite.folder, **wanted)
     activities, faulty = suite.file("activities", TWO), suite.file("faulty", b"0")
     for name in ["fixed", "times"]:
-        words = [f"--{name}", faulty, activities]
-        suite.check(f"faulty {name} before a missing time", words, status=1, error=record(name, 1, FIELDS))
+        suite.check(f"faulty {name} before a missing time", [f"--{name}", faulty, activities], status=1, error=record(name, 1, FIELDS))
 
 
 GROUPS = [unreadable_files, long_files, longest_files, pipes, order_of_faults]

@@ -3,12 +3,22 @@
 import os
 import pathlib
 import subprocess
+from typing import IO, Any, Callable, Dict, Iterable, List, Mapping, Optional, Sequence, Sized, TypedDict, TypeVar, Union
 
 TOP = pathlib.Path(__file__).resolve().parents[2]
 PROGRAM = TOP / "crates/pespbench/out/pespbench"
 # The most that one run of a program may take.
 SECONDS = 60
 NAMES = ["activities", "fixed", "times"]
+
+# A group of tests, which keeps its type where its time is set.
+Kind = TypeVar("Kind", bound=Callable[..., None])
+# The words of a command, each told by its text.
+Words = Sequence[object]
+# Where a command writes to.
+Stream = Union[None, int, IO[Any]]
+# What a command gives.
+Came = TypedDict("Came", {"status": Union[int, str], "standard output": bytes, "standard error": bytes})
 
 NOT_WRITTEN = b"pespbench: replies cannot be written\n"
 NOT_READ = b"pespbench: commands cannot be read\n"
@@ -17,21 +27,21 @@ NOT_READ = b"pespbench: commands cannot be read\n"
 class Some:
     """Stands for every text that is not empty."""
 
-    def __eq__(self, text):
-        return len(text) > 0
+    def __eq__(self, text: object) -> bool:
+        return isinstance(text, Sized) and len(text) > 0
 
-    def __repr__(self):
+    def __repr__(self) -> str:
         return "any text"
 
 
 SOME = Some()
 
 
-def within(seconds):
+def within(seconds: int) -> Callable[[Kind], Kind]:
     """Sets the time that a group may take."""
 
-    def mark(group):
-        group.seconds = seconds
+    def mark(group: Kind) -> Kind:
+        setattr(group, "seconds", seconds)
         return group
 
     return mark
@@ -40,17 +50,17 @@ def within(seconds):
 class Suite:
     """The program, a folder for the files of a group, and a file that has one letter for each case."""
 
-    def __init__(self, program, folder, tally):
+    def __init__(self, program: pathlib.Path, folder: pathlib.Path, tally: pathlib.Path) -> None:
         self.program = program
         self.folder = folder
         self.tally = tally
 
-    def file(self, name, content):
+    def file(self, name: str, content: bytes) -> pathlib.Path:
         path = self.folder / name
         path.write_bytes(content)
         return path
 
-    def note(self, name, wanted, came):
+    def note(self, name: str, wanted: Mapping[str, object], came: Mapping[str, object]) -> None:
         """One case, of pairs of a title and a value."""
         wrong = [title for title in wanted if not wanted[title] == came[title]]
         with open(self.tally, "a") as tally:
@@ -61,31 +71,39 @@ class Suite:
             print(f"  {title} wanted: {short(wanted[title])}")
             print(f"  {title} came:   {short(came[title])}", flush=True)
 
-    def holds(self, name, fact):
+    def holds(self, name: str, fact: object) -> None:
         """One case that is true or false."""
         self.note(name, {"it": True}, {"it": bool(fact)})
 
-    def case(self, name, words, status=0, output=b"", error=b"", **how):
+    def case(self, name: str, words: Words, status: int = 0, output: object = b"", error: object = b"", **how: Any) -> None:
         """Runs the program once, and notes all three of what it gives."""
         came = run([self.program, *words], **how)
         wanted = {"status": status, "standard output": output, "standard error": error}
         self.note(name, wanted, came)
 
-    def check(self, name, words, **wanted):
+    def check(self, name: str, words: Words, **wanted: Any) -> None:
         """Runs the program once, with `--check`."""
         self.case(name, ["--check", *words], **wanted)
 
 
-def short(value):
+def short(value: object) -> str:
     text = repr(value)
     return text if len(text) <= 600 else f"{text[:400]} .. {text[-150:]} ({len(text)} characters)"
 
 
-def run(command, given=None, stdout=subprocess.PIPE, stderr=subprocess.PIPE, seconds=SECONDS, **how):
-    """What a command gives: its status, and what it wrote where that is taken here."""
-    source = {} if "stdin" in how else {"stdin": subprocess.DEVNULL} if given is None else {"input": given}
+def run(
+    command: Words,
+    given: Optional[bytes] = None,
+    stdout: Stream = subprocess.PIPE,
+    stderr: Stream = subprocess.PIPE,
+    seconds: float = SECONDS,
+    **how: Any,
+) -> Came:
+    """What a command gives: its status, and what it wrote where that is taken here. `how` is handed on to subprocess.run."""
+    source: Dict[str, Any] = {} if "stdin" in how else {"stdin": subprocess.DEVNULL} if given is None else {"input": given}
+    words: List[Union[str, bytes]] = [word if isinstance(word, bytes) else str(word) for word in command]
     try:
-        done = subprocess.run(command, stdout=stdout, stderr=stderr, timeout=seconds, check=False, **source, **how)
+        done: "subprocess.CompletedProcess[bytes]" = subprocess.run(words, stdout=stdout, stderr=stderr, timeout=seconds, check=False, **source, **how)
     except subprocess.TimeoutExpired:
         return {"status": f"none within {seconds} seconds", "standard output": b"", "standard error": b""}
     except OSError as fault:
@@ -97,34 +115,34 @@ def run(command, given=None, stdout=subprocess.PIPE, stderr=subprocess.PIPE, sec
     }
 
 
-def closed_pipe():
+def closed_pipe() -> int:
     """The end to write to of a pipe that nobody reads."""
     reader, writer = os.pipe()
     os.close(reader)
     return writer
 
 
-def unreadable(name):
+def unreadable(name: str) -> bytes:
     return f"pespbench: {name} file cannot be read\n".encode()
 
 
-def too_long(name):
+def too_long(name: str) -> bytes:
     return f"pespbench: {name} file is too long\n".encode()
 
 
-def record(name, number, kind):
+def record(name: str, number: int, kind: str) -> bytes:
     return f"pespbench: {name} file, record {number}: {kind}\n".encode()
 
 
-def words_for(name, path):
+def words_for(name: str, path: object) -> List[object]:
     return [path] if name == "activities" else [f"--{name}", path]
 
 
-def missing(event):
+def missing(event: int) -> bytes:
     """The replies to a check where an event has no time."""
     return f"refused 11 event {event} has no time\n".encode() * 3
 
 
-def rows_of(tuples):
+def rows_of(tuples: Iterable[Iterable[int]]) -> bytes:
     """Rows in the plain form of files."""
     return "".join("; ".join(map(str, row)) + "\n" for row in tuples).encode()

@@ -2,29 +2,31 @@
 
 import os
 import subprocess
+from pathlib import Path
+from typing import Any, Dict
 
-from tests.harness import TOP, run, within
+from tests.harness import TOP, Came, Suite, run, within
 
 INSTALL = TOP / "tools/install"
 TWO = TOP / "examples/two-trains/activities"
 ANSWER = b"optimum 4 2\n1 0\n2 4\n"
 
 
-def surroundings(suite, **more):
+def surroundings(suite: Suite, **more: str) -> Dict[str, str]:
     return {"PATH": os.environ["PATH"], "HOME": str(suite.folder), "PESPBENCH": str(suite.program), **more}
 
 
-def install(suite, *words, **how):
+def install(suite: Suite, *words: object, **how: Any) -> Came:
     return run([INSTALL, *words], env=surroundings(suite), **how)
 
 
-def searched(suite, prefix, command="bin/pespbench-py", **how):
+def searched(suite: Suite, prefix: Path, command: str = "bin/pespbench-py", **how: Any) -> Came:
     """What the installed command finds, with the program that was installed."""
     env = surroundings(suite, **{"PESPBENCH": "", **how.pop("env", {})})
     return run([prefix / command, "search", "--period", "10", TWO], env=env, **how)
 
 
-def is_whole(suite, title, prefix):
+def is_whole(suite: Suite, title: str, prefix: Path) -> None:
     """The package that is installed is that of the tree."""
     package = prefix / "share/pespbench/python/pespbench"
     wanted = {str(path.relative_to(TOP / "python/pespbench")): path.read_bytes() for path in (TOP / "python/pespbench").rglob("*.py")}
@@ -34,7 +36,7 @@ def is_whole(suite, title, prefix):
 
 
 @within(240)
-def installed_command(suite):
+def installed_command(suite: Suite) -> None:
     """The installed command takes no module of the folder where it is called, or of one that the environment names."""
     prefix = suite.folder / "prefix"
     suite.note("tools/install", {"status": 0, "standard error": b""}, install(suite, prefix))
@@ -51,7 +53,7 @@ def installed_command(suite):
 
 
 @within(240)
-def installed_prefixes(suite):
+def installed_prefixes(suite: Suite) -> None:
     """PREFIX with marks that a shell or a search path takes for its own, and of nothing."""
     for name in ["a:b", "two words", "it's $HOME", "-n"]:
         suite.note(f"tools/install {name}", {"status": 0, "standard error": b""}, install(suite, name, cwd=suite.folder))
@@ -67,7 +69,7 @@ def installed_prefixes(suite):
 
 
 @within(240)
-def installed_links(suite):
+def installed_links(suite: Suite) -> None:
     """Nothing is written or deleted through a link in the place of a file or of the package."""
     victim = suite.folder / "victim"
     (victim / "python/pespbench").mkdir(parents=True)
@@ -86,8 +88,8 @@ def installed_links(suite):
         (prefix / "bin" / name).symlink_to(victim / "command")
     suite.note("links in the place of both commands", {"status": 0}, install(suite, prefix))
     suite.note("the command in their place", {"standard output": ANSWER}, searched(suite, prefix))
-    came = {"command": (victim / "command").read_text(), "module": (victim / "python/pespbench/mine.py").read_text()}
-    suite.note("what the links led to", {"command": "mine\n", "module": "mine\n"}, {"module": "", **came})
+    left = {"command": (victim / "command").read_text(), "module": (victim / "python/pespbench/mine.py").read_text()}
+    suite.note("what the links led to", {"command": "mine\n", "module": "mine\n"}, left)
     other = suite.folder / "other"
     other.mkdir()
     (suite.folder / "linked").mkdir()
@@ -96,7 +98,7 @@ def installed_links(suite):
     suite.note("the command there", {"standard output": ANSWER}, searched(suite, other, "pespbench-py"))
 
 
-def installed_for_all(suite):
+def installed_for_all(suite: Suite) -> None:
     """Everybody can read what is installed under a umask of 077."""
     prefix = suite.folder / "prefix"
     suite.note("tools/install by a careful user", {"status": 0}, install(suite, prefix, preexec_fn=lambda: os.umask(0o077)))
@@ -106,7 +108,7 @@ def installed_for_all(suite):
 
 
 @within(240)
-def installed_at_once(suite):
+def installed_at_once(suite: Suite) -> None:
     """However many install at once, all end well, and one whole package is there."""
     prefix = suite.folder / "prefix"
     for turn in range(3):

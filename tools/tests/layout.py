@@ -1,11 +1,12 @@
 """The header of the library in process says what the crate says: the order of each call's parameters, the layouts of what is
-told and of a session, and the numbers. A C file of assertions is made from the crate's sources, and a C compiler checks it
+told, of what is found and of a session, and the numbers. A C file of assertions is made from the crate's sources, and a C compiler checks it
 against the header."""
 
 import re
 import shutil
+from typing import Dict, Iterator, List, Tuple
 
-from tests.harness import TOP, run
+from tests.harness import TOP, Suite, run
 
 CRATE = TOP / "crates/pesp_embedded/src"
 HEADER = TOP / "embedded/pespbench.h"
@@ -13,11 +14,13 @@ HEADER = TOP / "embedded/pespbench.h"
 PARAMETERS = {
     "u16": ["uint16_t"],
     "u32": ["uint32_t"],
+    "u64": ["uint64_t"],
     "&[u8]": ["const uint8_t *", "size_t"],
     "&mut [u8]": ["uint8_t *", "size_t"],
     "&mut [u16]": ["uint16_t *", "size_t"],
     "&mut [u32]": ["uint32_t *", "size_t"],
     "&mut Told": ["struct pesp_told *"],
+    "&mut Found": ["struct pesp_found *"],
     "&mut Session": ["struct pesp_session *"],
     "&mut u64": ["uint64_t *"],
     "&mut i64": ["int64_t *"],
@@ -36,57 +39,84 @@ STATUSES = {
     "TooManyLines": "PESP_MANY_LINES",
 }
 REASONS = {"Memory": "PESP_READING_MEMORY"}
+STATES = {
+    "None": "PESP_NOTHING_YET",
+    "Some(best)": "PESP_BEST_SO_FAR",
+    "Answer::Optimal { cost, .. }": "PESP_OPTIMUM",
+    "Answer::Infeasible": "PESP_NO_TIMETABLE",
+}
 
 
-def calls():
+def calls() -> Dict[str, List[Tuple[str, str]]]:
     """By the name of a call the names and types of its parameters, but for the allocator, which no caller sees."""
-    text = "".join((CRATE / name).read_text() for name in ["lib.rt", "numbers.rt"])
+    text = "".join((CRATE / name).read_text() for name in ["lib.rt", "numbers.rt", "searching.rt"])
     found = re.findall(r'pub extern "C" fn (\w+)\((.*?)\)\s+ensures', text, re.S)
     given = {call: re.findall(r"(\w+): ([^,]+?)(?:,|$)", listed) for call, listed in found}
     return {call: [each for each in listed if each[1] != "Global"] for call, listed in given.items()}
 
 
-def fields(told):
-    """The names and types of what is told, in their order."""
-    return re.findall(r"pub (\w+): (\w+),", re.search(r"pub struct Told \{(.*?)\n\}", told, re.S).group(1))
+def fields(name: str) -> List[Tuple[str, str]]:
+    """The names and types of the fields of `Told` or `Found`, in their order."""
+    text = (CRATE / f"{name.lower()}.rt").read_text()
+    return re.findall(r"pub (\w+): (\w+),", found_in(rf"pub struct {name} \{{(.*?)\n\}}", text))
 
 
-def in_capitals(name):
+def found_in(pattern: str, text: str) -> str:
+    """What a pattern's group has in a text that has it."""
+    found = re.search(pattern, text, re.S)
+    assert found is not None
+    return found[1]
+
+
+def in_capitals(name: str) -> str:
     return "PESP_" + re.sub(r"(?<=[a-z])(?=[A-Z])", "_", name).upper()
 
 
-def numbers(told):
+def numbers(told: str) -> Dict[str, int]:
     """The header's words with the crate's numbers."""
     ended = re.findall(r"(Ok|RunFault::(\w+)).*?=> Told::ended\(\w+, (\d+),", told)
     found = {STATUSES[name or whole]: int(number) for whole, name, number in ended}
-    found["PESP_NO_PERIOD"] = int(re.search(r"fn no_period.*?Told::ended\(0, (\d+), 0\)", told, re.S).group(1))
+    found["PESP_NO_PERIOD"] = int(found_in(r"fn no_period.*?Told::ended\(0, (\d+), 0\)", told))
     found.update({STATUSES[name]: int(number) for name, number in re.findall(r"Source::(\w+) => (\d+),", told)})
     found.update(faults())
+    found.update(states())
     reasons = re.findall(r"FaultKind::(\w+)(?:\(_\))? => (\d+),", told)
     found.update({REASONS.get(name, in_capitals(name)): int(number) for name, number in reasons})
     return found
 
 
-def faults():
+def faults() -> Dict[str, int]:
     """The same of calls on a session; what a run may end with too has the run's word and number."""
     text = (CRATE / "fault.rt").read_text()
     told = re.findall(r"Fault::(\w+) => Told::ended\(0, (\d+), 0\),", text)
-    told.append(("Refused", re.search(r"status: (\d+),", text).group(1)))
+    told.append(("Refused", found_in(r"status: (\d+),", text)))
     return {STATUSES.get(name, in_capitals(name)): int(number) for name, number in told}
 
 
-def assertions():
+def states() -> Dict[str, int]:
+    """The same of what a search has come to."""
+    arms = re.findall(r"^ +(.+) => \([\w.*]+, (\d+)\),$", (CRATE / "found.rt").read_text(), re.M)
+    return {STATES[arm]: int(number) for arm, number in arms}
+
+
+def layout_of(name: str) -> Iterator[str]:
+    """Where the fields of `Told` or `Found` are."""
+    struct, place = f"struct pesp_{name.lower()}", 0
+    for field, kind in fields(name):
+        yield f'_Static_assert(offsetof({struct}, {field}) == {place}, "{field}");'
+        yield f'_Static_assert(sizeof((({struct} *)0)->{field}) == {FIELDS[kind]}, "size of {field}");'
+        place += FIELDS[kind]
+    yield f'_Static_assert(sizeof({struct}) == {-(-place // 8) * 8}, "{name}");'
+
+
+def assertions() -> Iterator[str]:
     """A C file that a compiler takes just where the header says what the crate says."""
     told = (CRATE / "told.rt").read_text()
     yield '#include "pespbench.h"'
-    place = 0
-    for name, kind in fields(told):
-        yield f'_Static_assert(offsetof(struct pesp_told, {name}) == {place}, "{name}");'
-        yield f'_Static_assert(sizeof(((struct pesp_told *)0)->{name}) == {FIELDS[kind]}, "size of {name}");'
-        place += FIELDS[kind]
-    yield f'_Static_assert(sizeof(struct pesp_told) == {-(-place // 8) * 8}, "what is told");'
+    yield from layout_of("Told")
+    yield from layout_of("Found")
     yield from (f'_Static_assert({name} == {number}, "{name}");' for name, number in numbers(told).items())
-    none = re.search(r"NO_TIME: u16 = ([\d_]+);", (CRATE / "lists.rt").read_text()).group(1).replace("_", "")
+    none = found_in(r"NO_TIME: u16 = ([\d_]+);", (CRATE / "lists.rt").read_text()).replace("_", "")
     yield f'_Static_assert(PESP_NO_TIME == {none}, "PESP_NO_TIME");'
     yield '_Static_assert(offsetof(struct pesp_session, at) == 0, "at");'
     yield '_Static_assert(offsetof(struct pesp_session, is_open) == 8, "is_open");'
@@ -96,7 +126,7 @@ def assertions():
         yield f"void (*const call_{call})({kinds}) = {call};"
 
 
-def names_of_the_header():
+def names_of_the_header() -> Dict[str, List[str]]:
     """By the name of a call the names of its parameters, without those of lengths."""
     found = {}
     for call, listed in re.findall(r"void (\w+)\((.*?)\);", HEADER.read_text(), re.S):
@@ -105,7 +135,7 @@ def names_of_the_header():
     return found
 
 
-def layout_in_c(suite):
+def layout_in_c(suite: Suite) -> None:
     """The order of parameters, and each number that the header lists; offsets and sizes, where there is a C compiler."""
     told = (CRATE / "told.rt").read_text()
     names = {call: [name for name, _ in parameters] for call, parameters in calls().items()}

@@ -7,12 +7,12 @@ GREATEST_PERIOD = 1_440
 FULL_PERIOD = 120
 
 
-def most_events(period):
+def most_events(period: int) -> int:
     """How many events a network of this period may have."""
     return min(20_000, 2_400_000 // period)
 
 
-def most_activities(period):
+def most_activities(period: int) -> int:
     """How many activities a network of this period may have."""
     return min(100_000, 12_000_000 // period)
 

@@ -7,11 +7,15 @@ import pathlib
 import signal
 import tempfile
 import time
+from typing import Callable, Dict, Mapping, Optional, Sequence, Tuple
 
 from tests import arguments, checks, commands, devices, dialogue, documents, drawing, embedded, examples, files, installing, layout
 from tests import limited, module_program, package, packaging, page_module, quick_model, rows, scripts, shelves, solvers, sources, start_script, strangers, streams, unproved
 from tests import written
 from tests.harness import PROGRAM, Suite
+
+# A group of tests, a function with a name.
+Group = Callable[[Suite], None]
 
 TOPICS = [examples, commands, quick_model, dialogue, streams, limited, arguments, files, rows, checks, devices, scripts, drawing, documents]
 TOPICS += [start_script, unproved, shelves, strangers, packaging, installing, package, embedded, layout, page_module, module_program, written]
@@ -20,15 +24,15 @@ TOPICS += [sources, solvers]
 SECONDS = 120
 
 
-def groups():
+def groups() -> Dict[str, Group]:
     return {group.__name__: group for topic in TOPICS for group in topic.GROUPS}
 
 
-def limit_of(group):
-    return getattr(group, "seconds", SECONDS)
+def limit_of(group: Group) -> int:
+    return int(getattr(group, "seconds", SECONDS))
 
 
-def alone(group, suite):
+def alone(group: Group, suite: Suite) -> None:
     """Runs a group in a session of its own, so that all that it starts can be ended with it.
 
     Who starts the tests in the background of a script has interrupts ignored, and so would all that they start.
@@ -38,7 +42,7 @@ def alone(group, suite):
     group(suite)
 
 
-def run_group(name, group, program, folder, patience):
+def run_group(name: str, group: Group, program: pathlib.Path, folder: pathlib.Path, patience: int) -> Tuple[int, int]:
     """How many cases of a group passed, and how many failed, within so many times its seconds."""
     seconds = patience * limit_of(group)
     folder.mkdir()
@@ -50,7 +54,7 @@ def run_group(name, group, program, folder, patience):
     fault = "" if process.exitcode == 0 else "it broke off"
     if process.exitcode is None:
         fault = f"it is not done within {seconds} seconds"
-        os.killpg(process.pid, signal.SIGKILL)
+        os.killpg(process.pid or 0, signal.SIGKILL)
         process.join()
     if fault:
         print(f"FAILED group {name}: {fault}")
@@ -58,7 +62,7 @@ def run_group(name, group, program, folder, patience):
     return cases.count("p"), cases.count("f") + bool(fault)
 
 
-def run_all(chosen, program, patience):
+def run_all(chosen: Mapping[str, Group], program: pathlib.Path, patience: int) -> bool:
     passed = failed = 0
     with tempfile.TemporaryDirectory() as name:
         for number, (title, group) in enumerate(chosen.items()):
@@ -70,19 +74,19 @@ def run_all(chosen, program, patience):
     return failed > 0
 
 
-def main(words):
+def main(words: Optional[Sequence[str]]) -> int:
     parser = argparse.ArgumentParser(prog="tools/test_program", description="Runs the tests of the built programs.")
     parser.add_argument("--list", action="store_true", help="print the names of the groups, and the seconds of each")
     parser.add_argument("--only", action="append", metavar="NAME", choices=groups(), help="run this group alone")
     parser.add_argument("--patience", type=int, default=1, metavar="N", help="give each group N times its seconds, over a slower program, and have the package's tests draw N times fewer")
     parser.add_argument("program", nargs="?", type=pathlib.Path, default=PROGRAM)
-    words = parser.parse_args(words)
-    if words.list:
+    chosen = parser.parse_args(words)
+    if chosen.list:
         print("\n".join(f"{name} {limit_of(group)}" for name, group in groups().items()))
         return 0
-    program = words.program.absolute()
+    program = chosen.program.absolute()
     if not os.access(program, os.X_OK):
         parser.error(f"there is no program at {program}")
     # The tests of the Python package read it there.
-    os.environ["PESPBENCH_PATIENCE"] = str(words.patience)
-    return run_all({name: group for name, group in groups().items() if not words.only or name in words.only}, program, words.patience)
+    os.environ["PESPBENCH_PATIENCE"] = str(chosen.patience)
+    return run_all({name: group for name, group in groups().items() if not chosen.only or name in chosen.only}, program, chosen.patience)

@@ -3,15 +3,18 @@
 `reply` gives the one legal reply to a line; to `try N` several are legal, and `may_try` tells whether a given one is.
 """
 
+from typing import Dict, Iterable, List, Mapping, Optional, Sequence, Set, Tuple
+
 from tests.network import Network, Refused
 from tests.parsing import Fault, parse
+from tests.rules import Row, Times
 
 
-def listed(name, lines):
+def listed(name: str, lines: Sequence[str]) -> List[str]:
     return [f"{name} {len(lines)}", *lines]
 
 
-def window_line(event, first, length):
+def window_line(event: int, first: int, length: int) -> str:
     """The line of a script that gives an event its window."""
     return f"fix {event} {first}" if length == 1 else f"window {event} {first} {length}"
 
@@ -19,11 +22,11 @@ def window_line(event, first, length):
 class Model(Network):
     """A network and a working timetable."""
 
-    def __init__(self, period, activities=(), fixed=None, times=None):
+    def __init__(self, period: int, activities: Iterable[Row] = (), fixed: Optional[Times] = None, times: Optional[Times] = None) -> None:
         super().__init__(period, activities, fixed)
         self.times = {event: time % period for event, time in (times or {}).items() if event in self.events}
 
-    def reply(self, line):
+    def reply(self, line: bytes) -> List[str]:
         """The lines of the reply to a line: the one legal reply, and for `try` the optimum."""
         try:
             command = parse(line)
@@ -33,32 +36,32 @@ class Model(Network):
         except Refused as refusal:
             return [f"refused {refusal}"]
 
-    def answer(self, name, numbers):
+    def answer(self, name: str, numbers: Sequence[int]) -> List[str]:
         return getattr(self, name.replace(" ", "_").replace("try", "optimum_within"))(*numbers) or ["ok"]
 
-    def drop_event(self, event):
+    def drop_event(self, event: int) -> None:
         super().drop_event(event)
         self.times.pop(event, None)
 
     # The working timetable
 
-    def untimed(self):
+    def untimed(self) -> None:
         for event in sorted(self.events):
             if event not in self.times:
                 raise Refused(f"11 event {event} has no time")
 
-    def time(self, event, time):
+    def time(self, event: int, time: int) -> None:
         self.no_event(event)
         self.late(time)
         self.times[event] = time
 
-    def untime(self, event):
+    def untime(self, event: int) -> None:
         self.no_event(event)
         if event not in self.times:
             raise Refused(f"11 event {event} has no time")
         del self.times[event]
 
-    def adopt(self):
+    def adopt(self) -> None:
         best = self.best()
         if best is None:
             raise Refused("12 infeasible")
@@ -66,7 +69,7 @@ class Model(Network):
 
     # Answers
 
-    def tensions(self):
+    def tensions(self) -> List[str]:
         self.untimed()
         lines = []
         for activity, row in sorted(self.activities.items()):
@@ -74,39 +77,39 @@ class Model(Network):
             lines.append(f"{activity} {row[2] + slack} {slack}")
         return listed("tensions", lines)
 
-    def violations(self):
+    def violations(self) -> List[str]:
         self.untimed()
         activities = sorted(self.activities.items())
         unmet = [f"activity {activity}" for activity, row in activities if not self.met(row, self.times)]
         moved = [f"event {event}" for event in sorted(self.windows) if not self.admits(event, self.times[event])]
         return listed("violations", unmet + moved)
 
-    def cost(self):
+    def cost(self) -> List[str]:
         self.untimed()
         return [f"cost {self.cost_of(self.times)}"]
 
-    def domain(self, event):
+    def domain(self, event: int) -> List[str]:
         self.no_event(event)
         return [self.row(event, self.rows())]
 
-    def domains(self):
+    def domains(self) -> List[str]:
         rows = self.rows()
         return listed("domains", [self.row(event, rows) for event in sorted(self.events)])
 
-    def row(self, event, rows):
+    def row(self, event: int, rows: Mapping[int, Set[int]]) -> str:
         return " ".join([f"{event}:", *map(str, sorted(rows[event]))])
 
-    def optimum(self):
+    def optimum(self) -> List[str]:
         best = self.best()
         return ["infeasible"] if best is None else self.timetable("optimum", *best)
 
-    def optimum_within(self, _limit):
+    def optimum_within(self, _limit: int) -> List[str]:
         return self.optimum()
 
-    def timetable(self, name, cost, times):
+    def timetable(self, name: str, cost: int, times: Mapping[int, int]) -> List[str]:
         return [f"{name} {cost} {len(times)}", *(f"{event} {time}" for event, time in sorted(times.items()))]
 
-    def dump(self):
+    def dump(self) -> List[str]:
         lines = [f"add event {event}" for event in sorted(self.events)]
         lines += [window_line(event, *window) for event, window in sorted(self.windows.items())]
         lines += [" ".join(map(str, ["add activity", name, *row])) for name, row in sorted(self.activities.items())]
@@ -114,13 +117,14 @@ class Model(Network):
 
     # What `try` may answer
 
-    def reached(self, limit):
+    def reached(self, limit: int) -> Tuple[List[Dict[int, int]], bool]:
         """The timetables that meet everything within so many nodes of the tree, and whether that is all of the tree."""
-        found, nodes = [], 0
+        found: List[Dict[int, int]] = []
+        nodes = 0
         events = sorted(self.events)
-        pushed = {}
+        pushed: Dict[int, int] = {}
 
-        def walk():
+        def walk() -> bool:
             nonlocal nodes
             rows = self.rows(pushed)
             if not all(rows.values()):
@@ -143,7 +147,7 @@ class Model(Network):
         is_whole = walk()
         return found, is_whole
 
-    def may_try(self, limit, reply):
+    def may_try(self, limit: int, reply: Sequence[str]) -> bool:
         """Whether a reply to `try` is a legal one."""
         if not reply[0].startswith("stopped"):
             return reply == self.optimum()

@@ -2,6 +2,8 @@
 
 import random
 from concurrent.futures import ThreadPoolExecutor
+from pathlib import Path
+from typing import Dict, Iterator, List, Sequence, Tuple
 
 from tests.command_cases import CASES
 from tests.commands import text_of
@@ -9,13 +11,15 @@ from tests.dialogue import Dialogue
 from tests.drawn_runs import drawn_run
 from tests.examples import content, folders, words_of
 from tests.file_cases import ACTIVITY_FAULTS, ACTIVITY_FORMS, EVENT_FAULTS, EVENT_FORMS, FIXED_FAULTS, TWO, TWO_TIMES
-from tests.harness import NAMES, NOT_READ, NOT_WRITTEN, TOP, run, within, words_for
+from tests.harness import NAMES, NOT_READ, NOT_WRITTEN, TOP, Came, Suite, Words, run, within, words_for
 from tests.streams import drawn_lines
 
 START = TOP / "tools/pespbench"
 MODULE = TOP / "tools/pespbench_module"
 NOT_PROVED = b"tools/pespbench: the page's module runs, under Node: nothing of what it answers is proved\n"
 STREAMS, LINES, AT_ONCE = 2_000, 40, 4
+# Where a case runs, its words, and what it is given.
+Case = Tuple[Path, Words, bytes]
 # How many lines a session says again after a hundred networks that came and went: before a question, an optimum and a try.
 KEPT = """
 const { Kept } = require(process.argv[1]);
@@ -30,10 +34,10 @@ console.log(...['cost', 'optimum', 'try'].map(name => kept.before([name]).length
 """
 
 
-def module_start(suite):
+def module_start(suite: Suite) -> None:
     """It says first that nothing is proved; streams, statuses and faults are then the program's."""
     activities = suite.file("activities", TWO)
-    table = {
+    table: Dict[str, Tuple[Words, bytes, int, bytes, bytes]] = {
         "a session": (["--period", "10", activities], b"fix 1 0\ndomain 2\nx\n", 0, b"ok\n2: 4 5\nfault unknown command\n", b""),
         "a missing file": (["no such file"], b"", 1, b"", b"pespbench: activities file cannot be read\n"),
         "a long line": ([], b"cost\n" + b"x" * 4_097, 1, b"cost 0\n", b"pespbench: line 2 is longer than 4096 bytes\n"),
@@ -51,7 +55,7 @@ def module_start(suite):
     suite.note("help on a full device", {"status": 1, "standard error": NOT_WRITTEN}, come)
 
 
-def module_session(suite):
+def module_session(suite: Suite) -> None:
     """Line by line the replies are those of one whole run, whatever was searched and changed before."""
     draw = random.Random(5_601)
     for number in range(12):
@@ -67,32 +71,30 @@ def module_session(suite):
         suite.note(f"drawn session {number} at period {period}", {"replies": whole}, {"replies": came})
 
 
-def module_kept(suite):
+def module_kept(suite: Suite) -> None:
     """What a session says again does not grow with what came and went."""
     come = run(["node", "-e", KEPT, TOP / "tools/module/kept.js"])
     suite.note("lines that are said again", {"status": 0, "standard output": b"0 0 10\n", "standard error": b""}, come)
 
 
-def cases_of(suite):
+def cases_of(suite: Suite) -> Iterator[Case]:
     """Rows, examples and the table of commands: where each runs, its words, and what it is given."""
     activities, times = suite.file("two", TWO), suite.file("two times", TWO_TIMES)
     forms = [(name, text) for name in NAMES for text in (ACTIVITY_FORMS if name == "activities" else EVENT_FORMS).values()]
     faults = {"activities": ACTIVITY_FAULTS, "fixed": {**EVENT_FAULTS, **FIXED_FAULTS}, "times": EVENT_FAULTS}
     forms += [(name, text) for name in NAMES for text, _, _ in faults[name].values()]
     for number, (name, text) in enumerate(forms):
-        others = [] if name == "activities" else [activities]
+        others: List[object] = [] if name == "activities" else [activities]
         others += [] if name == "times" else ["--times", times]
-        words = [*words_for(name, suite.file(f"form {number}", text)), *others]
-        yield suite.folder, ["--check", "--period", "10", *words], b""
+        yield suite.folder, ["--check", "--period", "10", *words_for(name, suite.file(f"form {number}", text)), *others], b""
     for number, (_, period, rows, lines, _) in enumerate(CASES):
-        words = ["--period", str(period), suite.file(f"case {number}", text_of(rows))]
-        yield suite.folder, words, text_of(lines)
+        yield suite.folder, ["--period", str(period), suite.file(f"case {number}", text_of(rows))], text_of(lines)
     for folder in folders():
         yield folder, words_of(folder), content(folder / "commands")
     yield suite.folder, ["--help"], b""
 
 
-def streams_of(suite):
+def streams_of(suite: Suite) -> Iterator[Case]:
     """Drawn streams: of lines alone, and in every fourth over drawn files."""
     draw = random.Random(5_602)
     for number in range(STREAMS):
@@ -105,25 +107,26 @@ def streams_of(suite):
             yield suite.folder, ["--period", str(asked.period), *words], asked.commands
 
 
-def same(suite, cases):
+def same(suite: Suite, cases: Sequence[Case]) -> None:
     """Each case by the program and by the module."""
 
-    def both(case):
+    def both(case: Case) -> Tuple[Came, Came]:
         folder, words, given = case
-        return [run([program, *words], given=given, cwd=folder) for program in (suite.program, MODULE)]
+        wanted, came = (run([program, *words], given=given, cwd=folder) for program in (suite.program, MODULE))
+        return wanted, came
 
     with ThreadPoolExecutor(AT_ONCE) as threads:
         for case, (wanted, came) in zip(cases, threads.map(both, cases)):
-            suite.note(f"the module beside the program: {case[1]} {case[2][:200]}", wanted, came)
+            suite.note(f"the module beside the program: {case[1]} {case[2][:200]!r}", wanted, came)
 
 
 @within(300)
-def module_rows(suite):
+def module_rows(suite: Suite) -> None:
     same(suite, list(cases_of(suite)))
 
 
 @within(900)
-def module_streams(suite):
+def module_streams(suite: Suite) -> None:
     same(suite, list(streams_of(suite)))
 
 

@@ -2,7 +2,7 @@
 
 // Answers runs by the page's module, for tools/tests/page_module.py: each line of standard input is a run in JSON, with its bytes in
 // base64, and each line of standard output what came of it. `limit` is the most memory for blocks; 0 is as much as there is. Where
-// `isSession`, a session is asked line by line, and in the end its cost by both of its calls.
+// `isSession`, a session is asked line by line, and in the end its cost and its optimum in numbers and by lines.
 //
 // usage: node module_runs.js MODULE.JS MODULE.WASM
 const { readFileSync } = require('node:fs');
@@ -11,6 +11,8 @@ const { createInterface } = require('node:readline');
 const PespModule = require(process.argv[2]);
 const bytesOf = text => new Uint8Array(Buffer.from(text, 'base64'));
 const MOST = 2 ** 30;
+// So many nodes has a search of a drawn run.
+const NODES = 20;
 
 const linesOf = bytes => {
   const lines = Buffer.from(bytes).toString('latin1').split('\n');
@@ -22,6 +24,15 @@ const linesOf = bytes => {
 const isSameCost = (module, session) => {
   const { cost, fault } = PespModule.cost(module, session), { output, ending } = PespModule.ask(module, session, 'cost');
   return ending.status > 0 || Buffer.from(output).toString() === `${fault || `cost ${cost}`}\n`;
+};
+
+// Whether a search tells in numbers what the line `try 0` tells after it, where there is memory for both.
+const isSameSearch = (module, session) => {
+  const { state, cost, lowerBound, times, ending } = PespModule.search(module, session, NODES), { output, ending: after } = PespModule.ask(module, session, 'try 0');
+  if (ending.status > 0 || after.status > 0) return true;
+  const [head, ...rows] = Buffer.from(output).toString().trimEnd().split('\n'), told = `${cost} ${times.length}`;
+  const isBound = state === 0 || lowerBound <= cost, areTimes = rows.every((row, place) => Number(row.split(' ')[1]) === times[place]);
+  return head === ['stopped none', `stopped ${told}`, `optimum ${told}`, 'infeasible'][state] && isBound && areTimes;
 };
 
 // What a session answers up to the first line that it does not.
@@ -36,6 +47,7 @@ const answerByLines = (module, { commands, ...files }) => {
       replies.push(Buffer.from(came.output));
     }
     if (!isSameCost(module, session)) ended.fault = 'the cost is told otherwise';
+    if (PespModule.canSearch(module) && !isSameSearch(module, session)) ended.fault = 'the optimum is told otherwise';
     return { output: Buffer.concat(replies), ...ended };
   } finally {
     PespModule.close(module, session);

@@ -10,13 +10,18 @@ are tried, and no others. Where no event of a part has a window, all times of th
 first event is at 0.
 """
 
-from typing import Dict, Iterator, List, Optional, Set, Tuple
+from typing import TYPE_CHECKING, Dict, Iterable, Iterator, List, Optional, Set, Tuple
+
+from tests.rules import Row
+
+if TYPE_CHECKING:
+    from tests.network import Network
 
 # Times by event, as pairs that rise by event.
 Times = Tuple[Tuple[int, int], ...]
 
 
-def parts(events, activities) -> List[List[int]]:
+def parts(events: Iterable[int], activities: Iterable[Row]) -> List[List[int]]:
     """The events that activities join, over others or at once, each part ascending."""
     of = {event: {event} for event in events}
     for first, last, *_ in activities:
@@ -29,7 +34,7 @@ def parts(events, activities) -> List[List[int]]:
 class Part:
     """A part of a network, and the activities of each of its events."""
 
-    def __init__(self, network, events: List[int]) -> None:
+    def __init__(self, network: "Network", events: List[int]) -> None:
         self.network, self.events = network, events
         rows = [row for row in network.activities.values() if row[0] in events]
         self.rows = {event: [row for row in rows if event in row[:2]] for event in events}
@@ -87,9 +92,10 @@ class Part:
         return sum(row[4] * self.network.slack(row, times) for row in rows.values())
 
 
-def best(network) -> Optional[Tuple[int, Dict[int, int]]]:
+def best(network: "Network") -> Optional[Tuple[int, Dict[int, int]]]:
     """The first timetable of least cost, with its cost, or None."""
     found = [Part(network, part).best() for part in parts(network.events, network.activities.values())]
-    if None in found:
+    best_of_each = [each for each in found if each is not None]
+    if len(best_of_each) < len(found):
         return None
-    return sum(cost for cost, _ in found), {event: time for _, times in found for event, time in times}
+    return sum(cost for cost, _ in best_of_each), {event: time for _, times in best_of_each for event, time in times}

@@ -1,24 +1,27 @@
-"""The tests of the Python package, each of which is a case here, and the types of all of it."""
+"""The tests of the Python package, each of which is a case here; and types, of all of it and of tools/."""
 
+import configparser
 import importlib.util
 import os
 import shutil
 import subprocess
 import sys
+from pathlib import Path
+from typing import Callable, Dict, List, Sequence
 
 from tests.embedded import shared_library
-from tests.harness import TOP, within
+from tests.harness import TOP, Suite, within
 
-PYTHON = TOP / "python"
+PYTHON, TOOLS = TOP / "python", TOP / "tools"
 # Debian's own Python, for which its packages are.
 SYSTEM = "/usr/bin/python3"
 
 
-def environment(suite):
+def environment(suite: Suite) -> Dict[str, str]:
     return {**os.environ, "PESPBENCH": str(suite.program), "PYTHONDONTWRITEBYTECODE": "1", "PYTHONPATH": str(PYTHON)}
 
 
-def run_tests(suite, modules, python=sys.executable, warnings="error"):
+def run_tests(suite: Suite, modules: Sequence[str], python: str = sys.executable, warnings: str = "error") -> None:
     """Notes each test of modules of python/tests; one that is skipped is told, and is no case.
 
     They ran to their end too where all were skipped.
@@ -27,6 +30,7 @@ def run_tests(suite, modules, python=sys.executable, warnings="error"):
     env = {**environment(suite), **({"PESPBENCH_LIB": str(library)} if library else {})}
     with subprocess.Popen(command, cwd=PYTHON, env=env, stdout=subprocess.PIPE, text=True) as process:
         told = 0
+        assert process.stdout is not None
         for line in process.stdout:
             word, _, name = line.rstrip().partition(" ")
             is_told = word in ("passed", "failed", "skipped") and name.startswith("tests.")
@@ -38,15 +42,15 @@ def run_tests(suite, modules, python=sys.executable, warnings="error"):
     suite.holds(f"python: the tests of {' '.join(modules)} ran to their end", told and process.returncode in (0, 1))
 
 
-def modules(*names):
+def modules(*names: str) -> List[str]:
     """The modules of python/tests but these, or none where one is named that is not there."""
     found = [f"tests.{path.stem}" for path in sorted((PYTHON / "tests").glob("test_*.py"))]
     return [name for name in found if name not in names]
 
 
-def a_group(name):
+def a_group(name: str) -> Callable[[Suite], None]:
     @within(240)
-    def group(suite):
+    def group(suite: Suite) -> None:
         run_tests(suite, [name])
 
     group.__name__ = name.replace("tests.test_", "python_")
@@ -54,7 +58,7 @@ def a_group(name):
 
 
 @within(240)
-def python_dask(suite):
+def python_dask(suite: Suite) -> None:
     """The tests over Dask, by Debian's Python, which alone sees Debian's package."""
     has_dask = subprocess.run([SYSTEM, "-c", "import distributed"], capture_output=True).returncode == 0
     if has_dask:
@@ -70,7 +74,7 @@ OVER_MPI = "mpiexec -n 8 python3 -m mpi4py.futures examples/on_a_cluster.py exam
 
 
 @within(120)
-def python_mpi(suite):
+def python_mpi(suite: Suite) -> None:
     """The example of many variants tells over MPI what it tells over this machine's processors, by Debian's Python."""
     surroundings = {**environment(suite), **ANYWHERE, "PATH": f"/usr/bin:{os.environ['PATH']}"}
     starts = ["mpiexec", "-n", "2", SYSTEM, "-c", "import mpi4py.MPI"]
@@ -84,20 +88,41 @@ def python_mpi(suite):
     suite.holds("python: examples/on_a_cluster.py tells the same over MPI", told[0] == told[1])
 
 
-@within(240)
-def python_types(suite):
-    """The package and its tests pass a type checker, at the oldest Python that they are for."""
+def pass_types(suite: Suite, name: str, folder: Path, words: Sequence[str]) -> None:
+    """Notes whether what is in a folder passes a type checker, by its words or by the settings that are there."""
     mypy = shutil.which("mypy")
     if mypy is None and importlib.util.find_spec("mypy") is None:
         print("  no type checker was tried: mypy is not installed")
         return
     command = [mypy] if mypy else [sys.executable, "-m", "mypy"]
-    words = ["--strict", "--python-version", "3.9", "--cache-dir", str(suite.folder), "pespbench", "tests"]
-    came = subprocess.run([*command, *words], cwd=PYTHON, capture_output=True, text=True)
-    suite.note("python: types", {"status": 0, "told": "Success"}, {"status": came.returncode, "told": came.stdout[:7] or came.stderr})
+    came = subprocess.run([*command, *words, "--cache-dir", str(suite.folder)], cwd=folder, capture_output=True, text=True)
+    suite.note(name, {"status": 0, "told": "Success"}, {"status": came.returncode, "told": came.stdout[:7] if came.returncode == 0 else came.stdout or came.stderr})
 
 
-def python_package(suite):
+@within(240)
+def python_types(suite: Suite) -> None:
+    """The package and its tests pass a type checker, at the oldest Python that they are for."""
+    pass_types(suite, "python: types", PYTHON, ["--strict", "--python-version", "3.9", "pespbench", "tests"])
+
+
+@within(240)
+def tools_types(suite: Suite) -> None:
+    """So does all of tools/ that is in Python, as tools/mypy.ini says."""
+    settings = configparser.ConfigParser()
+    settings.read(TOOLS / "mypy.ini")
+    held = [name.strip() for name in settings["mypy"]["files"].split(",")]
+    written = [path.relative_to(TOOLS) for path in TOOLS.rglob("*") if path.is_file() and is_python(path)]
+    free = [str(path) for path in written if not {str(path), path.parts[0]} & set(held)]
+    suite.note("tools: what has no types", {"files": []}, {"files": free})
+    pass_types(suite, "tools: types", TOOLS, [])
+
+
+def is_python(path: Path) -> bool:
+    """Whether a file is a module, or a script of Python."""
+    return path.suffix == ".py" or not path.suffix and path.read_bytes()[:50].startswith(b"#!/usr/bin/env python3\n")
+
+
+def python_package(suite: Suite) -> None:
     """The package stands on the standard library alone, compiles at each Python that is here, and has no compiled leavings."""
     for path in sorted((PYTHON / "pespbench").rglob("*.py")):
         text = path.read_text()
@@ -110,4 +135,4 @@ def python_package(suite):
 
 STANDARD = set(getattr(sys, "stdlib_module_names", ())) or {"argparse"}
 
-GROUPS = [*map(a_group, modules("tests.test_dask")), python_dask, python_mpi, python_types, python_package]
+GROUPS = [*map(a_group, modules("tests.test_dask")), python_dask, python_mpi, python_types, tools_types, python_package]

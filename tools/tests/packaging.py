@@ -4,8 +4,10 @@ import os
 import re
 import shutil
 import tarfile
+from pathlib import Path
+from typing import Any, Dict, Sequence, Tuple
 
-from tests.harness import SOME, TOP, run, within
+from tests.harness import SOME, TOP, Came, Suite, run, within
 from tests.written import headings_of, links_of
 
 # Debian's own Python, for which its packages are.
@@ -17,26 +19,26 @@ LIBRARY = TOP / "crates/pesp_embedded/out/libpesp_embedded.a"
 ANSWER = ["-o", "answer", "embedded/answer.c", "embedded/heap.c", "embedded/libpesp_embedded.a"]
 
 
-def called(suite, words, **how):
+def called(suite: Suite, words: Sequence[object], **how: Any) -> Came:
     """What a tool gives, with the program of the tests as the built one, and a stand-in where the library is not built."""
     env = {"PATH": os.environ["PATH"], "HOME": str(suite.folder), "PESPBENCH": str(suite.program), "PYTHONDONTWRITEBYTECODE": "1"}
     library = LIBRARY if LIBRARY.exists() else suite.file("stand-in.a", b"!<arch>\n")
     return run(words, env={**env, "PESPBENCH_LIBRARY": str(library), **how.pop("env", {})}, **how)
 
 
-def git(tree, *words):
+def git(tree: Path, *words: str) -> Came:
     """What git gives in a tree, which no settings of a user change."""
     env = {"PATH": os.environ["PATH"], "HOME": str(tree), "GIT_CONFIG_NOSYSTEM": "1"}
     return run(["git", "-C", tree, "-c", "user.name=n", "-c", "user.email=n@n", *words], env=env)
 
 
-def told_of_changes():
+def told_of_changes() -> object:
     """What tools/package tells on standard error: where this tree has what is not committed, that it is left out."""
     return SOME if git(TOP, "status", "--porcelain", "--untracked-files=no")["standard output"] else b""
 
 
 @within(120)
-def package(suite):
+def package(suite: Suite) -> None:
     """A package is made, is the same twice, has right sums, and installs what works without the tree."""
     came = [called(suite, [TOP / "tools/package", suite.folder]) for _ in range(2)]
     path = suite.folder / came[0]["standard output"].decode().strip().rpartition("/")[2]
@@ -61,7 +63,7 @@ def package(suite):
     installed(suite, prefix)
 
 
-def version(suite, top):
+def version(suite: Suite, top: Path) -> None:
     """The name has the newest version of the changelog, and says where more stands above it."""
     headings = re.findall(r"^## \[?([\w.]+)", (top / "CHANGELOG.md").read_text(), re.M)
     numbered = next(each for each in headings if each[0].isdigit())
@@ -69,7 +71,7 @@ def version(suite, top):
     suite.note("the version of a package", {"name": f"pespbench-{wanted}-{os.uname().machine}"}, {"name": top.name})
 
 
-def parts(suite, top):
+def parts(suite: Suite, top: Path) -> None:
     """The page is in it, and the library with its header, over which a caller is made as its page says."""
     for name in ["page/pespbench.html", "page/README.md", "embedded/pespbench.h", "embedded/libpesp_embedded.a", "embedded/answer.c"]:
         suite.holds(f"the package has {name}", (top / name).is_file())
@@ -83,7 +85,7 @@ def parts(suite, top):
     (top / "answer").unlink(missing_ok=True)
 
 
-def live_links(suite, top):
+def live_links(suite: Suite, top: Path) -> None:
     """Each link of a document of the package leads to a file of the package, and to a heading that it has."""
     pages = sorted(top.rglob("*.md"))
     suite.holds("the package has documents", len(pages) > 10)
@@ -93,7 +95,7 @@ def live_links(suite, top):
         suite.note(f"the links of {page.relative_to(top)} in the package", {"lost": []}, {"lost": lost})
 
 
-def a_clone(suite, name):
+def a_clone(suite: Suite, name: str) -> Path:
     """A clone of what tools/package looks at, with names that are hard to a shell."""
     tree = suite.folder / name
     (tree / "tools/packing").mkdir(parents=True)
@@ -104,16 +106,16 @@ def a_clone(suite, name):
     texts.update({f"{part}/a.md": "" for part in ["man", "completions", "docs", "embedded", "python/pespbench"]})
     texts.update({"docs/two words.md": "[up](../README.md#none)\n", "examples/a 'b' \"c\"": "", "examples/-n": "", "other/b.md": ""})
     texts.update({"python/README.md": "", "python/pyproject.toml": "", "page/README.md": "", "page/page.png": "", "page/pespbench.html": "<p>"})
-    for path, text in texts.items():
-        (tree / path).parent.mkdir(parents=True, exist_ok=True)
-        (tree / path).write_text(text)
+    for file, text in texts.items():
+        (tree / file).parent.mkdir(parents=True, exist_ok=True)
+        (tree / file).write_text(text)
     git(tree, "init", "-q")
     git(tree, "add", "-A")
     suite.note("a clone to pack", {"status": 0}, git(tree, "commit", "-q", "-m", "one"))
     return tree
 
 
-def packed(suite, tree, title, **how):
+def packed(suite: Suite, tree: Path, title: str, **how: Any) -> Tuple[str, Dict[str, int], Dict[str, bytes]]:
     """The package of a clone: its name, its entries with their permissions, and its texts."""
     came = called(suite, [tree / "tools/package", suite.folder], **how)
     suite.note(title, {"status": 0}, came)
@@ -122,12 +124,13 @@ def packed(suite, tree, title, **how):
     path = came["standard output"].decode().strip()
     with tarfile.open(path) as tar:
         entries = {each.name.partition("/")[2]: each for each in tar.getmembers()}
-        texts = {name: tar.extractfile(each).read() for name, each in entries.items() if each.isfile()}
+        files = {name: tar.extractfile(each) for name, each in entries.items() if each.isfile()}
+        texts = {name: file.read() for name, file in files.items() if file is not None}
     return path.rpartition("/")[2], {name: each.mode for name, each in entries.items()}, texts
 
 
 @within(120)
-def package_of_a_clone(suite):
+def package_of_a_clone(suite: Suite) -> None:
     """A package has what git has, whatever the names are, and nothing else, and is the same under each umask."""
     tree = a_clone(suite, "clone")
     name, modes, texts = packed(suite, tree, "tools/package with names that are hard to a shell")
@@ -149,7 +152,7 @@ def package_of_a_clone(suite):
     suite.note("tools/package without git's files", {"status": 1}, called(suite, [tree / "tools/package", suite.folder]))
 
 
-def installed(suite, prefix):
+def installed(suite: Suite, prefix: Path) -> None:
     """What was installed works, by itself."""
     env = {"PESPBENCH": "", "PATH": f"{prefix / 'bin'}:/usr/bin:/bin"}
     came = called(suite, ["pespbench"], given=b"cost\n", env=env)
@@ -168,7 +171,7 @@ def installed(suite, prefix):
 
 
 @within(240)
-def pip(suite):
+def pip(suite: Suite) -> None:
     """`pip install ./python`, by Debian's Python where that has what pip builds with; nothing is fetched."""
     if run([SYSTEM, "-c", "import setuptools, wheel, pip"])["status"]:
         print("  pip was not tried: python3-pip, python3-setuptools and python3-wheel are not installed")
@@ -176,13 +179,13 @@ def pip(suite):
     shutil.copytree(TOP / "python", suite.folder / "python", ignore=shutil.ignore_patterns("__pycache__"))
     words = ["-m", "pip", "install", "--quiet", "--no-index", "--no-build-isolation", "--target", "target", "./python"]
     suite.note("pip install ./python", {"status": 0}, called(suite, [SYSTEM, *words], cwd=suite.folder, seconds=220))
-    words = ["-m", "pespbench", "search", "--period", "10", TOP / "examples/two-trains/activities"]
-    came = called(suite, [SYSTEM, *words], env={"PYTHONPATH": str(suite.folder / "target")})
+    two = TOP / "examples/two-trains/activities"
+    came = called(suite, [SYSTEM, "-m", "pespbench", "search", "--period", "10", two], env={"PYTHONPATH": str(suite.folder / "target")})
     suite.note("the package that pip installed", {"status": 0, "standard output": b"optimum 4 2\n1 0\n2 4\n"}, came)
     suite.holds("it tells its types", (suite.folder / "target/pespbench/py.typed").exists())
 
 
-def without_a_program(suite):
+def without_a_program(suite: Suite) -> None:
     """Without a built program both say so, and make nothing."""
     for tool in ["package", "install"]:
         tree = suite.folder / tool

@@ -8,10 +8,12 @@ import re
 import shutil
 import subprocess
 import sys
+from pathlib import Path
+from typing import Any, Dict, List, Union
 
 from tests.drawn_runs import Asked, drawn_run, told_by
 from tests.file_cases import TWO
-from tests.harness import TOP, within
+from tests.harness import TOP, Suite, within
 
 sys.path.insert(0, str(TOP / "tools"))
 
@@ -42,7 +44,7 @@ MODULE = b"\0asm"
 NAMES = ["sha256-ucCEDWFESBPBbm1ODIMALbDS0sTBScYkR9sE53sXVVk=", "sha256-YZwKaVawabDNvmVDMcSnBHe0D1Gx5K61vcyoQEpD0nk="]
 
 
-def sources(suite, name, **changed):
+def sources(suite: Suite, name: str, **changed: str) -> Path:
     """The folder of a page of a few lines, with some of its files changed."""
     folder = suite.folder / name
     (folder / "parts").mkdir(parents=True)
@@ -52,31 +54,33 @@ def sources(suite, name, **changed):
     return folder
 
 
-def refused(folder):
+def refused(folder: Path) -> str:
     try:
         return assembled(folder, MODULE).decode()
     except NotMade as fault:
         return f"refused: {fault}"
 
 
-def module_or_fault(text):
+def module_or_fault(text: str) -> Union[bytes, str]:
     try:
         return module_of(text.encode())
     except NotMade as fault:
         return str(fault)
 
 
-def page(suite):
+def page(suite: Suite) -> None:
     """A page has its styles, scripts and module in it, and its policy lets just these scripts run."""
     came = refused(sources(suite, "plain"))
-    policy = re.search(r'content="([^"]*)"', came).group(1)
+    told = re.search(r'content="([^"]*)"', came)
+    assert told is not None
+    policy = told[1]
     suite.note("a page", {"page": MADE_OF_IT}, {"page": came.replace(policy, "POLICY")})
     names = " ".join(f"'{name}'" for name in NAMES)
     wanted = POLICY.replace("script-src 'unsafe-inline'", f"script-src {names}")
     suite.note("its policy", {"policy": wanted}, {"policy": policy})
     suite.holds("its module", module_of(came.encode()) == MODULE)
     unpacked = module_or_fault(came.replace("Y0gszgUA", "AGFzbQ=="))
-    suite.holds(f"one that is not packed: {unpacked}", str(unpacked).startswith("the module in the page cannot be unpacked"))
+    suite.holds(f"one that is not packed: {unpacked!r}", str(unpacked).startswith("the module in the page cannot be unpacked"))
     table = {
         "a script that would end early": {"parts__first_js": "const text = '</SCRIPT>';\n"},
         "a style that would end early": {"look_css": "/* </style> */\n"},
@@ -94,24 +98,26 @@ def page(suite):
 class Node:
     """The module in Node, which answers runs."""
 
-    def __init__(self, suite, module):
+    def __init__(self, suite: Suite, module: bytes) -> None:
         path = suite.folder / "module.wasm"
         path.write_bytes(module)
-        words = ["node", TOP / "tools/tests/module_runs.js", TOP / "page/module.js", path]
+        words = ["node", str(TOP / "tools/tests/module_runs.js"), str(TOP / "page/module.js"), str(path)]
         self.process = subprocess.Popen(words, stdin=subprocess.PIPE, stdout=subprocess.PIPE, text=True)
+        assert self.process.stdin is not None and self.process.stdout is not None
+        self.given, self.told = self.process.stdin, self.process.stdout
 
-    def answer(self, asked, limit=0, room=0, is_session=False):
+    def answer(self, asked: Asked, limit: int = 0, room: int = 0, is_session: bool = False) -> Dict[str, Any]:
         texts = {name: base64.b64encode(value).decode() for name, value in asked._asdict().items() if name != "period"}
         how = {"limit": limit, "room": room, "isSession": is_session}
-        print(json.dumps({"period": asked.period, **how, **texts}), file=self.process.stdin, flush=True)
-        came = json.loads(self.process.stdout.readline())
+        print(json.dumps({"period": asked.period, **how, **texts}), file=self.given, flush=True)
+        came = json.loads(self.told.readline())
         return {**came, "replies": base64.b64decode(came["output"])}
 
-    def __enter__(self):
+    def __enter__(self) -> "Node":
         return self
 
-    def __exit__(self, *_):
-        self.process.stdin.close()
+    def __exit__(self, *_: object) -> None:
+        self.given.close()
         self.process.wait()
 
 
@@ -122,7 +128,7 @@ SHORT_RUNS, TIMES = 40, 6
 BITS = 12, 21
 
 
-def same_bytes(suite, node):
+def same_bytes(suite: Suite, node: Node) -> None:
     """Drawn runs have the program's replies, as whole runs and by sessions, and nothing is left after either."""
     draw, lines = random.Random(4_100), 0
     for number in itertools.count():
@@ -137,13 +143,13 @@ def same_bytes(suite, node):
             suite.note(f"drawn run {number}, {'by a session' if is_session else 'whole'}, {asked}", {**told, "in use": 0}, came)
 
 
-def is_short(whole, came):
+def is_short(whole: bytes, came: Dict[str, Any]) -> bool:
     """Whether memory is wanted in a run, whose replies are then some first bytes of all."""
     is_wanted = came["ending"]["status"] in (5, 6) or came["ending"]["reason"] == 11
     return is_wanted and whole.startswith(came["replies"])
 
 
-def little_memory(suite, node):
+def little_memory(suite: Suite, node: Node) -> None:
     """With less and less memory a run is answered as the program does, or tells that it found none."""
     draw, wanted_some = random.Random(4_101), 0
     for number in range(SHORT_RUNS):
@@ -159,10 +165,12 @@ def little_memory(suite, node):
     suite.holds(f"and not in others: {wanted_some}", wanted_some < SHORT_RUNS * (TIMES - 1))
 
 
-def endings(suite, node):
+def endings(suite: Suite, node: Node) -> None:
     """Runs that end otherwise."""
     empty = Asked(10, b"", b"", b"", b"")
-    for period in [0, 1, 1_441, 65_536, -3, 2.5, 1_450]:
+    # One of them is no whole number.
+    refused_periods: List[Any] = [0, 1, 1_441, 65_536, -3, 2.5, 1_450]
+    for period in refused_periods:
         came = node.answer(empty._replace(period=period, commands=b"cost\n"))
         suite.note(f"period {period}", {"replies": b"", "fault": "the period is not 2 to 1440"}, came)
         came = node.answer(empty._replace(period=period), is_session=True)
@@ -180,7 +188,7 @@ def endings(suite, node):
 
 
 @within(300)
-def page_module(suite):
+def page_module(suite: Suite) -> None:
     """The module of page/pespbench.html, in Node."""
     if not shutil.which("node"):
         print("page_module: there is no node, so the module is not tried")

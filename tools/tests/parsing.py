@@ -1,6 +1,7 @@
 """Lines and what they ask for, as docs/FORMATS.md says; tests/model.py answers them."""
 
 import re
+from typing import Dict, List, Optional, Tuple
 
 LONGEST_LINE = 4_096
 MOST_LINES = 1_000_000
@@ -12,7 +13,7 @@ TIME = range(0, 65_536)
 LIMIT = range(0, 1_000_000_000_001)
 
 # The range of each number of a command; a command that has a span has it at the places named.
-COMMANDS = {
+COMMANDS: Dict[str, List[range]] = {
     "add event": [NUMBER],
     "drop event": [NUMBER],
     "fix": [NUMBER, TIME],
@@ -43,7 +44,7 @@ class Fault(Exception):
     """What is wrong with a line."""
 
 
-def parse(line):
+def parse(line: bytes) -> Optional[Tuple[str, List[int]]]:
     """The name of a line's command and its numbers, or None for a blank line and a comment."""
     words = [word for word in re.split(rb"[ \t\r]+", line) if word]
     if not words or words[0].startswith(b"#"):
@@ -62,7 +63,14 @@ def parse(line):
     return name, numbers
 
 
-def number(place, word, limits):
+def command_of(line: bytes) -> Tuple[str, List[int]]:
+    """The same of a line that is neither blank nor a comment."""
+    command = parse(line)
+    assert command is not None
+    return command
+
+
+def number(place: int, word: bytes, limits: range) -> int:
     if not re.fullmatch(rb"[+-]?[0-9]+", word):
         raise Fault(f"word {place} is not a number")
     digits = word.lstrip(b"+-").lstrip(b"0")

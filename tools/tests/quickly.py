@@ -10,8 +10,9 @@ import sys
 import tempfile
 import time
 from concurrent.futures import ThreadPoolExecutor, as_completed
+from functools import partial
 from pathlib import Path
-from typing import NamedTuple
+from typing import Callable, List, NamedTuple, Sequence, Tuple
 
 from page_tests.browser import found as browser
 from tests import main as whole
@@ -34,24 +35,28 @@ MORE = {"python_browser": "browser"}
 COUNTS = re.compile(r"(\d+) passed(?:, (\d+) failed)?")
 
 
+# How many cases passed, how many failed, and what was said.
+Counts = Tuple[int, int, str]
+
+
 class Part(NamedTuple):
     """A part of the tests: what it wants on the path, and what gives its counts and what it says."""
 
     name: str
-    wants: list
-    run: object
+    wants: List[str]
+    run: Callable[[], Counts]
 
 
-def is_there(wanted):
+def is_there(wanted: str) -> bool:
     return browser() is not None if wanted == "browser" else shutil.which(wanted) is not None
 
 
-def called(words, folder=TOP):
-    done = subprocess.run(words, cwd=folder, stdout=subprocess.PIPE, stderr=subprocess.STDOUT, text=True, errors="replace")
+def called(words: Sequence[object], folder: Path = TOP) -> Tuple[int, str]:
+    done = subprocess.run(list(map(str, words)), cwd=folder, stdout=subprocess.PIPE, stderr=subprocess.STDOUT, text=True, errors="replace")
     return done.returncode, done.stdout
 
 
-def counted(words, folder=TOP):
+def counted(words: Sequence[object], folder: Path = TOP) -> Counts:
     """The counts that a command tells last; one that fails and tells no failure is one."""
     status, output = called(words, folder)
     found = COUNTS.findall(output)
@@ -59,23 +64,23 @@ def counted(words, folder=TOP):
     return passed, failed or int(status != 0), output
 
 
-def crate(name):
+def crate(name: str) -> Counts:
     status, output = called(["rt", "try", "--test", "--seconds", "300"], TOP / "crates" / name)
     return output.count("... ok\n"), int(status != 0), output
 
 
-def cases():
+def cases() -> Counts:
     """The program, built once without a proof, over rows and streams whose replies are known."""
     with tempfile.TemporaryDirectory() as name:
         wanted, data = write_cases(Path(name))
-        words = ["rt", "try", "--steps", "1000", "--seconds", "600", *data, "--cases", Path(name) / "cases"]
+        words = ["rt", "try", "--steps", "1000", "--seconds", "600", *data, "--cases", str(Path(name) / "cases")]
         done = subprocess.run(words, cwd=TOP / "crates/pespbench", capture_output=True, text=True, errors="replace")
         wrong = told(done.stdout, done.stderr, wanted)
     tail = "" if done.returncode == 0 else "\n".join(done.stderr.splitlines()[-20:])
     return len(wanted) - len(wrong), len(wrong), "\n".join([*wrong, tail])
 
 
-def in_its_place(folder):
+def in_its_place(folder: str) -> Path:
     """The module as a program of one file, which runs wherever it is copied and whatever path it is given."""
     path = Path(folder) / "pespbench"
     path.write_text(f"#!/bin/sh\nPATH=$PATH:{shlex.quote(os.environ['PATH'])} exec {shlex.quote(str(MODULE))} \"$@\"\n")
@@ -83,26 +88,26 @@ def in_its_place(folder):
     return path
 
 
-def parts(program):
+def parts(program: Path) -> List[Part]:
     """All parts, the longest first."""
     found = [Part("the program's rows and streams", ["rt", "node"], cases)]
-    found += [Part(name, ["rt"], lambda name=name: crate(name)) for name in CRATES]
+    found += [Part(name, ["rt"], partial(crate, name)) for name in CRATES]
     found.append(Part("the page in a browser", ["browser"], lambda: counted([sys.executable, TOP / "tools/test_page"])))
     for name in whole.groups():
         if name not in PROGRAM_ALONE:
             words = [sys.executable, TOP / "tools/test_program", "--patience", PATIENCE, "--only", name, program]
             wants = ["node", *filter(None, [MORE.get(name)])]
-            found.append(Part(name, wants, lambda words=words: counted(words)))
+            found.append(Part(name, wants, partial(counted, words)))
     return sorted(found, key=lambda part: LONGEST.index(part.name) if part.name in LONGEST else len(LONGEST))
 
 
-def timed(part):
+def timed(part: Part) -> Tuple[int, int, str, float]:
     began = time.monotonic()
     passed, failed, output = part.run()
     return passed, failed, output, time.monotonic() - began
 
 
-def run_all(chosen, jobs):
+def run_all(chosen: Sequence[Part], jobs: int) -> Tuple[int, int]:
     passed = failed = 0
     with ThreadPoolExecutor(jobs) as threads:
         running = {threads.submit(timed, part): part for part in chosen}
@@ -115,17 +120,17 @@ def run_all(chosen, jobs):
     return passed, failed
 
 
-def main(words):
+def main(words: Sequence[str]) -> int:
     parser = argparse.ArgumentParser(prog="tools/test", description="Runs the tests without proving anything.")
     parser.add_argument("--list", action="store_true", help="print the names of the parts")
     parser.add_argument("--only", action="append", metavar="NAME", help="run this part alone")
     parser.add_argument("--jobs", type=int, default=min(4, os.cpu_count() or 1), help="how many parts run at once")
-    words = parser.parse_args(words)
+    chosen = parser.parse_args(words)
     with tempfile.TemporaryDirectory() as folder:
-        return of_parts(words, [part for part in parts(in_its_place(folder)) if not words.only or part.name in words.only])
+        return of_parts(chosen, [part for part in parts(in_its_place(folder)) if not chosen.only or part.name in chosen.only])
 
 
-def of_parts(words, known):
+def of_parts(words: argparse.Namespace, known: Sequence[Part]) -> int:
     if words.list:
         print("\n".join(part.name for part in known))
         return 0

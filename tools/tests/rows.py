@@ -16,12 +16,12 @@ from tests.file_cases import (
     TWO_FIXED,
     TWO_TIMES,
 )
-from tests.harness import record
+from tests.harness import Suite, record
 from tests.limits import GREATEST_PERIOD, MOST_ACTIVITIES, MOST_EVENTS, most_activities, most_events
 from tests.replies import TWO_REPLIES
 
 
-def written_forms(suite):
+def written_forms(suite: Suite) -> None:
     activities, times = suite.file("two", TWO), suite.file("two times", TWO_TIMES)
     shifted = suite.file("shifted", b"1; 1\n2; 4\n")
     all_moved = TWO_REPLIES.replace(b"violations 1\nactivity 2\n", b"violations 3\nactivity 2\nevent 1\nevent 2\n")
@@ -36,7 +36,7 @@ def written_forms(suite):
         suite.check(f"fixed: {name}, not kept", [*words, "--times", shifted], output=all_moved)
 
 
-def faulty_rows(suite):
+def faulty_rows(suite: Suite) -> None:
     for name, (text, number, kind) in ACTIVITY_FAULTS.items():
         path = suite.file("faulty", text)
         suite.check(f"activities: {name}", [path], status=1, error=record("activities", number, kind))
@@ -51,12 +51,12 @@ def faulty_rows(suite):
     suite.check("fixed: an event of the times alone", words, status=1, error=record("fixed", 1, ABSENT))
 
 
-def loop(number, event):
+def loop(number: int, event: int) -> bytes:
     return b"%d; %d; %d; 0; 9; 0\n" % (number, event, event)
 
 
-def too_many_activities(suite):
-    def refused(name, rows, number, kind):
+def too_many_activities(suite: Suite) -> None:
+    def refused(name: str, rows: bytes, number: int, kind: str) -> None:
         error = record("activities", number, kind)
         suite.check(f"activities: {name}", [suite.file("many", rows)], status=1, error=error)
 
@@ -77,7 +77,7 @@ def too_many_activities(suite):
         refused(f"{name} after as many as there may be", full + row, MOST_ACTIVITIES + 1, kind)
 
 
-def too_many_times(suite):
+def too_many_times(suite: Suite) -> None:
     rows = b"".join(b"%d; 0\n" % event for event in range(MOST_EVENTS + 1))
     words = ["--times", suite.file("many", rows)]
     suite.check("times: one too many", words, status=1, error=record("times", MOST_EVENTS + 1, EVENTS))
@@ -91,7 +91,7 @@ def too_many_times(suite):
     suite.check("fixed: a repeat after as many as there may be", words, status=1, error=record("fixed", MOST_EVENTS + 1, EVENT_TWICE))
 
 
-def long_periods(suite):
+def long_periods(suite: Suite) -> None:
     """Above 120 a network may have the fewer events and activities the longer the period is."""
     for period in [121, 720, GREATEST_PERIOD]:
         words, events, activities = ["--period", str(period)], most_events(period), most_activities(period)

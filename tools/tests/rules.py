@@ -4,6 +4,7 @@ tools/test_program compares the program with `check`, for the bytes of three fil
 """
 
 import re
+from typing import Callable, Dict, Iterator, List, Mapping, Sequence, Set, Tuple, TypedDict
 
 from tests.limits import most_activities, most_events
 
@@ -14,6 +15,21 @@ TIMES = range(-1_000_000_000, 1_000_000_001)
 MARK = b"\xef\xbb\xbf"
 
 
+# The numbers of a row of a file, of which an activity has six.
+Row = Tuple[int, ...]
+Times = Dict[int, int]
+# What reads a field, and the numbers that it may be.
+Column = Tuple[Callable[[int, bytes, range], int], range]
+
+
+class Checked(TypedDict):
+    """What a check gives."""
+
+    status: int
+    output: bytes
+    error: bytes
+
+
 class Faulty(Exception):
     """The fault of a row, as it is told."""
 
@@ -21,25 +37,32 @@ class Faulty(Exception):
 # The records of a file
 
 
-def records(text):
+def records(text: bytes) -> Iterator[List[bytes]]:
     """The records: each a list of its fields, with quotes undone and no blanks trimmed."""
     text = text.removeprefix(MARK)
     separator = b";" if b";" in text else b","
     field = re.compile(rb'"([^"]*(?:""[^"]*)*)"?([^%b\r\n]*)|([^%b\r\n]*)' % (separator, separator))
     line_ends = re.compile(rb"[\r\n]*")
-    place = line_ends.match(text).end()
+    place = match_at(line_ends, text, 0).end()
     while place < len(text):
-        fields = []
+        fields: List[bytes] = []
         while not fields or text[place : place + 1] == separator:
-            found = field.match(text, place + (len(fields) > 0))
+            found = match_at(field, text, place + (len(fields) > 0))
             quoted, after, plain = found.groups()
             fields.append(plain if quoted is None else quoted.replace(b'""', b'"') + after)
             place = found.end()
         yield fields
-        place = line_ends.match(text, place).end()
+        place = match_at(line_ends, text, place).end()
 
 
-def rows(text):
+def match_at(pattern: "re.Pattern[bytes]", text: bytes, place: int) -> "re.Match[bytes]":
+    """The match of a pattern that matches everywhere."""
+    found = pattern.match(text, place)
+    assert found is not None
+    return found
+
+
+def rows(text: bytes) -> Iterator[Tuple[int, List[bytes]]]:
     """The numbers of the records that are rows, and their fields."""
     first = True
     for place, fields in enumerate(records(text), 1):
@@ -56,7 +79,7 @@ def rows(text):
 # What a row stands for
 
 
-def number(field, text, limits):
+def number(field: int, text: bytes, limits: range) -> int:
     if not re.fullmatch(rb"[+-]?[0-9]+", text):
         raise Faulty(f"field {field} is not a number")
     digits = text.lstrip(b"+-").lstrip(b"0")
@@ -67,7 +90,7 @@ def number(field, text, limits):
     return value
 
 
-def weight(field, text, limits):
+def weight(field: int, text: bytes, limits: range) -> int:
     whole, point, decimals = text.partition(b".")
     if point and (not re.fullmatch(rb"[+-]?[0-9]+", whole) or not re.fullmatch(rb"[0-9]*", decimals)):
         raise Faulty(f"field {field} is not a number")
@@ -80,13 +103,13 @@ ACTIVITY = [(number, NUMBERS)] * 3 + [(number, BOUNDS)] * 2 + [(weight, WEIGHTS)
 EVENT_AND_TIME = [(number, NUMBERS), (number, TIMES)]
 
 
-def values(fields, columns):
+def values(fields: Sequence[bytes], columns: Sequence[Column]) -> Row:
     if len(fields) != len(columns):
         raise Faulty("wrong number of fields")
     return tuple(read(place, text, limits) for place, (text, (read, limits)) in enumerate(zip(fields, columns), 1))
 
 
-def read(name, text, take):
+def read(name: str, text: bytes, take: Callable[[List[bytes]], None]) -> None:
     """Hands the fields of each row on, and tells the first row that has a fault."""
     for place, fields in rows(text):
         try:
@@ -95,11 +118,12 @@ def read(name, text, take):
             raise Faulty(f"pespbench: {name} file, record {place}: {fault}\n") from None
 
 
-def read_activities(period, text):
+def read_activities(period: int, text: bytes) -> Tuple[List[Row], Set[int]]:
     """The rows of activities, and the events that they name."""
-    activities, events = {}, set()
+    activities: Dict[int, Row] = {}
+    events: Set[int] = set()
 
-    def take(fields):
+    def take(fields: List[bytes]) -> None:
         row = values(fields, ACTIVITY)
         if row[3] > row[4]:
             raise Faulty("lower bound above upper bound")
@@ -116,11 +140,11 @@ def read_activities(period, text):
     return list(activities.values()), events
 
 
-def read_events(name, text, refuse):
+def read_events(name: str, text: bytes, refuse: Callable[[int, Times], None]) -> Times:
     """The times of a file, one for each event; `refuse` tells what such a file refuses besides."""
-    times = {}
+    times: Times = {}
 
-    def take(fields):
+    def take(fields: List[bytes]) -> None:
         event, time = values(fields, EVENT_AND_TIME)
         if event in times:
             raise Faulty("event is repeated")
@@ -134,7 +158,7 @@ def read_events(name, text, refuse):
 # What a check gives
 
 
-def replies(period, activities, fixed, times):
+def replies(period: int, activities: Sequence[Row], fixed: Mapping[int, int], times: Mapping[int, int]) -> bytes:
     """The replies of a check. An activity is a tuple of its six fields; fixed times and times are by event."""
     events = {event for activity in activities for event in activity[1:3]}
     without = sorted(events - times.keys())
@@ -152,14 +176,14 @@ def replies(period, activities, fixed, times):
     return "".join(f"{line}\n" for line in lines).encode()
 
 
-def check(period, activities=b"", fixed=b"", times=b""):
+def check(period: int, activities: bytes = b"", fixed: bytes = b"", times: bytes = b"") -> Checked:
     """The exit status, and what goes to standard output and to standard error, for the bytes of the files."""
 
-    def absent(event, _):
+    def absent(event: int, _: Times) -> None:
         if event not in events:
             raise Faulty("event is not in the instance")
 
-    def too_many(_, taken):
+    def too_many(_: int, taken: Times) -> None:
         if len(taken) == most_events(period):
             raise Faulty("too many events")
 

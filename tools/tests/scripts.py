@@ -1,12 +1,14 @@
 """Scripts given as commands, and written again."""
 
 import random
+from typing import Iterable, Mapping, Tuple
 
-from tests.harness import rows_of, within
+from tests.harness import Suite, rows_of, within
 from tests.limits import FULL_PERIOD, GREATEST_PERIOD, LEAST_PERIOD, MOST_ACTIVITIES, MOST_EVENTS, most_activities, most_events
+from tests.rules import Row
 
 
-def script_of(period, events, windows, activities):
+def script_of(period: int, events: Iterable[int], windows: Mapping[int, Tuple[int, int]], activities: Iterable[Row]) -> str:
     """The script of an instance, by its own account of the form; a window is a first residue and a length, by event."""
     lines = [f"add event {event}" for event in sorted(events)]
     for event, (first, length) in sorted(windows.items()):
@@ -15,12 +17,12 @@ def script_of(period, events, windows, activities):
     return "".join(f"{line}\n" for line in [f"# period {period} lines {len(lines)}", *lines])
 
 
-def drawn_window(draw, event, first, length):
+def drawn_window(draw: random.Random, event: int, first: int, length: int) -> str:
     """A line that gives an event its window; one of length 1 is written as a fixed time too."""
     return f"fix {event} {first}" if length == 1 and draw.randrange(2) else f"window {event} {first} {length}"
 
 
-def drawn_script(draw):
+def drawn_script(draw: random.Random) -> Tuple[int, str, str]:
     """A script that builds an instance of a few events in some order, and the script of that instance."""
     period = draw.choice([LEAST_PERIOD, 10, 60, GREATEST_PERIOD])
     events = draw.sample(range(1_000_000_000), draw.randrange(1, 9))
@@ -38,14 +40,14 @@ def drawn_script(draw):
     return period, "\r\n".join([*lines, "", *after]), script_of(period, events, windows, activities)
 
 
-def dumped(suite, name, period, script, wanted):
+def dumped(suite: Suite, name: str, period: int, script: str, wanted: str) -> None:
     """The program takes a script line by line, and what it dumps then is the script of what came of it."""
     edits = [line for line in script.splitlines() if line.strip() and not line.startswith("#")]
     given = script.rstrip("\n") + "\ndump\n"
     suite.case(name, ["--period", str(period)], given=given.encode(), output=("ok\n" * len(edits) + wanted).encode())
 
 
-def scripts(suite):
+def scripts(suite: Suite) -> None:
     draw = random.Random(7)
     for number in range(40):
         period, script, wanted = drawn_script(draw)
@@ -62,7 +64,7 @@ def scripts(suite):
         suite.case(f"a script with {name}", [], given=text, output=output)
 
 
-def most_at_long_periods(suite):
+def most_at_long_periods(suite: Suite) -> None:
     """At 121 and at the greatest period the commands that come after as many events and activities as there may be."""
     for period in [121, GREATEST_PERIOD]:
         events, activities = most_events(period), most_activities(period)
@@ -74,7 +76,7 @@ def most_at_long_periods(suite):
 
 
 @within(180)
-def greatest_script(suite):
+def greatest_script(suite: Suite) -> None:
     """An instance of 20,000 events and 100,000 activities opens from a file, is dumped, and refuses one more of each."""
     activities = [(number, number % MOST_EVENTS, number * 7 % MOST_EVENTS, 0, FULL_PERIOD - 1, 1) for number in range(MOST_ACTIVITIES)]
     words = ["--period", str(FULL_PERIOD), suite.file("activities", rows_of(activities))]

@@ -3,15 +3,24 @@ all memory comes back. For the group `embedded`."""
 
 import ctypes
 import random
+from pathlib import Path
+from types import ModuleType
+from typing import Any, Callable, Dict, List, Optional, Sequence, Tuple, Union
 
-from tests.drawn_runs import drawn_run, told_by
+from tests.drawn_runs import Asked, Told, drawn_run, told_by
 from tests.file_cases import TWO
-from tests.harness import TOP, rows_of, run
+from tests.harness import TOP, Suite, rows_of, run
+from tests.rules import Row, Times
 
 DRAWN = 200
-DONE, LONG_LINE, CLOSED, OPEN, NOT_ONE_LINE, REFUSED = 0, 7, 10, 11, 12, 13
+DONE, MEMORY, LONG_LINE, CLOSED, OPEN, NOT_ONE_LINE, REFUSED = 0, 6, 7, 10, 11, 12, 13
 # In the place of the time of an event without one.
 NO_TIME = 65535
+# What a call tells in a number or in many, or the refusal in its place: the status, the number and the event.
+Number = Union[int, Tuple[int, ...]]
+Numbers = Union[List[int], Tuple[int, ...]]
+# What a search tells: its state, the cost, a lower bound, and the times or the refusal.
+Searched = Tuple[int, int, int, Numbers]
 
 
 class Session(ctypes.Structure):
@@ -20,12 +29,19 @@ class Session(ctypes.Structure):
     _fields_ = [("at", ctypes.c_void_p), ("is_open", ctypes.c_bool)]
 
 
+class Found(ctypes.Structure):
+    """How good the timetable is that a search tells."""
+
+    _fields_ = [("cost", ctypes.c_uint64), ("lower_bound", ctypes.c_uint64), ("state", ctypes.c_uint32)]
+
+
 class Library:
     """The library's calls on a session, one at a time."""
 
-    def __init__(self, module, path):
+    def __init__(self, module: ModuleType, path: Path) -> None:
         self.told, self.session, self.module = module.Told(), Session(), module
-        library, of_told, of_session = ctypes.CDLL(str(path)), ctypes.POINTER(module.Told), ctypes.POINTER(Session)
+        self.loaded = library = ctypes.CDLL(str(path))
+        of_told, of_session = ctypes.POINTER(module.Told), ctypes.POINTER(Session)
         part = [ctypes.c_char_p, ctypes.c_size_t]
         parameters = {
             "pesp_open": [ctypes.c_uint16, *part, *part, *part, of_session, of_told],
@@ -36,20 +52,21 @@ class Library:
             "pesp_events": [of_session, ctypes.POINTER(ctypes.c_uint32), ctypes.c_size_t, of_told],
             "pesp_times": [of_session, ctypes.POINTER(ctypes.c_uint16), ctypes.c_size_t, of_told],
             "pesp_domain": [of_session, ctypes.c_uint32, ctypes.POINTER(ctypes.c_uint8), ctypes.c_size_t, of_told],
+            "pesp_search": [of_session, ctypes.c_uint64, ctypes.POINTER(ctypes.c_uint16), ctypes.c_size_t, ctypes.POINTER(Found), of_told],
         }
         self.calls = {name: getattr(library, name) for name in parameters}
         for name, call in self.calls.items():
             call.argtypes, call.restype = parameters[name], None
 
-    def open(self, period, *files):
+    def open(self, period: int, *files: bytes) -> object:
         given = [part for text in files for part in (text, len(text))]
         self.calls["pesp_open"](period, *given, self.session, self.told)
         return self.told.status
 
-    def close(self):
+    def close(self) -> None:
         self.calls["pesp_close"](self.session)
 
-    def ask(self, line, room=1 << 20):
+    def ask(self, line: bytes, room: int = 1 << 20) -> bytes:
         """The bytes in front of a room after a line; the rest of it stays as it was."""
         out = ctypes.create_string_buffer(b"." * room, room + 1)
         self.calls["pesp_ask"](self.session, line, len(line), out, room, self.told)
@@ -57,49 +74,56 @@ class Library:
         assert out.raw[shown:room] == b"." * (room - shown)
         return out.raw[:shown]
 
-    def cost(self):
+    def cost(self) -> Number:
         """The cost, or what was there, with the status and the number and the event of a refusal."""
         cost = ctypes.c_uint64(7)
         self.calls["pesp_cost"](self.session, cost, self.told)
         return cost.value if self.told.status == DONE else (cost.value, *self.refusal())
 
-    def refusal(self):
+    def refusal(self) -> Tuple[int, int, int]:
         assert (self.told.length, self.told.field) == (0, 0)
         return self.told.status, self.told.reason, self.told.place
 
-    def try_move(self, event, time):
+    def try_move(self, event: int, time: int) -> Number:
         """What the cost would change by, or what was there and the refusal."""
         change = ctypes.c_int64(7)
         self.calls["pesp_try_move"](self.session, event, time, change, self.told)
         return change.value if self.told.status == DONE else (change.value, *self.refusal())
 
-    def shown(self, name, kind, given, room):
+    def shown(self, name: str, kind: Any, given: Sequence[int], room: int, also: Sequence[ctypes.Structure] = ()) -> Numbers:
         """The numbers in front of a room, or the refusal; the rest of it, and what is after it, stays as it was."""
         out, mark = (kind * (room + 1))(), 77
         out[:] = [mark] * (room + 1)
-        self.calls[name](self.session, *given, out, room, self.told)
+        self.calls[name](self.session, *given, out, room, *also, self.told)
         shown = min(room, self.told.length)
         assert out[shown:] == [mark] * (room + 1 - shown)
         told = (self.told.status, self.told.place, self.told.reason, self.told.field)
-        return out[:shown] if told == (DONE, 0, 0, 0) else self.refusal()
+        numbers: List[int] = out[:shown]
+        return numbers if told == (DONE, 0, 0, 0) else self.refusal()
 
-    def events(self, room=100):
+    def events(self, room: int = 100) -> Numbers:
         return self.shown("pesp_events", ctypes.c_uint32, [], room)
 
-    def times(self, room=100):
+    def times(self, room: int = 100) -> Numbers:
         return self.shown("pesp_times", ctypes.c_uint16, [], room)
 
-    def domain(self, event, room=180):
+    def domain(self, event: int, room: int = 180) -> Numbers:
         return self.shown("pesp_domain", ctypes.c_uint8, [event], room)
 
+    def search(self, nodes: int, room: int = 100) -> Searched:
+        """State, cost, lower bound and times, or what was there and the refusal."""
+        found = Found(7, 7, 7)
+        times = self.shown("pesp_search", ctypes.c_uint16, [nodes], room, also=[found])
+        return (found.state, found.cost, found.lower_bound, times)
 
-def lines_of(commands):
+
+def lines_of(commands: bytes) -> List[bytes]:
     """The lines of a stream, the last of which need not end."""
     lines = commands.split(b"\n")
     return lines if lines[-1] else lines[:-1]
 
 
-def asked_in_turn(library, asked):
+def asked_in_turn(library: Library, asked: Asked) -> Told:
     """The replies of a session to each line in turn, and the fault with which it ends."""
     replies = b""
     if library.open(asked.period, asked.activities, asked.fixed, asked.times) == DONE:
@@ -112,23 +136,27 @@ def asked_in_turn(library, asked):
     return {"replies": replies, "fault": library.module.fault_of(library.told) or ""}
 
 
-def drawn_sessions(suite, library):
+def drawn_sessions(suite: Suite, library: Library) -> None:
     draw = random.Random(59)
     for number in range(DRAWN):
         asked = drawn_run(draw)
         suite.note(f"drawn session {number}, {asked}", told_by(suite, asked), asked_in_turn(library, asked))
 
 
-def uses(suite, library):
+def uses(suite: Suite, library: Library) -> None:
     """What is told of a closed session, of one that is open, and of lines that are none; each leaves the session as it was."""
-    ask = lambda line, **how: (library.ask(line, **how), library.told.status)
-    steps = [
+
+    def ask(line: bytes, room: int = 1 << 20) -> Tuple[bytes, int]:
+        return library.ask(line, room), library.told.status
+
+    steps: List[Tuple[str, Callable[[], object], object]] = [
         ("ask a closed session", lambda: ask(b"cost"), (b"", CLOSED)),
         ("the cost of a closed session", library.cost, (7, CLOSED, 0, 0)),
         ("a move in a closed session", lambda: library.try_move(1, 10), (7, CLOSED, 0, 0)),
         ("the events of a closed session", library.events, (CLOSED, 0, 0)),
         ("the times of a closed session", library.times, (CLOSED, 0, 0)),
         ("a domain of a closed session", lambda: library.domain(1), (CLOSED, 0, 0)),
+        ("a search in a closed session", lambda: library.search(9), (7, 7, 7, (CLOSED, 0, 0))),
         ("close a closed session", library.close, None),
         ("open with a fault", lambda: library.open(10, b"1; 1; 2; 5; 3; 2\n", b"", b""), 1),
         ("ask after that", lambda: ask(b"cost"), (b"", CLOSED)),
@@ -171,11 +199,11 @@ def uses(suite, library):
         suite.note(f"sessions: {title}", {"came": wanted}, {"came": call()})
 
 
-def drawn_network(draw):
+def drawn_network(draw: random.Random) -> Tuple[int, List[Row], Times]:
     """A period, activities with loops and some side by side, and a time for each event."""
     period, count = draw.choice([2, 7, 10, 60, 1440]), draw.randint(1, 6)
     names = draw.sample([*range(1, 9), 999_999_999], count)
-    activities = []
+    activities: List[Row] = []
     for number in range(1, draw.randint(1, 14)):
         lower = draw.randint(-2 * period, 2 * period)
         weight = draw.choice([0, 1, draw.randint(0, 50), 10**9])
@@ -184,7 +212,7 @@ def drawn_network(draw):
     return period, activities, {end: draw.randrange(period) for end in sorted(ends)}
 
 
-def drawn_moves(suite, library):
+def drawn_moves(suite: Suite, library: Library) -> None:
     """What a move would change the cost by is what it does change it by; some moves are kept."""
     draw = random.Random(61)
     for number in range(DRAWN):
@@ -195,7 +223,9 @@ def drawn_moves(suite, library):
             before, told = library.cost(), library.try_move(event, time)
             suite.note(f"drawn network {number} after a tried move", {"left": (before, [*times.values()])}, {"left": (library.cost(), library.times())})
             library.ask(b"time %d %d" % (event, time))
-            suite.note(f"drawn network {number}, {event} from {times[event]} to {time}", {"change": library.cost() - before}, {"change": told})
+            after = library.cost()
+            assert isinstance(before, int) and isinstance(after, int)
+            suite.note(f"drawn network {number}, {event} from {times[event]} to {time}", {"change": after - before}, {"change": told})
             if draw.randrange(3):
                 library.ask(b"time %d %d" % (event, times[event]))
             else:
@@ -203,19 +233,19 @@ def drawn_moves(suite, library):
         library.close()
 
 
-def domain_in(bits):
+def domain_in(bits: Sequence[int]) -> List[str]:
     """The residues of bits, as a reply lists them."""
     return [str(residue) for residue in range(8 * len(bits)) if bits[residue // 8] >> residue % 8 & 1]
 
 
-def least_without(library):
+def least_without(library: Library) -> Tuple[Dict[str, Optional[int]], Dict[str, Optional[int]]]:
     """The least event without a time, by the times and by the cost; None where there is none."""
     by_times = [event for event, time in zip(library.events(), library.times()) if time == NO_TIME]
     cost = library.cost()
     return {"by the times": by_times[0] if by_times else None}, {"by the times": cost[-1] if isinstance(cost, tuple) else None}
 
 
-def drawn_numbers(suite, library):
+def drawn_numbers(suite: Suite, library: Library) -> None:
     """After each line of drawn sessions events, times and domains are as replies tell them, also of numbers that are no event."""
     draw = random.Random(67)
     for number in range(DRAWN):
@@ -225,15 +255,15 @@ def drawn_numbers(suite, library):
         for line in [b"", *lines_of(asked.commands)]:
             library.ask(line)
             events = [int(row.split(b":")[0]) for row in library.ask(b"domains").splitlines()[1:]]
-            suite.note(f"drawn session {number} after {line}", {"events": events}, {"events": library.events()})
-            suite.note(f"drawn session {number} after {line}, without a time", *least_without(library))
+            suite.note(f"drawn session {number} after {line!r}", {"events": events}, {"events": library.events()})
+            suite.note(f"drawn session {number} after {line!r}, without a time", *least_without(library))
             for event in {*events, draw.randint(1, 5)}:
                 reply = library.ask(b"domain %d" % event).decode().split(":")
-                told = (REFUSED, 2, event) if len(reply) == 1 else reply[1].split()
+                told: object = (REFUSED, 2, event) if len(reply) == 1 else reply[1].split()
                 bits = library.domain(event)
-                came = bits if isinstance(bits, tuple) else domain_in(bits)
+                came: object = bits if isinstance(bits, tuple) else domain_in(bits)
                 length = 0 if isinstance(bits, tuple) else (asked.period + 7) // 8
-                title = f"domain {event} of drawn session {number} after {line}"
+                title = f"domain {event} of drawn session {number} after {line!r}"
                 suite.note(title, {"residues": told, "length": length}, {"residues": came, "length": library.told.length})
         library.close()
 
@@ -250,7 +280,9 @@ static const char two[] = "1; 1; 2; 3; 5; 2\n2; 2; 1; 4; 6; 1\n", times[] = "1; 
 static void one(void) {
     struct pesp_session session = {0};
     struct pesp_told told;
+    struct pesp_found found;
     uint8_t reply[128];
+    uint16_t best[2];
     uint64_t cost = 0;
     pesp_open(10, (const uint8_t *)two, strlen(two), reply, 0, (const uint8_t *)times, strlen(times), &session, &told);
     if (told.status != PESP_DONE) abort();
@@ -258,6 +290,8 @@ static void one(void) {
     if (told.status != PESP_DONE || told.length != 3 || memcmp(reply, "ok\n", 3) != 0) abort();
     pesp_cost(&session, &cost, &told);
     if (told.status != PESP_DONE || cost != 2) abort();
+    pesp_search(&session, 1000, best, 2, &found, &told);
+    if (told.length != 2 || found.state != PESP_OPTIMUM || found.cost != 2 || found.lower_bound != 2) abort();
     pesp_close(&session);
 }
 
@@ -275,7 +309,7 @@ int main(void) {
 """
 
 
-def many_sessions(suite, compiler, heap, archive):
+def many_sessions(suite: Suite, compiler: str, heap: Path, archive: Path) -> None:
     """10,000 sessions in two threads, with each byte of memory watched by the compiler's sanitizers."""
     source, program = suite.file("many.c", MANY.encode()), suite.folder / "many"
     words = [compiler, "-std=c11", "-O1", "-g", "-pthread", "-fsanitize=address,undefined", f"-I{TOP / 'embedded'}"]
@@ -285,7 +319,7 @@ def many_sessions(suite, compiler, heap, archive):
         suite.note("10,000 sessions", {"status": 0, "standard error": b""}, run([program], seconds=100))
 
 
-def sessions(suite, module, path):
+def sessions(suite: Suite, module: ModuleType, path: Path) -> None:
     library = Library(module, path)
     drawn_sessions(suite, library)
     uses(suite, library)

@@ -3,8 +3,10 @@
 import re
 import shutil
 import sys
+from pathlib import Path
+from typing import List, Sequence
 
-from tests.harness import TOP, run
+from tests.harness import TOP, Suite, run
 from tests.start_tree import SYSTEM
 from wrong_bodies import FIRST, KINDS, SECOND, Unread, applied, breaks_of, edits, refusals
 
@@ -46,7 +48,7 @@ SHELVES = {
 }
 
 
-def shelves(suite):
+def shelves(suite: Suite) -> None:
     """What the shelves hold, which no proof says."""
     first, second = edits(TOP, FIRST), edits(TOP, SECOND)
     suite.holds(f"the first shelf has at most {MOST_ON_THE_FIRST} wrong bodies", len(first) <= MOST_ON_THE_FIRST)
@@ -59,7 +61,7 @@ def shelves(suite):
     suite.note("each can be applied", {"faults": {}}, {"faults": faults})
 
 
-def faults_of(edit):
+def faults_of(edit: Path) -> List[str]:
     """Why the edit cannot be applied, if it cannot: the gate tells that of the first shelf alone, and goes on."""
     try:
         applied(edit)
@@ -68,7 +70,7 @@ def faults_of(edit):
     return []
 
 
-def tree_of(suite):
+def tree_of(suite: Suite) -> Path:
     """A tree with the tool, crates with edits, and the toolchain that says what it is told."""
     top = suite.folder / "tree"
     for (crate, shelf, name), told in SHELVES.items():
@@ -86,16 +88,15 @@ def tree_of(suite):
     return top
 
 
-def tried(suite, top, name, names, wanted, status):
+def tried(suite: Suite, top: Path, name: str, names: Sequence[str], wanted: Sequence[str], status: int) -> None:
     """A run of the tool: its lines without their seconds, and its status."""
     environment = {"PATH": f"{top / 'fake'}:{SYSTEM}", "FAKE": str(top)}
     come = run([sys.executable, top / "tools/try_wrong_bodies", *names], env=environment)
     lines = re.sub(r", \d+ s$", "", come["standard output"].decode(), flags=re.M).splitlines()
-    come = {"status": come["status"], "lines": lines}
-    suite.note(f"tools/try_wrong_bodies: {name}", {"status": status, "lines": wanted}, come)
+    suite.note(f"tools/try_wrong_bodies: {name}", {"status": status, "lines": wanted}, {"status": come["status"], "lines": lines})
 
 
-def second_shelf(suite):
+def second_shelf(suite: Suite) -> None:
     """What the tool prints and counts; what it tries stands on a copy, and the tree is as it was."""
     top = tree_of(suite)
     before = files_of(top)
@@ -131,7 +132,7 @@ REFUSALS = [
 ANSWERS = "pub returns-clause-ok : goal.returns-clause-ok\nreturns-clause-ok g c = search rules\n\nreturns-by-hand g c = c.put.ensures\n"
 
 
-def kinds(suite):
+def kinds(suite: Suite) -> None:
     """Where refusals come from, as far as what the toolchain prints and the proofs tell."""
     top = suite.folder / "kinds"
     (top / "crates/low/proofs/f").mkdir(parents=True)
@@ -142,7 +143,7 @@ def kinds(suite):
     suite.holds("each kind has a refusal", set(KINDS) == {kind for kind, _ in REFUSALS})
 
 
-def files_of(top):
+def files_of(top: Path) -> List[str]:
     return sorted(str(path.relative_to(top)) for path in (top / "crates").rglob("*"))
 
 

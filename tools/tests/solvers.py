@@ -4,27 +4,30 @@ import random
 import re
 import shutil
 import time
+from pathlib import Path
+from typing import Callable, Dict, Iterable, Iterator, List, Mapping, Optional, Sequence, Tuple
 from unittest import mock
 
 from measuring.cycles import Arc, independent, is_integral, range_of, write_cycles
-from tests.harness import run, within
+from tests.harness import Suite, run, within
+from tests.rules import Row
 
 NETWORKS = 200
 # So many of them are tried with the basis that stands in where narrow cycles are not integral.
 OTHERS = 50
 # The solver is not asked for more networks when so many seconds are over.
 SECONDS = 10
-SOLVERS = {
+SOLVERS: Dict[str, Tuple[Callable[[str], List[str]], bytes]] = {
     "glpsol": (lambda model: ["glpsol", "--lp", model, "-o", "/dev/stdout"], rb"Status: +(?:INTEGER )?OPTIMAL\nObjective: +cost = (\S+)"),
     "cbc": (lambda model: ["cbc", model, "solve", "quit"], rb"Result - Optimal solution found\n+Objective value: +(\S+)|Optimal - objective value (\S+)"),
 }
 
 
-def drawn_network(draw):
+def drawn_network(draw: random.Random) -> Tuple[int, List[Row], List[Tuple[int, int]]]:
     """A period, activities and fixed times: in parts, with loops, parallel activities and spans past the period. Most have a timetable."""
     period, events, is_met = draw.randint(2, 12), draw.randint(1, 5), draw.randrange(4) > 0
     times = [draw.randrange(period) for _ in range(events)]
-    rows = []
+    rows: List[Row] = []
     for number in range(1, draw.randint(1, 9) + 1):
         first, last = draw.randrange(events), draw.randrange(events)
         width = draw.choice([0, draw.randrange(period), draw.randrange(period), draw.randrange(2 * period)])
@@ -35,7 +38,7 @@ def drawn_network(draw):
     return period, rows, [(event, times[event]) for event in named if not draw.randrange(3)]
 
 
-def costs_of(period, rows, fixed, times, events):
+def costs_of(period: int, rows: Sequence[Row], fixed: Mapping[int, int], times: Mapping[int, int], events: Sequence[int]) -> Iterator[int]:
     """The cost of each timetable that has these times, where the other events follow."""
     known = [row for row in rows if row[1] in times and row[2] in times]
     slacks = [(times[last] - times[first] - lower) % period for _, first, last, lower, *_ in known]
@@ -48,20 +51,20 @@ def costs_of(period, rows, fixed, times, events):
         yield from costs_of(period, rows, fixed, {**times, events[0]: time}, events[1:])
 
 
-def least_cost(period, rows, fixed):
+def least_cost(period: int, rows: Sequence[Row], fixed: Sequence[Tuple[int, int]]) -> Optional[int]:
     """The least cost of all timetables, or None where there is none. Where no time is fixed, all may be moved until the first is 0."""
     events = sorted({event for row in rows for event in row[1:3]})
     return min(costs_of(period, rows, dict(fixed) or {events[0]: 0}, {}, events), default=None)
 
 
-def solved_cost(solver, path):
+def solved_cost(solver: str, path: Path) -> Optional[int]:
     """The cost that a solver tells, or None where it found no timetable."""
     command, told = SOLVERS[solver]
     found = re.search(told, run(command(str(path)))["standard output"])
     return round(float(next(filter(None, found.groups())))) if found else None
 
 
-def try_networks(suite, solver, title, numbers, ends):
+def try_networks(suite: Suite, solver: str, title: str, numbers: Iterable[int], ends: float) -> None:
     """The same least cost on drawn networks, as long as there is time."""
     path = suite.folder / "model.lp"
     for number in numbers:
@@ -74,7 +77,7 @@ def try_networks(suite, solver, title, numbers, ends):
         suite.note(f"{title}, drawn network {number}", wanted, {"least cost": solved_cost(solver, path)})
 
 
-def integral(suite):
+def integral(suite: Suite) -> None:
     """Independent over two, and yet with a determinant of 3: each of four arcs is left out by one cycle."""
     threes = [{place: 1 for place in range(4) if place != left} for left in range(4)]
     came = {"kept": len(independent(threes)), "integral": is_integral(threes, set())}
@@ -82,7 +85,7 @@ def integral(suite):
     suite.holds("cycles over an arc each are one", is_integral([{place: -1, 9: 1} for place in range(4)], {9}))
 
 
-def ranges(suite):
+def ranges(suite: Suite) -> None:
     """A slack of 25 against the cycle and one of 3 along it, at period 10; and a cycle of no slack that is no whole number of periods."""
     arcs = [Arc("along", 1, 2, 9, 3, 1), Arc("against", 1, 2, 2, 25, 1), Arc("still", 1, 1, 7, 0, 1)]
     suite.note("periods of a cycle", {"range": (7, -1, 1)}, {"range": range_of(arcs, {0: 1, 1: -1}, 10)})
@@ -90,7 +93,7 @@ def ranges(suite):
 
 
 @within(60)
-def cycles(suite):
+def cycles(suite: Suite) -> None:
     integral(suite)
     ranges(suite)
     solver = next(filter(shutil.which, SOLVERS), None)

@@ -1,8 +1,10 @@
 """The text of the sources, held to docs/STYLE.md: clauses within their columns, and a word on each private field."""
 
 import re
+from pathlib import Path
+from typing import Iterator, List, Tuple
 
-from tests.harness import TOP
+from tests.harness import TOP, Suite
 
 COLUMNS = 100
 # Of a hundred clauses so many may have a longer line.
@@ -13,11 +15,11 @@ STRUCT = re.compile(r"^(\s*)(?:pub(?:\(\w+\))? )?struct \w+.*\{$")
 FIELD = re.compile(r"^\s*(?:pub\(\w+\) )?(\w+): ")
 
 
-def sources():
+def sources() -> List[Path]:
     return sorted(TOP.glob("crates/*/src/**/*.rt"))
 
 
-def clauses():
+def clauses() -> Iterator[Tuple[str, str]]:
     """The first line of each clause, with its place."""
     for path in sources():
         for number, line in enumerate(path.read_text().splitlines(), 1):
@@ -25,14 +27,14 @@ def clauses():
                 yield f"{path.relative_to(TOP)}:{number}", line
 
 
-def clauses_within_columns(suite):
+def clauses_within_columns(suite: Suite) -> None:
     all_of_them = list(clauses())
     long = [place for place, line in all_of_them if len(line) > COLUMNS]
     suite.holds("there are clauses", len(all_of_them) > 2_000)
     suite.holds(f"{len(long)} clauses pass {COLUMNS} columns: {long}", 100 * len(long) <= LONG_ONES * len(all_of_them))
 
 
-def silent_fields(path):
+def silent_fields(path: Path) -> Iterator[str]:
     """The private fields of a file's types that have no comment above them; one may stand above fields that follow each other."""
     end, told = None, False
     for number, line in enumerate(path.read_text().splitlines(), 1):
@@ -47,7 +49,7 @@ def silent_fields(path):
             yield f"{path.relative_to(TOP)}:{number} {field[1]}"
 
 
-def private_fields(suite):
+def private_fields(suite: Suite) -> None:
     """A field that only its crate sees has a line that says what holds of it."""
     silent = [field for path in sources() for field in silent_fields(path)]
     suite.note("each private field has a comment", {"silent": []}, {"silent": silent})

@@ -12,6 +12,7 @@ import os
 import pathlib
 import stat
 import sys
+from typing import Dict, Iterator, List, Optional, Sequence
 
 sys.dont_write_bytecode = True
 sys.path.insert(0, str(pathlib.Path(__file__).resolve().parents[1]))
@@ -31,21 +32,21 @@ class End(Exception):
 class Once(argparse.Action):
     """An option that may be given once."""
 
-    def __call__(self, parser, words, value, option=None):
+    def __call__(self, parser: argparse.ArgumentParser, words: argparse.Namespace, value: object, option: Optional[str] = None) -> None:
         if getattr(words, f"has_{self.dest}", False):
             parser.error(f"{option} is given twice")
         setattr(words, f"has_{self.dest}", True)
         setattr(words, self.dest, True if self.nargs == 0 else value)
 
 
-def period(word):
+def period(word: str) -> int:
     value = int(word) if word.lstrip("+").isdigit() else 0
     if not LEAST_PERIOD <= value <= GREATEST_PERIOD:
         raise argparse.ArgumentTypeError(f"it is a number from {LEAST_PERIOD} to {GREATEST_PERIOD}")
     return value
 
 
-def settings():
+def settings() -> argparse.Namespace:
     parser = argparse.ArgumentParser(prog="stand_in.py", allow_abbrev=False, description=__doc__.splitlines()[0])
     parser.epilog = "It reads commands. Columns: activity; from; to; lower; upper; weight and event; time. "
     parser.epilog += "Exit status: 0, 1, 2. See docs/FORMATS.md and examples/."
@@ -62,7 +63,7 @@ def settings():
     return parser.parse_args()
 
 
-def read_file(name, path):
+def read_file(name: str, path: Optional[str]) -> bytes:
     if path is None:
         return b""
     try:
@@ -77,7 +78,7 @@ def read_file(name, path):
     return text
 
 
-def opening(words, texts):
+def opening(words: argparse.Namespace, texts: Dict[str, bytes]) -> model.Model:
     """The model that the files open; what is wrong with them is told by the rules of a check."""
     checked = rules.check(words.period, **texts)
     if checked["error"]:
@@ -87,7 +88,7 @@ def opening(words, texts):
     return model.Model(words.period, activities, *pairs)
 
 
-def write(lines):
+def write(lines: Sequence[str]) -> None:
     try:
         rest = "".join(f"{line}\n" for line in lines).encode()
         while rest:
@@ -96,7 +97,7 @@ def write(lines):
         raise End("replies cannot be written") from None
 
 
-def read_lines():
+def read_lines() -> Iterator[bytes]:
     """The lines of standard input, each as soon as it is there, with its number."""
     held, place = b"", 0
     while True:
@@ -123,11 +124,11 @@ def read_lines():
 class StandIn:
     """Answers lines; what is known of the optimum is kept, since `try` is then answered by it."""
 
-    def __init__(self, bench):
+    def __init__(self, bench: model.Model) -> None:
         self.bench = bench
         self.is_known = False
 
-    def reply(self, line):
+    def reply(self, line: bytes) -> List[str]:
         try:
             name, numbers = parsing.parse(line) or ("", [])
         except parsing.Fault:
@@ -135,12 +136,12 @@ class StandIn:
         before = copy.deepcopy(self.bench) if self.is_known else None
         lines = self.attempt(*numbers) if name == "try" else self.bench.reply(line)
         if lines == ["ok"] and name in parsing.EDITS:
-            self.is_known = self.is_known and keeps(before, self.bench, name, numbers)
+            self.is_known = before is not None and keeps(before, self.bench, name, numbers)
         elif name in ("optimum", "adopt"):
             self.is_known = True
         return lines
 
-    def attempt(self, limit):
+    def attempt(self, limit: int) -> List[str]:
         if not self.is_known:
             found, self.is_known = self.bench.reached(min(limit, 100_000))
             if not self.is_known and found:
@@ -149,7 +150,7 @@ class StandIn:
         return self.bench.optimum() if self.is_known else ["stopped none"]
 
 
-def main():
+def main() -> None:
     words = settings()
     texts = {name: read_file(name, getattr(words, name)) for name in NAMES}
     bench = opening(words, texts)

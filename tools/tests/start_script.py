@@ -16,7 +16,7 @@ BROKEN = ["an open goal", "tools/pespbench: the program does not build"]
 WAITS = "another start is building the program; this one waits for it"
 
 
-def start_script(suite):
+def start_script(suite: Suite) -> None:
     """When the script builds, and what it says."""
     tree = Tree(suite)
     no_toolchain = ["tools/pespbench: the program is not built, and there is no command rt to build it"]
@@ -45,13 +45,14 @@ def start_script(suite):
     tree.start("and the one after that does not", 7)
 
 
-def shared_build(suite):
+def shared_build(suite: Suite) -> None:
     """Two starts at once: the second waits for the build of the first."""
     tree = Tree(suite)
     tree.say("waits", True)
     first = tree.begin()
     tree.is_half_made()
     second = tree.begin()
+    assert second.stderr is not None
     told = second.stderr.readline().decode()
     suite.note("the second of two starts says that it waits", {"told": f"tools/pespbench: {WAITS}\n"}, {"told": told})
     tree.say("waits", False)
@@ -63,7 +64,7 @@ def shared_build(suite):
     suite.holds("a program that runs keeps nobody waiting", not is_waited_for(tree))
 
 
-def is_waited_for(tree):
+def is_waited_for(tree: Tree) -> bool:
     """Whether a start that builds waits for one whose program still runs."""
     program = tree.crate / "out/pespbench"
     program.write_text('#!/bin/sh\n[ "$1" ] || exec sleep 60\n')
@@ -77,7 +78,7 @@ def is_waited_for(tree):
     return WAITS in told
 
 
-def is_alive(process):
+def is_alive(process: int) -> bool:
     try:
         os.kill(process, 0)
     except ProcessLookupError:
@@ -85,7 +86,7 @@ def is_alive(process):
     return True
 
 
-def broken_builds(suite):
+def broken_builds(suite: Suite) -> None:
     """A build that is broken off ends its toolchain, and leaves nothing but what was there before."""
     for name in ["SIGINT", "SIGTERM", "SIGHUP"]:
         # Who starts the tests in the background of a script has SIGINT ignored, and a shell cannot trap it then.
@@ -94,7 +95,7 @@ def broken_builds(suite):
             broken_off(suite, name, has_program)
 
 
-def broken_off(suite, name, has_program):
+def broken_off(suite: Suite, name: str, has_program: bool) -> None:
     """A signal to a start whose toolchain has made a part of the program, in the place of an older one or of none."""
     folder = suite.folder / f"{name} {has_program}"
     folder.mkdir()
@@ -116,7 +117,7 @@ def broken_off(suite, name, has_program):
     tree.start("the start after a build that was broken off", 2 + has_program, tells=FIRST)
 
 
-def look_for_sources(suite):
+def look_for_sources(suite: Suite) -> None:
     """A start takes less than 20 ms more than the program, over as many files as there are sources here.
 
     Others work on the machine too, so the least of some starts is taken.
@@ -131,7 +132,7 @@ def look_for_sources(suite):
     suite.note("the look for newer sources", {"below 20 ms": True}, {"below 20 ms": look < 20 or f"{look:.1f} ms"})
 
 
-def time_of(tree, command):
+def time_of(tree: Tree, command: pathlib.Path) -> float:
     """The seconds that a start takes."""
     began = time.perf_counter()
     run([command], cwd=tree.suite.folder, env=tree.environment)

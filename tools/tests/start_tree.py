@@ -5,8 +5,9 @@ import shutil
 import subprocess
 import sys
 import time
+from typing import Dict, List, Optional, Sequence
 
-from tests.harness import SECONDS, TOP, run
+from tests.harness import SECONDS, TOP, Suite, run
 
 SYSTEM = "/usr/bin:/bin"
 
@@ -42,7 +43,7 @@ exit $status
 class Tree:
     """A tree of its own with the script, a link to it, and the toolchain that notes."""
 
-    def __init__(self, suite):
+    def __init__(self, suite: Suite) -> None:
         self.suite = suite
         self.top = suite.folder / "tree"
         self.crate = self.top / "crates/pespbench"
@@ -60,23 +61,23 @@ class Tree:
         self.link.symlink_to(self.top / "tools/pespbench")
         self.environment = {"PATH": f"{self.fake}:{SYSTEM}", "FAKE": str(self.fake)}
 
-    def tool(self, name, text):
+    def tool(self, name: str, text: str) -> None:
         (self.fake / name).write_text(text)
         (self.fake / name).chmod(0o755)
 
-    def say(self, word, is_said):
+    def say(self, word: str, is_said: bool) -> None:
         """Lets the toolchain do otherwise, or no more: a build fails, waits, or has a source changed meanwhile."""
         if is_said:
             (self.fake / word).write_text("")
         else:
             (self.fake / word).unlink()
 
-    def calls(self):
+    def calls(self) -> List[str]:
         """Each call of the toolchain, with the number of its process."""
         log = self.fake / "log"
         return log.read_text().splitlines() if log.exists() else []
 
-    def change(self, name):
+    def change(self, name: str) -> None:
         """Changes a file of the program's crate, some time after what was built."""
         path = self.crate / name
         path.write_text("changed")
@@ -84,25 +85,24 @@ class Tree:
         os.utime(path, (at, at))
         time.sleep(0.04)
 
-    def start(self, name, builds, status=0, output=None, tells=(), **others):
+    def start(self, name: str, builds: int, status: int = 0, output: Optional[bytes] = None, tells: Sequence[str] = (), **others: str) -> None:
         """Starts the script; standard error has the texts of `tells`, in this order, and nothing if there are none."""
         come = run([self.link, "a ", "b"], cwd=self.suite.folder, env={**self.environment, **others})
         told = come["standard error"].decode()
         places = [told.find(text) for text in tells]
-        come |= {"builds": len(self.calls()), "told": told}
-        wanted = {"status": status, "standard output": self.ran() if output is None else output, "builds": builds}
+        wanted: Dict[str, object] = {"status": status, "standard output": self.ran() if output is None else output, "builds": builds}
         wanted["told"] = told if bool(told) == bool(tells) and -1 not in places and places == sorted(places) else tells
-        self.suite.note(f"tools/pespbench: {name}", wanted, come)
+        self.suite.note(f"tools/pespbench: {name}", wanted, {**come, "builds": len(self.calls()), "told": told})
 
-    def ran(self):
+    def ran(self) -> bytes:
         return f"ran in {self.suite.folder} with a  b\n".encode()
 
-    def begin(self):
+    def begin(self) -> "subprocess.Popen[bytes]":
         """A start that goes on beside the test."""
-        pipes = {"stdin": subprocess.DEVNULL, "stdout": subprocess.PIPE, "stderr": subprocess.PIPE}
-        return subprocess.Popen([self.link, "a ", "b"], cwd=self.suite.folder, env=self.environment, **pipes)
+        words, pipe = [str(self.link), "a ", "b"], subprocess.PIPE
+        return subprocess.Popen(words, cwd=self.suite.folder, env=self.environment, stdin=subprocess.DEVNULL, stdout=pipe, stderr=pipe)
 
-    def is_half_made(self):
+    def is_half_made(self) -> None:
         """Waits until the toolchain has made a part of the program."""
         program, end = self.crate / "out/pespbench", time.monotonic() + SECONDS
         while not (program.exists() and b"half" in program.read_bytes()):

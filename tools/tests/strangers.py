@@ -1,7 +1,7 @@
 """What a stranger puts into a file, its name or a line of commands reaches neither standard output nor standard error."""
 
 from tests.file_cases import TWO, TWO_TIMES
-from tests.harness import NAMES, TOP, missing, record, unreadable, words_for
+from tests.harness import NAMES, TOP, Suite, missing, record, unreadable, words_for
 from tests.replies import TWO_REPLIES
 
 # What a terminal, a shell or a log may act on.
@@ -27,7 +27,7 @@ FIELDS = {
 }
 
 
-def in_fields(suite):
+def in_fields(suite: Suite) -> None:
     for title, strange in STRANGE.items():
         # A semicolon within would be a separator.
         plain = strange.replace(b";", b"")
@@ -38,14 +38,14 @@ def in_fields(suite):
             suite.check(f"{title} in a field of {name}", words, status=1, error=record(name, 2, kind))
 
 
-def in_comments(suite):
+def in_comments(suite: Suite) -> None:
     for title, strange in STRANGE.items():
         words = ["--period", "10", "--times", suite.file("times", b"event " + strange + b"\n" + TWO_TIMES)]
         words.append(suite.file("activities", b"# " + strange + b"\n" + TWO))
         suite.check(f"{title} in a comment and a header", words, output=TWO_REPLIES)
 
 
-def in_paths(suite):
+def in_paths(suite: Suite) -> None:
     for title, strange in STRANGE.items():
         if b"\0" in strange:
             continue
@@ -65,7 +65,7 @@ def in_paths(suite):
         path.unlink()
 
 
-def in_commands(suite):
+def in_commands(suite: Suite) -> None:
     for title, strange in STRANGE.items():
         given = b"\n".join([strange, b"fix " + strange + b" 0", b"cost " + strange, b"# " + strange])
         output = b"fault unknown command\nfault word 2 is not a number\nfault wrong number of words\n"
@@ -75,7 +75,7 @@ def in_commands(suite):
         suite.case(f"{title} in a line that is too long", [], status=1, given=given, output=b"cost 0\n", error=error)
 
 
-def as_files(suite):
+def as_files(suite: Suite) -> None:
     """Files that are no text at all, and folders."""
     error = "wrong number of fields"
     for title, content in {"all bytes": bytes(range(256)), "no text": b"\x7fELF\x02\x01\x01" + b"\0" * 9_999}.items():

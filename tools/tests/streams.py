@@ -2,19 +2,20 @@
 
 import copy
 import random
+from typing import Any, Dict, List, Optional, Sequence
 
 from tests import model
 from tests.changes import keeps
 from tests.commands import model_of
 from tests.file_cases import TWO
-from tests.harness import run, within
+from tests.harness import Suite, run, within
 from tests.limits import GREATEST_PERIOD
 from tests.parsing import COMMANDS, EDITS, LONGEST_LINE, MOST_LINES, Fault, parse
 
 COUNTED = {"domains": 1, "tensions": 1, "violations": 1, "optimum": 2, "stopped": 2, "#": 4}
 
 
-def followed(first):
+def followed(first: str) -> int:
     """How many lines follow the first line of a reply."""
     words = first.split()
     place = COUNTED.get(words[0], len(words))
@@ -24,7 +25,7 @@ def followed(first):
 # Lines that are too long, and too many lines
 
 
-def longest_line(suite):
+def longest_line(suite: Suite) -> None:
     fault = "pespbench: line {} is longer than 4096 bytes\n"
     activities = suite.file("activities", TWO)
     no_time = b"refused 11 event 1 has no time\n"
@@ -43,15 +44,15 @@ def longest_line(suite):
         "long lines in pieces of a buffer": ((b" " * LONGEST_LINE + b"\n") * 200 + b"cost", no_time, 0),
     }
     for name, (given, output, line) in table.items():
-        wanted = {"status": 1, "error": fault.format(line).encode()} if line else {}
+        wanted: Dict[str, Any] = {"status": 1, "error": fault.format(line).encode()} if line else {}
         suite.case(name, ["--period", "10", activities], given=given, output=output, **wanted)
     with open("/dev/zero", "rb") as zeros:
         suite.case("a line without end", [], stdin=zeros, status=1, error=fault.format(1).encode())
 
 
 @within(300)
-def number_of_lines(suite):
-    fault = {"status": 1, "error": b"pespbench: more than 1000000 lines\n"}
+def number_of_lines(suite: Suite) -> None:
+    fault: Dict[str, Any] = {"status": 1, "error": b"pespbench: more than 1000000 lines\n"}
     feeds = b"\n" * MOST_LINES
     suite.case("1,000,000 lines", [], given=feeds)
     suite.case("one byte more", [], given=feeds + b"#", **fault)
@@ -63,7 +64,7 @@ def number_of_lines(suite):
 
 
 @within(300)
-def many_cheap_lines(suite):
+def many_cheap_lines(suite: Suite) -> None:
     """1,000,000 lines in bulk; the time is a generous one, against work that grows with what was read."""
     how = {"seconds": 120}
     output = b"refused 2 no event 1\n" * MOST_LINES
@@ -75,17 +76,17 @@ def many_cheap_lines(suite):
 # Drawn lines
 
 
-def drawn_number(draw, count):
+def drawn_number(draw: random.Random, count: int) -> int:
     """A number of an event or activity: most often one that is there."""
     return draw.randint(1, count) if draw.randrange(12) else draw.choice([0, 9, 77, 999_999_999])
 
 
-def drawn_length(draw, period):
+def drawn_length(draw: random.Random, period: int) -> int:
     """The length of a window: of every length that there is, and now and then of none."""
     return draw.randint(1, period) if draw.randrange(10) else draw.choice([0, period + 1, 65_535])
 
 
-def drawn_command(draw, period, name):
+def drawn_command(draw: random.Random, period: int, name: str) -> str:
     event, activity = drawn_number(draw, 4), drawn_number(draw, 6)
     lower = draw.choice([draw.randint(-period, period), draw.randint(0, period)])
     upper = lower + draw.choice([0, 1, 2, draw.randrange(period), period])
@@ -107,7 +108,7 @@ def drawn_command(draw, period, name):
     return " ".join(map(str, [name, *given]))
 
 
-def drawn_line(draw, period):
+def drawn_line(draw: random.Random, period: int) -> bytes:
     # The events and activities that are there stay few, and few of them are fixed, so that there is often an optimum.
     often = ["add event", "add activity", "span", "weight", "window", "time", "try", "optimum", "adopt", "domains"]
     name = draw.choice([*COMMANDS, *often, "add event", "add activity"])
@@ -118,7 +119,7 @@ def drawn_line(draw, period):
     return line.encode()
 
 
-def drawn_lines(draw, period, count):
+def drawn_lines(draw: random.Random, period: int, count: int) -> List[bytes]:
     """Lines that most often begin with a network of a few events and activities, one of which may have a window."""
     lines = [drawn_line(draw, period) for _ in range(count)]
     if draw.randrange(10) == 0:
@@ -134,12 +135,12 @@ def drawn_lines(draw, period, count):
     return [*(line.encode() for line in network), *lines]
 
 
-def searches(line):
+def searches(line: bytes) -> bool:
     """Whether the line looks for a timetable, which at a long period takes seconds."""
     return line.lower().split()[:1] in ([b"optimum"], [b"adopt"], [b"try"])
 
 
-def compared(bench, lines, output):
+def compared(bench: model.Model, lines: Sequence[bytes], output: bytes) -> Optional[Dict[str, object]]:
     """The first line whose reply is not a legal one, with what was wanted and what came; None where there is none."""
     rest = output.decode("latin-1").split("\n")[:-1]
     is_known = False
@@ -156,7 +157,7 @@ def compared(bench, lines, output):
     return {"left": rest} if rest else None
 
 
-def knows(before, after, line, reply):
+def knows(before: Optional[model.Model], after: model.Model, line: bytes, reply: Sequence[str]) -> bool:
     """Whether the optimum is known after a line; `before` is the model before it where it was known there, and else None."""
     try:
         name, numbers = parse(line) or ("", [])
@@ -168,7 +169,7 @@ def knows(before, after, line, reply):
     return before is not None and (not is_edited or keeps(before, after, name, numbers))
 
 
-def play(suite, name, bench, words, lines):
+def play(suite: Suite, name: str, bench: model.Model, words: Sequence[object], lines: Sequence[bytes]) -> None:
     came = run([suite.program, *words], given=b"\n".join(lines))
     wanted = {"status": 0, "standard error": b"", "first reply that is wrong": None}
     wrong = compared(bench, lines, came["standard output"])
@@ -176,7 +177,7 @@ def play(suite, name, bench, words, lines):
 
 
 @within(300)
-def drawn_streams(suite):
+def drawn_streams(suite: Suite) -> None:
     draw = random.Random(1825)
     for number in range(120):
         period = draw.randint(2, 12)
@@ -188,7 +189,7 @@ def drawn_streams(suite):
 
 
 @within(300)
-def long_streams(suite):
+def long_streams(suite: Suite) -> None:
     """Streams at periods above 120, about where a count takes one byte more too."""
     draw = random.Random(1440)
     for number in range(2):

@@ -2,9 +2,11 @@
 
 import subprocess
 import time
+from pathlib import Path
+from typing import Any, Dict, Sequence
 
 from tests.file_cases import TWO
-from tests.harness import SECONDS, run
+from tests.harness import SECONDS, Suite, run
 from tests.start_tree import Tree
 
 NOT_PROVED = "tools/pespbench: built without a proof, which takes a minute or two: nothing of what it answers is proved"
@@ -13,16 +15,16 @@ TRAILING = ("interpreter: ", "checked: ", "run=")
 CHECK = b"tensions 2\n1 4 1\n2 6 2\nviolations 0\ncost 4\n"
 
 
-def case(tree, name, words, status=0, output=b"", **given):
+def case(tree: Tree, name: str, words: Sequence[object], status: int = 0, output: bytes = b"", **given: Any) -> None:
     """A start without a proof, where the caller stands in the suite's folder and the program in one of its own."""
     come = run([tree.link, "--unproved", *words], cwd=tree.suite.folder, env=tree.environment, **given)
     told = come["standard error"].decode().splitlines()
-    come |= {"first line": told[0], "lines of the toolchain": [line for line in told if line.startswith(TRAILING)]}
+    trailing = [line for line in told if line.startswith(TRAILING)]
     wanted = {"status": status, "standard output": output, "first line": NOT_PROVED, "lines of the toolchain": []}
-    tree.suite.note(f"tools/pespbench --unproved: {name}", wanted, come)
+    tree.suite.note(f"tools/pespbench --unproved: {name}", wanted, {**come, "first line": told[0], "lines of the toolchain": trailing})
 
 
-def files_of(tree):
+def files_of(tree: Tree) -> Path:
     """The files of the caller, one of which has a name that a period may have too, and one of the crate's folder."""
     folder = tree.suite.folder / "a folder"
     folder.mkdir()
@@ -33,12 +35,12 @@ def files_of(tree):
     return folder / "activities"
 
 
-def unproved(suite):
+def unproved(suite: Suite) -> None:
     """Files are named from where the caller stands, whatever lies where the program is built; other words stay."""
     tree = Tree(suite)
     whole = files_of(tree)
     period, times, below = ["--period", "10"], ["--times", "times"], "a folder/activities"
-    asked = {"given": b"fix 1 0\ndomain 2\n", "output": b"ok\n2: 4 5\n"}
+    asked: Dict[str, Any] = {"given": b"fix 1 0\ndomain 2\n", "output": b"ok\n2: 4 5\n"}
     case(tree, "a file below", [*period, below], **asked)
     case(tree, "a file by its whole path", [*period, whole], **asked)
     case(tree, "a check", ["--check", *period, *times, below], output=CHECK)
@@ -52,11 +54,12 @@ def unproved(suite):
     suite.holds("and asks for no proof", {call.split()[0] for call in tree.calls()} == {"try"})
 
 
-def whole_input(suite):
+def whole_input(suite: Suite) -> None:
     """The toolchain takes standard input as it comes, and ends it at a pause: it is called once all of it is there."""
     tree = Tree(suite)
-    pipes = dict.fromkeys(["stdin", "stdout", "stderr"], subprocess.PIPE)
-    process = subprocess.Popen([tree.link, "--unproved"], env=tree.environment, **pipes)
+    words, pipe = [str(tree.link), "--unproved"], subprocess.PIPE
+    process = subprocess.Popen(words, env=tree.environment, stdin=pipe, stdout=pipe, stderr=pipe)
+    assert process.stdin is not None
     process.stdin.write(b"add event 1\n")
     process.stdin.flush()
     time.sleep(0.2)

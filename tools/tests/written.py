@@ -2,9 +2,11 @@
 theorem, the functions of the walks, and the wrong bodies. And that proofs do not say one thing twice."""
 
 import re
+from pathlib import Path
+from typing import Iterator, List, Tuple
 
 from statements import proved_twice, statements
-from tests.harness import TOP
+from tests.harness import TOP, Suite
 from tests.shelves import MOST_ON_THE_FIRST
 
 # The words that a document should have; it may have a tenth more. HISTORY is only added to, and has no limit.
@@ -66,17 +68,17 @@ MOST_WORDS = 27000
 COUNTED = ["README.md", "docs/*.md", "crates/*/README.md", "page/README.md", "python/README.md"]
 
 
-def pages():
+def pages() -> List[Path]:
     """Each document of the tree, but for what a build leaves."""
     return sorted(path for path in TOP.rglob("*.md") if not {"out", ".git", "build"} & set(path.relative_to(TOP).parts))
 
 
-def text_of(name):
+def text_of(name: str) -> str:
     path = TOP / name
     return path.read_text() if path.exists() else ""
 
 
-def document_words(suite):
+def document_words(suite: Suite) -> None:
     for name, target in TARGETS.items():
         count = len(text_of(name).split())
         suite.holds(f"{name} has {count} words, and may have {target * 11 // 10}", 0 < count <= target * 11 // 10)
@@ -85,7 +87,7 @@ def document_words(suite):
     suite.holds(f"all documents have {count} words, and may have {MOST_WORDS}", count <= MOST_WORDS)
 
 
-def numbers_told_once(suite):
+def numbers_told_once(suite: Suite) -> None:
     """A number that changes with the tree stands in one document, and is right there."""
     told = [str(page.relative_to(TOP)) for page in pages() if f"at most {MOST_ON_THE_FIRST} in all" in page.read_text()]
     suite.note("who says how many wrong bodies the first shelf may have", {"pages": ["docs/STYLE.md"]}, {"pages": told})
@@ -95,29 +97,29 @@ def numbers_told_once(suite):
     suite.note("who counts cases of tests", {"pages": ["docs/HISTORY.md"]}, {"pages": counts})
 
 
-def links_of(page):
+def links_of(page: Path) -> List[Tuple[Path, str]]:
     """The files that a page links to, each with a heading of it or none."""
     found = [(link, heading) for link, heading in LINK.findall(page.read_text()) if "://" not in link]
     return [(page.parent / link if link else page, heading) for link, heading in found]
 
 
-def headings_of(page):
+def headings_of(page: Path) -> List[str]:
     """The headings of a page, as links name them."""
     text = re.sub(r"^```.*?^```$", "", page.read_text(), flags=re.M | re.S)
     titles = re.findall(r"^#+ (.*)$", text, re.M)
     return [re.sub(r"[^\w -]", "", title.lower()).replace(" ", "-") for title in titles]
 
 
-def is_built(name):
+def is_built(name: str) -> bool:
     return "/out" in name or "NAME" in name
 
 
-def paths_of(page):
+def paths_of(page: Path) -> List[Path]:
     """The files of the tree that a page names by their path."""
     return [TOP / name for name in PATH.findall(page.read_text()) if not is_built(name)]
 
 
-def parts_of(page):
+def parts_of(page: Path) -> List[Path]:
     """The files of a crate that a page names within it."""
     own = page.parent if (page.parent / "src").is_dir() else None
     found = []
@@ -131,7 +133,7 @@ def parts_of(page):
     return found
 
 
-def document_paths(suite):
+def document_paths(suite: Suite) -> None:
     """Each link of a document leads to a file, and each path that it names is there."""
     for page in pages():
         named = [*(path for path, _ in links_of(page)), *paths_of(page), *parts_of(page)]
@@ -139,7 +141,7 @@ def document_paths(suite):
         suite.note(f"what {page.relative_to(TOP)} names is there", {"lost": []}, {"lost": lost})
 
 
-def document_headings(suite):
+def document_headings(suite: Suite) -> None:
     """Each link to a heading leads to one."""
     asked = [(page, path, heading) for page in pages() for path, heading in links_of(page) if heading]
     suite.holds("some links lead to headings", asked)
@@ -148,27 +150,28 @@ def document_headings(suite):
         suite.holds(f"{page.relative_to(TOP)} links to the heading {heading} of {path.name}", found)
 
 
-def document_crates(suite):
+def document_crates(suite: Suite) -> None:
     """The table of ARCHITECTURE has each crate once, with its page."""
     listed = re.findall(r"^(\w+)(?: staticlib)?:", text_of("crates.txt"), re.M)
     told = re.findall(r"^\| \[(\w+)\]\(\.\./crates/\1/README\.md\) \|", text_of("docs/ARCHITECTURE.md"), re.M)
     suite.note("the crates of ARCHITECTURE", {"crates": sorted(listed)}, {"crates": sorted(told)})
 
 
-def definition_files():
+def definition_files() -> List[Tuple[str, str, str]]:
     """The definition files of THEOREM in its order, each as a crate, a name and the number of its lines."""
     rows = re.findall(r"^\| crates/(\w+)/specs \| ([^|]+) \|", text_of("docs/THEOREM.md"), re.M)
-    return [(crate, *file.split()) for crate, files in rows for file in files.split(", ")]
+    named = [(crate, file.split()) for crate, files in rows for file in files.split(", ")]
+    return [(crate, name, lines) for crate, (name, lines) in named]
 
 
-def cited_by(crate, name):
+def cited_by(crate: str, name: str) -> List[Tuple[str, str]]:
     """The definition files of this tree that a definition file cites; declarations of code are none."""
     text = text_of(f"crates/{crate}/specs/{name}.antt")
     cited = re.findall(r"^(?:pub )?use Rattle\.(pesp\w*)\.specs\.(\w+)", text, re.M)
     return [(crate, name) for crate, name in cited if name != "declared"]
 
 
-def theorem_files(suite):
+def theorem_files(suite: Suite) -> None:
     """THEOREM names all definitions that the headline cites, each with its lines and above those that cite it."""
     above, roots = [], [("pesp_shell", "Runs"), ("pesp_shell_replies", "Transcripts")]
     cited = list(roots)
@@ -182,7 +185,7 @@ def theorem_files(suite):
     suite.note("each is cited, or has the headline", {"files": sorted(set(cited))}, {"files": sorted(above)})
 
 
-def walked_functions(suite):
+def walked_functions(suite: Suite) -> None:
     """Each step of a walk of ARCHITECTURE is a function of the file that it names."""
     steps = STEP.findall(text_of("docs/ARCHITECTURE.md"))
     suite.holds("ARCHITECTURE has three walks", len(steps) > 20)
@@ -191,7 +194,7 @@ def walked_functions(suite):
             suite.holds(f"{path} has the function {name}", re.search(rf"\bfn {name}\b", text_of(path)))
 
 
-def promised():
+def promised() -> Iterator[List[List[Tuple[str, str]]]]:
     """The names of each row of PROMISES: those of contracts, and those of wrong bodies, each with its crate."""
     for line in text_of("docs/PROMISES.md").splitlines():
         cells = [cell.strip() for cell in line.split("|")[1:-1]]
@@ -199,18 +202,18 @@ def promised():
             yield [named(cells[1]), named(cells[2])]
 
 
-def named(cell):
+def named(cell: str) -> List[Tuple[str, str]]:
     """Each name in a cell as `crate: a, b; crate: c`, with its crate."""
     parts = re.findall(r"(pesp\w*): ((?:`[\w:]+`(?:, )?)+)", cell)
     return [(crate, name) for crate, names in parts for name in re.findall(r"\w+", names)]
 
 
-def sources_of(crate):
+def sources_of(crate: str) -> str:
     found = [path for kind in ("src/**/*.rt", "specs/**/*.antt") for path in (TOP / "crates" / crate).glob(kind)]
     return "\n".join(path.read_text() for path in found)
 
 
-def promises(suite):
+def promises(suite: Suite) -> None:
     """Each contract that PROMISES names is a word of its crate, and each wrong body stands on a shelf of its crate."""
     rows = list(promised())
     suite.holds("PROMISES has its table", len(rows) > 30)
@@ -270,7 +273,7 @@ kept period r below = below
 """
 
 
-def statements_proved_once(suite):
+def statements_proved_once(suite: Suite) -> None:
     """What one file of proofs says, others cite; and what is said twice in two files is found."""
     found = statements(TOP)
     suite.holds("there are statements", len(found) > 2000)
