@@ -48,6 +48,11 @@ class Session:
             raise
         return cls(engine, work, transport, journal)
 
+    def open(self, lines: int) -> None:
+        """Has an engine there with room for so many lines. Raises Ended and BadReply."""
+        with self._whole():
+            self._ready(lines)
+
     def close(self) -> None:
         """Ends the engine; there are no more answers then."""
         self._is_closed = True

@@ -3,16 +3,17 @@
 from __future__ import annotations
 
 import os
+import signal
 import threading
 from concurrent.futures import Executor
 from contextlib import contextmanager
-from dataclasses import dataclass
+from dataclasses import dataclass, field
 from typing import Dict, Iterator, List, Optional, Sequence, Tuple, Union
 
 from pespbench.client import Bench
 from pespbench.commands import CHANGES, checked, name_of
 from pespbench.engines import Engine
-from pespbench.faults import Fault, Refused
+from pespbench.faults import Ended, Fault, Refused
 from pespbench.session import Outcome, Session
 from pespbench.work import work_of
 from pespbench.workers import Bar, Driver, Hands, LentHands, Lost, OwnHands
@@ -28,6 +29,8 @@ class Base:
     engine: Engine
     period: int
     script: Tuple[str, ...]
+    # Has something as soon as nothing more is to be asked; of threads of this process alone, which have this very object.
+    over: List[bool] = field(default_factory=list, compare=False, repr=False)
 
     @classmethod
     def of(cls, bench: Bench, program: Union[str, "os.PathLike[str]", None] = None) -> "Base":
@@ -68,10 +71,14 @@ _in_hand: Dict[int, Tuple[Base, Bench]] = {}
 
 
 def answer_task(task: Task) -> Outcome:
-    """The answer to a variant, or the first refusal of its edits. Raises Ended and BadReply."""
+    """The answer to a variant, or the first refusal of its edits. Raises Ended, also where all is over, and BadReply."""
     bench = _opened.bench(task.base)
     _in_hand[threading.get_ident()] = task.base, bench
     try:
+        # Who ends all finds an engine here to end, or this finds that all is over: so it is opened before it looks.
+        bench._session.open(2 * len(task.edits) + 2)
+        if task.base.over:
+            raise Ended(-signal.SIGKILL, "")
         with bench.trial():
             *edits, answer = bench.many([*task.edits, task.question])
     finally:
@@ -85,6 +92,7 @@ def at_work(hands: Hands, base: Base) -> Iterator[None]:
     try:
         yield
     except BaseException:
+        base.over.append(True)
         for other, bench in list(_in_hand.values()):
             if other is base:
                 bench._session.end()

@@ -18,6 +18,7 @@ from pespbench.network import Activity, Network
 from pespbench.parts import parts_of, ranges_of
 from pespbench.workers import Bar
 from tests.common import PATIENCE, Case, over_both
+from tests.test_progress import interrupt_when
 
 
 class Small(Case):
@@ -55,6 +56,35 @@ class Dying(Case):
         lost = came.pop(7)
         self.assertEqual(came, [3] * 8)
         self.assertTrue(isinstance(lost, Lost) and lost.task == 7 and "status 1" in str(lost), lost)
+
+
+# A program whose second start waits in the middle of its opening, and which notes that it searches.
+OPENS_LATE = r"""
+folder = pathlib.Path(__file__).parent
+if line == "add event 1" and start == 2:
+    (folder / "opening").touch()
+    while not (folder / "may-open").exists():
+        time.sleep(0.01)
+if line == "optimum":
+    (folder / "searching").touch()
+write(EMPTY if line == "dump" else b"infeasible\n" if line == "optimum" else b"ok\n")
+"""
+
+
+class Over(Case):
+    """`variants` that are broken off."""
+
+    def test_a_thread_that_opens_late(self) -> None:
+        """A thread whose program is there only when all is over asks it nothing: nobody would end that search."""
+        opening, searching = self.folder / "opening", self.folder / "searching"
+        with Bench.open(None, period=10, program=self.stand_in(OPENS_LATE)) as bench, ThreadPoolExecutor(1) as executor:
+            bench.add_event(1)
+            interrupt_when(opening.exists)
+            self.assertRaises(KeyboardInterrupt, variants, bench, [[], []], executor=executor)
+            (self.folder / "may-open").touch()
+            executor.submit(int).result()
+            self.assertFalse(searching.exists(), "it searches")
+            self.assertEqual((variants(bench, [[]], executor=executor), searching.exists()), ([Infeasible()], True))
 
 
 @over_both
