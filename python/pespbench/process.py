@@ -154,10 +154,12 @@ def kill_all() -> None:
 
 def let_go(child: "subprocess.Popen[bytes]", selector: selectors.BaseSelector, errors: IO[bytes], owner: int) -> None:
     """Ends a program by force, and closes all that leads to it; a process that was forked leaves its parent's program alone."""
-    if os.getpid() != owner:
-        return
-    child.kill()
-    child.wait()
+    if os.getpid() == owner:
+        child.kill()
+        child.wait()
+    else:
+        # So nobody waits for it here, nor warns that it runs.
+        child.returncode = 0
     selector.close()
     for file in (child.stdin, child.stdout, errors):
         if file is not None:

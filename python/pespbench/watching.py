@@ -52,6 +52,7 @@ class Line(Watch):
 
     def __enter__(self) -> "Line":
         if self._is_shown:
+            self._show("")
             self._ticker.start()
         return self
 
@@ -69,7 +70,6 @@ class Line(Watch):
         return ", ".join(filter(None, [f"{time.monotonic() - self._began:.0f} s", best, bound, self.parts]))
 
     def _tick(self) -> None:
-        self._show("")
         while not self._is_over.wait(1):
             self._show("")
 

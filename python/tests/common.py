@@ -2,11 +2,13 @@
 
 from __future__ import annotations
 
+import contextlib
 import os
 import random
 import shutil
 import sys
 import tempfile
+import time
 import unittest
 from pathlib import Path
 from typing import Any, Dict, List, Type, TypeVar
@@ -22,6 +24,10 @@ LIBRARY = os.path.abspath(os.environ["PESPBENCH_LIB"]) if os.environ.get("PESPBE
 OVER_PROGRAM: Dict[str, Any] = {"program": PROGRAM}
 OVER_LIBRARY: Dict[str, Any] = {"engine": "library", "library": LIBRARY}
 needs_library = unittest.skipUnless(LIBRARY, "there is no library in process; PESPBENCH_LIB names one")
+# The most seconds for which something is waited that most often is there at once: a machine may be slow, or stand still.
+LONG = 100
+# Seconds that are enough on a slow machine too, and of which those do not end who sleep, or search, for minutes.
+SOON = 30
 # Over a program that is so many times slower, as tools/test_program says it, so many times fewer are drawn where many are.
 PATIENCE = int(os.environ.get("PESPBENCH_PATIENCE") or 1)
 
@@ -54,6 +60,24 @@ class Case(unittest.TestCase):
         path.write_text(text)
         path.chmod(0o755)
         return path
+
+
+def worked(process: int) -> float:
+    """The seconds of processors that a process and the programs that it has started have had, as /proc tells it."""
+    ticks = 0
+    for path in Path("/proc").glob("[0-9]*/stat"):
+        with contextlib.suppress(OSError):
+            fields = path.read_text().rpartition(")")[2].split()
+            if process in (int(path.parent.name), int(fields[1])):
+                ticks += int(fields[11]) + int(fields[12])
+    return ticks / os.sysconf("SC_CLK_TCK")
+
+
+def wait_for_work(process: int, before: float) -> None:
+    """Waits until a process has worked for some tenths of a second more than before: then what it was asked is under way."""
+    until = time.monotonic() + (LONG if Path("/proc/self/stat").exists() else 1)
+    while worked(process) < before + 0.3 and time.monotonic() < until:
+        time.sleep(0.05)
 
 
 Kind = TypeVar("Kind", bound=Type[Case])

@@ -175,12 +175,17 @@ class Pipes(Case):
     def test_one_by_one_and_at_once(self) -> None:
         with self.drawn(4, 40, 80) as bench:
             lines = [f"span {activity % 80} {activity % 50} {activity % 50 + 20}" for activity in range(400)]
-            began = time.monotonic()
-            for line in lines:
-                bench.ask(line)
-            middle = time.monotonic()
-            bench.many(lines)
-            self.assertLess(time.monotonic() - middle, middle - began)
+            one_by_one, at_once = [], []
+            for _ in range(5):
+                began = time.monotonic()
+                for line in lines:
+                    bench.ask(line)
+                middle = time.monotonic()
+                bench.many(lines)
+                one_by_one.append(middle - began)
+                at_once.append(time.monotonic() - middle)
+            # The least of some, since whatever else runs takes its time too.
+            self.assertLess(min(at_once), min(one_by_one))
 
 
 @over_both

@@ -4,10 +4,10 @@ from __future__ import annotations
 
 import os
 import pty
+import select
 import signal
 import subprocess
 import sys
-import time
 import unittest
 from pathlib import Path
 from typing import List, Tuple
@@ -15,7 +15,7 @@ from typing import List, Tuple
 from pespbench.commands import CHANGES
 from pespbench.replies import BEGINNINGS
 from pespbench.shell import OWN
-from tests.common import EXAMPLES, PROGRAM, TOP, Case, drawn_script
+from tests.common import EXAMPLES, LONG, PROGRAM, TOP, Case, drawn_script, wait_for_work, worked
 
 TWO = ["--period", "10", str(EXAMPLES / "two-trains/activities")]
 ENVIRONMENT = {**os.environ, "PESPBENCH": PROGRAM, "PYTHONPATH": str(TOP / "python")}
@@ -24,7 +24,7 @@ ENVIRONMENT = {**os.environ, "PESPBENCH": PROGRAM, "PYTHONPATH": str(TOP / "pyth
 def called(*words: str, given: str = "") -> Tuple[int, str, str]:
     """The exit status of a subcommand, and what it wrote to standard output and to standard error."""
     command = [sys.executable, "-m", "pespbench", *words]
-    done = subprocess.run(command, input=given, capture_output=True, text=True, env=ENVIRONMENT, timeout=60)
+    done = subprocess.run(command, input=given, capture_output=True, text=True, env=ENVIRONMENT, timeout=LONG)
     return done.returncode, done.stdout, done.stderr
 
 
@@ -88,14 +88,15 @@ class Shell(Case):
             self.read_to(leader, "> ")
             os.write(leader, b"fix 3 7\n")
             self.read_to(leader, "ok")
+            before = worked(process.pid)
             os.write(leader, b"optimum\n")
-            time.sleep(1)
+            wait_for_work(process.pid, before)
             os.kill(process.pid, signal.SIGINT)
             self.read_to(leader, "nothing that was accepted is lost")
             os.write(leader, b"domain 3\n")
             self.read_to(leader, "3: 7")
             os.write(leader, b"quit\n")
-            self.assertEqual(process.wait(10), 0)
+            self.assertEqual(process.wait(LONG), 0)
         finally:
             process.kill()
             process.wait()
@@ -103,9 +104,8 @@ class Shell(Case):
 
     def read_to(self, leader: int, text: str) -> None:
         held = b""
-        until = time.monotonic() + 20
         while text.encode() not in held:
-            self.assertLess(time.monotonic(), until, held)
+            self.assertTrue(select.select([leader], [], [], LONG)[0], held)
             held += os.read(leader, 1_000)
 
 

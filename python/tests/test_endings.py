@@ -13,7 +13,7 @@ from functools import partial
 from pathlib import Path
 from typing import Callable, Dict, List, Set
 
-from tests.common import TOP, Case
+from tests.common import LONG, TOP, Case
 
 # A program whose searches have no end, and which notes that it searches.
 SEARCHES = r"""
@@ -92,7 +92,7 @@ class Endings(Case):
         return found
 
     def wait_until(self, holds: Callable[[], bool], what: str) -> None:
-        until = time.monotonic() + 20
+        until = time.monotonic() + LONG
         while not holds():
             self.assertLess(time.monotonic(), until, what)
             time.sleep(0.05)
@@ -118,7 +118,7 @@ class Endings(Case):
             command.stdin.close()
             status = 0
         wanted: List[int] = [status, -number] if name.startswith("variants") else [status]
-        self.assertIn(command.wait(20), wanted)
+        self.assertIn(command.wait(LONG), wanted)
         self.wait_until(lambda: not self.left(name), "a process is left")
 
 

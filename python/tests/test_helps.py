@@ -18,7 +18,7 @@ from pespbench import Activity, Bench, Found, Infeasible, Labels, Names, Optimum
 from pespbench.__main__ import main
 from pespbench.helps import Gain, Helps, helps, text_of
 from pespbench.helps.questions import Question
-from tests.common import EXAMPLES, PATIENCE, PROGRAM, TOP, Case, over_both
+from tests.common import EXAMPLES, LONG, PATIENCE, PROGRAM, TOP, Case, over_both
 
 # Two trains that have to meet at both ends, at period 30: where a minute more of one turn, or of the other, lets them meet better.
 TURNS = "1; 1; 2; 10; 10; 1\n2; 2; 3; 3; 5; 4\n3; 3; 4; 10; 10; 1\n4; 4; 1; 4; 6; 2\n5; 2; 1; 3; 30; 9\n"
@@ -249,12 +249,12 @@ class EndedEarly(Case):
             environment = {**os.environ, "PYTHONPATH": str(TOP / "python")}
             command = subprocess.Popen(words, stdout=subprocess.PIPE, stderr=subprocess.PIPE, env=environment)
             self.addCleanup(command.kill)
-            until = time.monotonic() + 60
+            until = time.monotonic() + LONG
             while not (self.folder / "searching").exists():
                 self.assertLess(time.monotonic(), until, "it does not search")
                 time.sleep(0.02)
             command.send_signal(number)
-            output, error = command.communicate(timeout=20)
+            output, error = command.communicate(timeout=LONG)
             told = output.decode().splitlines()
             self.assertEqual((command.returncode, error, told[1]), (128 + number, b"", "1 of 3 activities were asked about, each with 1 minute more."))
             self.assertEqual(told[-1], "  1  activity 1 from event 1 to event 2  3 to 10 minutes in place of 3 to 9")

@@ -10,7 +10,7 @@ import unittest
 from typing import List, Union
 
 from pespbench import Bench, NotKept, Optimum, Refused, Stopped, Window
-from tests.common import EXAMPLES, Case, drawn_changes, over_both
+from tests.common import EXAMPLES, SOON, Case, drawn_changes, over_both
 
 
 @over_both
@@ -182,7 +182,7 @@ class StartedAgain(Hard):
         before = bench.dump()
         began = time.monotonic()
         found = bench.search(1.5).found()
-        self.assertLess(time.monotonic() - began, 3)
+        self.assertLess(time.monotonic() - began, SOON)
         self.assertIsInstance(found, Stopped)
         self.assertEqual(bench.dump(), before)
         bench.undo()
@@ -197,7 +197,7 @@ class Interrupted(Hard):
     """Ctrl-C; over the library see tests.test_in_process, since the search goes on there."""
 
     def test_interrupt(self) -> None:
-        """Ctrl-C in a search: what was accepted is there afterwards, within some milliseconds."""
+        """Ctrl-C in a search: what was accepted is there afterwards, soon."""
         bench = self.hard()
         bench.time(3, 7)
         before, journal = bench.dump(), bench.journal
@@ -208,7 +208,7 @@ class Interrupted(Hard):
         timer.join()
         began = time.monotonic()
         self.assertEqual((bench.dump(), bench.journal, bench.times), (before, journal, {3: 7}))
-        self.assertLess(time.monotonic() - began, 1)
+        self.assertLess(time.monotonic() - began, SOON)
 
 
 if __name__ == "__main__":

@@ -8,7 +8,6 @@ import shutil
 import signal
 import subprocess
 import sys
-import time
 import unittest
 from pathlib import Path
 from typing import Any, Dict, List, Tuple, Union
@@ -16,7 +15,7 @@ from unittest import mock
 
 from pespbench import Bench, Ended, Engine, FileFault, NoLibrary, Optimum, PespbenchError, Stopped, variants
 from pespbench.library import find_library, loaded
-from tests.common import LIBRARY, OVER_LIBRARY, OVER_PROGRAM, TOP, Case, drawn_script, needs_library
+from tests.common import LIBRARY, LONG, OVER_LIBRARY, OVER_PROGRAM, TOP, Case, drawn_script, needs_library, wait_for_work, worked
 
 
 class Finding(Case):
@@ -196,9 +195,9 @@ class Library(Case):
             self.addCleanup(command.kill)
             assert command.stdout is not None
             self.assertEqual(command.stdout.readline(), b"searching\n")
-            time.sleep(0.7)
+            wait_for_work(command.pid, worked(command.pid))
             command.send_signal(signal.SIGINT)
-            output, error = command.communicate(timeout=40)
+            output, error = command.communicate(timeout=LONG)
         self.assertEqual((command.returncode, output, error), (0, b"went on\n", b""))
 
     def test_which(self) -> None:

@@ -13,7 +13,7 @@ from pathlib import Path
 from pespbench import Activity, Bench, EventLabel, FileFault
 from pespbench.lintim import LinTim, add_parser, read_lintim
 from pespbench.report import read_places
-from tests.common import PROGRAM, Case
+from tests.common import LONG, PROGRAM, Case
 
 ACTIVITIES = """\
 # activity_index; type; from_event; to_event; lower_bound; upper_bound; passengers
@@ -129,7 +129,7 @@ class LinTimFiles(Case):
         self.paths["events"].write_text("".join(f"{event}; departure; {event}; 1\n" for event in range(1, 6)))
         found: "queue.Queue[LinTim]" = queue.Queue()
         threading.Thread(target=lambda: found.put(read_lintim(self.paths["activities"], None, self.paths["events"])), daemon=True).start()
-        to = {event: label.to for event, label in found.get(timeout=10).labels.events.items()}
+        to = {event: label.to for event, label in found.get(timeout=LONG).labels.events.items()}
         self.assertEqual(to, {1: "stop 3", 2: "stop 3", 3: "stop 3", 4: "stop 5", 5: "stop 5"})
 
     def test_names_in_places(self) -> None:

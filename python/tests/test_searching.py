@@ -21,7 +21,7 @@ from pespbench.variants import Base
 from pespbench.watching import Watch
 from pespbench.why import Possible, why
 from pespbench.workers import Bar
-from tests.common import EXAMPLES, PROGRAM, TOP, Case
+from tests.common import EXAMPLES, LONG, PROGRAM, TOP, Case
 from tests.test_command_line import TWO, called
 
 # Two events and an activity of 3 to 30 minutes; the first search comes to a timetable that costs 20, others do not end.
@@ -74,7 +74,7 @@ class Folders(Case):
         return folder
 
     def searched(self, network: Path, *more: str) -> Tuple[int, str, str]:
-        return called("search", str(network), "--program", self.program, "--seconds", "0.5", "--save", str(self.saved), *more)
+        return called("search", str(network), "--program", self.program, "--seconds", "1.5", "--save", str(self.saved), *more)
 
     def times(self) -> str:
         return (self.saved / "times").read_text()
@@ -89,7 +89,7 @@ class Folders(Case):
         assert command.stdin is not None
         command.stdin.write(given)
         command.stdin.flush()
-        until = time.monotonic() + 20
+        until = time.monotonic() + LONG
         while not (self.folder / "searching").exists():
             self.assertLess(time.monotonic(), until, "it does not search")
             time.sleep(0.02)
@@ -128,7 +128,7 @@ class Kept(Folders):
             words = ["search", str(self.saved), "--program", self.program, "--save", str(self.saved)]
             command = self.started(*words)
             command.send_signal(number)
-            output, _ = command.communicate(timeout=20)
+            output, _ = command.communicate(timeout=LONG)
             self.assertEqual((command.returncode, output.decode(), self.times()), (128 + number, FOUND, ROWS.format(23)))
 
     def test_parts_interrupted(self) -> None:
@@ -137,7 +137,7 @@ class Kept(Folders):
         words = ["search", str(self.saved), "--program", self.program, "--save", str(self.saved), "--parts", "--workers", "1"]
         command = self.started(*words)
         command.send_signal(signal.SIGINT)
-        output, _ = command.communicate(timeout=20)
+        output, _ = command.communicate(timeout=LONG)
         self.assertEqual((command.returncode, output.decode()), (130, "stopped 5 2\n1 0\n2 8\n"))
         self.assertEqual(self.times(), ROWS.format(8))
 
@@ -152,7 +152,7 @@ class Kept(Folders):
     def test_interrupted_in_the_shell(self) -> None:
         command = self.started("shell", str(self.saved), "--program", self.program, given=b"search 60\n")
         command.send_signal(signal.SIGINT)
-        output, _ = command.communicate(timeout=20)
+        output, _ = command.communicate(timeout=LONG)
         self.assertTrue(output.decode().startswith(f"{FOUND}# A timetable that meets everything costs 20; "), output)
 
 
@@ -208,7 +208,7 @@ class Refusals(Case):
         lines = f"fix 1 \udcff\nsave {unwritable}\ntimes x\nundo\nsave \0\nquit\n"
         given = lines.encode("utf-8", "surrogateescape")
         words, environment = [sys.executable, "-m", "pespbench", "shell", *TWO], {**os.environ, "PYTHONPATH": str(TOP / "python")}
-        done = subprocess.run([*words, "--program", PROGRAM], input=given, capture_output=True, env=environment, timeout=60)
+        done = subprocess.run([*words, "--program", PROGRAM], input=given, capture_output=True, env=environment, timeout=LONG)
         self.assertEqual((done.returncode, done.stderr, len(done.stdout.splitlines())), (0, b"", 4), done.stdout)
 
     def test_on_command_lines(self) -> None:
@@ -244,7 +244,7 @@ class Shown(Folders):
         self.addCleanup(os.close, leader)
         environment = {**os.environ, "PYTHONPATH": str(TOP / "python")}
         done = subprocess.run(
-            [sys.executable, "-m", "pespbench", *words], stdout=subprocess.PIPE, stderr=follower, env=environment, timeout=20
+            [sys.executable, "-m", "pespbench", *words], stdout=subprocess.PIPE, stderr=follower, env=environment, timeout=LONG
         )  # fmt: skip
         os.close(follower)
         shown = os.read(leader, 10_000).decode()

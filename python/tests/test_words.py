@@ -39,14 +39,14 @@ class Words(Case):
         self.assertEqual(self.typed("why", LINE), "A timetable meets everything, so there is no conflict.\n")
         fixed = self.folder / "fixed"
         fixed.write_text("1; 0\n2; 30\n")
-        told = self.typed("why", LINE, "--fixed", str(fixed), "--nodes", "50", "--seconds", "2")
+        told = self.typed("why", LINE, "--fixed", str(fixed), "--nodes", "50", "--seconds", "100")
         self.assertIn("they take 24 to 26 minutes, and have to take 30.", told)
         self.assertIn("  4 minutes more  activity 11 from event 1 to event 2  24 to 30 minutes in place of 24 to 26\n", told)
 
     def test_hard(self) -> None:
         draw_region(3, feasible=False).save(self.folder)
         network = str(self.folder / "activities")
-        told = self.typed("why", network, "--labels", str(self.folder / "labels"), "--hard", "run,dwell,headway")
+        told = self.typed("why", network, "--labels", str(self.folder / "labels"), "--hard", "run,dwell,headway", "--seconds", "100")
         self.assertIn("minutes (hard)\n", told)
         self.assertIn("The least that mends it", told)
 
