@@ -24,7 +24,8 @@ QUIET = (
     "--disable-dev-shm-usage",
     "--js-flags=--stack-size=2000",
 )
-SECONDS = 90
+# The most that the browser may take for an answer, and the page until something holds: a machine may be slow, or stand still.
+SECONDS, PATIENCE = 240, 120
 # A point of the page, from its left and its top.
 Place = Tuple[float, float]
 
@@ -71,11 +72,11 @@ class Browser:
         self._answers: "queue.Queue[Dict[str, Any]]" = queue.Queue()
         self._session: Optional[str] = None
         self._last, self._turn = 0, threading.Lock()
-        self.asked_to_stay = 0
+        self.asked_to_stay = self.crashes = 0
         threading.Thread(target=self._read, daemon=True).start()
         target = self.call("Target.createTarget", url="about:blank")["targetId"]
         self._session = self.call("Target.attachToTarget", targetId=target, flatten=True)["sessionId"]
-        for domain in ("Page", "Runtime", "Network", "Log"):
+        for domain in ("Page", "Runtime", "Network", "Log", "Inspector"):
             self.call(f"{domain}.enable")
         self.resize(*size)
 
@@ -103,6 +104,8 @@ class Browser:
             # The page asks whether it may be left.
             self.asked_to_stay += 1
             self._send("Page.handleJavaScriptDialog", {"accept": True})
+        elif method == "Inspector.targetCrashed":
+            self.crashes += 1
         elif method == "Log.entryAdded":
             self.log.append(params["entry"]["text"])
         elif method == "Runtime.exceptionThrown":
@@ -129,6 +132,8 @@ class Browser:
         while True:
             answer = self._answers.get(timeout=SECONDS)
             if answer["id"] is None:
+                # Who asks next is told at once, too.
+                self._answers.put(answer)
                 raise Failed("the browser ended")
             if answer["id"] == sent:
                 break
@@ -153,7 +158,7 @@ class Browser:
             raise Failed(details.get("exception", {}).get("description") or details["text"])
         return answer["result"].get("value")
 
-    def until(self, condition: str, seconds: int = 60) -> Any:
+    def until(self, condition: str, seconds: int = PATIENCE) -> Any:
         """Waits until an expression is true."""
         waits = f"""new Promise((done, fail) => {{
             const end = performance.now() + {1000 * seconds};

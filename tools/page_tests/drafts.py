@@ -41,11 +41,15 @@ def crash(page: Hands) -> None:
     session, page._session = page._session, None
     processes = page.call("SystemInfo.getProcessInfo")["processInfo"]
     page._session = session
+    before = page.crashes
     for process in processes:
         if process["type"] == "renderer":
             os.kill(process["id"], signal.SIGKILL)
     # What is asked before the browser has seen it is never answered.
-    time.sleep(1)
+    for _ in range(600):
+        if page.crashes > before:
+            break
+        time.sleep(0.1)
     page.again()
 
 

@@ -117,7 +117,7 @@ def gains_watched(suite: Suite, page: Hands) -> None:
     page.until(f"{counts} > {first}")
     suite.holds("it is told that it goes on", "asking on" in page.text("#gains-progress") and page.is_shown("stop"))
     took = page.ask("(() => { const began = performance.now(); Page.find('stop').click(); return performance.now() - began; })()")
-    suite.holds(f"stopped in {took:.0f} ms", took < 200 and not page.is_shown("stop"))
+    suite.holds(f"stopped in {took:.0f} ms", took < 1_000 and not page.is_shown("stop"))
     suite.holds("what came stays", "— stopped" in page.text("#gains-progress") and page.ask(counts) > 0)
     suite.note("it is said", {"said": "stopped; what was found is listed"}, {"said": page.said()})
     page.press("ask-gains")

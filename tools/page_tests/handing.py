@@ -51,7 +51,7 @@ def named(suite: Suite, page: Hands) -> None:
         page.call("Browser.setDownloadBehavior", behavior="allow", downloadPath=folder)
         page.press("save")
         page.fill("#saving-name", "Nürnberg: draft 3/b\n")
-        for _ in range(100):
+        for _ in range(600):
             if paths := list(pathlib.Path(folder).glob("*.zip")):
                 break
             time.sleep(0.1)

@@ -112,7 +112,7 @@ def archived(suite: Suite, page: Hands) -> None:
         page.call("Browser.setDownloadBehavior", behavior="allow", downloadPath=name)
         page.press("save")
         page.press("save-all")
-        for _ in range(100):
+        for _ in range(600):
             if list(folder.glob("*.zip")):
                 break
             time.sleep(0.1)

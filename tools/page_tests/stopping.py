@@ -38,15 +38,19 @@ SEARCH = """(() => {
     PespModule.text = `const withSearch = ${withSearch};\\n${PespModule.text.replace('calls: instance.exports', 'calls: withSearch(instance.exports)')}`;
 })()"""
 
-# Keeps what a Worker is asked.
+# Keeps what a Worker is asked, which does not come to it where that is said.
 HEARD = """(() => {
     const { postMessage } = Worker.prototype;
     window.questions = [];
     Worker.prototype.postMessage = function post(question) {
         if (question.kind) window.questions.push(question);
-        postMessage.call(this, question);
+        if (!question.kind || !window.isHeld) postMessage.call(this, question);
     };
 })()"""
+
+# What is told of the best and of its button, at one moment: a search that runs may find another one at any.
+OFFERED = """({ found: Page.find('found').textContent, told: Page.find('compared').textContent,
+    adopt: Page.find('adopt').getClientRects().length > 0, keys: document.activeElement.id })"""
 
 
 def cost_of(text: str) -> List[Optional[int]]:
@@ -138,12 +142,14 @@ def stopped_and_gone_on(suite: Suite, page: Hands) -> None:
         assert took is not None
         came = {"button": page.text("#optimum"), "keys": page.ask("document.activeElement.id") in ("adopt", "optimum"), "adopt": page.is_shown("adopt")}
         suite.note(f"{by}: what can be done", {"button": "Go on", "keys": True, "adopt": True}, came)
-        page.ask("Page.find('optimum').focus()")
+        # No answer comes before it is looked at what stays.
+        page.ask("window.isHeld = true; Page.find('optimum').focus()")
         if by == "mouse":
             page.press("optimum")
         else:
             page.type("\n")
-        suite.holds(f"{by}: the clock goes on", int(page.text("#clock").split()[0]) >= int(float(took[1])))
+        # What a search took is told in tenths, to the nearest one.
+        suite.holds(f"{by}: the clock goes on", int(page.text("#clock").split()[0]) >= int(float(took[1]) - 0.05))
         suite.holds(f"{by}: what it has come to stays", cost_of(page.text("#found")) == [cost, bound])
         before, after = page.ask("window.questions.map(({ first, best }) => ({ first, best: best && Number(best.cost) }))")
         suite.note(f"{by}: it asks with more, and begins with the best", {"best": [None, cost]}, {"best": [before["best"], after["best"]]})
@@ -159,15 +165,19 @@ def adopted_meanwhile(suite: Suite, page: Hands) -> None:
         page.show(soon_found())
         begun(page, by)
         if by == "mouse":
-            page.press("adopt")
+            # What is found meanwhile moves the button away below the mouse.
+            for _ in range(5):
+                page.press("adopt")
+                if page.ask("Page.session.place"):
+                    break
         else:
             page.ask("Page.find('adopt').focus()")
             page.type("\n")
         cost = page.text("#figure-cost b")
         suite.holds(f"{by}: adopted", page.ask("Page.session.place") == 1 and page.said() == f"adopted: the best that was found, cost {cost}")
         suite.holds(f"{by}: it goes on", page.is_shown("stop"))
-        if page.text("#found").startswith(f"Cost {cost},"):
-            came = {"told": page.text("#compared"), "adopt": page.is_shown("adopt"), "keys": page.ask("document.activeElement.id")}
+        came = page.ask(OFFERED)
+        if came.pop("found").startswith(f"Cost {cost},"):
             suite.note(f"{by}: it is told", {"told": "it is the timetable shown", "adopt": False, "keys": "stop"}, came)
         page.key("z", 90, CTRL)
         came = {"place": page.ask("Page.session.place"), "cost": page.text("#figure-cost b"), "stop": page.is_shown("stop"), "adopt": page.is_shown("adopt")}
@@ -230,7 +240,7 @@ def without_any(suite: Suite, page: Hands) -> None:
         else:
             suite.note("the keys", {"at": "ask-mends"}, {"at": page.ask("document.activeElement.id")})
             page.type("\n")
-        page.until("Page.find('stop').hidden && document.querySelector('#reasons .mend')", seconds=90)
+        page.until("Page.find('stop').hidden && document.querySelector('#reasons .mend')")
         suite.note(f"{by}: the view", {"tab": "why"}, {"tab": page.ask("Page.tab")})
         if by == "mouse":
             page.click(*page.middle("#reasons .mend"))

@@ -152,7 +152,7 @@ def why_mended(suite: Suite, page: Hands) -> None:
         page.ask("Page.openStory(Page.stories[1])")
         page.frame()
         ask()
-        page.until("Page.find('stop').hidden && document.querySelector('#reasons .mend')", seconds=90)
+        page.until("Page.find('stop').hidden && document.querySelector('#reasons .mend')")
         mend()
         page.frame()
         return page.lines(), page.ask("Page.isInfeasible(Page.view)")

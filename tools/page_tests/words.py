@@ -69,7 +69,7 @@ def planners_words(suite: Suite, page: Hands) -> None:
         page.ask("Page.find('keep-A').click(); Page.step(['fix 1 4', 'fix 2 25'])")
         for name in ("try", "ask-why"):
             page.press(name)
-            page.until("Page.find('stop').hidden", seconds=90)
+            page.until("Page.find('stop').hidden")
         for tab in TABS:
             page.ask(f"Page.showTab('{tab}')")
             came = sorted(set(map(str.lower, FOREIGN.findall(page.ask(TEXTS)))))

@@ -14,7 +14,7 @@ from tests.file_cases import TWO
 from tests.harness import SECONDS, Suite, within
 from tests.streams import drawn_lines, followed
 
-PATIENCE = 10
+PATIENCE = SECONDS
 NOTHING = "nothing in time"
 
 
@@ -127,7 +127,7 @@ def drawn_dialogue(suite: Suite) -> None:
         suite.note("drawn dialogue: the end", ENDED, talk.end())
 
 
-@within(90)
+@within(240)
 def long_dialogue(suite: Suite) -> None:
     """Thousands of replies one by one, as an optimiser asks for them."""
     with Dialogue([suite.program]) as talk:

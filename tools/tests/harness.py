@@ -48,7 +48,7 @@ def within(seconds: int) -> Callable[[Kind], Kind]:
 
 
 class Suite:
-    """The program, a folder for the files of a group, and a file that has one letter for each case."""
+    """The program, a folder for the files of a group, and a file that has one letter for each case, beside one with the last one's name."""
 
     def __init__(self, program: pathlib.Path, folder: pathlib.Path, tally: pathlib.Path) -> None:
         self.program = program
@@ -65,6 +65,7 @@ class Suite:
         wrong = [title for title in wanted if not wanted[title] == came[title]]
         with open(self.tally, "a") as tally:
             tally.write("f" if wrong else "p")
+        self.tally.with_suffix(".last").write_text(name, errors="backslashreplace")
         if wrong:
             print(f"FAILED {name}")
         for title in wrong:

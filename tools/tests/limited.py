@@ -37,7 +37,7 @@ def network(suite: Suite, draw: random.Random, number: int) -> None:
     suite.holds(f"network {number}: one cost at the end", len(ended) <= 1 and ended <= {costs[-1]})
 
 
-@within(120)
+@within(240)
 def larger_limits(suite: Suite) -> None:
     draw = random.Random(5_703)
     for number in range(NETWORKS):

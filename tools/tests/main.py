@@ -7,6 +7,7 @@ import pathlib
 import signal
 import tempfile
 import time
+import traceback
 from typing import Callable, Dict, Mapping, Optional, Sequence, Tuple
 
 from tests import arguments, checks, commands, devices, dialogue, documents, drawing, embedded, examples, files, installing, layout
@@ -21,7 +22,7 @@ TOPICS = [examples, commands, quick_model, dialogue, streams, limited, arguments
 TOPICS += [start_script, unproved, shelves, strangers, packaging, installing, package, embedded, layout, page_module, module_program, written]
 TOPICS += [sources, solvers]
 # A group takes a few seconds; this is the most where it names nothing else.
-SECONDS = 120
+SECONDS = 240
 
 
 def groups() -> Dict[str, Group]:
@@ -39,7 +40,11 @@ def alone(group: Group, suite: Suite) -> None:
     """
     os.setsid()
     signal.signal(signal.SIGINT, signal.default_int_handler)
-    group(suite)
+    try:
+        group(suite)
+    except Exception as fault:  # noqa: BLE001  what breaks a group off is told, whatever it is
+        traceback.print_exc()
+        suite.note(f"{group.__name__} broke off", {"fault": ""}, {"fault": f"{type(fault).__name__}: {fault}"})
 
 
 def run_group(name: str, group: Group, program: pathlib.Path, folder: pathlib.Path, patience: int) -> Tuple[int, int]:
@@ -53,7 +58,8 @@ def run_group(name: str, group: Group, program: pathlib.Path, folder: pathlib.Pa
     process.join(seconds)
     fault = "" if process.exitcode == 0 else "it broke off"
     if process.exitcode is None:
-        fault = f"it is not done within {seconds} seconds"
+        last = tally.with_suffix(".last")
+        fault = f"it is not done within {seconds} seconds; the last case was: {last.read_text() if last.exists() else 'none'}"
         os.killpg(process.pid or 0, signal.SIGKILL)
         process.join()
     if fault:

@@ -57,7 +57,7 @@ def a_group(name: str) -> Callable[[Suite], None]:
     return group
 
 
-@within(240)
+@within(480)
 def python_dask(suite: Suite) -> None:
     """The tests over Dask, by Debian's Python, which alone sees Debian's package."""
     has_dask = subprocess.run([SYSTEM, "-c", "import distributed"], capture_output=True).returncode == 0
@@ -73,7 +73,7 @@ ANYWHERE = {"OMPI_ALLOW_RUN_AS_ROOT": "1", "OMPI_ALLOW_RUN_AS_ROOT_CONFIRM": "1"
 OVER_MPI = "mpiexec -n 8 python3 -m mpi4py.futures examples/on_a_cluster.py examples/two-changes mpi".split()
 
 
-@within(120)
+@within(240)
 def python_mpi(suite: Suite) -> None:
     """The example of many variants tells over MPI what it tells over this machine's processors, by Debian's Python."""
     surroundings = {**environment(suite), **ANYWHERE, "PATH": f"/usr/bin:{os.environ['PATH']}"}

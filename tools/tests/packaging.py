@@ -37,7 +37,7 @@ def told_of_changes() -> object:
     return SOME if git(TOP, "status", "--porcelain", "--untracked-files=no")["standard output"] else b""
 
 
-@within(120)
+@within(240)
 def package(suite: Suite) -> None:
     """A package is made, is the same twice, has right sums, and installs what works without the tree."""
     came = [called(suite, [TOP / "tools/package", suite.folder]) for _ in range(2)]
@@ -129,7 +129,7 @@ def packed(suite: Suite, tree: Path, title: str, **how: Any) -> Tuple[str, Dict[
     return path.rpartition("/")[2], {name: each.mode for name, each in entries.items()}, texts
 
 
-@within(120)
+@within(240)
 def package_of_a_clone(suite: Suite) -> None:
     """A package has what git has, whatever the names are, and nothing else, and is the same under each umask."""
     tree = a_clone(suite, "clone")

@@ -75,7 +75,7 @@ def most_at_long_periods(suite: Suite) -> None:
         suite.case(f"as many as there may be at period {period}", words, given=given, output=output)
 
 
-@within(180)
+@within(240)
 def greatest_script(suite: Suite) -> None:
     """An instance of 20,000 events and 100,000 activities opens from a file, is dumped, and refuses one more of each."""
     activities = [(number, number % MOST_EVENTS, number * 7 % MOST_EVENTS, 0, FULL_PERIOD - 1, 1) for number in range(MOST_ACTIVITIES)]

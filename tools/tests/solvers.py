@@ -92,7 +92,7 @@ def ranges(suite: Suite) -> None:
     suite.note("periods that no slack makes", {"range": (7, 0, 1)}, {"range": range_of(arcs, {2: 1}, 10)})
 
 
-@within(60)
+@within(240)
 def cycles(suite: Suite) -> None:
     integral(suite)
     ranges(suite)

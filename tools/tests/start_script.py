@@ -6,6 +6,7 @@ import shutil
 import signal
 import subprocess
 import time
+from typing import List
 
 from tests.harness import SECONDS, TOP, Suite, run
 from tests.start_tree import SYSTEM, Tree
@@ -120,16 +121,23 @@ def broken_off(suite: Suite, name: str, has_program: bool) -> None:
 def look_for_sources(suite: Suite) -> None:
     """A start takes less than 20 ms more than the program, over as many files as there are sources here.
 
-    Others work on the machine too, so the least of some starts is taken.
+    Others work on the machine too, so the least of some starts is taken, and of more where it is above that. On a machine on
+    which the program here, a script of a line, takes more than a millisecond, it is 20 times as much.
     """
     tree = Tree(suite)
     for name in ["src", "specs", "proofs"]:
         for path in (TOP / "crates").glob(f"*/{name}"):
             shutil.copytree(path, tree.top / path.relative_to(TOP), dirs_exist_ok=True)
     tree.start("the first start over all sources", 1, tells=FIRST)
-    least = [min(time_of(tree, command) for _ in range(20)) for command in (tree.link, tree.crate / "out/pespbench")]
-    look = 1_000 * (least[0] - least[1])
-    suite.note("the look for newer sources", {"below 20 ms": True}, {"below 20 ms": look < 20 or f"{look:.1f} ms"})
+    starts: List[float] = []
+    plain: List[float] = []
+    is_soon = False
+    while not is_soon and len(plain) < 400:
+        starts += [time_of(tree, tree.link) for _ in range(20)]
+        plain += [time_of(tree, tree.crate / "out/pespbench") for _ in range(20)]
+        is_soon = min(starts) - min(plain) < max(0.020, 20 * min(plain))
+    told = f"{1_000 * min(starts):.1f} ms, and the program {1_000 * min(plain):.1f} ms"
+    suite.note("the look for newer sources", {"it is soon": True}, {"it is soon": is_soon or told})
 
 
 def time_of(tree: Tree, command: pathlib.Path) -> float:
