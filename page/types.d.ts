@@ -1,6 +1,6 @@
-// What the scripts of the page have that no file of script/ declares, for the type checker.
-declare const PespModule: any;
+// What the modules of the page have that no file of script/ declares, for the type checker.
+declare const PespModule: typeof import('./module.js');
 declare const PESPBENCH_MODULE: string;
 declare const DecompressionStream: any;
 declare const CompressionStream: any;
-interface Window { CompressionStream: any }
+interface Window { CompressionStream: any; Page: any }

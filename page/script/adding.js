@@ -1,110 +1,112 @@
-'use strict';
-
 // Adds an activity between two chosen events, drops activities and events, and names an event. Each is a step.
-(() => {
-  const { element } = Page;
-  const KINDS = ['run', 'dwell', 'change', 'turn', 'headway'];
-  let from = null, opened = null, drawn = '';
 
-  // A number above all that are taken.
-  Page.freeNumber = (...taken) => taken.reduce((most, keys) => [...keys].reduce((one, other) => Math.max(one, other), most), 0) + 1;
+import { element, find, say } from './elements.js';
+import { showRow } from './events.js';
+import { minutesTyped } from './fields.js';
+import { readLabels } from './labels.js';
+import { eventName, labelOf } from './names.js';
+import { doStep, redraw, session } from './session.js';
+import { shown } from './shown.js';
 
-  Page.kindOf = number => Page.labels.kinds.get(number) || 'activity';
+const KINDS = ['run', 'dwell', 'change', 'turn', 'headway'];
+let from = null, opened = null, drawn = '';
 
-  Page.dropActivity = number => Page.step([`drop activity ${number}`]);
+// A number above all that are taken.
+export const freeNumber = (...taken) => taken.reduce((most, keys) => [...keys].reduce((one, other) => Math.max(one, other), most), 0) + 1;
 
-  const activitiesAt = event => [...Page.view.network.activities.values()].filter(each => each.first === event || each.last === event);
+export const dropActivity = number => doStep([`drop activity ${number}`]);
 
-  const dropEvent = event => Page.step([...activitiesAt(event).map(each => `drop activity ${each.number}`), `drop event ${event}`]);
+const activitiesAt = event => [...shown.view.network.activities.values()].filter(each => each.first === event || each.last === event);
 
-  // By a key: begins at the chosen event, and leads into the fields where both are chosen.
-  Page.addHere = () => {
-    if (from === null) beginHere();
-    else if (from !== Page.chosen) Page.find('added-kind').focus();
-  };
+const dropEvent = event => doStep([...activitiesAt(event).map(each => `drop activity ${each.number}`), `drop event ${event}`]);
 
-  const beginHere = () => {
-    from = Page.chosen;
-    Page.say(`From ${Page.eventName(from)}: choose the event to which it leads.`);
-    Page.draw();
-  };
+// By a key: begins at the chosen event, and leads into the fields where both are chosen.
+export const addHere = () => {
+  if (from === null) beginHere();
+  else if (from !== shown.chosen) find('added-kind').focus();
+};
 
-  const valueOf = id => Page.minutesTyped(Page.find(id).value);
+const beginHere = () => {
+  from = shown.chosen;
+  say(`From ${eventName(from)}: choose the event to which it leads.`);
+  redraw();
+};
 
-  const add = () => {
-    const { kinds } = Page.labels, number = Page.freeNumber(Page.view.network.activities.keys(), kinds.keys());
-    const kind = Page.find('added-kind').value.trim(), words = [number, from, Page.chosen, valueOf('added-least'), valueOf('added-most')];
-    const labels = kind ? { ...Page.labels, kinds: new Map([...kinds, [number, kind]]) } : Page.labels;
-    if (Page.step([`add activity ${words.join(' ')} ${Page.find('added-weight').value.trim()}`], { labels })) leave();
-  };
+const valueOf = id => minutesTyped(find(id).value);
 
-  const leave = () => {
-    from = null;
-    Page.draw();
-  };
+const add = () => {
+  const { kinds } = shown.labels, number = freeNumber(shown.view.network.activities.keys(), kinds.keys());
+  const kind = find('added-kind').value.trim(), words = [number, from, shown.chosen, valueOf('added-least'), valueOf('added-most')];
+  const labels = kind ? { ...shown.labels, kinds: new Map([...kinds, [number, kind]]) } : shown.labels;
+  if (doStep([`add activity ${words.join(' ')} ${find('added-weight').value.trim()}`], { labels })) leave();
+};
 
-  const form = (submit, ...children) => element('form', {
-    class: 'fact',
-    onsubmit: event => {
-      event.preventDefault();
-      submit();
-    },
-  }, ...children);
+const leave = () => {
+  from = null;
+  redraw();
+};
 
-  const button = (text, onclick, more = {}) => element('button', { type: 'button', onclick, ...more }, text);
+const form = (submit, ...children) => element('form', {
+  class: 'fact',
+  onsubmit: event => {
+    event.preventDefault();
+    submit();
+  },
+}, ...children);
 
-  const exchange = () => {
-    const other = from;
-    from = Page.chosen;
-    Page.showRow(other);
-  };
+const button = (text, onclick, more = {}) => element('button', { type: 'button', onclick, ...more }, text);
 
-  const field = (id, label, more = {}) => element('label', {}, `${label} `,
-    element('input', { id, class: 'number', required: true, autocomplete: 'off', ...more }));
+const exchange = () => {
+  const other = from;
+  from = shown.chosen;
+  showRow(other);
+};
 
-  const addingForm = () => {
-    const used = new Set([...KINDS, ...[...Page.labels.kinds.values()].slice(0, 1000)]);
-    const list = element('datalist', { id: 'known-kinds' }, ...[...used].map(kind => element('option', { value: kind })));
-    return form(add, element('span', { id: 'added-ends' }, `from ${Page.eventName(from)} to ${Page.eventName(Page.chosen)}`),
-      button('Exchange', exchange, { id: 'exchange' }), list, field('added-kind', 'kind', { class: '', size: 9, list: 'known-kinds', required: false }),
-      field('added-least', 'takes'), field('added-most', 'to'), field('added-weight', 'weight', { value: 1 }),
-      element('button', { class: 'main', id: 'add-it' }, 'Add it'), button('Leave', leave));
-  };
+const field = (id, label, more = {}) => element('label', {}, `${label} `,
+  element('input', { id, class: 'number', required: true, autocomplete: 'off', ...more }));
 
-  const adding = () => {
-    if (from === null) return button('Add an activity from here …', beginHere, { id: 'add-from' });
-    if (from !== Page.chosen) return addingForm();
-    return element('p', {}, `From ${Page.eventName(from)}: choose the event to which it leads, by a click. `, button('Leave', leave));
-  };
+const addingForm = () => {
+  const used = new Set([...KINDS, ...[...shown.labels.kinds.values()].slice(0, 1000)]);
+  const list = element('datalist', { id: 'known-kinds' }, ...[...used].map(kind => element('option', { value: kind })));
+  return form(add, element('span', { id: 'added-ends' }, `from ${eventName(from)} to ${eventName(shown.chosen)}`),
+    button('Exchange', exchange, { id: 'exchange' }), list, field('added-kind', 'kind', { class: '', size: 9, list: 'known-kinds', required: false }),
+    field('added-least', 'takes'), field('added-most', 'to'), field('added-weight', 'weight', { value: 1 }),
+    element('button', { class: 'main', id: 'add-it' }, 'Add it'), button('Leave', leave));
+};
 
-  // Names are the page's own; the program knows none.
-  const name = () => {
-    const [line, to, station, kind] = ['line', 'to', 'station', 'kind'].map(part => Page.find(`named-${part}`).value.trim());
-    Page.step([], { labels: { ...Page.labels, events: new Map([...Page.labels.events, [Page.chosen, { line, to, station, kind }]]) } });
-  };
+const adding = () => {
+  if (from === null) return button('Add an activity from here …', beginHere, { id: 'add-from' });
+  if (from !== shown.chosen) return addingForm();
+  return element('p', {}, `From ${eventName(from)}: choose the event to which it leads, by a click. `, button('Leave', leave));
+};
 
-  // The labels of a file, beside and before those that are there.
-  Page.addLabels = text => {
-    const { events, kinds } = Page.readLabels(text);
-    return Page.step([], { labels: { events: new Map([...Page.labels.events, ...events]), kinds: new Map([...Page.labels.kinds, ...kinds]) } });
-  };
+// Names are the page's own; the program knows none.
+const name = () => {
+  const [line, to, station, kind] = ['line', 'to', 'station', 'kind'].map(part => find(`named-${part}`).value.trim());
+  doStep([], { labels: { ...shown.labels, events: new Map([...shown.labels.events, [shown.chosen, { line, to, station, kind }]]) } });
+};
 
-  const naming = () => {
-    const label = Page.labelOf(Page.chosen);
-    return element('details', {}, element('summary', {}, 'Name it'), form(name, ...['line', 'to', 'station', 'kind'].map(part =>
-      field(`named-${part}`, part, { class: '', size: 9, required: false, value: label[part] })), element('button', { id: 'name-it' }, 'Name')));
-  };
+// The labels of a file, beside and before those that are there.
+export const addLabels = text => {
+  const { events, kinds } = readLabels(text);
+  return doStep([], { labels: { events: new Map([...shown.labels.events, ...events]), kinds: new Map([...shown.labels.kinds, ...kinds]) } });
+};
 
-  const update = view => {
-    if (!view.domains.has(from) || opened !== Page.session.opened) from = null;
-    ({ opened } = Page.session);
-    const isThere = view.domains.has(Page.chosen), count = isThere ? activitiesAt(Page.chosen).length : 0;
-    const key = JSON.stringify([from, Page.chosen, count, Page.labelOf(Page.chosen)]);
-    if (key === drawn) return;
-    drawn = key;
-    const dropped = `Drop event ${Page.chosen}${count ? ` and its ${count === 1 ? 'activity' : `${count} activities`}` : ''}`;
-    Page.find('adding').replaceChildren(...isThere ? [adding(), button(dropped, () => dropEvent(Page.chosen), { id: 'drop-event' }), naming()] : []);
-  };
+const naming = () => {
+  const label = labelOf(shown.chosen);
+  return element('details', {}, element('summary', {}, 'Name it'), form(name, ...['line', 'to', 'station', 'kind'].map(part =>
+    field(`named-${part}`, part, { class: '', size: 9, required: false, value: label[part] })), element('button', { id: 'name-it' }, 'Name')));
+};
 
-  Page.panel({ update });
-})();
+const update = view => {
+  if (!view.domains.has(from) || opened !== session.opened) from = null;
+  ({ opened } = session);
+  const isThere = view.domains.has(shown.chosen), count = isThere ? activitiesAt(shown.chosen).length : 0;
+  const key = JSON.stringify([from, shown.chosen, count, labelOf(shown.chosen)]);
+  if (key === drawn) return;
+  drawn = key;
+  const dropped = `Drop event ${shown.chosen}${count ? ` and its ${count === 1 ? 'activity' : `${count} activities`}` : ''}`;
+  find('adding').replaceChildren(...isThere ? [adding(), button(dropped, () => dropEvent(shown.chosen), { id: 'drop-event' }), naming()] : []);
+};
+
+export const addingPanel = { update };

@@ -1,96 +1,103 @@
-'use strict';
-
 // What is drawn in a view is chosen by a click there, and by keys: ↑ ↓ go to other events, ← → move the train of the chosen one.
-(() => {
-  const DIAGRAMS = ['diagram', 'corridor'], VIEWS = [...DIAGRAMS, 'netgraph', 'tables'];
 
-  // An event at a station: that after the chosen one, so that further clicks go round.
-  const eventAt = station => {
-    const events = Page.view.trains.flatMap(train => train.events).filter(event => Page.labelOf(event).station === station);
-    return events[(events.indexOf(Page.chosen) + 1) % events.length];
-  };
+import { conflictsAt, shortConflicts } from './conflicts.js';
+import { find, setAttribute } from './elements.js';
+import { bringRow, eventBeside, showRow } from './events.js';
+import { DIAGRAM_PART } from './frames.js';
+import { isFinger, minutesOfKey, tellHandle } from './handles.js';
+import { beginMove, moveTrain, wantsFromHere } from './moving.js';
+import { clock, eventName, labelOf } from './names.js';
+import { shown } from './shown.js';
+import { showActivity } from './spans.js';
 
-  // Of the two ends of a piece of a way the one that a pointer is nearer to.
-  const nearerEnd = (piece, { clientX, clientY }) => {
-    const matrix = piece.getScreenCTM(), [first, last] = [0, piece.getTotalLength()].map(at => {
-      const { x, y } = piece.getPointAtLength(at).matrixTransform(matrix);
-      return Math.hypot(x - clientX, y - clientY);
-    });
-    return Number(first <= last ? piece.dataset.event : piece.dataset.next);
-  };
+const DIAGRAMS = ['diagram', 'corridor'], VIEWS = [...DIAGRAMS, 'netgraph', 'tables'];
 
-  // From here on means on a run from its departure, and in a dwell from the departure after it.
-  const beginsHere = ({ dataset: { event, next } }) => Number(Page.labelOf(Number(event)).kind === 'departure' ? event : next);
+// An event at a station: that after the chosen one, so that further clicks go round.
+const eventAt = station => {
+  const events = shown.view.trains.flatMap(train => train.events).filter(event => labelOf(event).station === station);
+  return events[(events.indexOf(shown.chosen) + 1) % events.length];
+};
 
-  const begin = event => {
-    const piece = event.target.closest('.reach'), holder = event.currentTarget;
-    if (!piece && Page.isFinger(event)) scroll(holder, event);
-    if (!piece || event.button !== 0) return;
-    const isFromHere = Page.isFromHere(event), here = isFromHere ? beginsHere(piece) : nearerEnd(piece, event);
-    // What is touched is drawn anew at each step, and a finger is followed on what stays.
-    if (event.isTrusted) holder.setPointerCapture(event.pointerId);
-    if (!Page.isFinger(event)) {
-      event.preventDefault();
-      lead(holder, here);
-    }
-    Page.beginMove(event, here, holder.firstElementChild.getBoundingClientRect().width * Page.DIAGRAM_PART / Page.view.network.period, isFromHere);
-  };
+// Of the two ends of a piece of a way the one that a pointer is nearer to.
+const nearerEnd = (piece, { clientX, clientY }) => {
+  const matrix = piece.getScreenCTM(), [first, last] = [0, piece.getTotalLength()].map(at => {
+    const { x, y } = piece.getPointAtLength(at).matrixTransform(matrix);
+    return Math.hypot(x - clientX, y - clientY);
+  });
+  return Number(first <= last ? piece.dataset.event : piece.dataset.next);
+};
 
-  // A finger beside all trains scrolls a drawing across that is wider than its view; up and down the browser scrolls.
-  const scroll = (holder, { clientX, pointerId, isTrusted }) => {
-    const panel = holder.closest('[role=tabpanel]'), start = panel.scrollLeft + clientX, ending = new AbortController(), { signal } = ending;
-    if (isTrusted) holder.setPointerCapture(pointerId);
-    holder.addEventListener('pointermove', event => { panel.scrollLeft = start - event.clientX; }, { signal });
-    for (const name of ['pointerup', 'pointercancel']) holder.addEventListener(name, () => ending.abort(), { signal });
-  };
+// From here on means on a run from its departure, and in a dwell from the departure after it.
+const beginsHere = ({ dataset: { event, next } }) => Number(labelOf(Number(event)).kind === 'departure' ? event : next);
 
-  // Chooses an event, and brings the keys to the view.
-  const lead = (holder, event) => {
-    Page.bringRow(event);
-    holder.focus({ preventScroll: true });
-  };
-
-  // What a click is on; of a finger, which is followed on the view, what lies below it.
-  const clickedOn = event => Page.isFinger(event) ? document.elementFromPoint(event.clientX, event.clientY) : event.target;
-
-  const clicked = event => {
-    const found = clickedOn(event)?.closest('[data-activity], [data-event], [data-station]'), holder = event.currentTarget;
-    if (!found || !holder.contains(found)) return;
-    const { activity, station, event: at } = found.dataset, here = at === undefined ? null : Number(at);
-    if (activity !== undefined) return Page.showActivity(Number(activity), here);
-    lead(holder, found.matches('.reach') ? nearerEnd(found, event) : here === null ? eventAt(station) : here);
-  };
-
-  const ROWS = { ArrowUp: -1, ArrowDown: 1 };
-
-  const typed = event => {
-    const minutes = event.metaKey ? 0 : Page.minutesOfKey(event), row = ROWS[event.key], holder = event.currentTarget;
-    if (event.target !== holder) return;
-    if (minutes) Page.moveTrain(Page.chosen, minutes, Page.isFromHere(event));
-    else if (row) Page.bringRow(Page.eventBeside(Page.chosen, row));
-    else if (event.key === 'Enter') Page.showRow(Page.chosen);
-    else return;
+const begin = event => {
+  const piece = event.target.closest('.reach'), holder = event.currentTarget;
+  if (!piece && isFinger(event)) scroll(holder, event);
+  if (!piece || event.button !== 0) return;
+  const isFromHere = wantsFromHere(event), here = isFromHere ? beginsHere(piece) : nearerEnd(piece, event);
+  // What is touched is drawn anew at each step, and a finger is followed on what stays.
+  if (event.isTrusted) holder.setPointerCapture(event.pointerId);
+  if (!isFinger(event)) {
     event.preventDefault();
-    const cell = holder.querySelector('td.chosen');
-    if (cell) cell.scrollIntoView({ block: 'nearest', inline: 'nearest' });
-  };
+    lead(holder, here);
+  }
+  beginMove(event, here, holder.firstElementChild.getBoundingClientRect().width * DIAGRAM_PART / shown.view.network.period, isFromHere);
+};
 
-  // Tells a screen reader of the chosen event in a view.
-  const tell = (holder, view) => {
-    const event = Page.chosen, time = view.times.get(event), broken = Page.shortConflicts(Page.conflictsAt(view, event));
-    const name = event === null ? 'no event' : `the train of ${Page.eventName(event)}`;
-    const told = `${time === undefined ? 'no time' : Page.clock(time)} ${broken}`, isSlider = holder.getAttribute('role') === 'slider';
-    Page.setAttribute(holder, 'aria-label', isSlider ? name : `${name} ${told}`);
-    if (isSlider) Page.tellHandle(holder, time || 0, 0, view.network.period - 1, told);
-  };
+// A finger beside all trains scrolls a drawing across that is wider than its view; up and down the browser scrolls.
+const scroll = (holder, { clientX, pointerId, isTrusted }) => {
+  const panel = holder.closest('[role=tabpanel]'), start = panel.scrollLeft + clientX, ending = new AbortController(), { signal } = ending;
+  if (isTrusted) holder.setPointerCapture(pointerId);
+  holder.addEventListener('pointermove', event => { panel.scrollLeft = start - event.clientX; }, { signal });
+  for (const name of ['pointerup', 'pointercancel']) holder.addEventListener(name, () => ending.abort(), { signal });
+};
 
-  Page.panel({ update: view => [...DIAGRAMS, 'netgraph'].forEach(name => tell(Page.find(name), view)) });
+// Chooses an event, and brings the keys to the view.
+const lead = (holder, event) => {
+  bringRow(event);
+  holder.focus({ preventScroll: true });
+};
 
-  Page.startChoosing = () => {
-    for (const name of VIEWS) {
-      Page.find(name).addEventListener('click', clicked);
-      Page.find(name).addEventListener('keydown', typed);
-    }
-    for (const name of DIAGRAMS) Page.find(name).addEventListener('pointerdown', begin);
-  };
-})();
+// What a click is on; of a finger, which is followed on the view, what lies below it.
+const clickedOn = event => isFinger(event) ? document.elementFromPoint(event.clientX, event.clientY) : event.target;
+
+const clicked = event => {
+  const found = clickedOn(event)?.closest('[data-activity], [data-event], [data-station]'), holder = event.currentTarget;
+  if (!found || !holder.contains(found)) return;
+  const { activity, station, event: at } = found.dataset, here = at === undefined ? null : Number(at);
+  if (activity !== undefined) return showActivity(Number(activity), here);
+  lead(holder, found.matches('.reach') ? nearerEnd(found, event) : here === null ? eventAt(station) : here);
+};
+
+const ROWS = { ArrowUp: -1, ArrowDown: 1 };
+
+const typed = event => {
+  const minutes = event.metaKey ? 0 : minutesOfKey(event), row = ROWS[event.key], holder = event.currentTarget;
+  if (event.target !== holder) return;
+  if (minutes) moveTrain(shown.chosen, minutes, wantsFromHere(event));
+  else if (row) bringRow(eventBeside(shown.chosen, row));
+  else if (event.key === 'Enter') showRow(shown.chosen);
+  else return;
+  event.preventDefault();
+  const cell = holder.querySelector('td.chosen');
+  if (cell) cell.scrollIntoView({ block: 'nearest', inline: 'nearest' });
+};
+
+// Tells a screen reader of the chosen event in a view.
+const tell = (holder, view) => {
+  const event = shown.chosen, time = view.times.get(event), broken = shortConflicts(conflictsAt(view, event));
+  const name = event === null ? 'no event' : `the train of ${eventName(event)}`;
+  const told = `${time === undefined ? 'no time' : clock(time)} ${broken}`, isSlider = holder.getAttribute('role') === 'slider';
+  setAttribute(holder, 'aria-label', isSlider ? name : `${name} ${told}`);
+  if (isSlider) tellHandle(holder, time || 0, 0, view.network.period - 1, told);
+};
+
+export const choosingPanel = { update: view => [...DIAGRAMS, 'netgraph'].forEach(name => tell(find(name), view)) };
+
+export const startChoosing = () => {
+  for (const name of VIEWS) {
+    find(name).addEventListener('click', clicked);
+    find(name).addEventListener('keydown', typed);
+  }
+  for (const name of DIAGRAMS) find(name).addEventListener('pointerdown', begin);
+};

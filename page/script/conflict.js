@@ -1,78 +1,79 @@
-'use strict';
-
 // Why no timetable meets everything: a least set of members that cannot be met together, with what mends it. First what is
 // no part of the conflict is let go by halves, as long as single activities alone show an empty domain; then by searches. The
 // Python package has the same over its session; here is the page's own, since a page can ask nothing but its module.
-Page.share(Page => {
-  const FIRST_NODES = 500, MORE = 4;
 
-  // The answer of a network: `possible`, `undecided` or `conflict`. Of the members in `kept` (Page.memberKey) the conflict has
-  // no more than has to be, and no mend changes one.
-  Page.findWhy = (network, { nodes = 2000, seconds = 10, kept = new Set() } = {}) => {
-    const probe = { ...Page.probeOf(network), kept }, until = performance.now() + 1000 * seconds;
-    if (isSeenByDomains(probe, until)) return conflictOf(probe, leastOf(probe, members => Page.byDomains(probe, members)), nodes, seconds);
-    for (let count = FIRST_NODES; ; count *= MORE) {
-      const verdict = Page.bySearch(probe, probe.members, count);
-      if (verdict === 'possible') return { kind: 'possible' };
-      if (verdict === 'infeasible') {
-        const most = Math.max(nodes, count);
-        return conflictOf(probe, leastOf(probe, members => Page.bySearch(probe, members, most) === 'infeasible'), most, seconds);
-      }
-      if (performance.now() > until) return { kind: 'undecided', nodes: count };
+import { findMends } from './mending.js';
+import { byDomains, byMember, bySearch, memberKey, probeOf } from './probing.js';
+import { shapeOf } from './shapes.js';
+
+const FIRST_NODES = 500, MORE = 4;
+
+// The answer of a network: `possible`, `undecided` or `conflict`. Of the members in `kept` (memberKey) the conflict has
+// no more than has to be, and no mend changes one.
+export const findWhy = (network, { nodes = 2000, seconds = 10, kept = new Set() } = {}) => {
+  const probe = { ...probeOf(network), kept }, until = performance.now() + 1000 * seconds;
+  if (isSeenByDomains(probe, until)) return conflictOf(probe, leastOf(probe, members => byDomains(probe, members)), nodes, seconds);
+  for (let count = FIRST_NODES; ; count *= MORE) {
+    const verdict = bySearch(probe, probe.members, count);
+    if (verdict === 'possible') return { kind: 'possible' };
+    if (verdict === 'infeasible') {
+      const most = Math.max(nodes, count);
+      return conflictOf(probe, leastOf(probe, members => bySearch(probe, members, most) === 'infeasible'), most, seconds);
     }
-  };
+    if (performance.now() > until) return { kind: 'undecided', nodes: count };
+  }
+};
 
-  // Whether a domain is empty, with some event of each free part held; that event is held first from then on.
-  const isSeenByDomains = (probe, until) => {
-    for (const event of [null, ...probe.network.events]) {
-      probe.preferred = event;
-      if (Page.byDomains(probe, probe.members)) return true;
-      if (performance.now() > until) break;
+// Whether a domain is empty, with some event of each free part held; that event is held first from then on.
+const isSeenByDomains = (probe, until) => {
+  for (const event of [null, ...probe.network.events]) {
+    probe.preferred = event;
+    if (byDomains(probe, probe.members)) return true;
+    if (performance.now() > until) break;
+  }
+  probe.preferred = null;
+  return false;
+};
+
+// The least set by a test: as few that may be changed as can be, and then as few of the others.
+const leastOf = ({ members, kept }, test) => {
+  const hard = members.filter(member => kept.has(memberKey(member))), soft = members.filter(member => !hard.includes(member));
+  const needed = least(soft, hard, test);
+  return [...needed, ...least(hard, needed, test)];
+};
+
+// Members that are infeasible together with the background, which has to hold for all of them.
+const least = (members, background, test) => !members.length || test(background) ? [] : halves(background, false, members, test);
+
+const halves = (background, isGrown, members, test) => {
+  if (isGrown && test(background)) return [];
+  if (members.length === 1) return members;
+  const middle = Math.floor(members.length / 2), first = members.slice(0, middle), second = members.slice(middle);
+  const needed = halves([...background, ...first], true, second, test);
+  return [...halves([...background, ...needed], needed.length > 0, first, test), ...needed];
+};
+
+// The members without those that can be left out one by one: no set with one member less is seen to be infeasible.
+const settled = (members, test) => {
+  let kept = members;
+  // What could not be left out beside a member that went afterwards perhaps can be now, so the last round changes nothing.
+  for (let before = null; before === null || kept.length < before.length;) {
+    before = kept;
+    for (const member of before) {
+      const without = kept.filter(each => each !== member);
+      if (test(without)) kept = without;
     }
-    probe.preferred = null;
-    return false;
-  };
+  }
+  return kept;
+};
 
-  // The least set by a test: as few that may be changed as can be, and then as few of the others.
-  const leastOf = ({ members, kept }, test) => {
-    const hard = members.filter(member => kept.has(Page.memberKey(member))), soft = members.filter(member => !hard.includes(member));
-    const needed = least(soft, hard, test);
-    return [...needed, ...least(hard, needed, test)];
-  };
-
-  // Members that are infeasible together with the background, which has to hold for all of them.
-  const least = (members, background, test) => !members.length || test(background) ? [] : halves(background, false, members, test);
-
-  const halves = (background, isGrown, members, test) => {
-    if (isGrown && test(background)) return [];
-    if (members.length === 1) return members;
-    const middle = Math.floor(members.length / 2), first = members.slice(0, middle), second = members.slice(middle);
-    const needed = halves([...background, ...first], true, second, test);
-    return [...halves([...background, ...needed], needed.length > 0, first, test), ...needed];
-  };
-
-  // The members without those that can be left out one by one: no set with one member less is seen to be infeasible.
-  const settled = (members, test) => {
-    let kept = members;
-    // What could not be left out beside a member that went afterwards perhaps can be now, so the last round changes nothing.
-    for (let before = null; before === null || kept.length < before.length;) {
-      before = kept;
-      for (const member of before) {
-        const without = kept.filter(each => each !== member);
-        if (test(without)) kept = without;
-      }
-    }
-    return kept;
-  };
-
-  // What is told of a set; by searches, which see more than domains, some of its members may turn out not to be needed.
-  const conflictOf = (probe, found, nodes, seconds) => {
-    const isInfeasible = members => Page.bySearch(probe, members, nodes) === 'infeasible';
-    const members = settled(found, isInfeasible).sort(Page.byMember);
-    const undecided = members.filter(member => Page.bySearch(probe, members.filter(each => each !== member), nodes) !== 'possible');
-    const shape = Page.shapeOf(members, probe.network);
-    const mends = Page.findMends(probe, members, shape, nodes, performance.now() + 1000 * seconds);
-    members.forEach(member => { member.isKept = probe.kept.has(Page.memberKey(member)); });
-    return { kind: 'conflict', members, undecided, shape, mends, nodes };
-  };
-});
+// What is told of a set; by searches, which see more than domains, some of its members may turn out not to be needed.
+const conflictOf = (probe, found, nodes, seconds) => {
+  const isInfeasible = members => bySearch(probe, members, nodes) === 'infeasible';
+  const members = settled(found, isInfeasible).sort(byMember);
+  const undecided = members.filter(member => bySearch(probe, members.filter(each => each !== member), nodes) !== 'possible');
+  const shape = shapeOf(members, probe.network);
+  const mends = findMends(probe, members, shape, nodes, performance.now() + 1000 * seconds);
+  members.forEach(member => { member.isKept = probe.kept.has(memberKey(member)); });
+  return { kind: 'conflict', members, undecided, shape, mends, nodes };
+};

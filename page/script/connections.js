@@ -1,53 +1,55 @@
-'use strict';
-
 // Connections by station, for paper: which train passengers come from, into which they change, and how long that takes.
-(() => {
-  const { element } = Page;
-  const MOST_ROWS = 2000, NO_CONNECTIONS = ['headway', 'turn', 'turnaround', 'run', 'dwell'];
-  const HEADS = ['from', 'arrives', 'into', 'leaves', 'takes', 'may take'];
 
-  const isConnection = ({ number, first, last }) => {
-    const [from, to] = [Page.labelOf(first), Page.labelOf(last)], kind = Page.labels.kinds.get(number) || '';
-    const isChange = from.kind === 'arrival' && to.kind === 'departure' && from.station !== '' && from.station === to.station;
-    // Without a kind, a train of the same line turns.
-    return isChange && !NO_CONNECTIONS.includes(kind) && (from.line !== to.line || (kind !== '' && from.to !== to.to));
-  };
+import { element, elided, rowOf, tableOf } from './elements.js';
+import { labelOf, lengthText, spanText, trainName } from './names.js';
+import { shown } from './shown.js';
+import { minuteText } from './tables.js';
+import { minutesHad } from './viewing.js';
 
-  // The connections by stations, in the order of their names, and within them by the minute of arrival.
-  Page.connectionsOf = view => {
-    const found = [...view.network.activities.values()].filter(isConnection), at = each => view.times.get(each.first);
-    const stationOf = each => Page.labelOf(each.first).station;
-    const byName = (one, other) => stationOf(one).localeCompare(stationOf(other), 'en', { numeric: true });
-    return found.sort((one, other) => byName(one, other) || at(one) - at(other) || one.number - other.number);
-  };
+const MOST_ROWS = 2000, NO_CONNECTIONS = ['headway', 'turn', 'turnaround', 'run', 'dwell'];
+const HEADS = ['from', 'arrives', 'into', 'leaves', 'takes', 'may take'];
 
-  // The minutes that a connection takes, and their text; nothing is known of them without a whole timetable.
-  Page.takesText = (view, { number }) => {
-    if (!view.tensions) return { text: '–', isViolated: false };
-    const had = Page.minutesHad(view, number), isViolated = view.violations.activities.has(number);
-    return { had, text: `${Page.lengthText(had)}${isViolated ? ' ✕' : ''}`, isViolated };
-  };
+const isConnection = ({ number, first, last }) => {
+  const [from, to] = [labelOf(first), labelOf(last)], kind = shown.labels.kinds.get(number) || '';
+  const isChange = from.kind === 'arrival' && to.kind === 'departure' && from.station !== '' && from.station === to.station;
+  // Without a kind, a train of the same line turns.
+  return isChange && !NO_CONNECTIONS.includes(kind) && (from.line !== to.line || (kind !== '' && from.to !== to.to));
+};
 
-  const row = (view, each) => {
-    const { text: takes, isViolated } = Page.takesText(view, each);
-    const [from, to] = [each.first, each.last].map(event => Page.trainName(Page.labelOf(event)));
-    const cells = [Page.minuteText(view, each.first), to, Page.minuteText(view, each.last), takes, Page.spanText(each.lower, each.upper)];
-    return Page.rowOf(from, cells.map((text, place) => element('td', { class: isViolated && place === 3 ? 'alarm' : null }, text)));
-  };
+// The connections by stations, in the order of their names, and within them by the minute of arrival.
+export const connectionsOf = view => {
+  const found = [...view.network.activities.values()].filter(isConnection), at = each => view.times.get(each.first);
+  const stationOf = each => labelOf(each.first).station;
+  const byName = (one, other) => stationOf(one).localeCompare(stationOf(other), 'en', { numeric: true });
+  return found.sort((one, other) => byName(one, other) || at(one) - at(other) || one.number - other.number);
+};
 
-  const stationTable = (view, station, rows) => element('section', { class: 'station' }, element('h3', {}, station),
-    Page.tableOf('times', HEADS, rows.map(each => row(view, each))));
+// The minutes that a connection takes, and their text; nothing is known of them without a whole timetable.
+export const takesText = (view, { number }) => {
+  if (!view.tensions) return { text: '–', isViolated: false };
+  const had = minutesHad(view, number), isViolated = view.violations.activities.has(number);
+  return { had, text: `${lengthText(had)}${isViolated ? ' ✕' : ''}`, isViolated };
+};
 
-  // The connections of a network as they are printed; nothing where there are none.
-  Page.connectionTables = view => {
-    const all = Page.connectionsOf(view), stations = new Map();
-    for (const each of all.slice(0, MOST_ROWS)) {
-      const { station } = Page.labelOf(each.first);
-      stations.set(station, [...stations.get(station) || [], each]);
-    }
-    if (!stations.size) return [];
-    const told = Page.elided(all.length, MOST_ROWS, 'connections');
-    return [element('section', { class: 'connections' }, element('h2', {}, 'Connections by station'), told && element('p', {}, told),
-      ...[...stations].map(([station, rows]) => stationTable(view, station, rows)))];
-  };
-})();
+const row = (view, each) => {
+  const { text: takes, isViolated } = takesText(view, each);
+  const [from, to] = [each.first, each.last].map(event => trainName(labelOf(event)));
+  const cells = [minuteText(view, each.first), to, minuteText(view, each.last), takes, spanText(each.lower, each.upper)];
+  return rowOf(from, cells.map((text, place) => element('td', { class: isViolated && place === 3 ? 'alarm' : null }, text)));
+};
+
+const stationTable = (view, station, rows) => element('section', { class: 'station' }, element('h3', {}, station),
+  tableOf('times', HEADS, rows.map(each => row(view, each))));
+
+// The connections of a network as they are printed; nothing where there are none.
+export const connectionTables = view => {
+  const all = connectionsOf(view), stations = new Map();
+  for (const each of all.slice(0, MOST_ROWS)) {
+    const { station } = labelOf(each.first);
+    stations.set(station, [...stations.get(station) || [], each]);
+  }
+  if (!stations.size) return [];
+  const told = elided(all.length, MOST_ROWS, 'connections');
+  return [element('section', { class: 'connections' }, element('h2', {}, 'Connections by station'), told && element('p', {}, told),
+    ...[...stations].map(([station, rows]) => stationTable(view, station, rows)))];
+};

@@ -1,82 +1,83 @@
-'use strict';
-
 // What two networks with their timetables differ in, in the words of the Python package's `compare`: network, times, cost by kind.
-(() => {
-  const byNumber = (one, other) => one - other;
-  const both = (one, other) => [...new Set([...one, ...other])].sort(byNumber);
 
-  const changesOf = (old, now) => [
-    old.first === now.first && old.last === now.last ? '' : `from event ${now.first} to ${now.last}, was from ${old.first} to ${old.last}`,
-    old.lower === now.lower && old.upper === now.upper ? ''
-      : `${Page.spanMinutes(now.lower, now.upper)}, was ${Page.spanText(old.lower, old.upper)}`,
-    old.weight === now.weight ? '' : `weight ${now.weight.toLocaleString('en')}, was ${old.weight.toLocaleString('en')}`,
-  ].filter(Boolean).join(', ');
+import { noLabels } from './labels.js';
+import { activityName, clock, eventName, lengthText, minutesText, spanMinutes, spanText, windowText } from './names.js';
+import { within } from './shown.js';
 
-  const activityChanges = (before, after) => both(before.activities.keys(), after.activities.keys()).map(number => {
-    const [old, now] = [before, after].map(({ activities }) => activities.get(number));
-    const told = !old ? 'added' : !now ? 'dropped' : changesOf(old, now);
-    return told && { event: (now || old).first, text: `${Page.activityName(now || old)}: ${told}` };
+const byNumber = (one, other) => one - other;
+const both = (one, other) => [...new Set([...one, ...other])].sort(byNumber);
+
+const changesOf = (old, now) => [
+  old.first === now.first && old.last === now.last ? '' : `from event ${now.first} to ${now.last}, was from ${old.first} to ${old.last}`,
+  old.lower === now.lower && old.upper === now.upper ? ''
+    : `${spanMinutes(now.lower, now.upper)}, was ${spanText(old.lower, old.upper)}`,
+  old.weight === now.weight ? '' : `weight ${now.weight.toLocaleString('en')}, was ${old.weight.toLocaleString('en')}`,
+].filter(Boolean).join(', ');
+
+const activityChanges = (before, after) => both(before.activities.keys(), after.activities.keys()).map(number => {
+  const [old, now] = [before, after].map(({ activities }) => activities.get(number));
+  const told = !old ? 'added' : !now ? 'dropped' : changesOf(old, now);
+  return told && { event: (now || old).first, text: `${activityName(now || old)}: ${told}` };
+});
+
+const heldText = ({ windows, period }, event) => windows.has(event) ? `held ${windowText(windows.get(event), period)}` : 'not held';
+
+const eventChanges = (before, after) => both(before.events, after.events).map(event => {
+  const [wasThere, isThere] = [before, after].map(({ known }) => known.has(event)), [old, now] = [before, after].map(each => heldText(each, event));
+  const told = !wasThere ? 'added' : !isThere ? 'dropped' : old === now ? '' : `${now}, was ${old}`;
+  return told && { event, text: `${eventName(event)}: ${told}` };
+});
+
+const networkChanges = (before, after) => {
+  const [old, now] = [before, after].map(({ network }) => ({ ...network, known: new Set(network.events) }));
+  const period = old.period === now.period ? '' : { text: `period ${lengthText(now.period)}, was ${lengthText(old.period)}` };
+  return [...activityChanges(old, now), ...eventChanges(old, now), period].filter(Boolean);
+};
+
+// By how many minutes a time moved, the shorter way; later where both are as long.
+const movedBy = (old, now, period) => {
+  const later = (((now - old) % period) + period) % period;
+  return 2 * later <= period ? later : later - period;
+};
+
+const signed = minutes => `${minutes > 0 ? '+' : '−'}${minutesText(Math.abs(minutes))}`;
+
+const timeOf = ({ times }, event) => times.has(event) ? clock(times.get(event)) : 'no time';
+
+// The times that are other, or that all of them moved alike.
+const timeChanges = (before, after) => {
+  const shared = [...after.times.keys()].filter(event => before.times.has(event));
+  const moves = new Map(shared.map(event => [event, movedBy(before.times.get(event), after.times.get(event), after.network.period)]));
+  const [first = 0] = moves.values();
+  if (first && moves.size > 1 && [...moves.values()].every(each => each === first)) return [{ text: `all ${moves.size} times moved by ${signed(first)}` }];
+  return both(before.times.keys(), after.times.keys()).filter(event => moves.get(event) !== 0).map(event => {
+    const by = moves.has(event) ? ` (${signed(moves.get(event))})` : '';
+    return { event, text: `${eventName(event)}: ${timeOf(before, event)} to ${timeOf(after, event)}${by}` };
   });
+};
 
-  const heldText = ({ windows, period }, event) => windows.has(event) ? `held ${Page.windowText(windows.get(event), period)}` : 'not held';
+// What the activities of each kind cost together.
+const costsOf = ({ network, tensions, labels }) => {
+  const found = new Map();
+  for (const [number, { slack }] of tensions) {
+    const kind = labels.kinds.get(number) || 'activity';
+    found.set(kind, (found.get(kind) || 0n) + BigInt(slack) * BigInt(network.activities.get(number).weight));
+  }
+  return found;
+};
 
-  const eventChanges = (before, after) => both(before.events, after.events).map(event => {
-    const [wasThere, isThere] = [before, after].map(({ known }) => known.has(event)), [old, now] = [before, after].map(each => heldText(each, event));
-    const told = !wasThere ? 'added' : !isThere ? 'dropped' : old === now ? '' : `${now}, was ${old}`;
-    return told && { event, text: `${Page.eventName(event)}: ${told}` };
-  });
+// The cost by kind, dearest after the change first, and in all; null where a time is missing.
+export const costsBeside = (before, after) => {
+  if (before.cost === null || after.cost === null) return null;
+  const [old, now] = [before, after].map(costsOf), at = (costs, kind) => costs.get(kind) || 0n;
+  const kinds = [...new Set([...old.keys(), ...now.keys()])];
+  kinds.sort((one, other) => Number(at(now, other) - at(now, one)) || (one < other ? -1 : 1));
+  return [...kinds.map(kind => [kind, at(old, kind), at(now, kind)]), ['in all', BigInt(before.cost), BigInt(after.cost)]];
+};
 
-  const networkChanges = (before, after) => {
-    const [old, now] = [before, after].map(({ network }) => ({ ...network, known: new Set(network.events) }));
-    const period = old.period === now.period ? '' : { text: `period ${Page.lengthText(now.period)}, was ${Page.lengthText(old.period)}` };
-    return [...activityChanges(old, now), ...eventChanges(old, now), period].filter(Boolean);
-  };
-
-  // By how many minutes a time moved, the shorter way; later where both are as long.
-  const movedBy = (old, now, period) => {
-    const later = (((now - old) % period) + period) % period;
-    return 2 * later <= period ? later : later - period;
-  };
-
-  const signed = minutes => `${minutes > 0 ? '+' : '−'}${Page.minutes(Math.abs(minutes))}`;
-
-  const timeOf = ({ times }, event) => times.has(event) ? Page.clock(times.get(event)) : 'no time';
-
-  // The times that are other, or that all of them moved alike.
-  const timeChanges = (before, after) => {
-    const shared = [...after.times.keys()].filter(event => before.times.has(event));
-    const moves = new Map(shared.map(event => [event, movedBy(before.times.get(event), after.times.get(event), after.network.period)]));
-    const [first = 0] = moves.values();
-    if (first && moves.size > 1 && [...moves.values()].every(each => each === first)) return [{ text: `all ${moves.size} times moved by ${signed(first)}` }];
-    return both(before.times.keys(), after.times.keys()).filter(event => moves.get(event) !== 0).map(event => {
-      const by = moves.has(event) ? ` (${signed(moves.get(event))})` : '';
-      return { event, text: `${Page.eventName(event)}: ${timeOf(before, event)} to ${timeOf(after, event)}${by}` };
-    });
-  };
-
-  // What the activities of each kind cost together.
-  const costsOf = ({ network, tensions, labels }) => {
-    const found = new Map();
-    for (const [number, { slack }] of tensions) {
-      const kind = labels.kinds.get(number) || 'activity';
-      found.set(kind, (found.get(kind) || 0n) + BigInt(slack) * BigInt(network.activities.get(number).weight));
-    }
-    return found;
-  };
-
-  // The cost by kind, dearest after the change first, and in all; null where a time is missing.
-  Page.costsBeside = (before, after) => {
-    if (before.cost === null || after.cost === null) return null;
-    const [old, now] = [before, after].map(costsOf), at = (costs, kind) => costs.get(kind) || 0n;
-    const kinds = [...new Set([...old.keys(), ...now.keys()])];
-    kinds.sort((one, other) => Number(at(now, other) - at(now, one)) || (one < other ? -1 : 1));
-    return [...kinds.map(kind => [kind, at(old, kind), at(now, kind)]), ['in all', BigInt(before.cost), BigInt(after.cost)]];
-  };
-
-  // What they differ in but for cost; names are those after the change, and else those before.
-  Page.differences = (before, after) => {
-    const labels = Page.noLabels();
-    for (const part of ['events', 'kinds']) labels[part] = new Map([...before.labels[part], ...after.labels[part]]);
-    return Page.within(after, () => ({ network: networkChanges(before, after), times: timeChanges(before, after) }), labels);
-  };
-})();
+// What they differ in but for cost; names are those after the change, and else those before.
+export const differences = (before, after) => {
+  const labels = noLabels();
+  for (const part of ['events', 'kinds']) labels[part] = new Map([...before.labels[part], ...after.labels[part]]);
+  return within(after, () => ({ network: networkChanges(before, after), times: timeChanges(before, after) }), labels);
+};

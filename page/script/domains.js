@@ -1,32 +1,29 @@
-'use strict';
-
 // Domains as the module tells them: of each event a row of bytes, in which the bit of each minute is set at which it can still be.
-Page.share(Page => {
-  const minutesIn = row => {
-    const minutes = [];
-    row.forEach((byte, place) => {
-      for (let rest = byte; rest; rest &= rest - 1) minutes.push(8 * place + 31 - Math.clz32(rest & -rest));
+
+const minutesIn = row => {
+  const minutes = [];
+  row.forEach((byte, place) => {
+    for (let rest = byte; rest; rest &= rest - 1) minutes.push(8 * place + 31 - Math.clz32(rest & -rest));
+  });
+  return minutes;
+};
+
+const isSame = (one, other, from, end) => {
+  for (let place = from; place < end; place += 1) if (one[place] !== other[place]) return false;
+  return true;
+};
+
+// What reads the domains of a session. The minutes of an event stay the same value where they are what they were, since a step
+// changes few of them.
+export const domainReader = () => {
+  let before = { events: null, bits: null, rows: [] };
+  return (bits, events, period) => {
+    const bytes = Math.ceil(period / 8), isKnown = before.events === events;
+    const rows = events.map((event, place) => {
+      const from = place * bytes, end = from + bytes;
+      return isKnown && isSame(bits, before.bits, from, end) ? before.rows[place] : [event, minutesIn(bits.subarray(from, end))];
     });
-    return minutes;
+    before = { events, bits, rows };
+    return new Map(rows);
   };
-
-  const isSame = (one, other, from, end) => {
-    for (let place = from; place < end; place += 1) if (one[place] !== other[place]) return false;
-    return true;
-  };
-
-  // What reads the domains of a session. The minutes of an event stay the same value where they are what they were, since a step
-  // changes few of them.
-  Page.domainReader = () => {
-    let before = { events: null, bits: null, rows: [] };
-    return (bits, events, period) => {
-      const bytes = Math.ceil(period / 8), isKnown = before.events === events;
-      const rows = events.map((event, place) => {
-        const from = place * bytes, end = from + bytes;
-        return isKnown && isSame(bits, before.bits, from, end) ? before.rows[place] : [event, minutesIn(bits.subarray(from, end))];
-      });
-      before = { events, bits, rows };
-      return new Map(rows);
-    };
-  };
-});
+};

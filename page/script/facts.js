@@ -1,53 +1,55 @@
-'use strict';
-
 // The chosen event in words, with fields to say what holds it and when it is.
-(() => {
-  const { element } = Page;
 
-  const fieldOf = id => Page.minutesField({ id, required: true });
+import { element, find, setText } from './elements.js';
+import { minutesField, minutesTyped } from './fields.js';
+import { domainText, eventName, labelOf, lengthText, minuteField, unitText } from './names.js';
+import { doStep } from './session.js';
+import { shown } from './shown.js';
+import { letGo } from './strips.js';
 
-  const valueOf = id => Page.minutesTyped(Page.find(id).value);
+const fieldOf = id => minutesField({ id, required: true });
 
-  const form = (submit, ...children) => element('form', {
-    class: 'fact',
-    onsubmit: event => {
-      event.preventDefault();
-      submit(Page.chosen);
-    },
-  }, ...children);
+const valueOf = id => minutesTyped(find(id).value);
 
-  // The fields stay where they are, so that what is typed there is not lost when something else is drawn.
-  const build = () => {
-    const hold = form(event => Page.step([`window ${event} ${valueOf('hold-first')} ${valueOf('hold-length')}`]),
-      element('label', { for: 'hold-first' }, 'held from'), fieldOf('hold-first'),
-      element('label', { for: 'hold-length' }, 'for'), fieldOf('hold-length'), element('span', { id: 'hold-unit' }), ' ',
-      element('button', {}, 'Hold'), element('button', { type: 'button', id: 'let-go', onclick: () => Page.letGo(Page.chosen, false) }, 'Let go'));
-    const time = form(event => Page.step([`time ${event} ${valueOf('time-at')}`]),
-      element('label', { for: 'time-at' }, 'time'), fieldOf('time-at'),
-      element('button', {}, 'Set'), element('button', { type: 'button', id: 'no-time', onclick: () => Page.letGo(Page.chosen, true) }, 'Take away'));
-    Page.find('facts').replaceChildren(hold, time);
-  };
+const form = (submit, ...children) => element('form', {
+  class: 'fact',
+  onsubmit: event => {
+    event.preventDefault();
+    submit(shown.chosen);
+  },
+}, ...children);
 
-  const setValue = (id, value) => {
-    const input = Page.find(id);
-    if (document.activeElement !== input) input.value = value;
-  };
+// The fields stay where they are, so that what is typed there is not lost when something else is drawn.
+const build = () => {
+  const hold = form(event => doStep([`window ${event} ${valueOf('hold-first')} ${valueOf('hold-length')}`]),
+    element('label', { for: 'hold-first' }, 'held from'), fieldOf('hold-first'),
+    element('label', { for: 'hold-length' }, 'for'), fieldOf('hold-length'), element('span', { id: 'hold-unit' }), ' ',
+    element('button', {}, 'Hold'), element('button', { type: 'button', id: 'let-go', onclick: () => letGo(shown.chosen, false) }, 'Let go'));
+  const time = form(event => doStep([`time ${event} ${valueOf('time-at')}`]),
+    element('label', { for: 'time-at' }, 'time'), fieldOf('time-at'),
+    element('button', {}, 'Set'), element('button', { type: 'button', id: 'no-time', onclick: () => letGo(shown.chosen, true) }, 'Take away'));
+  find('facts').replaceChildren(hold, time);
+};
 
-  const update = view => {
-    const event = Page.chosen, isThere = event !== null && view.domains.has(event);
-    Page.find('chosen').hidden = !isThere;
-    if (!isThere) return;
-    const window = view.network.windows.get(event), time = view.times.get(event), minutes = view.domains.get(event);
-    Page.setText(Page.find('chosen-name'), Page.eventName(event));
-    Page.setText(Page.find('chosen-number'), Page.labelOf(event).station ? `event ${event}` : '');
-    Page.setText(Page.find('chosen-minutes'), `Can be at ${Page.domainText(minutes, view.network.period)}.`);
-    setValue('hold-first', Page.minuteField(window ? window.first : time === undefined ? minutes[0] || 0 : time));
-    setValue('hold-length', Page.lengthText(window ? window.length : 1));
-    Page.setText(Page.find('hold-unit'), Page.unitText(window ? window.length : 1));
-    setValue('time-at', time === undefined ? '' : Page.minuteField(time));
-    Page.find('let-go').disabled = !window;
-    Page.find('no-time').disabled = time === undefined;
-  };
+const setValue = (id, value) => {
+  const input = find(id);
+  if (document.activeElement !== input) input.value = value;
+};
 
-  Page.panel({ build, update });
-})();
+const update = view => {
+  const event = shown.chosen, isThere = event !== null && view.domains.has(event);
+  find('chosen').hidden = !isThere;
+  if (!isThere) return;
+  const window = view.network.windows.get(event), time = view.times.get(event), minutes = view.domains.get(event);
+  setText(find('chosen-name'), eventName(event));
+  setText(find('chosen-number'), labelOf(event).station ? `event ${event}` : '');
+  setText(find('chosen-minutes'), `Can be at ${domainText(minutes, view.network.period)}.`);
+  setValue('hold-first', minuteField(window ? window.first : time === undefined ? minutes[0] || 0 : time));
+  setValue('hold-length', lengthText(window ? window.length : 1));
+  setText(find('hold-unit'), unitText(window ? window.length : 1));
+  setValue('time-at', time === undefined ? '' : minuteField(time));
+  find('let-go').disabled = !window;
+  find('no-time').disabled = time === undefined;
+};
+
+export const factsPanel = { build, update };

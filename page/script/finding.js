@@ -1,85 +1,90 @@
-'use strict';
-
 // Stations, lines, trains and events by what is typed of their names: all words have to stand there, in any order, without accents.
-(() => {
-  const MOST = { station: 5, line: 5, train: 5, event: 8 };
-  const fold = text => text.normalize('NFD').replace(/\p{M}/gu, '').toLowerCase();
-  let known = null;
 
-  const countsOf = events => {
-    const counts = new Map();
-    for (const event of events) {
-      const { station } = Page.labelOf(event);
-      if (station) counts.set(station, (counts.get(station) || 0) + 1);
-    }
-    return counts;
-  };
+import { find, findAll, say } from './elements.js';
+import { showBar, showRow } from './events.js';
+import { isField } from './fields.js';
+import { fillFinder } from './finder.js';
+import { eventName, labelOf, trainName } from './names.js';
+import { shown } from './shown.js';
+import { showTab } from './tabs.js';
 
-  const entry = (kind, value, name, note) => ({ kind, value, name, note, folded: fold(name) });
+const MOST = { station: 5, line: 5, train: 5, event: 8 };
+const fold = text => text.normalize('NFD').replace(/\p{M}/gu, '').toLowerCase();
+let known = null;
 
-  // All that can be found, gathered when something is typed first.
-  const entries = ({ network, lines, trains }) => [
-    ...[...countsOf(network.events)].map(([name, count]) => entry('station', name, name, `station, ${count} event${count > 1 ? 's' : ''}`)),
-    ...lines.map(line => entry('line', line.name, line.name, `line, ${line.stations[0]} – ${line.stations[line.stations.length - 1]}`)),
-    ...trains.map(train => entry('train', train.events[0], Page.trainName(train), `train from ${train.stations[0]}, event ${train.events[0]}`)),
-    ...network.events.map(event => entry('event', event, Page.eventName(event), Page.labelOf(event).station ? `event ${event}` : '')),
-  ];
+const countsOf = events => {
+  const counts = new Map();
+  for (const event of events) {
+    const { station } = labelOf(event);
+    if (station) counts.set(station, (counts.get(station) || 0) + 1);
+  }
+  return counts;
+};
 
-  // How well some words stand in an entry, 0 best; null where one is missing.
-  const rankOf = ({ kind, value, folded }, words) => {
-    const text = words.join(' ');
-    if (folded === text || (kind === 'event' && String(value) === text)) return 0;
-    if (!words.every(word => folded.includes(word))) return null;
-    if (folded.startsWith(text)) return 1;
-    return words.every(word => ` ${folded}`.includes(` ${word}`)) ? 2 : 3;
-  };
+const entry = (kind, value, name, note) => ({ kind, value, name, note, folded: fold(name) });
 
-  // What is found of each kind, the best first, and how many more there are.
-  Page.matches = (text, kinds) => {
-    const words = fold(text).split(/\s+/).filter(Boolean);
-    if (!words.length) return { found: [], more: 0 };
-    known = known || entries(Page.view);
-    const ranked = known.filter(({ kind }) => kinds.includes(kind)).map(each => ({ each, rank: rankOf(each, words) }))
-      .filter(({ rank }) => rank !== null);
-    ranked.sort((one, other) => one.rank - other.rank);
-    const found = kinds.flatMap(kind => ranked.filter(({ each }) => each.kind === kind).slice(0, MOST[kind]));
-    found.sort((one, other) => Number(other.rank === 0) - Number(one.rank === 0));
-    return { found: found.map(({ each }) => each), more: ranked.length - found.length };
-  };
+// All that can be found, gathered when something is typed first.
+const entries = ({ network, lines, trains }) => [
+  ...[...countsOf(network.events)].map(([name, count]) => entry('station', name, name, `station, ${count} event${count > 1 ? 's' : ''}`)),
+  ...lines.map(line => entry('line', line.name, line.name, `line, ${line.stations[0]} – ${line.stations[line.stations.length - 1]}`)),
+  ...trains.map(train => entry('train', train.events[0], trainName(train), `train from ${train.stations[0]}, event ${train.events[0]}`)),
+  ...network.events.map(event => entry('event', event, eventName(event), labelOf(event).station ? `event ${event}` : '')),
+];
 
-  const firstAt = station => Page.view.network.events.find(event => Page.labelOf(event).station === station);
+// How well some words stand in an entry, 0 best; null where one is missing.
+const rankOf = ({ kind, value, folded }, words) => {
+  const text = words.join(' ');
+  if (folded === text || (kind === 'event' && String(value) === text)) return 0;
+  if (!words.every(word => folded.includes(word))) return null;
+  if (folded.startsWith(text)) return 1;
+  return words.every(word => ` ${folded}`.includes(` ${word}`)) ? 2 : 3;
+};
 
-  const showLine = name => {
-    Page.showRow(Page.view.lines.find(line => line.name === name).trains[0].events[0]);
-    Page.showTab('diagram');
-  };
+// What is found of each kind, the best first, and how many more there are.
+export const matches = (text, kinds) => {
+  const words = fold(text).split(/\s+/).filter(Boolean);
+  if (!words.length) return { found: [], more: 0 };
+  known = known || entries(shown.view);
+  const ranked = known.filter(({ kind }) => kinds.includes(kind)).map(each => ({ each, rank: rankOf(each, words) }))
+    .filter(({ rank }) => rank !== null);
+  ranked.sort((one, other) => one.rank - other.rank);
+  const found = kinds.flatMap(kind => ranked.filter(({ each }) => each.kind === kind).slice(0, MOST[kind]));
+  found.sort((one, other) => Number(other.rank === 0) - Number(one.rank === 0));
+  return { found: found.map(({ each }) => each), more: ranked.length - found.length };
+};
 
-  // On the netgraph too, which may be larger than its view.
-  const showStation = station => {
-    Page.showRow(firstAt(station));
-    const drawn = Page.all('#netgraph [data-station]').find(each => each.dataset.station === station);
-    if (!drawn) return;
-    const panel = Page.find('view-netgraph'), [at, of] = [drawn, panel].map(each => each.getBoundingClientRect());
-    panel.scrollBy(at.left - of.left - of.width / 2, at.top - of.top - of.height / 2);
-  };
+const firstAt = station => shown.view.network.events.find(event => labelOf(event).station === station);
 
-  const SHOW = { event: event => Page.showRow(event), station: showStation, line: showLine, train: event => Page.showBar(event) };
+const showLine = name => {
+  showRow(shown.view.lines.find(line => line.name === name).trains[0].events[0]);
+  showTab('diagram');
+};
 
-  // Shows what was found, and says what it is.
-  const show = ({ kind, value, name, note }) => {
-    SHOW[kind](value);
-    Page.say([name, note].filter(Boolean).join(': '));
-  };
+// On the netgraph too, which may be larger than its view.
+const showStation = station => {
+  showRow(firstAt(station));
+  const drawn = findAll('#netgraph [data-station]').find(each => each.dataset.station === station);
+  if (!drawn) return;
+  const panel = find('view-netgraph'), [at, of] = [drawn, panel].map(each => each.getBoundingClientRect());
+  panel.scrollBy(at.left - of.left - of.width / 2, at.top - of.top - of.height / 2);
+};
 
-  Page.panel({ build: () => { known = null; }, update: () => {} });
+const SHOW = { event: event => showRow(event), station: showStation, line: showLine, train: event => showBar(event) };
 
-  Page.startFinding = () => {
-    const kinds = ['station', 'line', 'train', 'event'], hint = 'a station, line, train or event';
-    const input = Page.fillFinder(Page.find('finder'), { label: 'Find', hint, kinds, take: show });
-    window.addEventListener('keydown', event => {
-      if (event.key !== '/' || event.ctrlKey || Page.isField(event.target) || document.querySelector('dialog[open]')) return;
-      event.preventDefault();
-      input.focus();
-    });
-  };
-})();
+// Shows what was found, and says what it is.
+const show = ({ kind, value, name, note }) => {
+  SHOW[kind](value);
+  say([name, note].filter(Boolean).join(': '));
+};
+
+export const findingPanel = { build: () => { known = null; }, update: () => {} };
+
+export const startFinding = () => {
+  const kinds = ['station', 'line', 'train', 'event'], hint = 'a station, line, train or event';
+  const input = fillFinder(find('finder'), { label: 'Find', hint, search: text => matches(text, kinds), take: show });
+  window.addEventListener('keydown', event => {
+    if (event.key !== '/' || event.ctrlKey || isField(event.target) || document.querySelector('dialog[open]')) return;
+    event.preventDefault();
+    input.focus();
+  });
+};

@@ -1,124 +1,124 @@
-'use strict';
-
 // What lines that were answered by `ok` make of a network and its times, and the lines that take them back. `dump` tells the same
 // network; it is asked where one is opened, and not at each step.
-Page.share(Page => {
-  // A map that is copied where it is first changed, and then ascending.
-  const changing = map => {
-    let copy = null, isSorted = true;
-    return {
-      get: key => (copy || map).get(key),
-      set: (key, value) => {
-        copy = copy || new Map(map);
-        isSorted = isSorted && copy.has(key);
-        copy.set(key, value);
-      },
-      drop: key => {
-        copy = copy || new Map(map);
-        copy.delete(key);
-      },
-      made: () => !copy ? map : isSorted ? copy : Page.ascending(copy),
-    };
+
+import { windowLine } from './network.js';
+import { ascending, wordsOf } from './times.js';
+
+// A map that is copied where it is first changed, and then ascending.
+const changing = map => {
+  let copy = null, isSorted = true;
+  return {
+    get: key => (copy || map).get(key),
+    set: (key, value) => {
+      copy = copy || new Map(map);
+      isSorted = isSorted && copy.has(key);
+      copy.set(key, value);
+    },
+    drop: key => {
+      copy = copy || new Map(map);
+      copy.delete(key);
+    },
+    made: () => !copy ? map : isSorted ? copy : ascending(copy),
   };
+};
 
-  const hold = ({ windows }, event, window) => {
-    const before = windows.get(event);
-    if (window) windows.set(event, window);
-    else windows.drop(event);
-    return [before ? Page.windowLine(event, before.first, before.length) : `unfix ${event}`];
-  };
+const hold = ({ windows }, event, window) => {
+  const before = windows.get(event);
+  if (window) windows.set(event, window);
+  else windows.drop(event);
+  return [before ? windowLine(event, before.first, before.length) : `unfix ${event}`];
+};
 
-  const setTime = ({ times }, event, time) => {
-    const before = times.get(event);
-    if (time === undefined) times.drop(event);
-    else times.set(event, time);
-    return [before === undefined ? `untime ${event}` : `time ${event} ${before}`];
-  };
+const setTime = ({ times }, event, time) => {
+  const before = times.get(event);
+  if (time === undefined) times.drop(event);
+  else times.set(event, time);
+  return [before === undefined ? `untime ${event}` : `time ${event} ${before}`];
+};
 
-  const change = ({ activities }, number, more) => activities.set(number, { ...activities.get(number), ...more });
+const change = ({ activities }, number, more) => activities.set(number, { ...activities.get(number), ...more });
 
-  const wordsOf = ({ number, first, last, lower, upper, weight }) => [number, first, last, lower, upper, weight].join(' ');
+const activityWords = ({ number, first, last, lower, upper, weight }) => [number, first, last, lower, upper, weight].join(' ');
 
-  const addActivity = ({ activities }, [number, first, last, lower, upper, weight]) => {
-    activities.set(number, { number, first, last, lower, upper, weight });
-    return [`drop activity ${number}`];
-  };
+const addActivity = ({ activities }, [number, first, last, lower, upper, weight]) => {
+  activities.set(number, { number, first, last, lower, upper, weight });
+  return [`drop activity ${number}`];
+};
 
-  const dropActivity = ({ activities }, [number]) => {
-    const line = `add activity ${wordsOf(activities.get(number))}`;
-    activities.drop(number);
-    return [line];
-  };
+const dropActivity = ({ activities }, [number]) => {
+  const line = `add activity ${activityWords(activities.get(number))}`;
+  activities.drop(number);
+  return [line];
+};
 
-  const addEvent = ({ events }, [event]) => {
-    events.set(event, true);
-    return [`drop event ${event}`];
-  };
+const addEvent = ({ events }, [event]) => {
+  events.set(event, true);
+  return [`drop event ${event}`];
+};
 
-  // An event goes with its window and its time.
-  const dropEvent = ({ events, windows, times }, [event]) => {
-    const window = windows.get(event), time = times.get(event);
-    for (const map of [events, windows, times]) map.drop(event);
-    return [`add event ${event}`, window && Page.windowLine(event, window.first, window.length), time !== undefined && `time ${event} ${time}`].filter(Boolean);
-  };
+// An event goes with its window and its time.
+const dropEvent = ({ events, windows, times }, [event]) => {
+  const window = windows.get(event), time = times.get(event);
+  for (const map of [events, windows, times]) map.drop(event);
+  return [`add event ${event}`, window && windowLine(event, window.first, window.length), time !== undefined && `time ${event} ${time}`].filter(Boolean);
+};
 
-  const changeOf = name => (draft, [number, ...values]) => {
-    const { lower, upper, weight, first, last } = draft.activities.get(number);
-    const [more, before] = {
-      span: [{ lower: values[0], upper: values[1] }, `${lower} ${upper}`], weight: [{ weight: values[0] }, weight],
-      ends: [{ first: values[0], last: values[1] }, `${first} ${last}`],
-    }[name];
-    change(draft, number, more);
-    return [`${name} ${number} ${before}`];
-  };
+const changeOf = name => (draft, [number, ...values]) => {
+  const { lower, upper, weight, first, last } = draft.activities.get(number);
+  const [more, before] = {
+    span: [{ lower: values[0], upper: values[1] }, `${lower} ${upper}`], weight: [{ weight: values[0] }, weight],
+    ends: [{ first: values[0], last: values[1] }, `${first} ${last}`],
+  }[name];
+  change(draft, number, more);
+  return [`${name} ${number} ${before}`];
+};
 
-  // Of each edit how it changes a draft, which gives the lines that take that back; what its reply may be other after it; and
-  // whether it changes which events and activities there are.
-  const OF_WINDOWS = ['domains', 'violations'], OF_TIMES = ['tensions', 'violations', 'cost'], ALL = ['domains', 'tensions', 'violations', 'cost'];
-  const EDITS = {
-    fix: { act: (draft, [event, first]) => hold(draft, event, { first, length: 1 }), asks: OF_WINDOWS },
-    window: { act: (draft, [event, first, length]) => hold(draft, event, { first, length }), asks: OF_WINDOWS },
-    unfix: { act: (draft, [event]) => hold(draft, event, null), asks: OF_WINDOWS },
-    time: { act: (draft, [event, time]) => setTime(draft, event, time), asks: OF_TIMES },
-    untime: { act: (draft, [event]) => setTime(draft, event, undefined), asks: OF_TIMES },
-    span: { act: changeOf('span'), asks: ALL },
-    weight: { act: changeOf('weight'), asks: ['cost'] },
-    ends: { act: changeOf('ends'), asks: ALL, isOfShape: true },
-    'add event': { act: addEvent, asks: ALL, isOfShape: true },
-    'drop event': { act: dropEvent, asks: ALL, isOfShape: true },
-    'add activity': { act: addActivity, asks: ALL, isOfShape: true },
-    'drop activity': { act: dropActivity, asks: ALL, isOfShape: true },
-  };
+// Of each edit how it changes a draft, which gives the lines that take that back; what its reply may be other after it; and
+// whether it changes which events and activities there are.
+const OF_WINDOWS = ['domains', 'violations'], OF_TIMES = ['tensions', 'violations', 'cost'], ALL = ['domains', 'tensions', 'violations', 'cost'];
+const EDITS = {
+  fix: { act: (draft, [event, first]) => hold(draft, event, { first, length: 1 }), asks: OF_WINDOWS },
+  window: { act: (draft, [event, first, length]) => hold(draft, event, { first, length }), asks: OF_WINDOWS },
+  unfix: { act: (draft, [event]) => hold(draft, event, null), asks: OF_WINDOWS },
+  time: { act: (draft, [event, time]) => setTime(draft, event, time), asks: OF_TIMES },
+  untime: { act: (draft, [event]) => setTime(draft, event, undefined), asks: OF_TIMES },
+  span: { act: changeOf('span'), asks: ALL },
+  weight: { act: changeOf('weight'), asks: ['cost'] },
+  ends: { act: changeOf('ends'), asks: ALL, isOfShape: true },
+  'add event': { act: addEvent, asks: ALL, isOfShape: true },
+  'drop event': { act: dropEvent, asks: ALL, isOfShape: true },
+  'add activity': { act: addActivity, asks: ALL, isOfShape: true },
+  'drop activity': { act: dropActivity, asks: ALL, isOfShape: true },
+};
 
-  // An edit with its numbers.
-  const read = line => {
-    const words = Page.wordsOf(line), count = words[0] === 'add' || words[0] === 'drop' ? 2 : 1;
-    return { ...EDITS[words.slice(0, count).join(' ')], numbers: words.slice(count).map(word => Number(word) + 0), words };
-  };
+// An edit with its numbers.
+const read = line => {
+  const words = wordsOf(line), count = words[0] === 'add' || words[0] === 'drop' ? 2 : 1;
+  return { ...EDITS[words.slice(0, count).join(' ')], numbers: words.slice(count).map(word => Number(word) + 0), words };
+};
 
-  const networkOf = ({ events, windows, activities }, before, isOfShape) => {
-    const made = { ...before, events: isOfShape ? [...events.made().keys()] : before.events, windows: windows.made(), activities: activities.made() };
-    const isSame = Object.entries(made).every(([name, value]) => before[name] === value);
-    return isSame ? before : { ...made, shape: isOfShape ? {} : before.shape };
-  };
+const networkOf = ({ events, windows, activities }, before, isOfShape) => {
+  const made = { ...before, events: isOfShape ? [...events.made().keys()] : before.events, windows: windows.made(), activities: activities.made() };
+  const isSame = Object.entries(made).every(([name, value]) => before[name] === value);
+  return isSame ? before : { ...made, shape: isOfShape ? {} : before.shape };
+};
 
-  // The network and the times after some lines, the same objects where none changes them; the lines that take them back; and
-  // the questions to which they may change a reply.
-  Page.follow = ({ network, times }, lines) => {
-    const edits = lines.map(read), isOfShape = edits.some(edit => edit.isOfShape), { events, windows, activities } = network;
-    const draft = { events: changing(isOfShape ? new Map(events.map(event => [event, true])) : new Map()), windows: changing(windows), activities: changing(activities), times: changing(times) };
-    const back = edits.map(({ act, numbers }) => act(draft, numbers)).reverse().flat(), asks = new Set(edits.flatMap(edit => edit.asks));
-    return { network: networkOf(draft, network, isOfShape), times: draft.times.made(), back, questions: ALL.filter(question => asks.has(question)) };
-  };
+// The network and the times after some lines, the same objects where none changes them; the lines that take them back; and
+// the questions to which they may change a reply.
+export const follow = ({ network, times }, lines) => {
+  const edits = lines.map(read), isOfShape = edits.some(edit => edit.isOfShape), { events, windows, activities } = network;
+  const draft = { events: changing(isOfShape ? new Map(events.map(event => [event, true])) : new Map()), windows: changing(windows), activities: changing(activities), times: changing(times) };
+  const back = edits.map(({ act, numbers }) => act(draft, numbers)).reverse().flat(), asks = new Set(edits.flatMap(edit => edit.asks));
+  return { network: networkOf(draft, network, isOfShape), times: draft.times.made(), back, questions: ALL.filter(question => asks.has(question)) };
+};
 
-  // What a line sets, which a later line sets anew, whatever it was; '' where that is not so simple.
-  const SETS = { fix: 'window', window: 'window', time: 'time', span: 'span', weight: 'weight', ends: 'ends' }, TAKES = { ...SETS, unfix: 'window', untime: 'time' };
+// What a line sets, which a later line sets anew, whatever it was; '' where that is not so simple.
+const SETS = { fix: 'window', window: 'window', time: 'time', span: 'span', weight: 'weight', ends: 'ends' }, TAKES = { ...SETS, unfix: 'window', untime: 'time' };
 
-  const cellOf = (names, { words, numbers }) => names[words[0]] ? `${names[words[0]]} ${numbers[0]}` : '';
+const cellOf = (names, { words, numbers }) => names[words[0]] ? `${names[words[0]]} ${numbers[0]}` : '';
 
-  // Those of some lines that take back what others do which are not idle before more lines.
-  Page.neededBefore = (back, more) => {
-    const kept = back.map(line => cellOf(TAKES, read(line))), set = new Set(more.map(line => cellOf(SETS, read(line))));
-    return kept.includes('') || set.has('') ? back : back.filter((_, place) => !set.has(kept[place]));
-  };
-});
+// Those of some lines that take back what others do which are not idle before more lines.
+export const neededBefore = (back, more) => {
+  const kept = back.map(line => cellOf(TAKES, read(line))), set = new Set(more.map(line => cellOf(SETS, read(line))));
+  return kept.includes('') || set.has('') ? back : back.filter((_, place) => !set.has(kept[place]));
+};

@@ -1,71 +1,71 @@
-'use strict';
-
 // What searches of one network have come to: the best timetable, and a bound that no timetable is cheaper than; in a planner's words,
 // and beside the timetable that is shown.
-(() => {
-  // By how much a cost may be above the best, in thousandths of that and upwards, and the most for which per cents say something.
-  const THOUSAND = 1000n, MOST = 10n * THOUSAND;
 
-  const number = value => value.toLocaleString('en');
+import { isSure } from './replies.js';
+import { countViolated } from './viewing.js';
 
-  // Where no timetable can be cheaper than the best one, that is an optimum.
-  const settled = found => found.times && found.bound >= found.cost ? { ...found, kind: 'optimum' } : found;
+// By how much a cost may be above the best, in thousandths of that and upwards, and the most for which per cents say something.
+const THOUSAND = 1000n, MOST = 10n * THOUSAND;
 
-  const higher = (one, other) => one === undefined || other > one ? other : one;
+const number = value => value.toLocaleString('en');
 
-  // The better of what was found and what a search tells now, the bound too; how far that search has come is told with either.
-  Page.betterFound = (before, now) => {
-    if (Page.isSure(now)) return now;
-    const { seconds } = now, nodes = Math.max(before.nodes, now.nodes);
-    if (Page.isSure(before)) return { ...before, nodes, seconds };
-    const isKept = before.times && !(now.times && now.cost < before.cost);
-    return settled({ ...(isKept ? before : now), bound: higher(before.bound, now.bound), nodes, seconds });
-  };
+// Where no timetable can be cheaper than the best one, that is an optimum.
+const settled = found => found.times && found.bound >= found.cost ? { ...found, kind: 'optimum' } : found;
 
-  // How far a cost is from the best, as far as a bound tells; '' where it tells too little.
-  const gapText = (cost, bound) => {
-    if (!bound) return '';
-    const least = BigInt(bound), gap = ((BigInt(cost) - least) * THOUSAND + least - 1n) / least;
-    return gap > MOST ? '' : `at most ${number(Number(gap) / 10)} % above the best`;
-  };
+const higher = (one, other) => one === undefined || other > one ? other : one;
 
-  const boundText = ({ bound }) => bound ? `none can cost less than ${number(bound)}` : '';
+// The better of what was found and what a search tells now, the bound too; how far that search has come is told with either.
+export const betterFound = (before, now) => {
+  if (isSure(now)) return now;
+  const { seconds } = now, nodes = Math.max(before.nodes, now.nodes);
+  if (isSure(before)) return { ...before, nodes, seconds };
+  const isKept = before.times && !(now.times && now.cost < before.cost);
+  return settled({ ...(isKept ? before : now), bound: higher(before.bound, now.bound), nodes, seconds });
+};
 
-  const bestText = found => {
-    const best = `Cost ${number(found.cost)}, ${gapText(found.cost, found.bound) || 'perhaps not the best'}`, bound = boundText(found);
-    return bound ? `${best} (${bound})` : best;
-  };
+// How far a cost is from the best, as far as a bound tells; '' where it tells too little.
+const gapText = (cost, bound) => {
+  if (!bound) return '';
+  const least = BigInt(bound), gap = ((BigInt(cost) - least) * THOUSAND + least - 1n) / least;
+  return gap > MOST ? '' : `at most ${number(Number(gap) / 10)} % above the best`;
+};
 
-  const TEXTS = {
-    optimum: ({ cost }) => `Cost ${number(cost)}: no timetable costs less.`,
-    infeasible: () => '✕ No timetable meets everything.',
-    stopped: bestText,
-    none: found => ['No timetable yet', boundText(found)].filter(Boolean).join('; '),
-  };
+const boundText = ({ bound }) => bound ? `none can cost less than ${number(bound)}` : '';
 
-  Page.foundText = found => TEXTS[found.kind](found);
+const bestText = found => {
+  const best = `Cost ${number(found.cost)}, ${gapText(found.cost, found.bound) || 'perhaps not the best'}`, bound = boundText(found);
+  return bound ? `${best} (${bound})` : best;
+};
 
-  // How long a search took that has ended, by itself or not.
-  Page.tookText = ({ kind, nodes, seconds, isStopped }) => {
-    const took = `${seconds < 10 ? seconds.toFixed(1) : Math.floor(seconds)} s`;
-    if (isStopped) return `stopped after ${took}`;
-    return Page.isSure({ kind }) ? `in ${took}` : `after ${number(nodes)} cases, ${took}`;
-  };
+const TEXTS = {
+  optimum: ({ cost }) => `Cost ${number(cost)}: no timetable costs less.`,
+  infeasible: () => '✕ No timetable meets everything.',
+  stopped: bestText,
+  none: found => ['No timetable yet', boundText(found)].filter(Boolean).join('; '),
+};
 
-  const isShown = ({ cost, times }, view) => cost === view.cost && times.size === view.times.size
-    && [...times].every(([event, time]) => view.times.get(event) === time);
+export const foundText = found => TEXTS[found.kind](found);
 
-  // What is found beside the timetable that is shown, where that meets everything, and what its button says; while a search runs, one
-  // that is no better has none.
-  Page.comparedText = (found, view, isSearching) => {
-    const { cost, bound } = found;
-    if (isShown(found, view)) return { told: 'it is the timetable shown', adopt: '' };
-    if (Page.countViolated(view) !== 0 || cost < view.cost) return { told: '', adopt: 'Adopt it' };
-    const shown = number(view.cost);
-    if (cost > view.cost) {
-      const gap = gapText(view.cost, bound);
-      return { told: `✕ dearer than the timetable shown (${gap ? `${shown}, ${gap}` : shown})`, adopt: isSearching ? '' : 'Adopt the dearer one' };
-    }
-    return { told: `as dear as the timetable shown (${shown})`, adopt: isSearching ? '' : 'Adopt it all the same' };
-  };
-})();
+// How long a search took that has ended, by itself or not.
+export const tookText = ({ kind, nodes, seconds, isStopped }) => {
+  const took = `${seconds < 10 ? seconds.toFixed(1) : Math.floor(seconds)} s`;
+  if (isStopped) return `stopped after ${took}`;
+  return isSure({ kind }) ? `in ${took}` : `after ${number(nodes)} cases, ${took}`;
+};
+
+const isShown = ({ cost, times }, view) => cost === view.cost && times.size === view.times.size
+  && [...times].every(([event, time]) => view.times.get(event) === time);
+
+// What is found beside the timetable that is shown, where that meets everything, and what its button says; while a search runs, one
+// that is no better has none.
+export const comparedText = (found, view, isSearching) => {
+  const { cost, bound } = found;
+  if (isShown(found, view)) return { told: 'it is the timetable shown', adopt: '' };
+  if (countViolated(view) !== 0 || cost < view.cost) return { told: '', adopt: 'Adopt it' };
+  const shown = number(view.cost);
+  if (cost > view.cost) {
+    const gap = gapText(view.cost, bound);
+    return { told: `✕ dearer than the timetable shown (${gap ? `${shown}, ${gap}` : shown})`, adopt: isSearching ? '' : 'Adopt the dearer one' };
+  }
+  return { told: `as dear as the timetable shown (${shown})`, adopt: isSearching ? '' : 'Adopt it all the same' };
+};

@@ -1,137 +1,143 @@
-'use strict';
-
 // What would help: the best timetable with one minute more, or one less of the least, at each activity of the kinds that the planner
 // allows, beside the best one as it is. Each is a search; they are listed as they come, and one is taken over by a click.
-(() => {
-  const { element, find } = Page;
-  const USUALLY_KEPT = ['run', 'dwell', 'headway'], MOST_ASKED = 2000, MOST_SHOWN = 200;
-  const WAYS = {
-    more: { title: 'one minute more', change: ({ lower, upper }) => ({ lower, upper: upper + 1 }), paid: () => 0n },
-    // The least ones are what slack counts from: a minute less of them would cost more in the same timetable.
-    less: { title: 'one less of the least minutes', change: ({ lower, upper }) => ({ lower: lower - 1, upper }), paid: ({ weight }) => BigInt(weight) },
-  };
-  // What was asked, of which state, and what came.
-  let asked = null, drawn = null;
 
-  const kindsOf = ({ network }) => {
-    const counts = new Map();
-    for (const number of network.activities.keys()) counts.set(Page.kindOf(number), (counts.get(Page.kindOf(number)) || 0) + 1);
-    return [...counts].sort(([one], [other]) => one < other ? -1 : 1);
-  };
+import { askFor } from './asking.js';
+import { element, elided, find, say, tableOf } from './elements.js';
+import { activityName, kindOf, spanMinutes, spanText } from './names.js';
+import { isSure } from './replies.js';
+import { doStep, markNow, redraw } from './session.js';
+import { shown } from './shown.js';
+import { showActivity } from './spans.js';
+import { isTab } from './tabs.js';
+import { timeLines } from './times.js';
 
-  const boxes = () => [...find('allowed-kinds').querySelectorAll('input')];
+const USUALLY_KEPT = ['run', 'dwell', 'headway'], MOST_ASKED = 2000, MOST_SHOWN = 200;
+const WAYS = {
+  more: { title: 'one minute more', change: ({ lower, upper }) => ({ lower, upper: upper + 1 }), paid: () => 0n },
+  // The least ones are what slack counts from: a minute less of them would cost more in the same timetable.
+  less: { title: 'one less of the least minutes', change: ({ lower, upper }) => ({ lower: lower - 1, upper }), paid: ({ weight }) => BigInt(weight) },
+};
+// What was asked, of which state, and what came.
+let asked = null, drawn = null;
 
-  // The boxes of kinds that were there stay as they are.
-  const build = view => {
-    const kinds = kindsOf(view), before = new Map(boxes().map(box => [box.value, box.checked]));
-    const isAny = kinds.some(([kind]) => !USUALLY_KEPT.includes(kind));
-    find('allowed-kinds').replaceChildren(...kinds.map(([kind, count]) => element('label', {},
-      element('input', { type: 'checkbox', value: kind, checked: before.has(kind) ? before.get(kind) : !isAny || !USUALLY_KEPT.includes(kind) }), ` ${kind} (${count})`)));
-    drawn = null;
-  };
+const kindsOf = ({ network }) => {
+  const counts = new Map();
+  for (const number of network.activities.keys()) counts.set(kindOf(number), (counts.get(kindOf(number)) || 0) + 1);
+  return [...counts].sort(([one], [other]) => one < other ? -1 : 1);
+};
 
-  const costNow = ({ tensions }, { number, weight }) => tensions ? BigInt(tensions.get(number).slack) * BigInt(weight) : 0n;
+const boxes = () => [...find('allowed-kinds').querySelectorAll('input')];
 
-  // The questions, those of the dearest activities first. What rules nothing out is not asked for.
-  const questionsOf = (view, way) => {
-    const { activities, period } = view.network, kinds = new Set(boxes().filter(box => box.checked).map(box => box.value));
-    const open = [...activities.values()].filter(each => kinds.has(Page.kindOf(each.number)) && each.upper - each.lower < period - 1);
-    open.sort((one, other) => Number(costNow(view, other) - costNow(view, one)) || one.number - other.number);
-    return open.slice(0, MOST_ASKED).map(each => ({ each, after: WAYS[way].change(each) }))
-      .map(({ each, after }) => ({ number: each.number, after, line: `span ${each.number} ${after.lower} ${after.upper}`, back: `span ${each.number} ${each.lower} ${each.upper}` }));
-  };
+// The boxes of kinds that were there stay as they are.
+const build = view => {
+  const kinds = kindsOf(view), before = new Map(boxes().map(box => [box.value, box.checked]));
+  const isAny = kinds.some(([kind]) => !USUALLY_KEPT.includes(kind));
+  find('allowed-kinds').replaceChildren(...kinds.map(([kind, count]) => element('label', {},
+    element('input', { type: 'checkbox', value: kind, checked: before.has(kind) ? before.get(kind) : !isAny || !USUALLY_KEPT.includes(kind) }), ` ${kind} (${count})`)));
+  drawn = null;
+};
 
-  const look = event => {
-    event.preventDefault();
-    const way = find('gain-way').value, questions = questionsOf(Page.view, way);
-    if (!questions.length) return Page.say('No activity of these kinds has a span that rules anything out.', true);
-    asked = { mark: Page.markNow(), way, count: questions.length, before: null, came: [], isEnded: false };
-    Page.askFor({ kind: 'gains', questions }, { tell: ({ gain }) => showGain(gain), end: endGains });
-    return Page.draw();
-  };
+const costNow = ({ tensions }, { number, weight }) => tensions ? BigInt(tensions.get(number).slack) * BigInt(weight) : 0n;
 
-  // What one search came to; the first one is of the network as it is.
-  const showGain = gain => {
-    if (gain.number === undefined) asked.before = gain.found;
-    else asked.came.push(gain);
-    drawn = null;
-    Page.draw();
-  };
+// The questions, those of the dearest activities first. What rules nothing out is not asked for.
+const questionsOf = (view, way) => {
+  const { activities, period } = view.network, kinds = new Set(boxes().filter(box => box.checked).map(box => box.value));
+  const open = [...activities.values()].filter(each => kinds.has(kindOf(each.number)) && each.upper - each.lower < period - 1);
+  open.sort((one, other) => Number(costNow(view, other) - costNow(view, one)) || one.number - other.number);
+  return open.slice(0, MOST_ASKED).map(each => ({ each, after: WAYS[way].change(each) }))
+    .map(({ each, after }) => ({ number: each.number, after, line: `span ${each.number} ${after.lower} ${after.upper}`, back: `span ${each.number} ${each.lower} ${each.upper}` }));
+};
 
-  const isOfNow = () => asked && asked.mark === Page.markNow();
+const look = event => {
+  event.preventDefault();
+  const way = find('gain-way').value, questions = questionsOf(shown.view, way);
+  if (!questions.length) return say('No activity of these kinds has a span that rules anything out.', true);
+  asked = { mark: markNow(), way, count: questions.length, before: null, came: [], isEnded: false };
+  askFor({ kind: 'gains', questions }, { tell: ({ gain }) => showGain(gain), end: endGains });
+  return redraw();
+};
 
-  // By how much a timetable is cheaper than the best one as it is; null where one of both is not there.
-  const savedBy = (view, { number, found }) => {
-    if (!found.times || !asked.before.times) return null;
-    return BigInt(asked.before.cost) - (BigInt(found.cost) - WAYS[asked.way].paid(view.network.activities.get(number)));
-  };
+// What one search came to; the first one is of the network as it is.
+const showGain = gain => {
+  if (gain.number === undefined) asked.before = gain.found;
+  else asked.came.push(gain);
+  drawn = null;
+  redraw();
+};
 
-  // What helps, the most first: where there is no timetable as it is, each that has one.
-  const helpful = view => {
-    const all = asked.came.map(gain => ({ ...gain, saved: savedBy(view, gain) }));
-    const good = all.filter(({ saved, found }) => saved === null ? found.times && !asked.before.times : saved > 0n);
-    return good.sort((one, other) => Number((other.saved || 0n) - (one.saved || 0n)) || Number(BigInt(one.found.cost) - BigInt(other.found.cost)) || one.number - other.number);
-  };
+const isOfNow = () => asked && asked.mark === markNow();
 
-  const take = ({ number, line, found }) => {
-    const activity = Page.view.network.activities.get(number), title = `${Page.activityName(activity)}: ${WAYS[asked.way].title}, and the best timetable with it`;
-    Page.step([line, ...Page.timeLines(found.times)], { title });
-  };
+// By how much a timetable is cheaper than the best one as it is; null where one of both is not there.
+const savedBy = (view, { number, found }) => {
+  if (!found.times || !asked.before.times) return null;
+  return BigInt(asked.before.cost) - (BigInt(found.cost) - WAYS[asked.way].paid(view.network.activities.get(number)));
+};
 
-  const savedText = ({ saved, found }) => {
-    if (saved === null) return `then there is a timetable, of cost ${found.cost.toLocaleString('en')}`;
-    return `${saved.toLocaleString('en')}${Page.isSure(found) ? '' : ', or more'}`;
-  };
+// What helps, the most first: where there is no timetable as it is, each that has one.
+const helpful = view => {
+  const all = asked.came.map(gain => ({ ...gain, saved: savedBy(view, gain) }));
+  const good = all.filter(({ saved, found }) => saved === null ? found.times && !asked.before.times : saved > 0n);
+  return good.sort((one, other) => Number((other.saved || 0n) - (one.saved || 0n)) || Number(BigInt(one.found.cost) - BigInt(other.found.cost)) || one.number - other.number);
+};
 
-  const row = (view, gain) => {
-    const activity = view.network.activities.get(gain.number), { lower, upper } = gain.after;
-    const lead = () => Page.showActivity(gain.number), change = `${Page.spanMinutes(lower, upper)}, was ${Page.spanText(activity.lower, activity.upper)}`;
-    return element('tr', { 'data-gain': gain.number }, element('td', {}, element('button', { class: 'mend', type: 'button', onclick: () => take(gain) }, 'Take over')),
-      element('td', { class: 'saved' }, savedText(gain)), element('td', {}, element('button', { class: 'link', type: 'button', onclick: lead }, Page.activityName(activity))),
-      element('td', {}, change));
-  };
+const take = ({ number, line, found }) => {
+  const activity = shown.view.network.activities.get(number), title = `${activityName(activity)}: ${WAYS[asked.way].title}, and the best timetable with it`;
+  doStep([line, ...timeLines(found.times)], { title });
+};
 
-  const beforeText = ({ kind, cost }) => ({
-    optimum: () => `The best timetable as it is costs ${cost.toLocaleString('en')}.`, stopped: () => `As it is, a timetable was found that costs ${cost.toLocaleString('en')}; perhaps not the best.`,
-    infeasible: () => 'As it is, no timetable meets everything.', none: () => 'As it is, no timetable was found.',
-  })[kind]();
+const savedText = ({ saved, found }) => {
+  if (saved === null) return `then there is a timetable, of cost ${found.cost.toLocaleString('en')}`;
+  return `${saved.toLocaleString('en')}${isSure(found) ? '' : ', or more'}`;
+};
 
-  const WORDS = 'Which activity should be given a minute? Each of the kinds that are ticked is asked, and what saves most comes first.';
+const row = (view, gain) => {
+  const activity = view.network.activities.get(gain.number), { lower, upper } = gain.after;
+  const lead = () => showActivity(gain.number), change = `${spanMinutes(lower, upper)}, was ${spanText(activity.lower, activity.upper)}`;
+  return element('tr', { 'data-gain': gain.number }, element('td', {}, element('button', { class: 'mend', type: 'button', onclick: () => take(gain) }, 'Take over')),
+    element('td', { class: 'saved' }, savedText(gain)), element('td', {}, element('button', { class: 'link', type: 'button', onclick: lead }, activityName(activity))),
+    element('td', {}, change));
+};
 
-  const told = view => {
-    if (!isOfNow()) return [element('p', { class: 'quiet' }, WORDS)];
-    const { before, came, count, isEnded } = asked;
-    if (!before) return [element('p', {}, 'The best timetable as it is is looked for …')];
-    const good = helpful(view), end = came.length === count ? '' : isEnded ? ' — stopped' : ' — asking on …';
-    const none = came.length - good.length, progress = `${came.length} of ${count} asked; ${none} of them ${before.times ? 'save' : 'help'} nothing${end}`;
-    const heads = ['', before.times ? 'saves' : 'helps', 'activity', 'takes'];
-    return [element('p', {}, beforeText(before)), element('p', { class: 'quiet', id: 'gains-progress' }, progress),
-      good.length ? Page.tableOf('rows', heads, good.slice(0, MOST_SHOWN).map(gain => row(view, gain))) : null,
-      element('p', { class: 'quiet' }, Page.elided(good.length, MOST_SHOWN, 'that save something'))].filter(Boolean);
-  };
+const beforeText = ({ kind, cost }) => ({
+  optimum: () => `The best timetable as it is costs ${cost.toLocaleString('en')}.`, stopped: () => `As it is, a timetable was found that costs ${cost.toLocaleString('en')}; perhaps not the best.`,
+  infeasible: () => 'As it is, no timetable meets everything.', none: () => 'As it is, no timetable was found.',
+})[kind]();
 
-  // The button that has the keys keeps them when the list grows.
-  const update = view => {
-    if (Page.tab !== 'gains') return;
-    if (drawn === view && isOfNow()) return;
-    drawn = view;
-    const holder = find('gains'), /** @type {any} */ focused = document.activeElement.closest('#gains [data-gain]');
-    const at = focused ? [...focused.querySelectorAll('button')].indexOf(document.activeElement) : 0;
-    holder.replaceChildren(...told(view));
-    if (focused) holder.querySelector(`[data-gain="${focused.dataset.gain}"]`)?.querySelectorAll('button')[at].focus();
-  };
+const WORDS = 'Which activity should be given a minute? Each of the kinds that are ticked is asked, and what saves most comes first.';
 
-  Page.panel({ build, update });
+const told = view => {
+  if (!isOfNow()) return [element('p', { class: 'quiet' }, WORDS)];
+  const { before, came, count, isEnded } = asked;
+  if (!before) return [element('p', {}, 'The best timetable as it is is looked for …')];
+  const good = helpful(view), end = came.length === count ? '' : isEnded ? ' — stopped' : ' — asking on …';
+  const none = came.length - good.length, progress = `${came.length} of ${count} asked; ${none} of them ${before.times ? 'save' : 'help'} nothing${end}`;
+  const heads = ['', before.times ? 'saves' : 'helps', 'activity', 'takes'];
+  return [element('p', {}, beforeText(before)), element('p', { class: 'quiet', id: 'gains-progress' }, progress),
+    good.length ? tableOf('rows', heads, good.slice(0, MOST_SHOWN).map(gain => row(view, gain))) : null,
+    element('p', { class: 'quiet' }, elided(good.length, MOST_SHOWN, 'that save something'))].filter(Boolean);
+};
 
-  // Nothing more comes.
-  const endGains = () => {
-    asked.isEnded = true;
-    drawn = null;
-    if (Page.view) update(Page.view);
-  };
+// The button that has the keys keeps them when the list grows.
+const update = view => {
+  if (!isTab('gains')) return;
+  if (drawn === view && isOfNow()) return;
+  drawn = view;
+  const holder = find('gains'), /** @type {any} */ focused = document.activeElement.closest('#gains [data-gain]');
+  const at = focused ? [...focused.querySelectorAll('button')].indexOf(document.activeElement) : 0;
+  holder.replaceChildren(...told(view));
+  if (focused) holder.querySelector(`[data-gain="${focused.dataset.gain}"]`)?.querySelectorAll('button')[at].focus();
+};
 
-  Page.startGains = () => {
-    find('gain-way').replaceChildren(...Object.entries(WAYS).map(([value, { title }]) => element('option', { value }, title)));
-    find('gains-form').addEventListener('submit', look);
-  };
-})();
+export const gainsPanel = { build, update };
+
+// Nothing more comes.
+const endGains = () => {
+  asked.isEnded = true;
+  drawn = null;
+  if (shown.view) update(shown.view);
+};
+
+export const startGains = () => {
+  find('gain-way').replaceChildren(...Object.entries(WAYS).map(([value, { title }]) => element('option', { value }, title)));
+  find('gains-form').addEventListener('submit', look);
+};

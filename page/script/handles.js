@@ -1,72 +1,72 @@
-'use strict';
-
 // What is dragged, by a pointer or by keys. A drag shows what each of its lines would make, and its last line is one step.
-(() => {
-  // So many pixels a pointer moves before it drags, so that a click changes nothing.
-  const LEAST_MOVE = 3;
 
-  // The unit of a track that lies below a place across the screen: `least` at its left end, `count` units wide.
-  Page.unitAt = (track, x, least, count) => {
-    const { left, width } = track.getBoundingClientRect();
-    return least + Math.floor((x - left) / (width || 1) * count);
+import { element, setAttribute } from './elements.js';
+import { doStep, preview, refresh } from './session.js';
+
+// So many pixels a pointer moves before it drags, so that a click changes nothing.
+const LEAST_MOVE = 3;
+
+// The unit of a track that lies below a place across the screen: `least` at its left end, `count` units wide.
+export const unitAt = (track, x, least, count) => {
+  const { left, width } = track.getBoundingClientRect();
+  return least + Math.floor((x - left) / (width || 1) * count);
+};
+
+// Follows a pointer that went down; `linesAt` gives the lines for a place across the screen, none where all stays as it was,
+// and `titleOf` what they do in words.
+export const beginDrag = (start, linesAt, titleOf = () => '') => {
+  let last = null, frame = 0, x = start.clientX, isMoved = false;
+  const look = () => {
+    frame = 0;
+    const lines = linesAt(x);
+    if (lines.join() === (last || []).join()) return;
+    last = lines;
+    preview(lines, titleOf());
   };
-
-  // Follows a pointer that went down; `linesAt` gives the lines for a place across the screen, none where all stays as it was,
-  // and `titleOf` what they do in words.
-  Page.beginDrag = (start, linesAt, titleOf = () => '') => {
-    let last = null, frame = 0, x = start.clientX, isMoved = false;
-    const look = () => {
-      frame = 0;
-      const lines = linesAt(x);
-      if (lines.join() === (last || []).join()) return;
-      last = lines;
-      Page.preview(lines, titleOf());
-    };
-    const move = event => {
-      x = event.clientX;
-      isMoved = isMoved || Math.abs(x - start.clientX) >= LEAST_MOVE;
-      if (isMoved && !frame) frame = requestAnimationFrame(look);
-    };
-    const end = isDone => {
-      for (const [name, listener] of listeners) window.removeEventListener(name, listener, true);
-      document.body.classList.remove('dragging');
-      if (frame) cancelAnimationFrame(frame);
-      if (frame && isDone) look();
-      if (last === null) return;
-      if (isDone && last.length) Page.step(last, { title: titleOf() });
-      else Page.refresh();
-    };
-    /** @type {[string, any][]} */
-    const listeners = [
-      ['pointermove', move], ['pointerup', () => end(true)], ['pointercancel', () => end(false)],
-      ['keydown', event => {
-        if (event.key !== 'Escape') return;
-        event.preventDefault();
-        end(false);
-      }],
-    ];
-    for (const [name, listener] of listeners) window.addEventListener(name, listener, true);
-    document.body.classList.add('dragging');
+  const move = event => {
+    x = event.clientX;
+    isMoved = isMoved || Math.abs(x - start.clientX) >= LEAST_MOVE;
+    if (isMoved && !frame) frame = requestAnimationFrame(look);
   };
-
-  const ARROWS = { ArrowLeft: -1, ArrowRight: 1 };
-  const PAGES = { PageDown: -10, PageUp: 10 };
-
-  // By how many minutes a key moves what it is for, 0 where by none; and a handle, which keys with others do not move.
-  Page.minutesOfKey = event => ARROWS[event.key] || PAGES[event.key] || 0;
-  Page.moveOf = event => event.ctrlKey || event.metaKey || event.altKey ? 0 : Page.minutesOfKey(event);
-
-  // A finger may be about to scroll: what it lies on is chosen by its tap, or once it drags.
-  Page.isFinger = event => event.pointerType === 'touch';
-
-  // An element with the role of a slider.
-  Page.handle = (name, label, more = {}) =>
-    Page.element('span', { class: name, role: 'slider', tabindex: -1, 'aria-label': label, ...more });
-
-  Page.tellHandle = (handle, now, least, most, text) => {
-    Page.setAttribute(handle, 'aria-valuemin', least);
-    Page.setAttribute(handle, 'aria-valuemax', most);
-    Page.setAttribute(handle, 'aria-valuenow', now);
-    Page.setAttribute(handle, 'aria-valuetext', text);
+  const end = isDone => {
+    for (const [name, listener] of listeners) window.removeEventListener(name, listener, true);
+    document.body.classList.remove('dragging');
+    if (frame) cancelAnimationFrame(frame);
+    if (frame && isDone) look();
+    if (last === null) return;
+    if (isDone && last.length) doStep(last, { title: titleOf() });
+    else refresh();
   };
-})();
+  /** @type {[string, any][]} */
+  const listeners = [
+    ['pointermove', move], ['pointerup', () => end(true)], ['pointercancel', () => end(false)],
+    ['keydown', event => {
+      if (event.key !== 'Escape') return;
+      event.preventDefault();
+      end(false);
+    }],
+  ];
+  for (const [name, listener] of listeners) window.addEventListener(name, listener, true);
+  document.body.classList.add('dragging');
+};
+
+const ARROWS = { ArrowLeft: -1, ArrowRight: 1 };
+const PAGES = { PageDown: -10, PageUp: 10 };
+
+// By how many minutes a key moves what it is for, 0 where by none; and a handle, which keys with others do not move.
+export const minutesOfKey = event => ARROWS[event.key] || PAGES[event.key] || 0;
+export const moveOf = event => event.ctrlKey || event.metaKey || event.altKey ? 0 : minutesOfKey(event);
+
+// A finger may be about to scroll: what it lies on is chosen by its tap, or once it drags.
+export const isFinger = event => event.pointerType === 'touch';
+
+// An element with the role of a slider.
+export const makeHandle = (name, label, more = {}) =>
+  element('span', { class: name, role: 'slider', tabindex: -1, 'aria-label': label, ...more });
+
+export const tellHandle = (handle, now, least, most, text) => {
+  setAttribute(handle, 'aria-valuemin', least);
+  setAttribute(handle, 'aria-valuemax', most);
+  setAttribute(handle, 'aria-valuenow', now);
+  setAttribute(handle, 'aria-valuetext', text);
+};

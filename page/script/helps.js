@@ -1,38 +1,37 @@
-'use strict';
-
 // What each number is, in words, beside it: a button with a question mark opens them.
-(() => {
-  const HELP = {
-    size: ['The network', 'Events are departures and arrivals. An activity, as a run, a dwell, a change or a headway, says how many '
-      + 'minutes may lie between two of them. All repeats after the period.'],
-    cost: ['Cost', 'Of each activity the minutes beyond its least ones, times its weight, all together. Less is better.'],
-    violated: ['Violated', 'So many activities take too few or too many minutes in the timetable shown, or events are not where '
-      + 'they are held. At 0 all is met.'],
-    narrowed: ['Narrowed', 'So many events cannot be at each minute any more, by what is held and by the spans: their blue is not '
-      + 'the whole strip.'],
-    cases: ['Cases', 'The search looks at one case after another: “Try” at so many, “Find the optimum” until none is left. “At most '
-      + '2 % above the best”: no timetable is cheaper by more than that.'],
-    minutes: ['Minutes', 'At all others there is no timetable, by what is held. “Held from … for …” allows just these; “time” is '
-      + 'that of the timetable shown. 6:15 may be typed for 375.'],
-    activity: ['Activities', '“From … to”: the least and most minutes between its two events. “Takes”: the minutes in the timetable '
-      + 'shown. “Slack”: those beyond the least. “Weight”: what each minute of slack costs. “Costs”: slack times weight.'],
-  };
 
-  const GAP = 6;
+import { element, find, findAll } from './elements.js';
 
-  const show = button => {
-    const [title, text] = HELP[button.dataset.help], words = Page.find('helping'), { left, bottom } = button.getBoundingClientRect();
-    words.replaceChildren(Page.element('b', {}, title), Page.element('p', {}, text));
-    words.showPopover();
-    const { width, height } = words.getBoundingClientRect();
-    words.style.left = `${Math.max(GAP, Math.min(left, document.documentElement.clientWidth - width - GAP))}px`;
-    words.style.top = `${Math.max(GAP, Math.min(bottom + GAP, window.innerHeight - height - GAP))}px`;
-  };
+const HELP = {
+  size: ['The network', 'Events are departures and arrivals. An activity, as a run, a dwell, a change or a headway, says how many '
+    + 'minutes may lie between two of them. All repeats after the period.'],
+  cost: ['Cost', 'Of each activity the minutes beyond its least ones, times its weight, all together. Less is better.'],
+  violated: ['Violated', 'So many activities take too few or too many minutes in the timetable shown, or events are not where '
+    + 'they are held. At 0 all is met.'],
+  narrowed: ['Narrowed', 'So many events cannot be at each minute any more, by what is held and by the spans: their blue is not '
+    + 'the whole strip.'],
+  cases: ['Cases', 'The search looks at one case after another: “Try” at so many, “Find the optimum” until none is left. “At most '
+    + '2 % above the best”: no timetable is cheaper by more than that.'],
+  minutes: ['Minutes', 'At all others there is no timetable, by what is held. “Held from … for …” allows just these; “time” is '
+    + 'that of the timetable shown. 6:15 may be typed for 375.'],
+  activity: ['Activities', '“From … to”: the least and most minutes between its two events. “Takes”: the minutes in the timetable '
+    + 'shown. “Slack”: those beyond the least. “Weight”: what each minute of slack costs. “Costs”: slack times weight.'],
+};
 
-  Page.startHelps = () => {
-    for (const button of Page.all('[data-help]')) {
-      button.setAttribute('aria-label', `What is this: ${HELP[button.dataset.help][0]}`);
-      button.addEventListener('click', () => show(button));
-    }
-  };
-})();
+const GAP = 6;
+
+const show = button => {
+  const [title, text] = HELP[button.dataset.help], words = find('helping'), { left, bottom } = button.getBoundingClientRect();
+  words.replaceChildren(element('b', {}, title), element('p', {}, text));
+  words.showPopover();
+  const { width, height } = words.getBoundingClientRect();
+  words.style.left = `${Math.max(GAP, Math.min(left, document.documentElement.clientWidth - width - GAP))}px`;
+  words.style.top = `${Math.max(GAP, Math.min(bottom + GAP, window.innerHeight - height - GAP))}px`;
+};
+
+export const startHelps = () => {
+  for (const button of findAll('[data-help]')) {
+    button.setAttribute('aria-label', `What is this: ${HELP[button.dataset.help][0]}`);
+    button.addEventListener('click', () => show(button));
+  }
+};

@@ -1,114 +1,116 @@
-'use strict';
-
 // A link that has the network in its fragment, which no browser sends: the files of a saved folder, packed, after their checksum.
-(() => {
-  const MARK = '#network=';
-  // The most letters of a fragment, and the most bytes that it unpacks to.
-  const MOST_LETTERS = 30000, MOST_UNPACKED = 4000000;
-  const NAMED = /^[^\n/]{1,100}\/(activities|fixed|windows|events|times|period|labels|places)$/;
 
-  const checkOf = bytes => Page.checksum(bytes).toString(16).padStart(8, '0');
+import { checksum, inflated } from './archive.js';
+import { find, say } from './elements.js';
+import { offerFiles, tellOpening } from './opening.js';
+import { session } from './session.js';
 
-  const lettersOf = bytes => btoa(Array.from(bytes, byte => String.fromCharCode(byte)).join(''))
-    .replace(/\+/g, '-').replace(/\//g, '_').replace(/=+$/, '');
+const MARK = '#network=';
+// The most letters of a fragment, and the most bytes that it unpacks to.
+const MOST_LETTERS = 30000, MOST_UNPACKED = 4000000;
+const NAMED = /^[^\n/]{1,100}\/(activities|fixed|windows|events|times|period|labels|places)$/;
 
-  const bytesOf = letters => Uint8Array.from(atob(letters.replace(/-/g, '+').replace(/_/g, '/')), letter => letter.charCodeAt(0));
+const checkOf = bytes => checksum(bytes).toString(16).padStart(8, '0');
 
-  const packed = async bytes => {
-    const stream = new Blob([bytes]).stream().pipeThrough(new CompressionStream('deflate-raw'));
-    return new Uint8Array(await new Response(stream).arrayBuffer());
-  };
+const lettersOf = bytes => btoa(Array.from(bytes, byte => String.fromCharCode(byte)).join(''))
+  .replace(/\+/g, '-').replace(/\//g, '_').replace(/=+$/, '');
 
-  const counted = number => number.toLocaleString('en');
+const bytesOf = letters => Uint8Array.from(atob(letters.replace(/-/g, '+').replace(/_/g, '/')), letter => letter.charCodeAt(0));
 
-  // The fragment of some files by their names. Raises Error with the word that is shown, where a link cannot have them.
-  Page.fragmentOf = async files => {
-    if (!window.CompressionStream) throw new Error('This browser cannot pack a link.');
-    const bytes = new TextEncoder().encode(JSON.stringify(files));
-    const fragment = bytes.length > MOST_UNPACKED ? '' : `${MARK}${checkOf(bytes)}.${lettersOf(await packed(bytes))}`;
-    if (fragment && fragment.length <= MOST_LETTERS) return fragment;
-    const size = fragment ? `${counted(fragment.length)} letters` : `more than ${counted(MOST_UNPACKED)} bytes`;
-    throw new Error(`The network is too large for a link: ${size}, of ${counted(MOST_LETTERS)} letters. The folder has it whole.`);
-  };
+const packed = async bytes => {
+  const stream = new Blob([bytes]).stream().pipeThrough(new CompressionStream('deflate-raw'));
+  return new Uint8Array(await new Response(stream).arrayBuffer());
+};
 
-  const DAMAGED = 'it is damaged, or not whole';
+const counted = number => number.toLocaleString('en');
 
-  // What the letters have that was packed. Raises Error.
-  const unpacked = async (check, letters) => {
-    let bytes = null;
-    try {
-      bytes = await Page.inflated(bytesOf(letters), MOST_UNPACKED);
-    } catch (fault) {
-      throw new Error(DAMAGED);
-    }
-    if (!bytes) throw new Error(`it unpacks to more than ${counted(MOST_UNPACKED)} bytes`);
-    if (checkOf(bytes) !== check) throw new Error(DAMAGED);
-    return bytes;
-  };
+// The fragment of some files by their names. Raises Error with the word that is shown, where a link cannot have them.
+export const fragmentOf = async files => {
+  if (!window.CompressionStream) throw new Error('This browser cannot pack a link.');
+  const bytes = new TextEncoder().encode(JSON.stringify(files));
+  const fragment = bytes.length > MOST_UNPACKED ? '' : `${MARK}${checkOf(bytes)}.${lettersOf(await packed(bytes))}`;
+  if (fragment && fragment.length <= MOST_LETTERS) return fragment;
+  const size = fragment ? `${counted(fragment.length)} letters` : `more than ${counted(MOST_UNPACKED)} bytes`;
+  throw new Error(`The network is too large for a link: ${size}, of ${counted(MOST_LETTERS)} letters. The folder has it whole.`);
+};
 
-  // The files of a fragment. Raises Error with what it is not.
-  Page.filesOfFragment = async fragment => {
-    if (fragment.length > MOST_LETTERS) throw new Error(`it has ${counted(fragment.length)} letters, and may have ${counted(MOST_LETTERS)}`);
-    const [, check, letters] = /^#network=([0-9a-f]{8})\.([\w-]+)$/.exec(fragment) || [];
-    if (!check) throw new Error(DAMAGED);
-    const files = filesIn(new TextDecoder().decode(await unpacked(check, letters)));
-    if (!files) throw new Error('it has no network of this page');
-    return files;
-  };
+const DAMAGED = 'it is damaged, or not whole';
 
-  // The files that a text tells; null where it is none of ours.
-  const filesIn = text => {
-    try {
-      const files = Object.entries(JSON.parse(text));
-      return files.length && files.every(([name, given]) => NAMED.test(name) && typeof given === 'string') ? files : null;
-    } catch (fault) {
-      return null;
-    }
-  };
+// What the letters have that was packed. Raises Error.
+const unpacked = async (check, letters) => {
+  let bytes = null;
+  try {
+    bytes = await inflated(bytesOf(letters), MOST_UNPACKED);
+  } catch (fault) {
+    throw new Error(DAMAGED);
+  }
+  if (!bytes) throw new Error(`it unpacks to more than ${counted(MOST_UNPACKED)} bytes`);
+  if (checkOf(bytes) !== check) throw new Error(DAMAGED);
+  return bytes;
+};
 
-  // The state that a link in the address has shown; the address is without it when something else is.
-  let linked = null;
+// The files of a fragment. Raises Error with what it is not.
+const filesOfFragment = async fragment => {
+  if (fragment.length > MOST_LETTERS) throw new Error(`it has ${counted(fragment.length)} letters, and may have ${counted(MOST_LETTERS)}`);
+  const [, check, letters] = /^#network=([0-9a-f]{8})\.([\w-]+)$/.exec(fragment) || [];
+  if (!check) throw new Error(DAMAGED);
+  const files = filesIn(new TextDecoder().decode(await unpacked(check, letters)));
+  if (!files) throw new Error('it has no network of this page');
+  return files;
+};
 
-  const forget = () => {
-    linked = null;
-    history.replaceState(null, '', location.href.split('#')[0]);
-  };
-
-  Page.panel({ update: () => linked && linked !== Page.session.opened && forget() });
-
-  // Opens what a link has, as its files are opened: at once where nothing is lost. A link that cannot be opened is refused by a word.
-  Page.openLink = async link => {
-    try {
-      const files = await Page.filesOfFragment(link.slice(link.indexOf(MARK)));
-      await Page.offerFiles(files.map(([name, text]) => new File([text], name)));
-      return true;
-    } catch (fault) {
-      Page.say(`The link cannot be opened: ${fault.message}.`, true);
-      return false;
-    }
-  };
-
-  const openAddress = async () => {
-    if (!location.hash.startsWith(MARK)) return;
-    linked = null;
-    const before = Page.session.opened, isOpened = await Page.openLink(location.hash);
-    if (isOpened && before !== Page.session.opened) linked = Page.session.opened;
-    else forget();
-  };
-
-  // A link that is pasted into the field of the dialog is opened, where another copy of the page made it too.
-  const pasted = async value => {
-    if (!value.includes(MARK)) return Page.tellOpening('This is no link of this page: it has no #network= in it.');
-    const isOpened = await Page.openLink(value.replace(/\s+/g, ''));
-    if (!isOpened) return Page.tellOpening(Page.find('said').textContent);
-    Page.find('opening-link').value = '';
+// The files that a text tells; null where it is none of ours.
+const filesIn = text => {
+  try {
+    const files = Object.entries(JSON.parse(text));
+    return files.length && files.every(([name, given]) => NAMED.test(name) && typeof given === 'string') ? files : null;
+  } catch (fault) {
     return null;
-  };
+  }
+};
 
-  Page.startLinks = () => {
-    window.addEventListener('hashchange', openAddress);
-    const field = Page.find('opening-link');
-    field.addEventListener('input', () => field.value.trim() && pasted(field.value));
-    return openAddress();
-  };
-})();
+// The state that a link in the address has shown; the address is without it when something else is.
+let linked = null;
+
+const forget = () => {
+  linked = null;
+  history.replaceState(null, '', location.href.split('#')[0]);
+};
+
+export const linkingPanel = { update: () => linked && linked !== session.opened && forget() };
+
+// Opens what a link has, as its files are opened: at once where nothing is lost. A link that cannot be opened is refused by a word.
+const openLink = async link => {
+  try {
+    const files = await filesOfFragment(link.slice(link.indexOf(MARK)));
+    await offerFiles(files.map(([name, text]) => new File([text], name)));
+    return true;
+  } catch (fault) {
+    say(`The link cannot be opened: ${fault.message}.`, true);
+    return false;
+  }
+};
+
+const openAddress = async () => {
+  if (!location.hash.startsWith(MARK)) return;
+  linked = null;
+  const before = session.opened, isOpened = await openLink(location.hash);
+  if (isOpened && before !== session.opened) linked = session.opened;
+  else forget();
+};
+
+// A link that is pasted into the field of the dialog is opened, where another copy of the page made it too.
+const pasted = async value => {
+  if (!value.includes(MARK)) return tellOpening('This is no link of this page: it has no #network= in it.');
+  const isOpened = await openLink(value.replace(/\s+/g, ''));
+  if (!isOpened) return tellOpening(find('said').textContent);
+  find('opening-link').value = '';
+  return null;
+};
+
+export const startLinks = () => {
+  window.addEventListener('hashchange', openAddress);
+  const field = find('opening-link');
+  field.addEventListener('input', () => field.value.trim() && pasted(field.value));
+  return openAddress();
+};

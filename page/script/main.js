@@ -1,24 +1,74 @@
-'use strict';
-
 // Starts the page: the program first, and then the first story, or says why it cannot start. A report is read before that.
-(async () => {
+
+import { addingPanel } from './adding.js';
+import { startAsking } from './asking.js';
+import { changingPanel } from './changing.js';
+import { choosingPanel, startChoosing } from './choosing.js';
+import { corridorPanel } from './corridor.js';
+import { diagramPanel, startDiagram } from './diagram.js';
+import { draftsPanel, startDrafts } from './drafts.js';
+import { find, tellReady } from './elements.js';
+import { eventsPanel } from './events.js';
+import { factsPanel } from './facts.js';
+import { findingPanel, startFinding } from './finding.js';
+import { gainsPanel, startGains } from './gains.js';
+import { startHanding } from './handing.js';
+import { headPanel, startHead } from './head.js';
+import { startHelps } from './helps.js';
+import { startLegend } from './legend.js';
+import { startLining } from './lining.js';
+import { linkingPanel, startLinks } from './linking.js';
+import { startLines, stepsPanel, violatedPanel } from './lists.js';
+import { movingPanel } from './moving.js';
+import { netgraphPanel } from './netgraph.js';
+import { openStory, startOpening } from './opening.js';
+import { startPrinting } from './printing.js';
+import { startProgram } from './program.js';
+import { openReport, readReport, reportGiven } from './report.js';
+import { startSaving } from './saving.js';
+import { searchingPanel, startSearching } from './searching.js';
+import { addPanels } from './session.js';
+import { spansPanel } from './spans.js';
+import { startStations, stationsPanel } from './stations.js';
+import { stories } from './stories.js';
+import { startStrips } from './strips.js';
+import { tablesPanel } from './tables.js';
+import { startTabs } from './tabs.js';
+import { startTelling, tellingPanel } from './telling.js';
+import { trafficPanel } from './traffic.js';
+import { startVariants, variantsPanel } from './variants.js';
+
+// In the order in which they are drawn.
+const PANELS = [
+  eventsPanel, factsPanel, spansPanel, movingPanel, changingPanel, addingPanel, headPanel, diagramPanel, tablesPanel, netgraphPanel,
+  variantsPanel, findingPanel, corridorPanel, trafficPanel, stationsPanel, choosingPanel, violatedPanel, stepsPanel, searchingPanel,
+  tellingPanel, gainsPanel, linkingPanel, draftsPanel,
+];
+
+const STARTS = [
+  startHead, startTabs, startStrips, startDiagram, startChoosing, startLines, startLining, startVariants, startHelps, startLegend,
+  startFinding, startStations, startAsking, startSearching, startTelling, startGains, startPrinting, startOpening, startSaving,
+  startHanding,
+];
+
+const start = async () => {
   let told = null;
   try {
-    told = Page.reportGiven();
-    if (told) await Page.readReport(told);
-    await Page.startProgram(await PespModule.compile(PESPBENCH_MODULE));
+    told = reportGiven();
+    if (told) await readReport(told);
+    await startProgram(await PespModule.compile(PESPBENCH_MODULE));
   } catch (fault) {
-    Page.find('cannot-why').textContent = String(fault);
-    Page.find('cannot').show();
+    find('cannot-why').textContent = String(fault);
+    find('cannot').show();
     return;
   }
-  const views = [Page.startHead, Page.startTabs, Page.startEvents, Page.startDiagram, Page.startChoosing, Page.startLines, Page.startLining, Page.startVariants];
-  const helps = [Page.startHelps, Page.startLegend, Page.startFinding, Page.startStations];
-  const files = [Page.startAsking, Page.startSearching, Page.startTelling, Page.startGains, Page.startPrinting, Page.startOpening, Page.startSaving, Page.startHanding];
-  for (const start of [...views, ...helps, ...files]) start();
-  if (told) Page.openReport(told);
-  else Page.openStory(Page.stories[0]);
-  Page.startLinks();
-  Page.startDrafts();
-  Page.tellReady();
-})();
+  addPanels(PANELS);
+  for (const each of STARTS) each();
+  if (told) openReport(told);
+  else openStory(stories[0]);
+  startLinks();
+  startDrafts();
+  tellReady();
+};
+
+start();

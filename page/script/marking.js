@@ -1,89 +1,89 @@
-'use strict';
-
 // What is drawn upon a diagram: what can be taken hold of, unseen and wider than what is drawn, and what is violated, in red with
 // the minutes had and wanted.
-(() => {
-  const { drawing } = Page;
-  const MOST_BROKEN = 200, LETTER = 7.4, ROW = 13, TRIES = [0, -1, 1, -2, 2, -3, 3];
 
-  Page.marked = (nodes, attributes) => {
-    for (const node of nodes) for (const [name, value] of Object.entries(attributes)) node.setAttribute(name, value);
-    return nodes;
-  };
+import { conflictsOf, isOutside, outsideText, toldConflicts } from './conflicts.js';
+import { drawing, elided } from './elements.js';
+import { heightOf, waysOf } from './frames.js';
 
-  // What takes hold of a train between one of its events and the next.
-  const reachOf = (frame, train, minutes, place, width) => {
-    const ends = [place, place + 1], [from, to] = ends.map(each => train.events[each]);
-    const points = ends.map(each => [minutes[each], Page.heightOf(frame, train.events[each])]);
-    return Page.marked(Page.waysOf(frame, points, 'transparent', width), { class: 'reach', 'data-event': from, 'data-next': to });
-  };
+const MOST_BROKEN = 200, LETTER = 7.4, ROW = 13, TRIES = [0, -1, 1, -2, 2, -3, 3];
 
-  // The same of some places of a train, or of all; none while something is dragged, since nothing else is taken hold of then.
-  Page.reachesOf = (frame, train, minutes, width, places = [...train.steps.keys()]) => document.body.classList.contains('dragging') ? []
-    : places.flatMap(place => reachOf(frame, train, minutes, place, width));
+export const marked = (nodes, attributes) => {
+  for (const node of nodes) for (const [name, value] of Object.entries(attributes)) node.setAttribute(name, value);
+  return nodes;
+};
 
-  // The ring of the chosen event, and by how much its train is moved.
-  Page.chosenMark = (frame, event, minute, shift) => {
-    const [x, y] = [frame.x(minute), Page.heightOf(frame, event)], ring = drawing('circle', { class: 'mark', cx: x, cy: y, r: 6 });
-    return shift ? [ring, drawing('text', { class: 'end', x: x + 9, y: y + 16 }, shift)] : [ring];
-  };
+// What takes hold of a train between one of its events and the next.
+const reachOf = (frame, train, minutes, place, width) => {
+  const ends = [place, place + 1], [from, to] = ends.map(each => train.events[each]);
+  const points = ends.map(each => [minutes[each], heightOf(frame, train.events[each])]);
+  return marked(waysOf(frame, points, 'transparent', width), { class: 'reach', 'data-event': from, 'data-next': to });
+};
 
-  const SIDES = { start: 0.5, middle: 0, end: -0.5 };
+// The same of some places of a train, or of all; none while something is dragged, since nothing else is taken hold of then.
+export const reachesOf = (frame, train, minutes, width, places = [...train.steps.keys()]) => document.body.classList.contains('dragging') ? []
+  : places.flatMap(place => reachOf(frame, train, minutes, place, width));
 
-  // About where a text lies, so that no label is put there.
-  const boxOf = text => {
-    const [x, base] = ['x', 'y'].map(name => Number(text.getAttribute(name))), width = LETTER * text.textContent.length;
-    return { x: x + SIDES[text.getAttribute('text-anchor') || 'start'] * width, base, width };
-  };
+// The ring of the chosen event, and by how much its train is moved.
+export const ringAt = (frame, event, minute, shift) => {
+  const [x, y] = [frame.x(minute), heightOf(frame, event)], ring = drawing('circle', { class: 'mark', cx: x, cy: y, r: 6 });
+  return shift ? [ring, drawing('text', { class: 'end', x: x + 9, y: y + 16 }, shift)] : [ring];
+};
 
-  /** A label where no other one lies, or at the last place that was tried.
-   * @param {any} frame
-   * @param {any[]} boxes
-   * @param {number[]} at
-   * @param {string} text
-   * @param {object} more */
-  const labelOf = (frame, boxes, [minute, y], text, more) => {
-    const width = LETTER * text.length, middle = frame.x(((minute % frame.period) + frame.period) % frame.period);
-    const x = Math.min(frame.right - width / 2, Math.max(frame.left + width / 2, middle));
-    const bases = TRIES.map(row => Math.max(ROW, y - 6 + row * ROW));
-    const isFree = base => !boxes.some(box => Math.abs(box.x - x) < (box.width + width) / 2 && Math.abs(box.base - base) < ROW);
-    const base = bases.find(isFree) || y - 6;
-    boxes.push({ x, base, width });
-    return drawing('text', { class: 'broken', x, y: base, 'text-anchor': 'middle', ...more }, text);
-  };
+const SIDES = { start: 0.5, middle: 0, end: -0.5 };
 
-  // The minutes over which a violated activity is drawn: what rules little out, as a headway, over the shorter way between its ends.
-  const drawnOver = ({ activity: { lower, upper }, had }, period) => 2 * (upper - lower) > period && 2 * had > period ? had - period : had;
+// About where a text lies, so that no label is put there.
+const boxOf = text => {
+  const [x, base] = ['x', 'y'].map(name => Number(text.getAttribute(name))), width = LETTER * text.textContent.length;
+  return { x: x + SIDES[text.getAttribute('text-anchor') || 'start'] * width, base, width };
+};
 
-  // Where a violated activity lies of which an end is drawn, at one height where the other end or the run is not; null where none is.
-  const pointsOf = (view, frame, conflict) => {
-    const { first, last } = conflict.activity, [from, to] = [first, last].map(event => Page.heightOf(frame, event)), start = view.times.get(first);
-    if (![first, last].some(event => frame.events.has(event))) return null;
-    return [[start, from || to], [start + drawnOver(conflict, frame.period), (!frame.away.has(conflict.number) && to) || from]];
-  };
+/** A label where no other one lies, or at the last place that was tried.
+ * @param {any} frame
+ * @param {any[]} boxes
+ * @param {number[]} at
+ * @param {string} text
+ * @param {object} more */
+const labelOf = (frame, boxes, [minute, y], text, more) => {
+  const width = LETTER * text.length, middle = frame.x(((minute % frame.period) + frame.period) % frame.period);
+  const x = Math.min(frame.right - width / 2, Math.max(frame.left + width / 2, middle));
+  const bases = TRIES.map(row => Math.max(ROW, y - 6 + row * ROW));
+  const isFree = base => !boxes.some(box => Math.abs(box.x - x) < (box.width + width) / 2 && Math.abs(box.base - base) < ROW);
+  const base = bases.find(isFree) || y - 6;
+  boxes.push({ x, base, width });
+  return drawing('text', { class: 'broken', x, y: base, 'text-anchor': 'middle', ...more }, text);
+};
 
-  const brokenOf = (view, frame, where, boxes) => {
-    const all = Page.conflictsOf(view).all.map(conflict => ({ conflict, points: pointsOf(view, frame, conflict) })).filter(({ points }) => points);
-    const found = all.slice(0, MOST_BROKEN);
-    const ways = found.flatMap(({ conflict, points }) =>
-      Page.marked(Page.waysOf(frame, points, 'var(--alarm)', 4), { class: 'broken', 'data-activity': conflict.number }));
-    const labels = found.map(({ conflict, points: [[start, from], [end, to]] }) => {
-      const text = conflict.isRun ? conflict.short : conflict.text, middle = [(start + end) / 2, (from + to) / 2];
-      const label = labelOf(frame, boxes, middle, text, { 'data-activity': conflict.number });
-      label.append(drawing('title', {}, Page.toldConflicts([conflict])));
-      return label;
-    });
-    return { ways, labels, told: Page.elided(all.length, MOST_BROKEN, `that are violated ${where}`) };
-  };
+// The minutes over which a violated activity is drawn: what rules little out, as a headway, over the shorter way between its ends.
+const drawnOver = ({ activity: { lower, upper }, had }, period) => 2 * (upper - lower) > period && 2 * had > period ? had - period : had;
 
-  // What is violated in a drawing: ways and rings in red, labels beside some texts, and a word on what is left out.
-  Page.conflictMarks = (view, frame, where, texts) => {
-    const boxes = texts.map(boxOf), { ways, labels, told } = brokenOf(view, frame, where, boxes);
-    for (const event of [...frame.events].filter(each => Page.isOutside(view, each))) {
-      const time = view.times.get(event), y = Page.heightOf(frame, event);
-      ways.push(drawing('circle', { class: 'outside', cx: frame.x(time), cy: y, r: 5, 'data-event': event }));
-      labels.push(labelOf(frame, boxes, [time, y], Page.outsideText(view, event), { 'data-event': event }));
-    }
-    return { ways, labels, told };
-  };
-})();
+// Where a violated activity lies of which an end is drawn, at one height where the other end or the run is not; null where none is.
+const pointsOf = (view, frame, conflict) => {
+  const { first, last } = conflict.activity, [from, to] = [first, last].map(event => heightOf(frame, event)), start = view.times.get(first);
+  if (![first, last].some(event => frame.events.has(event))) return null;
+  return [[start, from || to], [start + drawnOver(conflict, frame.period), (!frame.away.has(conflict.number) && to) || from]];
+};
+
+const brokenOf = (view, frame, where, boxes) => {
+  const all = conflictsOf(view).all.map(conflict => ({ conflict, points: pointsOf(view, frame, conflict) })).filter(({ points }) => points);
+  const found = all.slice(0, MOST_BROKEN);
+  const ways = found.flatMap(({ conflict, points }) =>
+    marked(waysOf(frame, points, 'var(--alarm)', 4), { class: 'broken', 'data-activity': conflict.number }));
+  const labels = found.map(({ conflict, points: [[start, from], [end, to]] }) => {
+    const text = conflict.isRun ? conflict.short : conflict.text, middle = [(start + end) / 2, (from + to) / 2];
+    const label = labelOf(frame, boxes, middle, text, { 'data-activity': conflict.number });
+    label.append(drawing('title', {}, toldConflicts([conflict])));
+    return label;
+  });
+  return { ways, labels, told: elided(all.length, MOST_BROKEN, `that are violated ${where}`) };
+};
+
+// What is violated in a drawing: ways and rings in red, labels beside some texts, and a word on what is left out.
+export const conflictMarks = (view, frame, where, texts) => {
+  const boxes = texts.map(boxOf), { ways, labels, told } = brokenOf(view, frame, where, boxes);
+  for (const event of [...frame.events].filter(each => isOutside(view, each))) {
+    const time = view.times.get(event), y = heightOf(frame, event);
+    ways.push(drawing('circle', { class: 'outside', cx: frame.x(time), cy: y, r: 5, 'data-event': event }));
+    labels.push(labelOf(frame, boxes, [time, y], outsideText(view, event), { 'data-event': event }));
+  }
+  return { ways, labels, told };
+};

@@ -1,39 +1,39 @@
-'use strict';
-
 // The part of a network that a netgraph draws: all of it, or where it is too large what lies about the chosen event.
-(() => {
-  const MOST_NEARBY = 120, MOST_LANES = 12;
 
-  // The stations of lines, or those from which fewest tracks lead to the first of them, in the order in which they are reached.
-  const stationsFrom = (start, stations, tracks, most) => {
-    const ends = new Map(stations.map(station => [station, []])), reached = new Set();
-    for (const { one, other } of tracks) {
-      ends.get(one).push(other);
-      ends.get(other).push(one);
-    }
-    for (const seed of [start, ...stations]) {
-      const waiting = [seed];
-      for (let place = 0; place < waiting.length; place += 1) {
-        if (reached.size === most) return [...reached];
-        if (reached.has(waiting[place])) continue;
-        reached.add(waiting[place]);
-        waiting.push(...ends.get(waiting[place]));
-      }
-    }
-    return [...reached];
-  };
+import { tracksOf } from './lanes.js';
+import { MOST_STATIONS } from './stretch.js';
 
-  // The stations and tracks to draw, and the word that says what is left out.
-  Page.nearby = (lines, chosen) => {
-    const all = Page.tracksOf(lines), stations = [...new Set(lines.flatMap(line => line.stations))];
-    const isWhole = stations.length <= Page.MOST_STATIONS, start = stations.includes(chosen) ? chosen : stations[0];
-    const drawn = isWhole ? stations : stationsFrom(start, stations, all, MOST_NEARBY), known = new Set(drawn);
-    const tracks = all.filter(({ one, other }) => known.has(one) && known.has(other));
-    const told = [
-      isWhole ? '' : `Elided: of ${stations.length.toLocaleString('en')} stations the ${MOST_NEARBY} nearest to ${start} are drawn.`,
-      tracks.some(({ lanes }) => lanes.length > MOST_LANES) ? `Elided: of the lines between two stations at most ${MOST_LANES} are drawn.` : '',
-    ];
-    const cut = tracks.map(track => ({ ...track, lanes: track.lanes.slice(0, MOST_LANES) }));
-    return { stations: drawn, tracks: cut, told: told.filter(Boolean).join(' ') };
-  };
-})();
+const MOST_NEARBY = 120, MOST_LANES = 12;
+
+// The stations of lines, or those from which fewest tracks lead to the first of them, in the order in which they are reached.
+const stationsFrom = (start, stations, tracks, most) => {
+  const ends = new Map(stations.map(station => [station, []])), reached = new Set();
+  for (const { one, other } of tracks) {
+    ends.get(one).push(other);
+    ends.get(other).push(one);
+  }
+  for (const seed of [start, ...stations]) {
+    const waiting = [seed];
+    for (let place = 0; place < waiting.length; place += 1) {
+      if (reached.size === most) return [...reached];
+      if (reached.has(waiting[place])) continue;
+      reached.add(waiting[place]);
+      waiting.push(...ends.get(waiting[place]));
+    }
+  }
+  return [...reached];
+};
+
+// The stations and tracks to draw, and the word that says what is left out.
+export const nearby = (lines, chosen) => {
+  const all = tracksOf(lines), stations = [...new Set(lines.flatMap(line => line.stations))];
+  const isWhole = stations.length <= MOST_STATIONS, start = stations.includes(chosen) ? chosen : stations[0];
+  const drawn = isWhole ? stations : stationsFrom(start, stations, all, MOST_NEARBY), known = new Set(drawn);
+  const tracks = all.filter(({ one, other }) => known.has(one) && known.has(other));
+  const told = [
+    isWhole ? '' : `Elided: of ${stations.length.toLocaleString('en')} stations the ${MOST_NEARBY} nearest to ${start} are drawn.`,
+    tracks.some(({ lanes }) => lanes.length > MOST_LANES) ? `Elided: of the lines between two stations at most ${MOST_LANES} are drawn.` : '',
+  ];
+  const cut = tracks.map(track => ({ ...track, lanes: track.lanes.slice(0, MOST_LANES) }));
+  return { stations: drawn, tracks: cut, told: told.filter(Boolean).join(' ') };
+};

@@ -1,66 +1,63 @@
-'use strict';
-
 // A network as `dump` tells it, and the files and commands that say it again.
-Page.share(Page => {
-  // What a line of a script adds: an event, a window or an activity, by its number.
-  const addedBy = line => {
-    const words = line.split(' ');
-    if (words[0] === 'fix') return { to: 'windows', number: Number(words[1]), value: { first: Number(words[2]), length: 1 } };
-    if (words[0] === 'window') return { to: 'windows', number: Number(words[1]), value: { first: Number(words[2]), length: Number(words[3]) } };
-    if (words[1] === 'event') return { to: 'events', number: Number(words[2]) };
-    const [number, first, last, lower, upper, weight] = words.slice(2).map(Number);
-    return { to: 'activities', number, value: { number, first, last, lower, upper, weight } };
+
+// What a line of a script adds: an event, a window or an activity, by its number.
+const addedBy = line => {
+  const words = line.split(' ');
+  if (words[0] === 'fix') return { to: 'windows', number: Number(words[1]), value: { first: Number(words[2]), length: 1 } };
+  if (words[0] === 'window') return { to: 'windows', number: Number(words[1]), value: { first: Number(words[2]), length: Number(words[3]) } };
+  if (words[1] === 'event') return { to: 'events', number: Number(words[2]) };
+  const [number, first, last, lower, upper, weight] = words.slice(2).map(Number);
+  return { to: 'activities', number, value: { number, first, last, lower, upper, weight } };
+};
+
+// The network of a reply to `dump`. What is of the same shape has the same events and activities, between the same ends.
+export const readNetwork = reply => {
+  const network = { period: Number(reply[0].split(' ')[2]), events: [], windows: new Map(), activities: new Map(), shape: {} };
+  for (const { to, number, value } of reply.slice(1).map(addedBy)) {
+    if (to === 'events') network.events.push(number);
+    else network[to].set(number, value);
+  }
+  return network;
+};
+
+// The events that some activity names.
+const namedEvents = network => {
+  const named = new Set();
+  for (const each of network.activities.values()) named.add(each.first).add(each.last);
+  return named;
+};
+
+export const rowsText = rows => rows.map(row => row.join('; ') + '\n').join('');
+
+// The rows of the files of a saved folder, without headers: each file has what the program reads there.
+export const rowsOf = (network, times) => {
+  const named = namedEvents(network), fixed = [], windows = [];
+  for (const [event, { first, length }] of network.windows) {
+    if (length === 1 && named.has(event)) fixed.push([event, first]);
+    else windows.push([event, first, length]);
+  }
+  return {
+    activities: [...network.activities.values()].map(each => [each.number, each.first, each.last, each.lower, each.upper, each.weight]),
+    fixed, windows,
+    events: network.events.filter(event => !named.has(event)).map(event => [event]),
+    times: [...times],
   };
+};
 
-  // The network of a reply to `dump`. What is of the same shape has the same events and activities, between the same ends.
-  Page.readNetwork = reply => {
-    const network = { period: Number(reply[0].split(' ')[2]), events: [], windows: new Map(), activities: new Map(), shape: {} };
-    for (const { to, number, value } of reply.slice(1).map(addedBy)) {
-      if (to === 'events') network.events.push(number);
-      else network[to].set(number, value);
-    }
-    return network;
+export const windowLine = (event, first, length) => length === 1 ? `fix ${event} ${first}` : `window ${event} ${first} ${length}`;
+
+// What a run begins with so that it has just this network and these times.
+export const baseOf = (network, times) => {
+  const rows = rowsOf(network, times), alone = new Set(rows.events.map(([event]) => event));
+  return {
+    period: network.period,
+    activities: rowsText(rows.activities),
+    fixed: rowsText(rows.fixed),
+    times: rowsText(rows.times),
+    setup: [
+      ...rows.events.map(([event]) => `add event ${event}`),
+      ...rows.windows.map(row => windowLine(...row)),
+      ...rows.times.filter(([event]) => alone.has(event)).map(([event, time]) => `time ${event} ${time}`),
+    ],
   };
-
-  // The events that some activity names.
-  Page.namedEvents = network => {
-    const named = new Set();
-    for (const each of network.activities.values()) named.add(each.first).add(each.last);
-    return named;
-  };
-
-  Page.rowsText = rows => rows.map(row => row.join('; ') + '\n').join('');
-
-  // The rows of the files of a saved folder, without headers: each file has what the program reads there.
-  Page.rowsOf = (network, times) => {
-    const named = Page.namedEvents(network), fixed = [], windows = [];
-    for (const [event, { first, length }] of network.windows) {
-      if (length === 1 && named.has(event)) fixed.push([event, first]);
-      else windows.push([event, first, length]);
-    }
-    return {
-      activities: [...network.activities.values()].map(each => [each.number, each.first, each.last, each.lower, each.upper, each.weight]),
-      fixed, windows,
-      events: network.events.filter(event => !named.has(event)).map(event => [event]),
-      times: [...times],
-    };
-  };
-
-  Page.windowLine = (event, first, length) => length === 1 ? `fix ${event} ${first}` : `window ${event} ${first} ${length}`;
-
-  // What a run begins with so that it has just this network and these times.
-  Page.baseOf = (network, times) => {
-    const rows = Page.rowsOf(network, times), alone = new Set(rows.events.map(([event]) => event));
-    return {
-      period: network.period,
-      activities: Page.rowsText(rows.activities),
-      fixed: Page.rowsText(rows.fixed),
-      times: Page.rowsText(rows.times),
-      setup: [
-        ...rows.events.map(([event]) => `add event ${event}`),
-        ...rows.windows.map(row => Page.windowLine(...row)),
-        ...rows.times.filter(([event]) => alone.has(event)).map(([event, time]) => `time ${event} ${time}`),
-      ],
-    };
-  };
-});
+};

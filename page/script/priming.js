@@ -1,22 +1,21 @@
-'use strict';
-
 // A session whose searches begin with a timetable that is known: they tell none that is dearer, and look for cheaper ones alone.
-Page.share(Page => {
-  // With more events it takes longer than it saves.
-  const MOST_EVENTS = 3000;
 
-  Page.canPrime = times => times.size <= MOST_EVENTS;
+import { does, openSession, prepared } from './running.js';
 
-  // A session of the network of a `dump`. A search first tries what was an optimum before an edit, so the timetable is made one:
-  // that of its events, each fixed at its time, without activities. Raises RunFault.
-  Page.primedSession = ([head, ...script], times) => {
-    const isEvent = line => line.startsWith('add event'), period = Number(head.split(' ')[2]);
-    const fixed = [...times].map(([event, time]) => `fix ${event} ${time}`), free = [...times.keys()].map(event => `unfix ${event}`);
-    const session = Page.openSession({ period }, [...script.filter(isEvent), ...fixed]);
-    return Page.prepared(session, () => {
-      session.ask('optimum');
-      Page.does(session, [...free, ...script.filter(line => !isEvent(line))]);
-      return session;
-    });
-  };
-});
+// With more events it takes longer than it saves.
+const MOST_EVENTS = 3000;
+
+export const canPrime = times => times.size <= MOST_EVENTS;
+
+// A session of the network of a `dump`. A search first tries what was an optimum before an edit, so the timetable is made one:
+// that of its events, each fixed at its time, without activities. Raises RunFault.
+export const primedSession = ([head, ...script], times) => {
+  const isEvent = line => line.startsWith('add event'), period = Number(head.split(' ')[2]);
+  const fixed = [...times].map(([event, time]) => `fix ${event} ${time}`), free = [...times.keys()].map(event => `unfix ${event}`);
+  const session = openSession({ period }, [...script.filter(isEvent), ...fixed]);
+  return prepared(session, () => {
+    session.ask('optimum');
+    does(session, [...free, ...script.filter(line => !isEvent(line))]);
+    return session;
+  });
+};

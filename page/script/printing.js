@@ -1,31 +1,35 @@
-'use strict';
-
 // What is printed: name and date, the netgraph, the timetable and diagram of each line, and connections by station.
-(() => {
-  const { element } = Page;
 
-  const summary = view => {
-    const { title } = Page.session.opened, count = Page.countViolated(view);
-    const date = new Date().toLocaleDateString('en-GB', { day: 'numeric', month: 'long', year: 'numeric' });
-    const cost = view.cost === null ? view.missing : `cost ${view.cost.toLocaleString('en')}`;
-    const violated = count === null ? '' : count ? `, ✕ ${count} violated` : ', nothing is violated';
-    const told = `Period ${Page.lengthText(view.network.period)}: ${cost}${violated}. A frame: the event is held.`;
-    return [element('h1', {}, title || 'Timetable'), element('p', { class: 'date' }, `Printed on ${date}`), element('p', {}, told)];
-  };
+import { connectionTables } from './connections.js';
+import { element, find } from './elements.js';
+import { lengthText } from './names.js';
+import { netgraphOf } from './netgraph.js';
+import { session } from './session.js';
+import { shown } from './shown.js';
+import { tablesOf } from './tables.js';
+import { countViolated } from './viewing.js';
 
-  Page.NETGRAPH_NOTE = 'Minutes stand to the right of the track as the train goes: in bold where it leaves, plain where it arrives.';
+const summary = view => {
+  const { title } = session.opened, count = countViolated(view);
+  const date = new Date().toLocaleDateString('en-GB', { day: 'numeric', month: 'long', year: 'numeric' });
+  const cost = view.cost === null ? view.missing : `cost ${view.cost.toLocaleString('en')}`;
+  const violated = count === null ? '' : count ? `, ✕ ${count} violated` : ', nothing is violated';
+  const told = `Period ${lengthText(view.network.period)}: ${cost}${violated}. A frame: the event is held.`;
+  return [element('h1', {}, title || 'Timetable'), element('p', { class: 'date' }, `Printed on ${date}`), element('p', {}, told)];
+};
 
-  // The first page, with the netgraph where there are lines.
-  const front = view => {
-    if (!view.lines.length) return element('section', { class: 'front' }, ...summary(view));
-    const { drawn, told } = Page.netgraphOf(view);
-    return element('section', { class: 'front wide-page' }, ...summary(view), drawn, element('p', {}, [told, Page.NETGRAPH_NOTE].filter(Boolean).join(' ')));
-  };
+export const NETGRAPH_NOTE = 'Minutes stand to the right of the track as the train goes: in bold where it leaves, plain where it arrives.';
 
-  const paper = view => [front(view), ...Page.tablesOf(view, true), ...Page.connectionTables(view)];
+// The first page, with the netgraph where there are lines.
+const front = view => {
+  if (!view.lines.length) return element('section', { class: 'front' }, ...summary(view));
+  const { drawn, told } = netgraphOf(view);
+  return element('section', { class: 'front wide-page' }, ...summary(view), drawn, element('p', {}, [told, NETGRAPH_NOTE].filter(Boolean).join(' ')));
+};
 
-  Page.startPrinting = () => {
-    window.addEventListener('beforeprint', () => Page.find('printed').replaceChildren(...paper(Page.view)));
-    window.addEventListener('afterprint', () => Page.find('printed').replaceChildren());
-  };
-})();
+const paper = view => [front(view), ...tablesOf(view, true), ...connectionTables(view)];
+
+export const startPrinting = () => {
+  window.addEventListener('beforeprint', () => find('printed').replaceChildren(...paper(shown.view)));
+  window.addEventListener('afterprint', () => find('printed').replaceChildren());
+};

@@ -1,80 +1,81 @@
-'use strict';
-
 // Asks about sets of members: spans of activities, and fixed times and windows of events. What is not in a set is left out of
 // the run, and each part that the set's activities join and no window holds is held at 0 somewhere: such a part can be turned
 // as a whole, so this takes no timetable away from which another could not be turned.
-Page.share(Page => {
-  Page.isBinding = (member, period) => member.of === 'event' ? member.bounds.length < period
-    : member.bounds.upper - member.bounds.lower < period - 1;
 
-  // The members that rule something out: activities ascending, then events.
-  Page.membersOf = network => {
-    const activities = [...network.activities.values()].map(({ number, lower, upper }) => ({ of: 'activity', number, bounds: { lower, upper } }));
-    const events = [...network.windows].map(([number, bounds]) => ({ of: 'event', number, bounds }));
-    return [...activities, ...events].filter(member => Page.isBinding(member, network.period));
+import { rowsText, windowLine } from './network.js';
+import { readFound } from './replies.js';
+import { run } from './running.js';
+
+const isBinding = (member, period) => member.of === 'event' ? member.bounds.length < period
+  : member.bounds.upper - member.bounds.lower < period - 1;
+
+// The members that rule something out: activities ascending, then events.
+const membersOf = network => {
+  const activities = [...network.activities.values()].map(({ number, lower, upper }) => ({ of: 'activity', number, bounds: { lower, upper } }));
+  const events = [...network.windows].map(([number, bounds]) => ({ of: 'event', number, bounds }));
+  return [...activities, ...events].filter(member => isBinding(member, network.period));
+};
+
+// Activities come before events, each by number.
+export const byMember = (one, other) => one.of.localeCompare(other.of) || one.number - other.number;
+
+export const memberKey = ({ of, number }) => `${of} ${number}`;
+
+export const widened = ({ of, bounds }, count, isLater, period) => {
+  if (of === 'activity') return { lower: bounds.lower - (isLater ? 0 : count), upper: bounds.upper + (isLater ? count : 0) };
+  return { first: isLater ? bounds.first : (((bounds.first - count) % period) + period) % period, length: bounds.length + count };
+};
+
+const keyOf = members => JSON.stringify(members.map(({ of, number, bounds }) => [of, number, Object.values(bounds)]).sort());
+
+// A probe of a network. `preferred` is the event that is held before others in its part.
+export const probeOf = network => ({ network, members: membersOf(network), preferred: null, known: new Map() });
+
+// The run that asks for just some members.
+const baseOf = ({ network, preferred }, members) => {
+  const { period, activities } = network, kept = members.filter(member => isBinding(member, period));
+  const rows = kept.filter(({ of }) => of === 'activity').map(({ number, bounds }) => ({ ...activities.get(number), ...bounds }));
+  const degrees = new Map();
+  for (const row of rows) for (const event of [row.first, row.last]) degrees.set(event, (degrees.get(event) || 0) + 1);
+  const windows = new Map(kept.filter(({ of, number }) => of === 'event' && degrees.has(number)).map(({ number, bounds }) => [number, bounds]));
+  for (const part of partsOf(degrees.keys(), rows)) {
+    if (part.some(event => windows.has(event))) continue;
+    const most = part.reduce((best, event) => degrees.get(event) > degrees.get(best) ? event : best);
+    windows.set(part.includes(preferred) ? preferred : most, { first: 0, length: 1 });
+  }
+  return {
+    period, fixed: '', times: '', activities: rowsText(rows.map(row => [row.number, row.first, row.last, row.lower, row.upper, 0])),
+    setup: [...windows].map(([event, { first, length }]) => windowLine(event, first, length)),
   };
+};
 
-  // Activities come before events, each by number.
-  Page.byMember = (one, other) => one.of.localeCompare(other.of) || one.number - other.number;
-
-  Page.memberKey = ({ of, number }) => `${of} ${number}`;
-
-  Page.widened = ({ of, bounds }, count, isLater, period) => {
-    if (of === 'activity') return { lower: bounds.lower - (isLater ? 0 : count), upper: bounds.upper + (isLater ? count : 0) };
-    return { first: isLater ? bounds.first : (((bounds.first - count) % period) + period) % period, length: bounds.length + count };
-  };
-
-  const keyOf = members => JSON.stringify(members.map(({ of, number, bounds }) => [of, number, Object.values(bounds)]).sort());
-
-  // A probe of a network. `preferred` is the event that is held before others in its part.
-  Page.probeOf = network => ({ network, members: Page.membersOf(network), preferred: null, known: new Map() });
-
-  // The run that asks for just some members.
-  const baseOf = ({ network, preferred }, members) => {
-    const { period, activities } = network, kept = members.filter(member => Page.isBinding(member, period));
-    const rows = kept.filter(({ of }) => of === 'activity').map(({ number, bounds }) => ({ ...activities.get(number), ...bounds }));
-    const degrees = new Map();
-    for (const row of rows) for (const event of [row.first, row.last]) degrees.set(event, (degrees.get(event) || 0) + 1);
-    const windows = new Map(kept.filter(({ of, number }) => of === 'event' && degrees.has(number)).map(({ number, bounds }) => [number, bounds]));
-    for (const part of partsOf(degrees.keys(), rows)) {
-      if (part.some(event => windows.has(event))) continue;
-      const most = part.reduce((best, event) => degrees.get(event) > degrees.get(best) ? event : best);
-      windows.set(part.includes(preferred) ? preferred : most, { first: 0, length: 1 });
+// The parts into which joined events divide all events.
+const partsOf = (events, joins) => {
+  const parts = new Map([...events].map(event => [event, [event]]));
+  for (const { first, last } of joins) {
+    let [larger, smaller] = [parts.get(first), parts.get(last)];
+    if (larger === smaller) continue;
+    if (larger.length < smaller.length) [larger, smaller] = [smaller, larger];
+    for (const event of smaller) {
+      larger.push(event);
+      parts.set(event, larger);
     }
-    return {
-      period, fixed: '', times: '', activities: Page.rowsText(rows.map(row => [row.number, row.first, row.last, row.lower, row.upper, 0])),
-      setup: [...windows].map(([event, { first, length }]) => Page.windowLine(event, first, length)),
-    };
-  };
+  }
+  return new Set(parts.values());
+};
 
-  // The parts into which joined events divide all events.
-  const partsOf = (events, joins) => {
-    const parts = new Map([...events].map(event => [event, [event]]));
-    for (const { first, last } of joins) {
-      let [larger, smaller] = [parts.get(first), parts.get(last)];
-      if (larger === smaller) continue;
-      if (larger.length < smaller.length) [larger, smaller] = [smaller, larger];
-      for (const event of smaller) {
-        larger.push(event);
-        parts.set(event, larger);
-      }
-    }
-    return new Set(parts.values());
-  };
+// Whether a domain is empty with the members alone: then they are infeasible, and else nothing is said.
+export const byDomains = (probe, members) => {
+  const [reply] = run(baseOf(probe, members), ['domains']);
+  return reply.slice(1).some(line => line.endsWith(':'));
+};
 
-  // Whether a domain is empty with the members alone: then they are infeasible, and else nothing is said.
-  Page.byDomains = (probe, members) => {
-    const [reply] = Page.run(baseOf(probe, members), ['domains']);
-    return reply.slice(1).some(line => line.endsWith(':'));
-  };
-
-  // What a search of so many nodes says of the members alone; the same members are not searched again.
-  Page.bySearch = (probe, members, nodes) => {
-    const key = `${nodes} ${keyOf(members)}`;
-    if (!probe.known.has(key)) {
-      const { kind } = Page.readFound(Page.run(baseOf(probe, members), [`try ${nodes}`])[0]);
-      probe.known.set(key, { infeasible: 'infeasible', none: 'undecided' }[kind] || 'possible');
-    }
-    return probe.known.get(key);
-  };
-});
+// What a search of so many nodes says of the members alone; the same members are not searched again.
+export const bySearch = (probe, members, nodes) => {
+  const key = `${nodes} ${keyOf(members)}`;
+  if (!probe.known.has(key)) {
+    const { kind } = readFound(run(baseOf(probe, members), [`try ${nodes}`])[0]);
+    probe.known.set(key, { infeasible: 'infeasible', none: 'undecided' }[kind] || 'possible');
+  }
+  return probe.known.get(key);
+};

@@ -1,49 +1,53 @@
-'use strict';
-
 // The program in the page: whole runs over bytes, of which nothing is kept, and sessions. `PespModule` is page/module.js.
-Page.share(Page => {
-  // How a call ends that wants memory, of which there may be more where a session is opened anew.
-  const MEMORY = [5, 6];
 
-  // Starts what was compiled, here or in a Worker.
-  Page.startProgram = async program => {
-    const decoder = new TextDecoder();
-    let module = await PespModule.start(program);
-    Page.program = program;
+// How a call ends that wants memory, of which there may be more where a session is opened anew.
+const MEMORY = [5, 6];
+const decoder = new TextDecoder();
 
-    // Calls a module; what was trapped is not used again.
-    const called = (owner, call) => {
-      try {
-        if (module !== owner) throw new Error('it is not used again');
-        return call(owner);
-      } catch (trap) {
-        if (module === owner) module = null;
-        return { output: new Uint8Array(0), session: null, ending: { status: 0 }, fault: `the module was trapped: ${trap.message}` };
-      }
-    };
+// What was compiled, and the module that was started of it; null where the last one was trapped, which is not used again.
+let program = null, module = null;
 
-    const moduleNow = () => module = module || PespModule.startNow(program);
+// Starts what was compiled, here or in a Worker.
+export const startProgram = async compiled => {
+  module = await PespModule.start(compiled);
+  program = compiled;
+};
 
-    Page.answer = run => {
-      const { output, fault } = called(moduleNow(), each => PespModule.answer(each, run));
-      return { output: decoder.decode(output), fault };
-    };
+export const programNow = () => program;
 
-    // A session of files, with a fault or '': it answers lines until it is closed, and tells domains and searches in numbers, where
-    // the module does.
-    Page.openFiles = files => {
-      const owner = moduleNow(), { session, fault } = called(owner, each => PespModule.open(each, files));
-      const told = call => {
-        const { ending, fault: why, ...more } = called(owner, call);
-        return { ...more, fault: why, isWanting: MEMORY.includes(ending.status) };
-      };
-      const ask = line => {
-        const { output, ...more } = told(each => PespModule.ask(each, session, line));
-        return { text: decoder.decode(output), ...more };
-      };
-      const domains = PespModule.canTellDomains(owner) ? (...of) => told(each => PespModule.domains(each, session, ...of)) : null;
-      const search = PespModule.canSearch(owner) ? nodes => told(each => PespModule.search(each, session, nodes)) : null;
-      return { fault, ask, domains, search, close: () => called(owner, each => PespModule.close(each, session)) };
-    };
+const moduleNow = () => {
+  module = module || PespModule.startNow(program);
+  return module;
+};
+
+const called = (owner, call) => {
+  try {
+    if (module !== owner) throw new Error('it is not used again');
+    return call(owner);
+  } catch (trap) {
+    if (module === owner) module = null;
+    return { output: new Uint8Array(0), session: null, ending: { status: 0 }, fault: `the module was trapped: ${trap.message}` };
+  }
+};
+
+export const answer = run => {
+  const { output, fault } = called(moduleNow(), each => PespModule.answer(each, run));
+  return { output: decoder.decode(output), fault };
+};
+
+// A session of files, with a fault or '': it answers lines until it is closed, and tells domains and searches in numbers, where
+// the module does.
+export const openFiles = files => {
+  const owner = moduleNow(), { session, fault } = called(owner, each => PespModule.open(each, files));
+  const told = call => {
+    const { ending, fault: why, ...more } = called(owner, call);
+    return { ...more, fault: why, isWanting: MEMORY.includes(ending.status) };
   };
-});
+  const ask = line => {
+    const { output, ...more } = told(each => PespModule.ask(each, session, line));
+    return { text: decoder.decode(output), ...more };
+  };
+  const domains = PespModule.canTellDomains(owner) ? (...of) => told(each => PespModule.domains(each, session, ...of)) : null;
+  const search = PespModule.canSearch(owner) ? nodes => told(each => PespModule.search(each, session, nodes)) : null;
+  return { fault, ask, domains, search, close: () => called(owner, each => PespModule.close(each, session)) };
+};

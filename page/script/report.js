@@ -1,145 +1,157 @@
-'use strict';
-
 // A report: what the Python package has asked the program of a network, drawn as it is printed and without hands. All numbers in it are
 // those of replies to the package; the module in this page is asked nothing until the reader wants to change something.
-(() => {
-  const { element } = Page;
-  const MOST_STRIPS = 2000, MOST_VIOLATED = 500;
 
-  const counted = count => count.toLocaleString('en');
+import { conflictsOf } from './conflicts.js';
+import { connectionTables } from './connections.js';
+import { element, elided, find, rowOf, tableOf, tellReady } from './elements.js';
+import { kindTables } from './kinds.js';
+import { activityName, clock, domainText, eventName, lengthText, minutesText, spanMinutes, windowText } from './names.js';
+import { netgraphOf } from './netgraph.js';
+import { baseOf } from './network.js';
+import { NETGRAPH_NOTE } from './printing.js';
+import { exactly } from './replies.js';
+import { stripPicture } from './rows.js';
+import { openBase, readView } from './session.js';
+import { shown } from './shown.js';
+import { tablesOf } from './tables.js';
+import { countViolated, isInfeasible } from './viewing.js';
 
-  const mapOf = (rows, read) => new Map(rows.map(([number, ...fields]) => [number, read(fields, number)]));
+const MOST_STRIPS = 2000, MOST_VIOLATED = 500;
 
-  const labelsOf = ({ events, kinds }) => ({
-    events: mapOf(events, ([line, to, station, kind]) => ({ line, to, station, kind })), kinds: new Map(kinds),
+const counted = count => count.toLocaleString('en');
+
+const mapOf = (rows, read) => new Map(rows.map(([number, ...fields]) => [number, read(fields, number)]));
+
+const labelsOf = ({ events, kinds }) => ({
+  events: mapOf(events, ([line, to, station, kind]) => ({ line, to, station, kind })), kinds: new Map(kinds),
+});
+
+const networkOf = ({ period, events, windows, activities }) => ({
+  period, events, windows: mapOf(windows, ([first, length]) => ({ first, length })),
+  activities: mapOf(activities, ([first, last, lower, upper, weight], number) => ({ number, first, last, lower, upper, weight })),
+});
+
+// The minutes that events can be at; those at which any is possible are not listed.
+const domainsOf = ({ network: { events, period }, domains }) => {
+  const listed = new Map(domains), any = [...Array(period).keys()];
+  return new Map(events.map(event => [event, listed.get(event) || any]));
+};
+
+// The view that a report has, with its labels and places; from then on it is the one that is shown.
+export const viewOfReport = told => {
+  const view = {
+    network: networkOf(told.network), domains: domainsOf(told), times: new Map(told.times), labels: labelsOf(told.labels), missing: told.missing,
+    tensions: told.tensions && mapOf(told.tensions, ([tension, slack]) => ({ tension, slack })), cost: told.cost === null ? null : exactly(told.cost),
+    violations: told.violations && { activities: new Set(told.violations.activities), events: new Set(told.violations.events) },
+  };
+  readView(view, new Map(told.places));
+  return view;
+};
+
+// What is said above all where there is no timetable.
+const headline = (view, told) => {
+  if (told.isInfeasible || isInfeasible(view)) return 'No timetable meets everything.';
+  const count = view.network.events.length, untimed = count - view.times.size;
+  if (!untimed) return '';
+  if (untimed === count) return 'There is no timetable yet.';
+  return `The timetable is not whole: ${counted(untimed)} of ${counted(count)} events ${untimed === 1 ? 'has' : 'have'} no time.`;
+};
+
+/** @param {any[]} told */
+const figure = ([words, number, look = '']) => element('div', { class: `figure ${look}`, 'data-figure': words },
+  element('b', {}, typeof number === 'string' ? number : number.toLocaleString('en')), ' ', element('span', {}, words));
+
+const figures = view => {
+  const { network, lines } = view, count = countViolated(view), stations = new Set(lines.flatMap(line => line.stations));
+  const ofLines = [['lines', lines.length], ['trains a period', view.trains.length], ['stations', stations.size]];
+  const ofTimes = [['violated', count, count ? 'alarm' : 'good'], ['cost', view.cost]];
+  return element('div', { class: 'figures' }, ...[['period', lengthText(network.period)], ...lines.length ? ofLines : [],
+    ['events', network.events.length], ['activities', network.activities.size], ...view.cost === null ? [] : ofTimes].map(figure));
+};
+
+const summary = (view, told) => {
+  const line = headline(view, told), missing = view.missing && `${view.missing}, so nothing is said of slack, cost and violations.`;
+  const notes = [missing, told.search].filter(text => text && text !== line);
+  return element('section', { class: 'front' }, element('h1', {}, told.title), line && element('p', { class: 'headline' }, line),
+    figures(view), ...notes.map(text => element('p', {}, text)));
+};
+
+const part = (id, title, note, ...children) => element('section', { id, class: 'part' }, element('h2', {}, title), note && element('p', { class: 'quiet' }, note), ...children);
+
+// By how much an event misses its window, the nearer way.
+const offText = ({ network: { windows, period }, times }, event) => {
+  const { first, length } = windows.get(event), modulo = value => ((value % period) + period) % period;
+  const early = modulo(first - times.get(event)), late = modulo(times.get(event) - first - length + 1);
+  return late <= early ? `${minutesText(late)} late` : `${minutesText(early)} early`;
+};
+
+const violated = view => {
+  if (!view.violations) return [];
+  const { period, windows } = view.network, { all } = conflictsOf(view), { events } = view.violations, count = all.length + events.size;
+  if (!count) return [part('violated', 'What is violated', '', element('p', {}, 'Nothing: every activity and every fixed time is met.'))];
+  const rows = [
+    ...all.map(({ number, activity, had, missed }) => rowOf(activityName(activity), [spanMinutes(activity.lower, activity.upper), minutesText(had), missed],
+      { 'data-violated-activity': number })),
+    ...[...events].map(event => rowOf(eventName(event), [windowText(windows.get(event), period), clock(view.times.get(event)), offText(view, event)],
+      { 'data-violated-event': event })),
+  ];
+  return [part('violated', 'What is violated', elided(count, MOST_VIOLATED, 'that are violated'),
+    tableOf('times listed', ['', 'has to take, or be', 'takes, or is', 'how far off'], rows.slice(0, MOST_VIOLATED)))];
+};
+
+const netgraph = view => {
+  if (!view.lines.some(line => line.stations.length > 1)) return [];
+  const { drawn, told } = netgraphOf(view);
+  // Few stations are not drawn larger than many.
+  drawn.style.maxWidth = `min(100%, ${drawn.getAttribute('viewBox').split(' ')[2]}px)`;
+  return [part('netgraph-drawn', 'Netgraph', [told, NETGRAPH_NOTE].filter(Boolean).join(' '), drawn)];
+};
+
+const strip = (view, event) => {
+  const { windows, period } = view.network, time = view.times.get(event), minutes = view.domains.get(event);
+  const held = windows.has(event) ? ` · held ${windowText(windows.get(event), period)}` : '', at = time === undefined ? '' : ` at ${clock(time)}`;
+  return element('div', { class: minutes.length ? 'narrowed' : 'narrowed alarm', 'data-domain': event }, element('span', {}, eventName(event) + at + held),
+    element('span', {}, domainText(minutes, period)), stripPicture(view, event));
+};
+
+const narrowed = view => {
+  const { events, period } = view.network, found = events.filter(event => view.domains.get(event).length < period);
+  if (!found.length) return [];
+  const note = `${counted(found.length)} of ${counted(events.length)} events can no longer be at every minute. Each strip is one period: blue is what single `
+    + 'activities leave, a line is the working timetable’s time, a frame is what the event is held to. That a minute is left does not say that some timetable has it.';
+  const told = elided(found.length, MOST_STRIPS, 'events');
+  return [part('domains', 'When events can still be', [note, told].filter(Boolean).join(' '), ...found.slice(0, MOST_STRIPS).map(event => strip(view, event)))];
+};
+
+const SAID = 'Times, possible minutes, slacks, violations and cost are replies of pespbench; names are those of the labels.';
+
+// All that a report shows.
+export const reportOf = (view, told) => [summary(view, told), ...violated(view), ...netgraph(view),
+  ...view.lines.length ? [part('lines', 'Lines', 'A framed minute is held. In the diagrams, stations are as far apart as trains need at least.', ...tablesOf(view, true))] : [],
+  ...connectionTables(view), ...narrowed(view), ...kindTables(view), element('p', { class: 'quiet' }, SAID)];
+
+// The report that stands in this page; null where it is no report.
+export const reportGiven = () => {
+  const text = find('given').textContent.trim();
+  return text ? JSON.parse(text) : null;
+};
+
+// Shows it, until the reader wants to work on what it tells.
+export const readReport = told => new Promise(done => {
+  const view = viewOfReport(told), work = element('button', { class: 'main', id: 'work' }, 'Work on it');
+  document.title = [told.title, 'pespbench'].filter(Boolean).join(' – ');
+  find('printed').replaceChildren(element('p', { class: 'to-work' }, work, ' in this page, with all of the workbench.'), ...reportOf(view, told));
+  document.body.classList.add('report');
+  tellReady();
+  work.addEventListener('click', () => {
+    document.body.classList.remove('report', 'ready');
+    find('printed').replaceChildren();
+    done();
   });
+});
 
-  const networkOf = ({ period, events, windows, activities }) => ({
-    period, events, windows: mapOf(windows, ([first, length]) => ({ first, length })),
-    activities: mapOf(activities, ([first, last, lower, upper, weight], number) => ({ number, first, last, lower, upper, weight })),
-  });
-
-  // The minutes that events can be at; those at which any is possible are not listed.
-  const domainsOf = ({ network: { events, period }, domains }) => {
-    const listed = new Map(domains), any = [...Array(period).keys()];
-    return new Map(events.map(event => [event, listed.get(event) || any]));
-  };
-
-  // The view that a report has, with its labels and places; from then on it is the one that is shown.
-  Page.viewOfReport = told => {
-    const view = {
-      network: networkOf(told.network), domains: domainsOf(told), times: new Map(told.times), labels: labelsOf(told.labels), missing: told.missing,
-      tensions: told.tensions && mapOf(told.tensions, ([tension, slack]) => ({ tension, slack })), cost: told.cost === null ? null : Page.exactly(told.cost),
-      violations: told.violations && { activities: new Set(told.violations.activities), events: new Set(told.violations.events) },
-    };
-    Page.readView(view, new Map(told.places));
-    return view;
-  };
-
-  // What is said above all where there is no timetable.
-  const headline = (view, told) => {
-    if (told.isInfeasible || Page.isInfeasible(view)) return 'No timetable meets everything.';
-    const count = view.network.events.length, untimed = count - view.times.size;
-    if (!untimed) return '';
-    if (untimed === count) return 'There is no timetable yet.';
-    return `The timetable is not whole: ${counted(untimed)} of ${counted(count)} events ${untimed === 1 ? 'has' : 'have'} no time.`;
-  };
-
-  const figure = ([words, number, look = '']) => element('div', { class: `figure ${look}`, 'data-figure': words },
-    element('b', {}, typeof number === 'string' ? number : number.toLocaleString('en')), ' ', element('span', {}, words));
-
-  const figures = view => {
-    const { network, lines } = view, count = Page.countViolated(view), stations = new Set(lines.flatMap(line => line.stations));
-    const ofLines = [['lines', lines.length], ['trains a period', view.trains.length], ['stations', stations.size]];
-    const ofTimes = [['violated', count, count ? 'alarm' : 'good'], ['cost', view.cost]];
-    return element('div', { class: 'figures' }, ...[['period', Page.lengthText(network.period)], ...lines.length ? ofLines : [],
-      ['events', network.events.length], ['activities', network.activities.size], ...view.cost === null ? [] : ofTimes].map(figure));
-  };
-
-  const summary = (view, told) => {
-    const line = headline(view, told), missing = view.missing && `${view.missing}, so nothing is said of slack, cost and violations.`;
-    const notes = [missing, told.search].filter(text => text && text !== line);
-    return element('section', { class: 'front' }, element('h1', {}, told.title), line && element('p', { class: 'headline' }, line),
-      figures(view), ...notes.map(text => element('p', {}, text)));
-  };
-
-  const part = (id, title, note, ...children) => element('section', { id, class: 'part' }, element('h2', {}, title), note && element('p', { class: 'quiet' }, note), ...children);
-
-  // By how much an event misses its window, the nearer way.
-  const offText = ({ network: { windows, period }, times }, event) => {
-    const { first, length } = windows.get(event), modulo = value => ((value % period) + period) % period;
-    const early = modulo(first - times.get(event)), late = modulo(times.get(event) - first - length + 1);
-    return late <= early ? `${Page.minutes(late)} late` : `${Page.minutes(early)} early`;
-  };
-
-  const violated = view => {
-    if (!view.violations) return [];
-    const { period, windows } = view.network, { all } = Page.conflictsOf(view), { events } = view.violations, count = all.length + events.size;
-    if (!count) return [part('violated', 'What is violated', '', element('p', {}, 'Nothing: every activity and every fixed time is met.'))];
-    const rows = [
-      ...all.map(({ number, activity, had, missed }) => Page.rowOf(Page.activityName(activity), [Page.spanMinutes(activity.lower, activity.upper), Page.minutes(had), missed],
-        { 'data-violated-activity': number })),
-      ...[...events].map(event => Page.rowOf(Page.eventName(event), [Page.windowText(windows.get(event), period), Page.clock(view.times.get(event)), offText(view, event)],
-        { 'data-violated-event': event })),
-    ];
-    return [part('violated', 'What is violated', Page.elided(count, MOST_VIOLATED, 'that are violated'),
-      Page.tableOf('times listed', ['', 'has to take, or be', 'takes, or is', 'how far off'], rows.slice(0, MOST_VIOLATED)))];
-  };
-
-  const netgraph = view => {
-    if (!view.lines.some(line => line.stations.length > 1)) return [];
-    const { drawn, told } = Page.netgraphOf(view);
-    // Few stations are not drawn larger than many.
-    drawn.style.maxWidth = `min(100%, ${drawn.getAttribute('viewBox').split(' ')[2]}px)`;
-    return [part('netgraph-drawn', 'Netgraph', [told, Page.NETGRAPH_NOTE].filter(Boolean).join(' '), drawn)];
-  };
-
-  const strip = (view, event) => {
-    const { windows, period } = view.network, time = view.times.get(event), minutes = view.domains.get(event);
-    const held = windows.has(event) ? ` · held ${Page.windowText(windows.get(event), period)}` : '', at = time === undefined ? '' : ` at ${Page.clock(time)}`;
-    return element('div', { class: minutes.length ? 'narrowed' : 'narrowed alarm', 'data-domain': event }, element('span', {}, Page.eventName(event) + at + held),
-      element('span', {}, Page.domainText(minutes, period)), Page.stripPicture(view, event));
-  };
-
-  const narrowed = view => {
-    const { events, period } = view.network, found = events.filter(event => view.domains.get(event).length < period);
-    if (!found.length) return [];
-    const note = `${counted(found.length)} of ${counted(events.length)} events can no longer be at every minute. Each strip is one period: blue is what single `
-      + 'activities leave, a line is the working timetable’s time, a frame is what the event is held to. That a minute is left does not say that some timetable has it.';
-    const told = Page.elided(found.length, MOST_STRIPS, 'events');
-    return [part('domains', 'When events can still be', [note, told].filter(Boolean).join(' '), ...found.slice(0, MOST_STRIPS).map(event => strip(view, event)))];
-  };
-
-  const SAID = 'Times, possible minutes, slacks, violations and cost are replies of pespbench; names are those of the labels.';
-
-  // All that a report shows.
-  Page.reportOf = (view, told) => [summary(view, told), ...violated(view), ...netgraph(view),
-    ...view.lines.length ? [part('lines', 'Lines', 'A framed minute is held. In the diagrams, stations are as far apart as trains need at least.', ...Page.tablesOf(view, true))] : [],
-    ...Page.connectionTables(view), ...narrowed(view), ...Page.kindTables(view), element('p', { class: 'quiet' }, SAID)];
-
-  // The report that stands in this page; null where it is no report.
-  Page.reportGiven = () => {
-    const text = Page.find('given').textContent.trim();
-    return text ? JSON.parse(text) : null;
-  };
-
-  // Shows it, until the reader wants to work on what it tells.
-  Page.readReport = told => new Promise(done => {
-    const view = Page.viewOfReport(told), work = element('button', { class: 'main', id: 'work' }, 'Work on it');
-    document.title = [told.title, 'pespbench'].filter(Boolean).join(' – ');
-    Page.find('printed').replaceChildren(element('p', { class: 'to-work' }, work, ' in this page, with all of the workbench.'), ...Page.reportOf(view, told));
-    document.body.classList.add('report');
-    Page.tellReady();
-    work.addEventListener('click', () => {
-      document.body.classList.remove('report', 'ready');
-      Page.find('printed').replaceChildren();
-      done();
-    });
-  });
-
-  // Opens in the workbench what a report tells.
-  Page.openReport = told => {
-    const { network, times, labels } = Page.viewOfReport(told), { places } = Page;
-    Page.open(Page.baseOf(network, times), { title: told.title, labels, places });
-  };
-})();
+// Opens in the workbench what a report tells.
+export const openReport = told => {
+  const { network, times, labels } = viewOfReport(told), { places } = shown;
+  openBase(baseOf(network, times), { title: told.title, labels, places });
+};

@@ -1,154 +1,157 @@
-'use strict';
-
 // The row of an event: its name, its time, the strip of its domain with what holds it, and a word on that.
-(() => {
-  // An event's row, with what was drawn last, so that only what changed is drawn again.
-  Page.makeRow = event => {
-    const { place, kind } = Page.eventShort(event), drawing = Page.drawing;
-    const row = { event, drawn: {} };
-    row.was = drawing('path', { class: 'was' });
-    row.possible = drawing('path', { class: 'possible' });
-    row.held = drawing('path', { class: 'held' });
-    row.svg = drawing('svg', { preserveAspectRatio: 'none', 'aria-hidden': 'true' }, row.was, row.possible, row.held);
-    row.strip = Page.handle('strip', Page.eventName(event), { 'data-event': event });
-    row.strip.append(row.svg);
-    row.time = Page.element('span', { class: 'time' });
-    row.note = Page.element('span', { class: 'note' });
-    row.notes = Page.element('span', { class: 'notes' }, row.note);
-    const name = Page.element('span', { class: 'name', title: Page.eventName(event) },
-      Page.element('span', {}, place), ' ', Page.element('small', {}, kind));
-    row.node = Page.element('div', { class: 'row', 'data-row': event }, name, row.time, row.strip, row.notes);
-    return row;
-  };
 
-  // A path over runs of minutes in a strip that is one unit high.
-  const pathOf = minutes => Page.runsOf(minutes).map(([first, last]) => `M${first} 0H${last + 1}V1H${first}Z`).join('');
+import { conflictsAt, conflictsOfRow, isOutside, shortConflicts, toldConflicts } from './conflicts.js';
+import { drawing, element, setText } from './elements.js';
+import { makeHandle, tellHandle } from './handles.js';
+import { clock, domainText, eventName, eventShort, runsOf, windowText } from './names.js';
+import { shown } from './shown.js';
 
-  // The frame of a window; one that goes over the end of the period has two parts.
-  const frameOf = ({ first, length }, period) => {
-    const end = first + length;
-    if (end <= period) return `M${first} 0H${end}V1H${first}Z`;
-    return `M${period} 0H${first}V1H${period}M0 0H${end - period}V1H0`;
-  };
+// An event's row, with what was drawn last, so that only what changed is drawn again.
+export const makeRow = event => {
+  const { place, kind } = eventShort(event);
+  const row = { event, drawn: {} };
+  row.was = drawing('path', { class: 'was' });
+  row.possible = drawing('path', { class: 'possible' });
+  row.held = drawing('path', { class: 'held' });
+  row.svg = drawing('svg', { preserveAspectRatio: 'none', 'aria-hidden': 'true' }, row.was, row.possible, row.held);
+  row.strip = makeHandle('strip', eventName(event), { 'data-event': event });
+  row.strip.append(row.svg);
+  row.time = element('span', { class: 'time' });
+  row.note = element('span', { class: 'note' });
+  row.notes = element('span', { class: 'notes' }, row.note);
+  const name = element('span', { class: 'name', title: eventName(event) },
+    element('span', {}, place), ' ', element('small', {}, kind));
+  row.node = element('div', { class: 'row', 'data-row': event }, name, row.time, row.strip, row.notes);
+  return row;
+};
 
-  // The strip of an event without hands, as it is at present.
-  Page.stripPicture = (view, event) => {
-    const { period, windows } = view.network, time = view.times.get(event), { drawing } = Page;
-    return drawing('svg', { class: 'strip-picture', viewBox: `0 0 ${period} 1`, preserveAspectRatio: 'none', role: 'img', 'aria-label': `Possible minutes of ${Page.eventName(event)}` },
-      drawing('path', { class: 'possible', d: pathOf(view.domains.get(event)) }),
-      windows.has(event) ? drawing('path', { class: 'held', d: frameOf(windows.get(event), period) }) : null,
-      time === undefined ? null : drawing('path', { class: 'at', d: `M${time + 0.5} 0V1` }));
-  };
+// A path over runs of minutes in a strip that is one unit high.
+const pathOf = minutes => runsOf(minutes).map(([first, last]) => `M${first} 0H${last + 1}V1H${first}Z`).join('');
 
-  const once = (row, name, value, draw) => {
-    if (row.drawn[name] === value) return;
-    row.drawn[name] = value;
-    draw(value);
-  };
+// The frame of a window; one that goes over the end of the period has two parts.
+const frameOf = ({ first, length }, period) => {
+  const end = first + length;
+  if (end <= period) return `M${first} 0H${end}V1H${first}Z`;
+  return `M${period} 0H${first}V1H${period}M0 0H${end - period}V1H0`;
+};
 
-  const grip = (row, name, label) => {
-    if (!row[name]) {
-      const more = { 'data-grip': name, tabindex: Page.chosen === row.event ? 0 : -1 };
-      row[name] = Page.handle(`grip ${name}`, `${Page.eventName(row.event)}: ${label}`, more);
-      row.strip.append(row[name]);
-    }
-    return row[name];
-  };
+// The strip of an event without hands, as it is at present.
+export const stripPicture = (view, event) => {
+  const { period, windows } = view.network, time = view.times.get(event);
+  return drawing('svg', { class: 'strip-picture', viewBox: `0 0 ${period} 1`, preserveAspectRatio: 'none', role: 'img', 'aria-label': `Possible minutes of ${eventName(event)}` },
+    drawing('path', { class: 'possible', d: pathOf(view.domains.get(event)) }),
+    windows.has(event) ? drawing('path', { class: 'held', d: frameOf(windows.get(event), period) }) : null,
+    time === undefined ? null : drawing('path', { class: 'at', d: `M${time + 0.5} 0V1` }));
+};
 
-  // What holds the event, and the handles at the ends of a window.
-  const drawHeld = (row, window, period) => {
-    row.held.setAttribute('d', window ? frameOf(window, period) : '');
-    for (const name of ['first', 'last']) if (row[name]) row[name].hidden = !window;
-    if (!window) return;
-    const { first, length } = window, last = (first + length - 1) % period;
-    for (const [name, minute, label, left] of [['first', first, 'first minute', first], ['last', last, 'last minute', last + 1]]) {
-      const handle = grip(row, name, label);
-      handle.dataset.at = left;
-      Page.tellHandle(handle, minute, 0, period - 1, Page.clock(minute));
-    }
-  };
+const once = (row, name, value, draw) => {
+  if (row.drawn[name] === value) return;
+  row.drawn[name] = value;
+  draw(value);
+};
 
-  // The ends of a frame stand where they are, but beside a diamond that lies there, on the side that is outside.
-  const BESIDE = '0.8rem', NEAR = 0.05;
+const grip = (row, name, label) => {
+  if (!row[name]) {
+    const more = { 'data-grip': name, tabindex: shown.chosen === row.event ? 0 : -1 };
+    row[name] = makeHandle(`grip ${name}`, `${eventName(row.event)}: ${label}`, more);
+    row.strip.append(row[name]);
+  }
+  return row[name];
+};
 
-  /** @type {[string, number][]} */
-  const SIDES = [['first', -1], ['last', 1]];
+// What holds the event, and the handles at the ends of a window.
+const drawHeld = (row, window, period) => {
+  row.held.setAttribute('d', window ? frameOf(window, period) : '');
+  for (const name of ['first', 'last']) if (row[name]) row[name].hidden = !window;
+  if (!window) return;
+  const { first, length } = window, last = (first + length - 1) % period;
+  for (const [name, minute, label, left] of [['first', first, 'first minute', first], ['last', last, 'last minute', last + 1]]) {
+    const handle = grip(row, name, label);
+    handle.dataset.at = left;
+    tellHandle(handle, minute, 0, period - 1, clock(minute));
+  }
+};
 
-  const placeEnds = (row, time, period) => {
-    for (const [name, side] of SIDES) {
-      const handle = row[name];
-      if (!handle || handle.hidden) continue;
-      const at = Number(handle.dataset.at) / period, middle = (time + 0.5) / period, isNear = time !== undefined && side * (middle - at) < NEAR;
-      const beside = `calc(${100 * middle}% ${side < 0 ? '-' : '+'} ${BESIDE})`;
-      handle.style.left = isNear ? `${side < 0 ? 'min' : 'max'}(${100 * at}%, ${beside})` : `${100 * at}%`;
-    }
-  };
+// The ends of a frame stand where they are, but beside a diamond that lies there, on the side that is outside.
+const BESIDE = '0.8rem', NEAR = 0.05;
 
-  const drawTime = (row, time, period) => {
-    Page.setText(row.time, time === undefined ? '–' : Page.clock(time));
-    if (row.now) row.now.hidden = time === undefined;
-    if (time === undefined) return;
-    const handle = grip(row, 'now', 'time in the timetable');
-    handle.style.left = `${100 * (time + 0.5) / period}%`;
-    Page.tellHandle(handle, time, 0, period - 1, Page.clock(time));
-  };
+/** @type {[string, number][]} */
+const SIDES = [['first', -1], ['last', 1]];
 
-  const noteOf = (window, isViolated, period) => {
-    if (!window) return '';
-    return (isViolated ? '✕ not ' : '') + Page.windowText(window, period);
-  };
+const placeEnds = (row, time, period) => {
+  for (const [name, side] of SIDES) {
+    const handle = row[name];
+    if (!handle || handle.hidden) continue;
+    const at = Number(handle.dataset.at) / period, middle = (time + 0.5) / period, isNear = time !== undefined && side * (middle - at) < NEAR;
+    const beside = `calc(${100 * middle}% ${side < 0 ? '-' : '+'} ${BESIDE})`;
+    handle.style.left = isNear ? `${side < 0 ? 'min' : 'max'}(${100 * at}%, ${beside})` : `${100 * at}%`;
+  }
+};
 
-  const toldAt = (view, event) => {
-    const conflicts = Page.conflictsAt(view, event);
-    return conflicts.length ? `${conflicts[0].number} ${conflicts[0].short} ${conflicts.length}` : '';
-  };
+const drawTime = (row, time, period) => {
+  setText(row.time, time === undefined ? '–' : clock(time));
+  if (row.now) row.now.hidden = time === undefined;
+  if (time === undefined) return;
+  const handle = grip(row, 'now', 'time in the timetable');
+  handle.style.left = `${100 * (time + 0.5) / period}%`;
+  tellHandle(handle, time, 0, period - 1, clock(time));
+};
 
-  // The violated activities at the event; one that is too long for its place is whole in its title.
-  const drawBroken = (row, isBroken, conflicts) => {
-    row.node.classList.toggle('broken', isBroken);
-    row.notes.replaceChildren(row.note);
-    if (!conflicts.length) return;
-    row.notes.append(Page.element('button', {
-      class: 'conflict', type: 'button', tabindex: Page.chosen === row.event ? 0 : -1, title: Page.toldConflicts(conflicts),
-      onclick: () => Page.showActivity(conflicts[0].number, row.event),
-    }, Page.shortConflicts(conflicts)));
-  };
+const noteOf = (window, isViolated, period) => {
+  if (!window) return '';
+  return (isViolated ? '✕ not ' : '') + windowText(window, period);
+};
 
-  // Draws what is new about an event.
-  Page.drawRow = (row, view) => {
-    const { event } = row, period = view.network.period, minutes = view.domains.get(event), window = view.network.windows.get(event);
-    const isViolated = Page.isOutside(view, event), isChosen = Page.chosen === event, broken = toldAt(view, event);
-    const seen = [minutes, period, window && window.first, window && window.length, view.times.get(event), isViolated, isChosen, broken];
-    if (row.seen && seen.every((value, place) => value === row.seen[place])) return;
-    row.seen = seen;
-    once(row, 'period', period, () => row.svg.setAttribute('viewBox', `0 0 ${period} 1`));
-    once(row, 'possible', pathOf(minutes), path => row.possible.setAttribute('d', path));
-    once(row, 'was', minutes.length ? '' : pathOf(view.lastDomains.get(event) || []), path => row.was.setAttribute('d', path));
-    once(row, 'count', minutes.length, count => {
-      row.node.classList.toggle('none', !count);
-      row.node.classList.toggle('any', count === period);
-    });
-    once(row, 'window', window ? `${window.first} ${window.length}` : '', () => drawHeld(row, window, period));
-    once(row, 'time', view.times.get(event), time => drawTime(row, time, period));
-    once(row, 'ends', `${row.drawn.window} ${row.drawn.time}`, () => placeEnds(row, view.times.get(event), period));
-    once(row, 'note', noteOf(window, isViolated, period), text => {
-      Page.setText(row.note, text);
-      row.note.title = text;
-    });
-    once(row, 'violated', isViolated, () => row.node.classList.toggle('alarm', isViolated));
-    once(row, 'broken', broken, () => drawBroken(row, Boolean(broken), Page.conflictsOfRow(view, event)));
-    once(row, 'chosen', isChosen, () => chooseRow(row, isChosen));
-    once(row, 'told', `${row.drawn.possible} ${row.drawn.window}`, () => tellStrip(row, view, window));
-  };
+const toldAt = (view, event) => {
+  const conflicts = conflictsAt(view, event);
+  return conflicts.length ? `${conflicts[0].number} ${conflicts[0].short} ${conflicts.length}` : '';
+};
 
-  const tellStrip = (row, view, window) => {
-    const period = view.network.period, minutes = view.domains.get(row.event);
-    const can = `can be at ${Page.domainText(minutes, period)}`, held = window ? `held ${Page.windowText(window, period)}` : 'not held';
-    Page.tellHandle(row.strip, window ? window.first : minutes[0] || 0, 0, period - 1, `${can}; ${held}`);
-  };
+// The violated activities at the event; one that is too long for its place is whole in its title.
+const drawBroken = (row, isBroken, conflicts) => {
+  row.node.classList.toggle('broken', isBroken);
+  row.notes.replaceChildren(row.note);
+  if (!conflicts.length) return;
+  row.notes.append(element('button', {
+    class: 'conflict', type: 'button', tabindex: shown.chosen === row.event ? 0 : -1, title: toldConflicts(conflicts),
+    'data-conflict': conflicts[0].number,
+  }, shortConflicts(conflicts)));
+};
 
-  const chooseRow = (row, isChosen) => {
-    row.node.classList.toggle('chosen', isChosen);
-    for (const handle of [row.strip, row.first, row.last, row.now, row.notes.querySelector('button')]) if (handle) handle.tabIndex = isChosen ? 0 : -1;
-  };
-})();
+// Draws what is new about an event.
+export const drawRow = (row, view) => {
+  const { event } = row, period = view.network.period, minutes = view.domains.get(event), window = view.network.windows.get(event);
+  const isViolated = isOutside(view, event), isChosen = shown.chosen === event, broken = toldAt(view, event);
+  const seen = [minutes, period, window && window.first, window && window.length, view.times.get(event), isViolated, isChosen, broken];
+  if (row.seen && seen.every((value, place) => value === row.seen[place])) return;
+  row.seen = seen;
+  once(row, 'period', period, () => row.svg.setAttribute('viewBox', `0 0 ${period} 1`));
+  once(row, 'possible', pathOf(minutes), path => row.possible.setAttribute('d', path));
+  once(row, 'was', minutes.length ? '' : pathOf(view.lastDomains.get(event) || []), path => row.was.setAttribute('d', path));
+  once(row, 'count', minutes.length, count => {
+    row.node.classList.toggle('none', !count);
+    row.node.classList.toggle('any', count === period);
+  });
+  once(row, 'window', window ? `${window.first} ${window.length}` : '', () => drawHeld(row, window, period));
+  once(row, 'time', view.times.get(event), time => drawTime(row, time, period));
+  once(row, 'ends', `${row.drawn.window} ${row.drawn.time}`, () => placeEnds(row, view.times.get(event), period));
+  once(row, 'note', noteOf(window, isViolated, period), text => {
+    setText(row.note, text);
+    row.note.title = text;
+  });
+  once(row, 'violated', isViolated, () => row.node.classList.toggle('alarm', isViolated));
+  once(row, 'broken', broken, () => drawBroken(row, Boolean(broken), conflictsOfRow(view, event)));
+  once(row, 'chosen', isChosen, () => chooseRow(row, isChosen));
+  once(row, 'told', `${row.drawn.possible} ${row.drawn.window}`, () => tellStrip(row, view, window));
+};
+
+const tellStrip = (row, view, window) => {
+  const period = view.network.period, minutes = view.domains.get(row.event);
+  const can = `can be at ${domainText(minutes, period)}`, held = window ? `held ${windowText(window, period)}` : 'not held';
+  tellHandle(row.strip, window ? window.first : minutes[0] || 0, 0, period - 1, `${can}; ${held}`);
+};
+
+const chooseRow = (row, isChosen) => {
+  row.node.classList.toggle('chosen', isChosen);
+  for (const handle of [row.strip, row.first, row.last, row.now, row.notes.querySelector('button')]) if (handle) handle.tabIndex = isChosen ? 0 : -1;
+};

@@ -1,155 +1,161 @@
-'use strict';
-
 // The activities at the chosen event: their spans with ends to drag, and the tension and slack on them.
-(() => {
-  const { element } = Page;
-  // So many activities have a card; of more a word says so.
-  const MOST_CARDS = 200;
-  let shown = [], cards = new Map();
 
-  const build = () => {
-    shown = [];
-  };
+import { dropActivity } from './adding.js';
+import { element, elided, find, setText } from './elements.js';
+import { bringRow, showRow } from './events.js';
+import { minutesField, minutesTyped, numberField } from './fields.js';
+import { beginDrag, makeHandle, moveOf, tellHandle, unitAt } from './handles.js';
+import { activityName, kindOf, lengthText, minutesText, spanMinutes } from './names.js';
+import { doStep } from './session.js';
+import { shown } from './shown.js';
+import { minutesHad } from './viewing.js';
 
-  const update = view => {
-    const all = [...view.network.activities.values()].filter(each => each.first === Page.chosen || each.last === Page.chosen);
-    const some = all.slice(0, MOST_CARDS), wanted = [all.length, ...some.map(each => each.number)];
-    if (wanted.join() !== shown.join() || !all.length) {
-      shown = wanted;
-      cards = new Map(some.map(each => [each.number, makeCard(each)]));
-      Page.find('activities').replaceChildren(...[...cards.values()].map(card => card.node), ...beyond(all));
-    }
-    for (const each of some) drawCard(cards.get(each.number), each, view);
-  };
+// So many activities have a card; of more a word says so.
+const MOST_CARDS = 200;
+let listed = [], cards = new Map();
 
-  const beyond = ({ length }) => {
-    const told = Page.elided(length, MOST_CARDS, 'activities at this event');
-    return !length || told ? [element('p', { class: 'quiet' }, told || 'No activity is at this event.')] : [];
-  };
+const build = () => {
+  listed = [];
+};
 
-  Page.panel({ build, update });
+const update = view => {
+  const all = [...view.network.activities.values()].filter(each => each.first === shown.chosen || each.last === shown.chosen);
+  const some = all.slice(0, MOST_CARDS), wanted = [all.length, ...some.map(each => each.number)];
+  if (wanted.join() !== listed.join() || !all.length) {
+    listed = wanted;
+    cards = new Map(some.map(each => [each.number, makeCard(each)]));
+    find('activities').replaceChildren(...[...cards.values()].map(card => card.node), ...beyond(all));
+  }
+  for (const each of some) drawCard(cards.get(each.number), each, view);
+};
 
-  // Brings the card of an activity to where it is seen, and the keys to it; one of its events is chosen first.
-  Page.showActivity = (number, event = null) => {
-    const { first, last } = Page.view.network.activities.get(number);
-    Page.bringRow(event !== null ? event : Page.chosen === last ? last : first);
-    const card = cards.get(number);
-    for (const each of cards.values()) each.node.classList.toggle('chosen', each === card);
-    if (!card) return;
-    card.node.scrollIntoView({ block: 'nearest' });
-    card.node.querySelector('.title button').focus({ preventScroll: true });
-  };
+const beyond = ({ length }) => {
+  const told = elided(length, MOST_CARDS, 'activities at this event');
+  return !length || told ? [element('p', { class: 'quiet' }, told || 'No activity is at this event.')] : [];
+};
 
-  const field = (card, name, label, make = Page.minutesField) => {
-    card[name] = make({ 'aria-label': label, onchange: () => change(card) });
-    return card[name];
-  };
+export const spansPanel = { build, update };
 
-  // The card of an activity; its `range` is what its track shows, and stays while an end is dragged.
-  const makeCard = ({ number, first, last }) => {
-    const card = { number, drawn: '' }, activity = Page.view.network.activities.get(number), name = Page.activityName(activity);
-    const other = first === Page.chosen ? last : first;
-    card.bar = element('span', { class: 'bar' });
-    card.slack = element('span', { class: 'slack' });
-    card.tension = element('span', { class: 'tension' });
-    card.lower = Page.handle('grip lower', `${name}: least minutes`, { tabindex: 0, 'data-end': 'lower' });
-    card.upper = Page.handle('grip upper', `${name}: most minutes`, { tabindex: 0, 'data-end': 'upper' });
-    card.track = element('div', { class: 'track' }, card.bar, card.slack, card.tension, card.lower, card.upper);
-    card.told = element('span', { class: 'told' });
-    const fields = element('div', { class: 'fields' }, element('label', {}, 'from ', field(card, 'least', `${name}: least minutes`)),
-      element('label', {}, 'to ', field(card, 'most', `${name}: most minutes`)),
-      element('label', {}, 'weight ', field(card, 'weight', `${name}: cost of a minute of slack`, Page.numberField)),
-      element('button', { class: 'drop', onclick: () => Page.dropActivity(number) }, `Drop ${Page.kindOf(number)} ${number}`));
-    const title = element('button', { class: 'link', title: 'show the event at its other end', onclick: () => Page.showRow(other) }, name);
-    card.node = element('div', { class: 'card', 'data-activity': number }, element('div', { class: 'title' }, title, card.told), card.track, fields);
-    card.track.addEventListener('pointerdown', event => begin(card, event));
-    card.track.addEventListener('keydown', event => typed(card, event));
-    return card;
-  };
+// Brings the card of an activity to where it is seen, and the keys to it; one of its events is chosen first.
+export const showActivity = (number, event = null) => {
+  const { first, last } = shown.view.network.activities.get(number);
+  bringRow(event !== null ? event : shown.chosen === last ? last : first);
+  const card = cards.get(number);
+  for (const each of cards.values()) each.node.classList.toggle('chosen', each === card);
+  if (!card) return;
+  card.node.scrollIntoView({ block: 'nearest' });
+  card.node.querySelector('.title button').focus({ preventScroll: true });
+};
 
-  // What a track shows: the span and the tension, with some minutes before and after them.
-  const rangeOf = ({ lower, upper }, taken, period) => {
-    const least = lower - Math.ceil(period / 12), most = Math.max(upper, taken ? taken.tension : upper);
-    return { least, count: most + Math.ceil(period / 4) - least };
-  };
+const field = (card, name, label, make = minutesField) => {
+  card[name] = make({ 'aria-label': label, onchange: () => change(card) });
+  return card[name];
+};
 
-  // The least minutes that the track of an activity shows, and how many.
-  Page.rangeShown = number => [cards.get(number).range.least, cards.get(number).range.count];
+// The card of an activity; its `range` is what its track shows, and stays while an end is dragged.
+const makeCard = ({ number, first, last }) => {
+  const card = { number, drawn: '' }, activity = shown.view.network.activities.get(number), name = activityName(activity);
+  const other = first === shown.chosen ? last : first;
+  card.bar = element('span', { class: 'bar' });
+  card.slack = element('span', { class: 'slack' });
+  card.tension = element('span', { class: 'tension' });
+  card.lower = makeHandle('grip lower', `${name}: least minutes`, { tabindex: 0, 'data-end': 'lower' });
+  card.upper = makeHandle('grip upper', `${name}: most minutes`, { tabindex: 0, 'data-end': 'upper' });
+  card.track = element('div', { class: 'track' }, card.bar, card.slack, card.tension, card.lower, card.upper);
+  card.told = element('span', { class: 'told' });
+  const fields = element('div', { class: 'fields' }, element('label', {}, 'from ', field(card, 'least', `${name}: least minutes`)),
+    element('label', {}, 'to ', field(card, 'most', `${name}: most minutes`)),
+    element('label', {}, 'weight ', field(card, 'weight', `${name}: cost of a minute of slack`, numberField)),
+    element('button', { class: 'drop', onclick: () => dropActivity(number) }, `Drop ${kindOf(number)} ${number}`));
+  const title = element('button', { class: 'link', title: 'show the event at its other end', onclick: () => showRow(other) }, name);
+  card.node = element('div', { class: 'card', 'data-activity': number }, element('div', { class: 'title' }, title, card.told), card.track, fields);
+  card.track.addEventListener('pointerdown', event => begin(card, event));
+  card.track.addEventListener('keydown', event => typed(card, event));
+  return card;
+};
 
-  const drawCard = (card, activity, view) => {
-    const taken = view.tensions && view.tensions.get(activity.number);
-    const isViolated = Boolean(view.violations && view.violations.activities.has(activity.number));
-    const had = taken && Page.minutesHad(view, activity.number);
-    const drawn = JSON.stringify([activity, taken, isViolated]);
-    if (card.drawn === drawn) return;
-    card.drawn = drawn;
-    const { lower, upper, weight } = activity, name = Page.activityName(activity);
-    if (!card.range || !document.body.classList.contains('dragging')) card.range = rangeOf(activity, taken, view.network.period);
-    place(card.bar, card, lower, upper + 1);
-    for (const [handle, value, left] of [[card.lower, lower, lower], [card.upper, upper, upper + 1]]) {
-      handle.style.left = `${percent(card, left)}%`;
-      Page.tellHandle(handle, value, -1000000, 1000000, `${name}: ${Page.spanMinutes(lower, upper)}`);
-    }
-    card.slack.hidden = card.tension.hidden = !taken;
-    if (taken) {
-      place(card.slack, card, lower, taken.tension);
-      place(card.tension, card, taken.tension, taken.tension + 1);
-    }
-    card.node.classList.toggle('alarm', isViolated);
-    Page.setText(card.told, toldOf(taken, had, isViolated, weight));
-    for (const [input, value] of [[card.least, Page.lengthText(lower)], [card.most, Page.lengthText(upper)], [card.weight, weight]]) {
-      if (document.activeElement !== input || document.body.classList.contains('dragging')) input.value = value;
-    }
-  };
+// What a track shows: the span and the tension, with some minutes before and after them.
+const rangeOf = ({ lower, upper }, taken, period) => {
+  const least = lower - Math.ceil(period / 12), most = Math.max(upper, taken ? taken.tension : upper);
+  return { least, count: most + Math.ceil(period / 4) - least };
+};
 
-  // What is violated may be counted as a period more than it takes.
-  const toldOf = (taken, had, isViolated, weight) => {
-    if (!taken) return 'no timetable to look at';
-    const cost = weight && taken.slack ? `, costs ${(weight * taken.slack).toLocaleString('en')}` : '';
-    const counted = had === taken.tension ? '' : `, counted as ${Page.lengthText(taken.tension)}`;
-    return `${isViolated ? '✕ not met: ' : '✓ '}takes ${Page.minutes(had)}${counted}, slack ${Page.lengthText(taken.slack)}${cost}`;
-  };
+// The least minutes that the track of an activity shows, and how many.
+export const rangeShown = number => [cards.get(number).range.least, cards.get(number).range.count];
 
-  const percent = (card, minute) => Math.min(100, Math.max(0, 100 * (minute - card.range.least) / card.range.count));
+const drawCard = (card, activity, view) => {
+  const taken = view.tensions && view.tensions.get(activity.number);
+  const isViolated = Boolean(view.violations && view.violations.activities.has(activity.number));
+  const had = taken && minutesHad(view, activity.number);
+  const drawn = JSON.stringify([activity, taken, isViolated]);
+  if (card.drawn === drawn) return;
+  card.drawn = drawn;
+  const { lower, upper, weight } = activity, name = activityName(activity);
+  if (!card.range || !document.body.classList.contains('dragging')) card.range = rangeOf(activity, taken, view.network.period);
+  place(card.bar, card, lower, upper + 1);
+  for (const [handle, value, left] of [[card.lower, lower, lower], [card.upper, upper, upper + 1]]) {
+    handle.style.left = `${percent(card, left)}%`;
+    tellHandle(handle, value, -1000000, 1000000, `${name}: ${spanMinutes(lower, upper)}`);
+  }
+  card.slack.hidden = card.tension.hidden = !taken;
+  if (taken) {
+    place(card.slack, card, lower, taken.tension);
+    place(card.tension, card, taken.tension, taken.tension + 1);
+  }
+  card.node.classList.toggle('alarm', isViolated);
+  setText(card.told, toldOf(taken, had, isViolated, weight));
+  for (const [input, value] of [[card.least, lengthText(lower)], [card.most, lengthText(upper)], [card.weight, weight]]) {
+    if (document.activeElement !== input || document.body.classList.contains('dragging')) input.value = value;
+  }
+};
 
-  const place = (node, card, first, end) => {
-    node.style.left = `${percent(card, first)}%`;
-    node.style.width = `${percent(card, end) - percent(card, first)}%`;
-  };
+// What is violated may be counted as a period more than it takes.
+const toldOf = (taken, had, isViolated, weight) => {
+  if (!taken) return 'no timetable to look at';
+  const cost = weight && taken.slack ? `, costs ${(weight * taken.slack).toLocaleString('en')}` : '';
+  const counted = had === taken.tension ? '' : `, counted as ${lengthText(taken.tension)}`;
+  return `${isViolated ? '✕ not met: ' : '✓ '}takes ${minutesText(had)}${counted}, slack ${lengthText(taken.slack)}${cost}`;
+};
 
-  // The span that a handle makes when it is moved by some minutes; an end stops at the other one.
-  const spanLine = (number, { lower, upper }, end, move) => {
-    if (end === 'lower') return `span ${number} ${Math.min(upper, lower + move)} ${upper}`;
-    if (end === 'upper') return `span ${number} ${lower} ${Math.max(lower, upper + move)}`;
-    return `span ${number} ${lower + move} ${upper + move}`;
-  };
+const percent = (card, minute) => Math.min(100, Math.max(0, 100 * (minute - card.range.least) / card.range.count));
 
-  const begin = (card, event) => {
-    if (event.button !== 0) return;
-    const { least, count } = card.range, minuteAt = x => Page.unitAt(card.track, x, least, count);
-    const handle = event.target.closest('[data-end]'), end = handle ? handle.dataset.end : 'both';
-    if (end === 'both' && event.target !== card.bar && event.target !== card.slack) return;
-    const before = Page.view.network.activities.get(card.number), start = minuteAt(event.clientX);
-    if (handle) handle.focus({ preventScroll: true });
-    event.preventDefault();
-    Page.beginDrag(event, x => [spanLine(card.number, before, end, minuteAt(x) - start)]);
-  };
+const place = (node, card, first, end) => {
+  node.style.left = `${percent(card, first)}%`;
+  node.style.width = `${percent(card, end) - percent(card, first)}%`;
+};
 
-  const typed = (card, event) => {
-    const move = Page.moveOf(event), { end } = event.target.dataset;
-    if (!move || !end) return;
-    event.preventDefault();
-    Page.step([spanLine(card.number, Page.view.network.activities.get(card.number), event.shiftKey ? 'both' : end, move)]);
-  };
+// The span that a handle makes when it is moved by some minutes; an end stops at the other one.
+const spanLine = (number, { lower, upper }, end, move) => {
+  if (end === 'lower') return `span ${number} ${Math.min(upper, lower + move)} ${upper}`;
+  if (end === 'upper') return `span ${number} ${lower} ${Math.max(lower, upper + move)}`;
+  return `span ${number} ${lower + move} ${upper + move}`;
+};
 
-  const change = card => {
-    const before = Page.view.network.activities.get(card.number);
-    const [lower, upper] = [card.least, card.most].map(input => Page.minutesTyped(input.value)), weight = card.weight.value.trim();
-    const lines = [];
-    if (lower !== String(before.lower) || upper !== String(before.upper)) lines.push(`span ${card.number} ${lower} ${upper}`);
-    if (weight !== String(before.weight)) lines.push(`weight ${card.number} ${weight}`);
-    if (lines.length) Page.step(lines);
-    card.drawn = '';
-    drawCard(card, Page.view.network.activities.get(card.number), Page.view);
-  };
-})();
+const begin = (card, event) => {
+  if (event.button !== 0) return;
+  const { least, count } = card.range, minuteAt = x => unitAt(card.track, x, least, count);
+  const handle = event.target.closest('[data-end]'), end = handle ? handle.dataset.end : 'both';
+  if (end === 'both' && event.target !== card.bar && event.target !== card.slack) return;
+  const before = shown.view.network.activities.get(card.number), start = minuteAt(event.clientX);
+  if (handle) handle.focus({ preventScroll: true });
+  event.preventDefault();
+  beginDrag(event, x => [spanLine(card.number, before, end, minuteAt(x) - start)]);
+};
+
+const typed = (card, event) => {
+  const move = moveOf(event), { end } = event.target.dataset;
+  if (!move || !end) return;
+  event.preventDefault();
+  doStep([spanLine(card.number, shown.view.network.activities.get(card.number), event.shiftKey ? 'both' : end, move)]);
+};
+
+const change = card => {
+  const before = shown.view.network.activities.get(card.number);
+  const [lower, upper] = [card.least, card.most].map(input => minutesTyped(input.value)), weight = card.weight.value.trim();
+  const lines = [];
+  if (lower !== String(before.lower) || upper !== String(before.upper)) lines.push(`span ${card.number} ${lower} ${upper}`);
+  if (weight !== String(before.weight)) lines.push(`weight ${card.number} ${weight}`);
+  if (lines.length) doStep(lines);
+  card.drawn = '';
+  drawCard(card, shown.view.network.activities.get(card.number), shown.view);
+};

@@ -1,103 +1,100 @@
-'use strict';
-
 // Spreads places over a drawing, so that there is room for stations and for numbers along tracks.
-(() => {
-  const MOST_ROUNDS = 300, MOST_LOOKS = 2000000, SHARE = 0.3, CLEARANCE = 26, FAN_REACH = 45;
 
-  // Places in the units of a drawing, near where they were, with room for numbers.
-  //   places: of each station its place in any unit, y downwards; tracks: {one, other, along, beside} with the room that each
-  //   wants along it and to each side; radius: of each station; size: width and height, which grow where stations want it.
-  Page.spread = (places, tracks, radius, size) => {
-    const spreading = start(fitted(places, size), tracks, radius);
-    const looks = places.size * (places.size / 2 + tracks.length) + 1;
-    const rounds = Math.min(MOST_ROUNDS, Math.floor(MOST_LOOKS / looks) + 5);
-    for (let round = 0; round < rounds && step(spreading); round += 1);
-    return spreading.places;
-  };
+const MOST_ROUNDS = 300, MOST_LOOKS = 2000000, SHARE = 0.3, CLEARANCE = 26, FAN_REACH = 45;
 
-  // The places at a scale at which they fit into a size, stretched up to a half more one way where that fills it.
-  const fitted = (places, [width, height]) => {
-    const xs = [...places.values()].map(([x]) => x), ys = [...places.values()].map(([, y]) => y);
-    const [left, top] = [Math.min(...xs), Math.min(...ys)], [wide, high] = [Math.max(...xs) - left, Math.max(...ys) - top];
-    let across = wide ? width / wide : 1, down = high ? height / high : 1;
-    const scale = Math.min(wide ? across : down, high ? down : across);
-    across = Math.min(across, 1.5 * scale);
-    down = Math.min(down, 1.5 * scale);
-    // Stations in one place, or on one line, are kept apart by their order.
-    return new Map([...places].map(([name, [x, y]], place) => [name, [(x - left) * across + place * 0.01, (y - top) * down + place * 0.01]]));
-  };
+// Places in the units of a drawing, near where they were, with room for numbers.
+//   places: of each station its place in any unit, y downwards; tracks: {one, other, along, beside} with the room that each
+//   wants along it and to each side; radius: of each station; size: width and height, which grow where stations want it.
+export const spread = (places, tracks, radius, size) => {
+  const spreading = start(fitted(places, size), tracks, radius);
+  const looks = places.size * (places.size / 2 + tracks.length) + 1;
+  const rounds = Math.min(MOST_ROUNDS, Math.floor(MOST_LOOKS / looks) + 5);
+  for (let round = 0; round < rounds && step(spreading); round += 1);
+  return spreading.places;
+};
 
-  const start = (places, tracks, radius) => {
-    const names = [...places.keys()], ends = new Map(names.map(name => [name, []])), rooms = new Map(names.map(name => [name, new Map()]));
-    for (const { one, other, along, beside } of tracks) {
-      ends.get(one).push([other, beside]);
-      ends.get(other).push([one, beside]);
-      rooms.get(one).set(other, along);
-      rooms.get(other).set(one, along);
-    }
-    return { places, tracks, radius, names, ends, rooms, isMoved: false };
-  };
+// The places at a scale at which they fit into a size, stretched up to a half more one way where that fills it.
+const fitted = (places, [width, height]) => {
+  const xs = [...places.values()].map(([x]) => x), ys = [...places.values()].map(([, y]) => y);
+  const [left, top] = [Math.min(...xs), Math.min(...ys)], [wide, high] = [Math.max(...xs) - left, Math.max(...ys) - top];
+  let across = wide ? width / wide : 1, down = high ? height / high : 1;
+  const scale = Math.min(wide ? across : down, high ? down : across);
+  across = Math.min(across, 1.5 * scale);
+  down = Math.min(down, 1.5 * scale);
+  // Stations in one place, or on one line, are kept apart by their order.
+  return new Map([...places].map(([name, [x, y]], place) => [name, [(x - left) * across + place * 0.01, (y - top) * down + place * 0.01]]));
+};
 
-  const move = (spreading, station, x, y, length) => {
-    const here = spreading.places.get(station);
-    spreading.places.set(station, [here[0] + x * length, here[1] + y * length]);
-    spreading.isMoved = true;
-  };
+const start = (places, tracks, radius) => {
+  const names = [...places.keys()], ends = new Map(names.map(name => [name, []])), rooms = new Map(names.map(name => [name, new Map()]));
+  for (const { one, other, along, beside } of tracks) {
+    ends.get(one).push([other, beside]);
+    ends.get(other).push([one, beside]);
+    rooms.get(one).set(other, along);
+    rooms.get(other).set(one, along);
+  }
+  return { places, tracks, radius, names, ends, rooms, isMoved: false };
+};
 
-  // Mends each lack of room in part; false where there was none.
-  const step = spreading => {
-    const { names, tracks, radius, rooms, ends } = spreading;
-    spreading.isMoved = false;
-    names.forEach((one, place) => names.slice(place + 1).forEach(other => {
-      const room = rooms.get(one).get(other);
-      push(spreading, one, other, radius.get(one) + radius.get(other) + (room === undefined ? 2 * CLEARANCE : room));
-    }));
-    for (const track of tracks) for (const station of names) if (station !== track.one && station !== track.other) clear(spreading, station, track);
-    for (const station of names) {
-      ends.get(station).forEach((one, place, all) => all.slice(place + 1).forEach(other => fan(spreading, station, one, other)));
-    }
-    return spreading.isMoved;
-  };
+const move = (spreading, station, x, y, length) => {
+  const here = spreading.places.get(station);
+  spreading.places.set(station, [here[0] + x * length, here[1] + y * length]);
+  spreading.isMoved = true;
+};
 
-  // Pushes two stations apart that are nearer than wanted.
-  const push = (spreading, one, other, wanted) => {
-    const [x, y] = spreading.places.get(one), [otherX, otherY] = spreading.places.get(other), apart = Math.hypot(otherX - x, otherY - y);
-    if (apart >= wanted - 0.5) return;
-    const along = apart > 1e-6 ? [(otherX - x) / apart, (otherY - y) / apart] : [1, 0];
-    move(spreading, other, along[0], along[1], SHARE * (wanted - apart));
-    move(spreading, one, -along[0], -along[1], SHARE * (wanted - apart));
-  };
+// Mends each lack of room in part; false where there was none.
+const step = spreading => {
+  const { names, tracks, radius, rooms, ends } = spreading;
+  spreading.isMoved = false;
+  names.forEach((one, place) => names.slice(place + 1).forEach(other => {
+    const room = rooms.get(one).get(other);
+    push(spreading, one, other, radius.get(one) + radius.get(other) + (room === undefined ? 2 * CLEARANCE : room));
+  }));
+  for (const track of tracks) for (const station of names) if (station !== track.one && station !== track.other) clear(spreading, station, track);
+  for (const station of names) {
+    ends.get(station).forEach((one, place, all) => all.slice(place + 1).forEach(other => fan(spreading, station, one, other)));
+  }
+  return spreading.isMoved;
+};
 
-  // Pushes a station away from a track that passes too near, and the track's ends a little the other way.
-  const clear = (spreading, station, track) => {
-    const here = spreading.places.get(station), begin = spreading.places.get(track.one), end = spreading.places.get(track.other);
-    const length = Math.hypot(end[0] - begin[0], end[1] - begin[1]);
-    if (length < 1e-6) return;
-    const along = [(end[0] - begin[0]) / length, (end[1] - begin[1]) / length];
-    const at = (here[0] - begin[0]) * along[0] + (here[1] - begin[1]) * along[1];
-    const beside = (here[1] - begin[1]) * along[0] - (here[0] - begin[0]) * along[1];
-    const lack = spreading.radius.get(station) + track.beside + CLEARANCE - Math.abs(beside), side = beside >= 0 ? 1 : -1;
-    if (at <= 0 || at >= length || lack <= 0.5) return;
-    move(spreading, station, -along[1] * side, along[0] * side, SHARE * lack);
-    for (const name of [track.one, track.other]) move(spreading, name, along[1] * side, -along[0] * side, SHARE * lack / 2);
-  };
+// Pushes two stations apart that are nearer than wanted.
+const push = (spreading, one, other, wanted) => {
+  const [x, y] = spreading.places.get(one), [otherX, otherY] = spreading.places.get(other), apart = Math.hypot(otherX - x, otherY - y);
+  if (apart >= wanted - 0.5) return;
+  const along = apart > 1e-6 ? [(otherX - x) / apart, (otherY - y) / apart] : [1, 0];
+  move(spreading, other, along[0], along[1], SHARE * (wanted - apart));
+  move(spreading, one, -along[0], -along[1], SHARE * (wanted - apart));
+};
 
-  // Turns two tracks at a station apart whose numbers would lie on each other, each with its room beside.
-  const fan = (spreading, station, [one, oneBeside], [other, otherBeside]) => {
-    const here = spreading.places.get(station);
-    const [from, to] = [one, other].map(name => spreading.places.get(name)).map(([x, y]) => [x - here[0], y - here[1]]);
-    const turn = Page.angleBetween(Math.atan2(from[1], from[0]), Math.atan2(to[1], to[0]));
-    const wanted = Math.asin(Math.min(1, (oneBeside + otherBeside) / (spreading.radius.get(station) + FAN_REACH)));
-    const lack = Math.min(wanted, 0.8 * 2 * Math.PI / spreading.ends.get(station).length) - Math.abs(turn);
-    if (lack <= 0.02) return;
-    const side = (turn >= 0 ? SHARE : -SHARE) * lack / 2;
-    move(spreading, one, from[1], -from[0], side);
-    move(spreading, other, -to[1], to[0], side);
-  };
+// Pushes a station away from a track that passes too near, and the track's ends a little the other way.
+const clear = (spreading, station, track) => {
+  const here = spreading.places.get(station), begin = spreading.places.get(track.one), end = spreading.places.get(track.other);
+  const length = Math.hypot(end[0] - begin[0], end[1] - begin[1]);
+  if (length < 1e-6) return;
+  const along = [(end[0] - begin[0]) / length, (end[1] - begin[1]) / length];
+  const at = (here[0] - begin[0]) * along[0] + (here[1] - begin[1]) * along[1];
+  const beside = (here[1] - begin[1]) * along[0] - (here[0] - begin[0]) * along[1];
+  const lack = spreading.radius.get(station) + track.beside + CLEARANCE - Math.abs(beside), side = beside >= 0 ? 1 : -1;
+  if (at <= 0 || at >= length || lack <= 0.5) return;
+  move(spreading, station, -along[1] * side, along[0] * side, SHARE * lack);
+  for (const name of [track.one, track.other]) move(spreading, name, along[1] * side, -along[0] * side, SHARE * lack / 2);
+};
 
-  // How far one turns from an angle to another one, from minus half a turn to half a turn.
-  Page.angleBetween = (from, to) => {
-    const turn = (to - from) % (2 * Math.PI);
-    return turn > Math.PI ? turn - 2 * Math.PI : turn < -Math.PI ? turn + 2 * Math.PI : turn;
-  };
-})();
+// Turns two tracks at a station apart whose numbers would lie on each other, each with its room beside.
+const fan = (spreading, station, [one, oneBeside], [other, otherBeside]) => {
+  const here = spreading.places.get(station);
+  const [from, to] = [one, other].map(name => spreading.places.get(name)).map(([x, y]) => [x - here[0], y - here[1]]);
+  const turn = angleBetween(Math.atan2(from[1], from[0]), Math.atan2(to[1], to[0]));
+  const wanted = Math.asin(Math.min(1, (oneBeside + otherBeside) / (spreading.radius.get(station) + FAN_REACH)));
+  const lack = Math.min(wanted, 0.8 * 2 * Math.PI / spreading.ends.get(station).length) - Math.abs(turn);
+  if (lack <= 0.02) return;
+  const side = (turn >= 0 ? SHARE : -SHARE) * lack / 2;
+  move(spreading, one, from[1], -from[0], side);
+  move(spreading, other, -to[1], to[0], side);
+};
+
+// How far one turns from an angle to another one, from minus half a turn to half a turn.
+export const angleBetween = (from, to) => {
+  const turn = (to - from) % (2 * Math.PI);
+  return turn > Math.PI ? turn - 2 * Math.PI : turn < -Math.PI ? turn + 2 * Math.PI : turn;
+};

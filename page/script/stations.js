@@ -1,72 +1,76 @@
-'use strict';
-
 // How the stations of a corridor are chosen: by name, by a click on the netgraph, or all of a line.
-(() => {
-  const { element } = Page, MOST_CHIPS = 40;
 
-  const button = (name, act) => element('button', { type: 'button', onclick: act }, name);
+import { chooseCorridor, corridor, switchStation } from './corridor.js';
+import { element, elided, find, findAll, setText } from './elements.js';
+import { fillFinder } from './finder.js';
+import { matches } from './finding.js';
+import { shown } from './shown.js';
+import { isTab, showTab } from './tabs.js';
 
-  const lineOf = view => view.lines.find(line => line.name === Page.chosenLine) || view.lines[0];
+const MOST_CHIPS = 40;
 
-  // What stays where it is, so that the keys stay on it.
-  const clear = () => Page.chooseCorridor([]), chips = element('ol', { 'aria-label': 'stations chosen' }), told = element('span');
-  const all = button('All of a line', () => Page.chooseCorridor([...lineOf(Page.view).stations]));
-  const turn = button('Turn round', () => Page.chooseCorridor([...Page.corridor.chosen].reverse()));
-  const none = button('Clear', clear), toMap = button('Netgraph', () => Page.showTab('netgraph'));
-  const ofMap = [button('Corridor', () => Page.showTab('corridor')), button('Clear', clear)];
-  let shown = null, marked = null, map = null;
+const button = (name, act) => element('button', { type: 'button', onclick: act }, name);
 
-  Page.startStations = () => {
-    const finder = element('div', { class: 'finder' }), take = ({ value }) => Page.corridor.chosen.includes(value) || Page.switchStation(value);
-    Page.find('corridor-stations').replaceChildren(finder, chips, all, turn, none, toMap);
-    Page.fillFinder(finder, { label: 'Station', hint: 'a name', kinds: ['station'], take });
-    Page.find('corridor-told').replaceChildren(...ofMap, told);
-    const panel = Page.find('netgraph');
-    panel.addEventListener('click', clicked);
-    panel.addEventListener('keydown', event => {
-      if (['Enter', ' '].includes(event.key) && clicked(event)) event.preventDefault();
-    });
-  };
+const lineOf = view => view.lines.find(line => line.name === shown.chosenLine) || view.lines[0];
 
-  const clicked = event => {
-    const station = event.target.closest('[data-station]');
-    if (station) Page.switchStation(station.dataset.station);
-    return Boolean(station);
-  };
+// What stays where it is, so that the keys stay on it.
+const clear = () => chooseCorridor([]), chips = element('ol', { 'aria-label': 'stations chosen' }), told = element('span');
+const all = button('All of a line', () => chooseCorridor([...lineOf(shown.view).stations]));
+const turn = button('Turn round', () => chooseCorridor([...corridor.chosen].reverse()));
+const none = button('Clear', clear), toMap = button('Netgraph', () => showTab('netgraph'));
+const ofMap = [button('Corridor', () => showTab('corridor')), button('Clear', clear)];
+let listed = null, marked = null, map = null;
 
-  const chip = station => element('li', {}, element('button', {
-    type: 'button', 'aria-label': `take ${station} out of the corridor`, onclick: () => Page.switchStation(station),
-  }, `${station} ✕`));
-
-  const updateChips = view => {
-    const { chosen } = Page.corridor, line = lineOf(view);
-    all.hidden = !line || line.stations.length < 2;
-    if (line) Page.setText(all, `All of ${line.name}`);
-    turn.hidden = chosen.length < 2;
-    none.hidden = !chosen.length;
-    if (shown === chosen) return;
-    shown = chosen;
-    chips.replaceChildren(...chosen.slice(0, MOST_CHIPS).map(chip), Page.elided(chosen.length, MOST_CHIPS, 'stations'));
-  };
-
-  // The stations of the corridor on the netgraph, and above it.
-  const updateMap = view => {
-    const { stations } = Page.corridor, known = new Set(stations), drawn = document.querySelector('#netgraph > svg');
-    Page.find('corridor-told').hidden = Page.tab !== 'netgraph' || !view.lines.length;
-    if (Page.tab !== 'netgraph' || (marked === stations && map === drawn)) return;
-    [marked, map] = [stations, drawn];
-    for (const each of Page.all('#netgraph [data-station]')) {
-      each.classList.toggle('on', known.has(each.dataset.station));
-      each.setAttribute('aria-pressed', known.has(each.dataset.station));
-    }
-    for (const each of ofMap) each.disabled = !known.size;
-    Page.setText(told, stations.join(' – ') || 'A click on a station takes it in.');
-  };
-
-  Page.panel({
-    update: view => {
-      if (Page.tab === 'corridor') updateChips(view);
-      updateMap(view);
-    },
+export const startStations = () => {
+  const finder = element('div', { class: 'finder' }), take = ({ value }) => corridor.chosen.includes(value) || switchStation(value);
+  find('corridor-stations').replaceChildren(finder, chips, all, turn, none, toMap);
+  fillFinder(finder, { label: 'Station', hint: 'a name', search: text => matches(text, ['station']), take });
+  find('corridor-told').replaceChildren(...ofMap, told);
+  const panel = find('netgraph');
+  panel.addEventListener('click', clicked);
+  panel.addEventListener('keydown', event => {
+    if (['Enter', ' '].includes(event.key) && clicked(event)) event.preventDefault();
   });
-})();
+};
+
+const clicked = event => {
+  const station = event.target.closest('[data-station]');
+  if (station) switchStation(station.dataset.station);
+  return Boolean(station);
+};
+
+const chip = station => element('li', {}, element('button', {
+  type: 'button', 'aria-label': `take ${station} out of the corridor`, onclick: () => switchStation(station),
+}, `${station} ✕`));
+
+const updateChips = view => {
+  const { chosen } = corridor, line = lineOf(view);
+  all.hidden = !line || line.stations.length < 2;
+  if (line) setText(all, `All of ${line.name}`);
+  turn.hidden = chosen.length < 2;
+  none.hidden = !chosen.length;
+  if (listed === chosen) return;
+  listed = chosen;
+  chips.replaceChildren(...chosen.slice(0, MOST_CHIPS).map(chip), elided(chosen.length, MOST_CHIPS, 'stations'));
+};
+
+// The stations of the corridor on the netgraph, and above it.
+const updateMap = view => {
+  const { stations } = corridor, known = new Set(stations), drawn = document.querySelector('#netgraph > svg');
+  find('corridor-told').hidden = !isTab('netgraph') || !view.lines.length;
+  if (!isTab('netgraph') || (marked === stations && map === drawn)) return;
+  [marked, map] = [stations, drawn];
+  for (const each of findAll('#netgraph [data-station]')) {
+    each.classList.toggle('on', known.has(each.dataset.station));
+    each.setAttribute('aria-pressed', known.has(each.dataset.station));
+  }
+  for (const each of ofMap) each.disabled = !known.size;
+  setText(told, stations.join(' – ') || 'A click on a station takes it in.');
+};
+
+export const stationsPanel = {
+  update: view => {
+    if (isTab('corridor')) updateChips(view);
+    updateMap(view);
+  },
+};

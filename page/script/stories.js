@@ -1,8 +1,7 @@
-'use strict';
-
 // The stories that the page can begin with. Two are those of examples/two-changes and examples/night-train; the region is the one that
 // the Python package draws from the seed 3. Tests compare them with these.
-Page.stories = [
+
+export const stories = [
   {
     title: "A region of 112 events",
     told: "six lines, drawn, with a timetable to make better",

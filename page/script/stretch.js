@@ -1,32 +1,32 @@
-'use strict';
-
 // The part of a line that its diagram draws: all of it, or where it is too long the stations about the chosen event.
-(() => {
-  const MOST_STRETCH = 120;
 
-  // More stations than these are not all drawn, in a diagram or in a netgraph.
-  Page.MOST_STATIONS = 349;
+import { labelOf } from './names.js';
+import { trainPart } from './trains.js';
 
-  // The parts of a train that lie in some stations, each as a train.
-  Page.piecesOf = (train, stations) => {
-    const pieces = [];
-    train.events.forEach((event, place) => {
-      if (!stations.has(Page.labelOf(event).station)) return;
-      const last = pieces[pieces.length - 1];
-      if (last && last.end === place) last.end = place + 1;
-      else pieces.push({ start: place, end: place + 1 });
-    });
-    return pieces.map(({ start, end }) => Page.trainPart(train, start, end));
-  };
+const MOST_STRETCH = 120;
 
-  // The line, with the word that says what is left out.
-  Page.stretchOf = (line, chosen) => {
-    const { stations } = line;
-    if (stations.length <= Page.MOST_STATIONS) return { line, told: '' };
-    const middle = Math.max(0, stations.indexOf(Page.labelOf(chosen).station));
-    const first = Math.min(Math.max(0, middle - MOST_STRETCH / 2), stations.length - MOST_STRETCH);
-    const kept = stations.slice(first, first + MOST_STRETCH), known = new Set(kept);
-    const told = `Elided: of ${stations.length.toLocaleString('en')} stations the ${MOST_STRETCH} about ${stations[middle]} are drawn.`;
-    return { line: { ...line, stations: kept, trains: line.trains.flatMap(train => Page.piecesOf(train, known)) }, told };
-  };
-})();
+// More stations than these are not all drawn, in a diagram or in a netgraph.
+export const MOST_STATIONS = 349;
+
+// The parts of a train that lie in some stations, each as a train.
+export const piecesOf = (train, stations) => {
+  const pieces = [];
+  train.events.forEach((event, place) => {
+    if (!stations.has(labelOf(event).station)) return;
+    const last = pieces[pieces.length - 1];
+    if (last && last.end === place) last.end = place + 1;
+    else pieces.push({ start: place, end: place + 1 });
+  });
+  return pieces.map(({ start, end }) => trainPart(train, start, end));
+};
+
+// The line, with the word that says what is left out.
+export const stretchOf = (line, chosen) => {
+  const { stations } = line;
+  if (stations.length <= MOST_STATIONS) return { line, told: '' };
+  const middle = Math.max(0, stations.indexOf(labelOf(chosen).station));
+  const first = Math.min(Math.max(0, middle - MOST_STRETCH / 2), stations.length - MOST_STRETCH);
+  const kept = stations.slice(first, first + MOST_STRETCH), known = new Set(kept);
+  const told = `Elided: of ${stations.length.toLocaleString('en')} stations the ${MOST_STRETCH} about ${stations[middle]} are drawn.`;
+  return { line: { ...line, stations: kept, trains: line.trains.flatMap(train => piecesOf(train, known)) }, told };
+};

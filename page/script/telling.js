@@ -1,122 +1,128 @@
-'use strict';
-
 // The answer to why, in a planner's words; each mend is done by one click.
-(() => {
-  const { element } = Page;
-  let answer = null;
 
-  const WHOLE = {
-    possible: 'With each of these the whole network has a timetable:',
-    untried: 'These mend the conflict, and the whole network was not tried with them:',
-    undecided: 'These mend the conflict, and whether the whole network has a timetable then is undecided:',
-    infeasible: 'With each of these another conflict is left:',
-  };
+import { askFor } from './asking.js';
+import { element, find, lead } from './elements.js';
+import { showRow } from './events.js';
+import { activityName, eventName, minutesText, spanMinutes, spanText, windowText } from './names.js';
+import { windowLine } from './network.js';
+import { memberKey } from './probing.js';
+import { doStep, markNow, redraw } from './session.js';
+import { shown } from './shown.js';
+import { isTab, showTab } from './tabs.js';
 
-  const NOTHING = 'Where no timetable meets everything, “Why?” finds a least set of spans and windows that cannot be met together, and '
-    + 'the least changes that mend it.';
+let answer = null;
 
-  const showWhy = told => {
-    answer = { ...told, mark: Page.markNow() };
-    Page.draw();
-  };
+const WHOLE = {
+  possible: 'With each of these the whole network has a timetable:',
+  untried: 'These mend the conflict, and the whole network was not tried with them:',
+  undecided: 'These mend the conflict, and whether the whole network has a timetable then is undecided:',
+  infeasible: 'With each of these another conflict is left:',
+};
 
-  // The members of the kinds that are not to be changed; `fixed` are fixed times and windows.
-  const keptMembers = () => {
-    const kinds = new Set(Page.find('kept-kinds').value.split(',').map(kind => kind.trim()).filter(Boolean));
-    const { activities, windows } = Page.view.network;
-    const spans = [...activities.keys()].filter(number => kinds.has(Page.labels.kinds.get(number))).map(number => ({ of: 'activity', number }));
-    const held = kinds.has('fixed') ? [...windows.keys()].map(number => ({ of: 'event', number })) : [];
-    return [...spans, ...held].map(Page.memberKey);
-  };
+const NOTHING = 'Where no timetable meets everything, “Why?” finds a least set of spans and windows that cannot be met together, and '
+  + 'the least changes that mend it.';
 
-  const nameOf = ({ of, number }, network) => of === 'event' ? Page.eventName(number) : Page.activityName(network.activities.get(number));
+const showWhy = told => {
+  answer = { ...told, mark: markNow() };
+  redraw();
+};
 
-  const boundsOf = (of, bounds, period) => of === 'event' ? Page.windowText(bounds, period) : Page.spanMinutes(bounds.lower, bounds.upper);
+// The members of the kinds that are not to be changed; `fixed` are fixed times and windows.
+const keptMembers = () => {
+  const kinds = new Set(find('kept-kinds').value.split(',').map(kind => kind.trim()).filter(Boolean));
+  const { activities, windows } = shown.view.network;
+  const spans = [...activities.keys()].filter(number => kinds.has(shown.labels.kinds.get(number))).map(number => ({ of: 'activity', number }));
+  const held = kinds.has('fixed') ? [...windows.keys()].map(number => ({ of: 'event', number })) : [];
+  return [...spans, ...held].map(memberKey);
+};
 
-  // The members in the order of the circle or way, a window beside the end that it holds.
-  const ordered = ({ members, shape }) => {
-    if (!shape) return members;
-    const find = (of, number) => members.find(member => member.of === of && member.number === number);
-    return [find('event', shape.start), ...shape.steps.map(({ activity }) => find('activity', activity.number)), find('event', shape.end)]
-      .filter((member, place, all) => member && all.indexOf(member) === place);
-  };
+const nameOf = ({ of, number }, network) => of === 'event' ? eventName(number) : activityName(network.activities.get(number));
 
-  const memberRow = (member, { shape }, network) => {
-    const step = shape && shape.steps.find(({ activity }) => member.of === 'activity' && activity.number === member.number);
-    const event = member.of === 'event' ? member.number : network.activities.get(member.number).first;
-    return element('tr', {}, element('td', {}, element('button', { class: 'link', onclick: () => Page.showRow(event) }, nameOf(member, network))),
-      element('td', {}, boundsOf(member.of, member.bounds, network.period) + notesOf(step && !step.isForward, member.isKept)));
-  };
+const boundsOf = (of, bounds, period) => of === 'event' ? windowText(bounds, period) : spanMinutes(bounds.lower, bounds.upper);
 
-  const notesOf = (isBackward, isKept) => {
-    const notes = [isBackward ? 'against its direction' : '', isKept ? 'not to be changed' : ''].filter(Boolean);
-    return notes.length ? ` (${notes.join(', ')})` : '';
-  };
+// The members in the order of the circle or way, a window beside the end that it holds.
+const ordered = ({ members, shape }) => {
+  if (!shape) return members;
+  const memberOf = (of, number) => members.find(member => member.of === of && member.number === number);
+  return [memberOf('event', shape.start), ...shape.steps.map(({ activity }) => memberOf('activity', activity.number)), memberOf('event', shape.end)]
+    .filter((member, place, all) => member && all.indexOf(member) === place);
+};
 
-  const shapeText = ({ shape }) => {
-    if (!shape) return '';
-    const [below, above] = shape.wanted, told = [below, above].filter(each => each[0] >= 0 || each === above);
-    const wanted = told.map(each => Page.spanText(...each)).join(' or ');
-    const taken = Page.spanMinutes(shape.least, shape.most);
-    return shape.isCircle ? `Once round this circle they take ${taken}, and have to take ${wanted}: a whole number of periods.`
-      : `On this way from one held event to the other they take ${taken}, and have to take ${wanted}.`;
-  };
+const memberRow = (member, { shape }, network) => {
+  const step = shape && shape.steps.find(({ activity }) => member.of === 'activity' && activity.number === member.number);
+  const event = member.of === 'event' ? member.number : network.activities.get(member.number).first;
+  return element('tr', {}, element('td', {}, element('button', { class: 'link', onclick: () => showRow(event) }, nameOf(member, network))),
+    element('td', {}, boundsOf(member.of, member.bounds, network.period) + notesOf(step && !step.isForward, member.isKept)));
+};
 
-  const claimText = ({ members, undecided, nodes }, network) => {
-    if (!undecided.length) return members.length > 1 ? 'Without any one of them, the others have a timetable.' : '';
-    const names = undecided.map(member => nameOf(member, network)).join(', ');
-    return `Searches of ${nodes.toLocaleString('en')} cases see no conflict in the others without one of them; undecided is that without ${names}.`;
-  };
+const notesOf = (isBackward, isKept) => {
+  const notes = [isBackward ? 'against its direction' : '', isKept ? 'not to be changed' : ''].filter(Boolean);
+  return notes.length ? ` (${notes.join(', ')})` : '';
+};
 
-  const lineOf = ({ member, after }) => member.of === 'event' ? Page.windowLine(member.number, after.first, after.length)
-    : `span ${member.number} ${after.lower} ${after.upper}`;
+const shapeText = ({ shape }) => {
+  if (!shape) return '';
+  const [below, above] = shape.wanted, told = [below, above].filter(each => each[0] >= 0 || each === above);
+  const wanted = told.map(each => spanText(...each)).join(' or ');
+  const taken = spanMinutes(shape.least, shape.most);
+  return shape.isCircle ? `Once round this circle they take ${taken}, and have to take ${wanted}: a whole number of periods.`
+    : `On this way from one held event to the other they take ${taken}, and have to take ${wanted}.`;
+};
 
-  const changeOf = ({ member, after }, period) => {
-    const [wanted, before] = [after, member.bounds].map(bounds => boundsOf(member.of, bounds, period));
-    return `${wanted} in place of ${before.replace(/ (minutes|h)$/, '')}`;
-  };
+const claimText = ({ members, undecided, nodes }, network) => {
+  if (!undecided.length) return members.length > 1 ? 'Without any one of them, the others have a timetable.' : '';
+  const names = undecided.map(member => nameOf(member, network)).join(', ');
+  return `Searches of ${nodes.toLocaleString('en')} cases see no conflict in the others without one of them; undecided is that without ${names}.`;
+};
 
-  const mendRow = (mend, network) => element('tr', {},
-    element('td', {}, element('button', { class: 'mend', onclick: () => Page.step([lineOf(mend)]) }, `${Page.minutes(mend.minutes)} more`)),
-    element('td', {}, nameOf(mend.member, network)),
-    element('td', {}, changeOf(mend, network.period)));
+const lineOf = ({ member, after }) => member.of === 'event' ? windowLine(member.number, after.first, after.length)
+  : `span ${member.number} ${after.lower} ${after.upper}`;
 
-  const mendsOf = ({ mends }, network) => {
-    if (!mends.length) return [element('p', {}, 'No member that may be changed is seen to mend it alone.')];
-    return [element('h3', {}, 'The least that mends it, by one member alone'), ...Object.keys(WHOLE).flatMap(whole => {
-      const listed = mends.filter(mend => mend.whole === whole);
-      const rows = listed.map(mend => mendRow(mend, network));
-      return rows.length ? [element('p', {}, WHOLE[whole]), element('table', { class: 'rows' }, ...rows)] : [];
-    })];
-  };
+const changeOf = ({ member, after }, period) => {
+  const [wanted, before] = [after, member.bounds].map(bounds => boundsOf(member.of, bounds, period));
+  return `${wanted} in place of ${before.replace(/ (minutes|h)$/, '')}`;
+};
 
-  const conflict = (told, network) => [
-    element('h3', {}, told.members.length > 1 ? `These ${told.members.length} cannot be met together` : 'This cannot be met'),
-    element('table', { class: 'rows' }, ...ordered(told).map(member => memberRow(member, told, network))),
-    ...[shapeText(told), claimText(told, network)].filter(Boolean).map(text => element('p', {}, text)), ...mendsOf(told, network),
-  ];
+const mendRow = (mend, network) => element('tr', {},
+  element('td', {}, element('button', { class: 'mend', onclick: () => doStep([lineOf(mend)]) }, `${minutesText(mend.minutes)} more`)),
+  element('td', {}, nameOf(mend.member, network)),
+  element('td', {}, changeOf(mend, network.period)));
 
-  const told = network => {
-    if (answer.kind === 'possible') return [element('p', {}, 'A timetable meets everything, so there is no conflict.')];
-    if (answer.kind === 'conflict') return conflict(answer, network);
-    const nodes = answer.nodes.toLocaleString('en');
-    return [element('p', {}, `Undecided: a search of ${nodes} cases came to no timetable, and single activities show no conflict.`)];
-  };
+const mendsOf = ({ mends }, network) => {
+  if (!mends.length) return [element('p', {}, 'No member that may be changed is seen to mend it alone.')];
+  return [element('h3', {}, 'The least that mends it, by one member alone'), ...Object.keys(WHOLE).flatMap(whole => {
+    const listed = mends.filter(mend => mend.whole === whole);
+    const rows = listed.map(mend => mendRow(mend, network));
+    return rows.length ? [element('p', {}, WHOLE[whole]), element('table', { class: 'rows' }, ...rows)] : [];
+  })];
+};
 
-  const update = view => {
-    if (answer && answer.mark !== Page.markNow()) answer = null;
-    if (Page.tab !== 'why') return;
-    Page.find('reasons').replaceChildren(...(answer ? told(view.network) : [element('p', { class: 'quiet' }, NOTHING)]));
-  };
+const conflict = (told, network) => [
+  element('h3', {}, told.members.length > 1 ? `These ${told.members.length} cannot be met together` : 'This cannot be met'),
+  element('table', { class: 'rows' }, ...ordered(told).map(member => memberRow(member, told, network))),
+  ...[shapeText(told), claimText(told, network)].filter(Boolean).map(text => element('p', {}, text)), ...mendsOf(told, network),
+];
 
-  Page.panel({ update });
+const told = network => {
+  if (answer.kind === 'possible') return [element('p', {}, 'A timetable meets everything, so there is no conflict.')];
+  if (answer.kind === 'conflict') return conflict(answer, network);
+  const nodes = answer.nodes.toLocaleString('en');
+  return [element('p', {}, `Undecided: a search of ${nodes} cases came to no timetable, and single activities show no conflict.`)];
+};
 
-  const ask = () => {
-    Page.showTab('why');
-    Page.askFor({ kind: 'why', members: keptMembers() }, { tell: ({ why }) => showWhy(why), end: () => Page.lead(document.querySelector('#reasons .mend')) });
-  };
+const update = view => {
+  if (answer && answer.mark !== markNow()) answer = null;
+  if (!isTab('why')) return;
+  find('reasons').replaceChildren(...(answer ? told(view.network) : [element('p', { class: 'quiet' }, NOTHING)]));
+};
 
-  Page.startTelling = () => {
-    for (const name of ['ask-why', 'ask-mends']) Page.find(name).addEventListener('click', ask);
-  };
-})();
+export const tellingPanel = { update };
+
+const ask = () => {
+  showTab('why');
+  askFor({ kind: 'why', members: keptMembers() }, { tell: ({ why }) => showWhy(why), end: () => lead(document.querySelector('#reasons .mend')) });
+};
+
+export const startTelling = () => {
+  for (const name of ['ask-why', 'ask-mends']) find(name).addEventListener('click', ask);
+};

@@ -1,51 +1,54 @@
-'use strict';
-
 // A network from the texts of its files.
-(() => {
-  // Edits and lines about times; a file of lines may have questions too, which make nothing.
-  const MAKES = /^\s*(add|drop|fix|window|unfix|span|weight|ends|time|untime|adopt)\s?/;
-  const MOST_OF_A_LINE = 4096;
-  // So many lines are played at once; more of them, and a search, where they can be stopped.
-  const MOST_AT_ONCE = 1000;
 
-  const periodOf = text => {
-    const rows = Page.rowsIn(text);
-    const isOne = rows.length === 1 && rows[0].fields.length === 1 && /^[0-9]+$/.test(rows[0].fields[0]);
-    if (!isOne) throw new Error('period file: it is no file of one period');
-    return Number(rows[0].fields[0]);
-  };
+import { play } from './asking.js';
+import { noLabels, readLabels, readPlaces } from './labels.js';
+import { EVENTS, numbersIn, RESIDUES, rowsIn } from './records.js';
+import { openBase } from './session.js';
+import { isAdopt, timesOfFile } from './times.js';
 
-  const linesOf = text => {
-    const lines = text.split('\n'), length = line => line.length > MOST_OF_A_LINE / 3 ? new TextEncoder().encode(line).length : 0;
-    const long = lines.findIndex(line => length(line) > MOST_OF_A_LINE);
-    if (long >= 0) throw new Error(`lines file: line ${long + 1} is longer than ${MOST_OF_A_LINE} bytes`);
-    return lines.map(line => line.trim()).filter(line => MAKES.test(line));
-  };
+// Edits and lines about times; a file of lines may have questions too, which make nothing.
+const MAKES = /^\s*(add|drop|fix|window|unfix|span|weight|ends|time|untime|adopt)\s?/;
+const MOST_OF_A_LINE = 4096;
+// So many lines are played at once; more of them, and a search, where they can be stopped.
+const MOST_AT_ONCE = 1000;
 
-  // What a run begins with that has the network of these files.
-  const baseOf = ({ activities = '', fixed = '', times = '', events = '', windows = '' }, period, lines) => {
-    if (activities && !activities.trim()) throw new Error('activities file: there is nothing in it but blanks');
-    const alone = Page.numbersIn('events', events, [Page.EVENTS]).flat();
-    const held = Page.numbersIn('windows', windows, [Page.EVENTS, Page.RESIDUES, Page.RESIDUES]);
-    const setup = [...alone.map(event => `add event ${event}`), ...held.map(row => `window ${row.join(' ')}`), ...lines];
-    // The program leaves out times of events that it does not know yet.
-    const late = alone.length ? Page.timesOfFile({ times, period }, alone) : new Map();
-    return { period, activities, fixed, times, setup: [...setup, ...[...late].map(([event, time]) => `time ${event} ${time}`)] };
-  };
+const periodOf = text => {
+  const rows = rowsIn(text);
+  const isOne = rows.length === 1 && rows[0].fields.length === 1 && /^[0-9]+$/.test(rows[0].fields[0]);
+  if (!isOne) throw new Error('period file: it is no file of one period');
+  return Number(rows[0].fields[0]);
+};
 
-  // Opens the texts of files by their kinds. Raises RunFault, FileFault and Error with the words that are shown. Where many
-  // lines are played, or one that searches, a promise is given for it, of false where that is stopped.
-  Page.openTexts = (texts, title, period = 60) => {
-    const given = texts.period === undefined ? period : periodOf(texts.period);
-    if (!(given >= 2 && given <= 1440)) throw new Error(`period ${given}: it has to be from 2 to 1440`);
-    const lines = linesOf(texts.lines || ''), base = baseOf(texts, given, lines);
-    const labels = texts.labels === undefined ? Page.noLabels() : Page.readLabels(texts.labels);
-    const places = texts.places === undefined ? new Map() : Page.readPlaces(texts.places);
-    const open = made => Page.open(made, { title, labels, places });
-    if (lines.length <= MOST_AT_ONCE && !lines.some(Page.isAdopt)) return open(base);
-    return Page.play(base).then(played => {
-      if (played) open(played);
-      return played !== null;
-    });
-  };
-})();
+const linesOf = text => {
+  const lines = text.split('\n'), length = line => line.length > MOST_OF_A_LINE / 3 ? new TextEncoder().encode(line).length : 0;
+  const long = lines.findIndex(line => length(line) > MOST_OF_A_LINE);
+  if (long >= 0) throw new Error(`lines file: line ${long + 1} is longer than ${MOST_OF_A_LINE} bytes`);
+  return lines.map(line => line.trim()).filter(line => MAKES.test(line));
+};
+
+// What a run begins with that has the network of these files.
+const baseOf = ({ activities = '', fixed = '', times = '', events = '', windows = '' }, period, lines) => {
+  if (activities && !activities.trim()) throw new Error('activities file: there is nothing in it but blanks');
+  const alone = numbersIn('events', events, [EVENTS]).flat();
+  const held = numbersIn('windows', windows, [EVENTS, RESIDUES, RESIDUES]);
+  const setup = [...alone.map(event => `add event ${event}`), ...held.map(row => `window ${row.join(' ')}`), ...lines];
+  // The program leaves out times of events that it does not know yet.
+  const late = alone.length ? timesOfFile({ times, period }, alone) : new Map();
+  return { period, activities, fixed, times, setup: [...setup, ...[...late].map(([event, time]) => `time ${event} ${time}`)] };
+};
+
+// Opens the texts of files by their kinds. Raises RunFault, FileFault and Error with the words that are shown. Where many
+// lines are played, or one that searches, a promise is given for it, of false where that is stopped.
+export const openTexts = (texts, title, period = 60) => {
+  const given = texts.period === undefined ? period : periodOf(texts.period);
+  if (!(given >= 2 && given <= 1440)) throw new Error(`period ${given}: it has to be from 2 to 1440`);
+  const lines = linesOf(texts.lines || ''), base = baseOf(texts, given, lines);
+  const labels = texts.labels === undefined ? noLabels() : readLabels(texts.labels);
+  const places = texts.places === undefined ? new Map() : readPlaces(texts.places);
+  const open = made => openBase(made, { title, labels, places });
+  if (lines.length <= MOST_AT_ONCE && !lines.some(isAdopt)) return open(base);
+  return play(base).then(played => {
+    if (played) open(played);
+    return played !== null;
+  });
+};

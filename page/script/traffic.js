@@ -1,94 +1,103 @@
-'use strict';
-
 // The diagram of the corridor: all trains of all lines on its stations, each in its line's color, after which its headway is a band.
-(() => {
-  const { drawing } = Page;
-  const NOTE = 'A band after a train: the minutes that its headways keep free. Red: violated, with the minutes had and wanted.', REACH = 12;
 
-  // The corridor as a line, whose trains are the parts of all trains that lie on it.
-  Page.trafficOf = ({ lines }, stations) => {
-    const known = new Set(stations);
-    const trains = lines.flatMap(line => line.trains.flatMap(train => Page.piecesOf(train, known).map(piece => ({ ...piece, color: line.color }))));
-    return { name: 'the corridor', stations, trains };
-  };
+import { bandsOf, keptFree } from './bands.js';
+import { corridor } from './corridor.js';
+import { drawing, find, renew, setText } from './elements.js';
+import { frameOf, heightOf, pathsOf, sheetOf } from './frames.js';
+import { conflictMarks, reachesOf, ringAt } from './marking.js';
+import { shiftText } from './moving.js';
+import { clock, labelOf, shortText, trainName } from './names.js';
+import { shown } from './shown.js';
+import { piecesOf, stretchOf } from './stretch.js';
+import { isTab } from './tabs.js';
+import { minutesOf, trainPart } from './trains.js';
+import { AS_LONG } from './ways.js';
 
-  // A run goes along the corridor to a neighbour, or past stations if about as many minutes lie between them.
-  const isAlong = (frame, line, events, { lower }) => {
-    const [one, other] = events.map(event => line.stations.indexOf(Page.labelOf(event).station));
-    return Math.abs(one - other) < 2 || Math.abs(frame.reached[one] - frame.reached[other]) <= Page.AS_LONG * lower;
-  };
+const NOTE = 'A band after a train: the minutes that its headways keep free. Red: violated, with the minutes had and wanted.', REACH = 12;
 
-  // A train without the runs that leave the corridor, as one or more trains.
-  const partsAlong = (view, frame, line, train) => {
-    const leaves = (step, place) => !isAlong(frame, line, train.events.slice(place, place + 2), view.network.activities.get(step));
-    const starts = [0, ...train.steps.flatMap((step, place) => leaves(step, place) ? [place + 1] : [])];
-    for (const start of starts.slice(1)) frame.away.add(train.steps[start - 1]);
-    return starts.map((start, place) => Page.trainPart(train, start, starts[place + 1] || train.events.length));
-  };
+// The corridor as a line, whose trains are the parts of all trains that lie on it.
+const trafficOf = ({ lines }, stations) => {
+  const known = new Set(stations);
+  const trains = lines.flatMap(line => line.trains.flatMap(train => piecesOf(train, known).map(piece => ({ ...piece, color: line.color }))));
+  return { name: 'the corridor', stations, trains };
+};
 
-  // The events of a train with their minutes and heights; null where a time is missing.
-  const stopsOf = (view, frame, train) => {
-    const minutes = Page.minutesOf(view, train);
-    return minutes && train.events.map((event, place) => ({ event, minute: minutes[place], y: Page.heightOf(frame, event) }));
-  };
+// A run goes along the corridor to a neighbour, or past stations if about as many minutes lie between them.
+const isAlong = (frame, line, events, { lower }) => {
+  const [one, other] = events.map(event => line.stations.indexOf(labelOf(event).station));
+  return Math.abs(one - other) < 2 || Math.abs(frame.reached[one] - frame.reached[other]) <= AS_LONG * lower;
+};
 
-  const mod = (minute, period) => ((minute % period) + period) % period;
+// A train without the runs that leave the corridor, as one or more trains.
+const partsAlong = (view, frame, line, train) => {
+  const leaves = (step, place) => !isAlong(frame, line, train.events.slice(place, place + 2), view.network.activities.get(step));
+  const starts = [0, ...train.steps.flatMap((step, place) => leaves(step, place) ? [place + 1] : [])];
+  for (const start of starts.slice(1)) frame.away.add(train.steps[start - 1]);
+  return starts.map((start, place) => trainPart(train, start, starts[place + 1] || train.events.length));
+};
 
-  // A train: its way, wider ones that take hold of it, and its name on its longest run.
-  const drawTrain = (frame, { train, stops }, count) => {
-    const d = Page.pathsOf(frame, stops.map(({ minute, y }) => [minute, y])).join(''), minutes = stops.map(({ minute }) => minute);
-    const title = drawing('title', {}, `${Page.trainName(train)}: ${train.stations[0]} ${Page.clock(mod(stops[0].minute, frame.period))}`);
-    const look = { class: train.events.includes(Page.chosen) ? 'train chosen' : 'train' }, way = drawing('path', { class: 'way', d, stroke: train.color });
-    return drawing('g', look, title, way, ...Page.reachesOf(frame, train, minutes, REACH), ...nameOf(frame, train, stops, PARTS[count % PARTS.length]));
-  };
+// The events of a train with their minutes and heights; null where a time is missing.
+const stopsOf = (view, frame, train) => {
+  const minutes = minutesOf(view, train);
+  return minutes && train.events.map((event, place) => ({ event, minute: minutes[place], y: heightOf(frame, event) }));
+};
 
-  // Trains one after another have their names on other parts of their runs, since they may be on the same way.
-  const PARTS = [0.5, 0.3, 0.7];
+const mod = (minute, period) => ((minute % period) + period) % period;
 
-  const nameOf = (frame, train, stops, part) => {
-    const runs = stops.slice(1).map((end, place) => [stops[place], end]).filter(([start, end]) => start.y !== end.y);
-    if (!runs.length) return [];
-    const high = ([start, end]) => Math.abs(end.y - start.y), [start, end] = runs.reduce((best, run) => high(run) > high(best) ? run : best);
-    const minute = mod(start.minute + part * (end.minute - start.minute), frame.period), isLate = minute > 0.9 * frame.period;
-    const place = { x: frame.x(minute) + (isLate ? -5 : 5), y: start.y + part * (end.y - start.y) + (end.y > start.y === isLate ? 9 : -2) };
-    const look = { class: 'end', style: `fill: ${train.color}`, 'text-anchor': isLate ? 'end' : 'start' };
-    return [drawing('text', { ...look, ...place }, Page.shortText(train.line, 10))];
-  };
+// A train: its way, wider ones that take hold of it, and its name on its longest run.
+const drawTrain = (frame, { train, stops }, count) => {
+  const d = pathsOf(frame, stops.map(({ minute, y }) => [minute, y])).join(''), minutes = stops.map(({ minute }) => minute);
+  const title = drawing('title', {}, `${trainName(train)}: ${train.stations[0]} ${clock(mod(stops[0].minute, frame.period))}`);
+  const look = { class: train.events.includes(shown.chosen) ? 'train chosen' : 'train' }, way = drawing('path', { class: 'way', d, stroke: train.color });
+  return drawing('g', look, title, way, ...reachesOf(frame, train, minutes, REACH), ...nameOf(frame, train, stops, PARTS[count % PARTS.length]));
+};
 
-  const chosenMark = (view, frame, stops) => {
-    const stop = stops.find(({ event }) => event === Page.chosen);
-    return stop ? Page.chosenMark(frame, stop.event, mod(stop.minute, frame.period), Page.shiftText(view, stop.event)) : [];
-  };
+// Trains one after another have their names on other parts of their runs, since they may be on the same way.
+const PARTS = [0.5, 0.3, 0.7];
 
-  // The diagram, and what it says of what is left out.
-  const diagramOf = (view, line) => {
-    const frame = Page.frameOf(line, view.network), name = `Distance-time diagram of the corridor ${line.stations.join(', ')}`;
-    const { page, clip } = Page.sheetOf(frame, name), free = Page.keptFree(view.network);
-    const parts = line.trains.flatMap(train => partsAlong(view, frame, line, train));
-    const trains = parts.map(train => ({ train, stops: stopsOf(view, frame, train) })).filter(({ stops }) => stops);
-    clip.append(...trains.flatMap(({ train, stops }) => Page.bandsOf(frame, train, stops, free)));
-    const drawn = trains.map((each, count) => drawTrain(frame, each, count)), names = drawn.flatMap(each => [...each.querySelectorAll('text.end')]);
-    const { ways, labels, told } = Page.conflictMarks(view, frame, 'in the corridor', names);
-    clip.append(...ways, ...drawn, ...trains.flatMap(({ stops }) => chosenMark(view, frame, stops)));
-    page.append(...labels);
-    return { drawn: page, left: told };
-  };
+const nameOf = (frame, train, stops, part) => {
+  const runs = stops.slice(1).map((end, place) => [stops[place], end]).filter(([start, end]) => start.y !== end.y);
+  if (!runs.length) return [];
+  const high = ([start, end]) => Math.abs(end.y - start.y), [start, end] = runs.reduce((best, run) => high(run) > high(best) ? run : best);
+  const minute = mod(start.minute + part * (end.minute - start.minute), frame.period), isLate = minute > 0.9 * frame.period;
+  const place = { x: frame.x(minute) + (isLate ? -5 : 5), y: start.y + part * (end.y - start.y) + (end.y > start.y === isLate ? 9 : -2) };
+  const look = { class: 'end', style: `fill: ${train.color}`, 'text-anchor': isLate ? 'end' : 'start' };
+  return [drawing('text', { ...look, ...place }, shortText(train.line, 10))];
+};
 
-  const toldOf = (view, ...told) => {
-    const { gaps } = Page.corridor, none = gaps.map(([one, other]) => `No way leads on from ${one} to ${other}.`);
-    return [...told, ...none, NOTE, view.tensions ? '' : `No train is drawn, since ${view.missing}.`].filter(Boolean).join(' ');
-  };
+const chosenMark = (view, frame, stops) => {
+  const stop = stops.find(({ event }) => event === shown.chosen);
+  return stop ? ringAt(frame, stop.event, mod(stop.minute, frame.period), shiftText(view, stop.event)) : [];
+};
 
-  const update = view => {
-    if (Page.tab !== 'corridor') return;
-    const { stations } = Page.corridor, holder = Page.find('corridor'), isDrawn = stations.length > 1;
-    const { line, told } = isDrawn ? Page.stretchOf(Page.trafficOf(view, stations), Page.chosen) : { line: null, told: '' };
-    const wanted = view.lines.length ? 'Two stations or more make a corridor: type them here, or click them on the netgraph.'
-      : 'A file of labels names the lines and stations; with it a corridor is drawn here.';
-    const { drawn, left } = isDrawn ? diagramOf(view, line) : { drawn: '', left: '' };
-    Page.setText(Page.find('corridor-note'), isDrawn ? toldOf(view, told, left) : wanted);
-    Page.renew(holder, drawn ? [drawn] : []);
-  };
+// The diagram, and what it says of what is left out.
+const diagramOf = (view, line) => {
+  const frame = frameOf(line, view.network), name = `Distance-time diagram of the corridor ${line.stations.join(', ')}`;
+  const { page, clip } = sheetOf(frame, name), free = keptFree(view.network);
+  const parts = line.trains.flatMap(train => partsAlong(view, frame, line, train));
+  const trains = parts.map(train => ({ train, stops: stopsOf(view, frame, train) })).filter(({ stops }) => stops);
+  clip.append(...trains.flatMap(({ train, stops }) => bandsOf(frame, train, stops, free)));
+  const drawn = trains.map((each, count) => drawTrain(frame, each, count)), names = drawn.flatMap(each => [...each.querySelectorAll('text.end')]);
+  const { ways, labels, told } = conflictMarks(view, frame, 'in the corridor', names);
+  clip.append(...ways, ...drawn, ...trains.flatMap(({ stops }) => chosenMark(view, frame, stops)));
+  page.append(...labels);
+  return { drawn: page, left: told };
+};
 
-  Page.panel({ update });
-})();
+const toldOf = (view, ...told) => {
+  const { gaps } = corridor, none = gaps.map(([one, other]) => `No way leads on from ${one} to ${other}.`);
+  return [...told, ...none, NOTE, view.tensions ? '' : `No train is drawn, since ${view.missing}.`].filter(Boolean).join(' ');
+};
+
+const update = view => {
+  if (!isTab('corridor')) return;
+  const { stations } = corridor, holder = find('corridor'), isDrawn = stations.length > 1;
+  const { line, told } = isDrawn ? stretchOf(trafficOf(view, stations), shown.chosen) : { line: null, told: '' };
+  const wanted = view.lines.length ? 'Two stations or more make a corridor: type them here, or click them on the netgraph.'
+    : 'A file of labels names the lines and stations; with it a corridor is drawn here.';
+  const { drawn, left } = isDrawn ? diagramOf(view, line) : { drawn: '', left: '' };
+  setText(find('corridor-note'), isDrawn ? toldOf(view, told, left) : wanted);
+  renew(holder, drawn ? [drawn] : []);
+};
+
+export const trafficPanel = { update };

@@ -1,116 +1,117 @@
-'use strict';
-
 // Trains and lines, found from labels: a train is a chain of runs and dwells of one line with one destination.
-(() => {
-  // The style has so many colors of lines, other ones where it is dark.
-  const COLORS = 10;
 
-  Page.colorOf = place => `var(--line-${place % COLORS})`;
+import { labelOf } from './names.js';
+import { shown } from './shown.js';
+import { minutesHad } from './viewing.js';
 
-  const isStep = ({ number, first, last }) => {
-    const kind = Page.labels.kinds.get(number) || '', [from, to] = [Page.labelOf(first), Page.labelOf(last)];
-    if (!from.line || from.line !== to.line || from.to !== to.to) return false;
-    if (from.kind === 'departure' && to.kind === 'arrival') return from.station !== to.station && (kind === '' || kind === 'run');
-    return from.kind === 'arrival' && to.kind === 'departure' && from.station === to.station && (kind === '' || kind === 'dwell');
-  };
+// The style has so many colors of lines, other ones where it is dark.
+const COLORS = 10;
 
-  // The trains of a network, in the order of their first events.
-  Page.trainsOf = network => {
-    const following = new Map(), arrived = new Set();
-    for (const each of network.activities.values()) {
-      if (isStep(each) && !following.has(each.first) && !arrived.has(each.last)) {
-        following.set(each.first, each);
-        arrived.add(each.last);
-      }
+const colorOf = place => `var(--line-${place % COLORS})`;
+
+const isStep = ({ number, first, last }) => {
+  const kind = shown.labels.kinds.get(number) || '', [from, to] = [labelOf(first), labelOf(last)];
+  if (!from.line || from.line !== to.line || from.to !== to.to) return false;
+  if (from.kind === 'departure' && to.kind === 'arrival') return from.station !== to.station && (kind === '' || kind === 'run');
+  return from.kind === 'arrival' && to.kind === 'departure' && from.station === to.station && (kind === '' || kind === 'dwell');
+};
+
+// The trains of a network, in the order of their first events.
+export const trainsOf = network => {
+  const following = new Map(), arrived = new Set();
+  for (const each of network.activities.values()) {
+    if (isStep(each) && !following.has(each.first) && !arrived.has(each.last)) {
+      following.set(each.first, each);
+      arrived.add(each.last);
     }
-    const labelled = network.events.filter(event => Page.labelOf(event).line && Page.labelOf(event).station);
-    const begun = new Set(), trains = [];
-    // A ring has no first event; it is begun at its least one, once all trains with a first event are known.
-    for (const event of [...labelled.filter(each => !arrived.has(each)), ...labelled]) {
-      if (begun.has(event)) continue;
-      const train = trainFrom(event, following);
-      train.events.forEach(each => begun.add(each));
-      trains.push(train);
+  }
+  const labelled = network.events.filter(event => labelOf(event).line && labelOf(event).station);
+  const begun = new Set(), trains = [];
+  // A ring has no first event; it is begun at its least one, once all trains with a first event are known.
+  for (const event of [...labelled.filter(each => !arrived.has(each)), ...labelled]) {
+    if (begun.has(event)) continue;
+    const train = trainFrom(event, following);
+    train.events.forEach(each => begun.add(each));
+    trains.push(train);
+  }
+  return trains.sort((one, other) => one.events[0] - other.events[0]);
+};
+
+const places = new WeakMap();
+
+// The train of an event with the event's place in it.
+export const trainAt = event => {
+  const { trains } = shown.view;
+  if (!places.has(trains)) places.set(trains, new Map(trains.flatMap(train => train.events.map((each, place) => [each, { train, place }]))));
+  return places.get(trains).get(event);
+};
+
+const trainFrom = (event, following) => {
+  const { line, to } = labelOf(event), train = { line, to, events: [event], steps: [] };
+  for (let step = following.get(event); step && step.last !== event; step = following.get(step.last)) {
+    train.events.push(step.last);
+    train.steps.push(step.number);
+  }
+  return withStops(train);
+};
+
+const withStops = train => {
+  const stops = stopsOf(train);
+  return { ...train, stops, stations: stops.map(stop => stop.station) };
+};
+
+// The part of a train from one of its events to before another.
+export const trainPart = (train, start, end) =>
+  withStops({ ...train, events: train.events.slice(start, end), steps: train.steps.slice(start, end - 1) });
+
+// The stations of a train with its arrivals and departures.
+const stopsOf = train => {
+  const stops = [];
+  for (const event of train.events) {
+    const { station, kind } = labelOf(event), before = stops[stops.length - 1];
+    if (kind !== 'departure') stops.push({ station, arrival: event, departure: null });
+    else if (before && before.departure === null && before.station === station) before.departure = event;
+    else stops.push({ station, arrival: null, departure: event });
+  }
+  return stops;
+};
+
+// The lines in the order of their names, in which a number counts as a number; each with its stations in their order.
+export const linesOf = trains => {
+  const lines = new Map();
+  for (const train of trains) {
+    if (!lines.has(train.line)) lines.set(train.line, { name: train.line, trains: [] });
+    lines.get(train.line).trains.push(train);
+  }
+  const sorted = [...lines.values()].sort((one, other) => one.name.localeCompare(other.name, 'en', { numeric: true }));
+  sorted.forEach((line, place) => Object.assign(line, { place, color: colorOf(place), stations: stationsOf(line.trains) }));
+  return sorted;
+};
+
+// The stations of the longest train, with those of the others put in where they follow one that is known.
+const stationsOf = trains => {
+  const longest = trains.reduce((best, train) => train.stations.length > best.stations.length ? train : best);
+  const order = [...new Set(longest.stations)];
+  for (const train of trains) {
+    const stations = [...new Set(train.stations)];
+    const known = stations.filter(station => order.includes(station)).map(station => order.indexOf(station));
+    if (known.length && known[0] > known[known.length - 1]) stations.reverse();
+    let place = 0;
+    for (const station of stations) {
+      if (order.includes(station)) place = order.indexOf(station) + 1;
+      else order.splice(place++, 0, station);
     }
-    return trains.sort((one, other) => one.events[0] - other.events[0]);
-  };
+  }
+  return order;
+};
 
-  const places = new WeakMap();
+export const isForward = (line, train) =>
+  line.stations.indexOf(train.stations[0]) <= line.stations.indexOf(train.stations[train.stations.length - 1]);
 
-  // The train of an event with the event's place in it.
-  Page.trainAt = event => {
-    const { trains } = Page.view;
-    if (!places.has(trains)) places.set(trains, new Map(trains.flatMap(train => train.events.map((each, place) => [each, { train, place }]))));
-    return places.get(trains).get(event);
-  };
-
-  const trainFrom = (event, following) => {
-    const { line, to } = Page.labelOf(event), train = { line, to, events: [event], steps: [] };
-    for (let step = following.get(event); step && step.last !== event; step = following.get(step.last)) {
-      train.events.push(step.last);
-      train.steps.push(step.number);
-    }
-    return withStops(train);
-  };
-
-  const withStops = train => {
-    const stops = stopsOf(train);
-    return { ...train, stops, stations: stops.map(stop => stop.station) };
-  };
-
-  // The part of a train from one of its events to before another.
-  Page.trainPart = (train, start, end) =>
-    withStops({ ...train, events: train.events.slice(start, end), steps: train.steps.slice(start, end - 1) });
-
-  // The stations of a train with its arrivals and departures.
-  const stopsOf = train => {
-    const stops = [];
-    for (const event of train.events) {
-      const { station, kind } = Page.labelOf(event), before = stops[stops.length - 1];
-      if (kind !== 'departure') stops.push({ station, arrival: event, departure: null });
-      else if (before && before.departure === null && before.station === station) before.departure = event;
-      else stops.push({ station, arrival: null, departure: event });
-    }
-    return stops;
-  };
-
-  // The lines in the order of their names, in which a number counts as a number; each with its stations in their order.
-  Page.linesOf = trains => {
-    const lines = new Map();
-    for (const train of trains) {
-      if (!lines.has(train.line)) lines.set(train.line, { name: train.line, trains: [] });
-      lines.get(train.line).trains.push(train);
-    }
-    const sorted = [...lines.values()].sort((one, other) => one.name.localeCompare(other.name, 'en', { numeric: true }));
-    sorted.forEach((line, place) => Object.assign(line, { place, color: Page.colorOf(place), stations: stationsOf(line.trains) }));
-    return sorted;
-  };
-
-  // The stations of the longest train, with those of the others put in where they follow one that is known.
-  const stationsOf = trains => {
-    const longest = trains.reduce((best, train) => train.stations.length > best.stations.length ? train : best);
-    const order = [...new Set(longest.stations)];
-    for (const train of trains) {
-      const stations = [...new Set(train.stations)];
-      const known = stations.filter(station => order.includes(station)).map(station => order.indexOf(station));
-      if (known.length && known[0] > known[known.length - 1]) stations.reverse();
-      let place = 0;
-      for (const station of stations) {
-        if (order.includes(station)) place = order.indexOf(station) + 1;
-        else order.splice(place++, 0, station);
-      }
-    }
-    return order;
-  };
-
-  Page.isForward = (line, train) =>
-    line.stations.indexOf(train.stations[0]) <= line.stations.indexOf(train.stations[train.stations.length - 1]);
-
-  // The minute of each event of a train, counted on from the first beyond the period; null where a time is missing.
-  Page.minutesOf = (view, train) => {
-    if (!view.tensions || !view.times.has(train.events[0])) return null;
-    const minutes = [view.times.get(train.events[0])];
-    for (const step of train.steps) minutes.push(minutes[minutes.length - 1] + Page.minutesHad(view, step));
-    return minutes;
-  };
-})();
+// The minute of each event of a train, counted on from the first beyond the period; null where a time is missing.
+export const minutesOf = (view, train) => {
+  if (!view.tensions || !view.times.has(train.events[0])) return null;
+  const minutes = [view.times.get(train.events[0])];
+  for (const step of train.steps) minutes.push(minutes[minutes.length - 1] + minutesHad(view, step));
+  return minutes;
+};

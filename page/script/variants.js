@@ -1,182 +1,190 @@
-'use strict';
-
 // Two ways side by side: what is shown is kept as A or as B, and both are told beside each other. Where just one is kept, the other
 // is what is shown. They stay as long as the page, whatever else is opened.
-(() => {
-  const { element, find } = Page;
-  const NAMES = ['A', 'B'], MOST_TOLD = 300;
-  const kept = new Map();
-  let drawn = [], line = null;
 
-  const keep = (name, isByKey = false) => {
-    if (!Page.view) return;
-    kept.set(name, { view: Page.view, title: Page.session.opened.title });
-    Page.say(kept.size < 2 ? `Kept as ${name}. Change something, and keep that as ${NAMES.find(each => each !== name)}.` : `Kept as ${name}.`);
-    if (kept.size < 2) return Page.draw();
-    Page.showTab('compare');
-    if (isByKey) find('tab-compare').focus();
-  };
+import { besideConnections, besideDiagram, besideTable } from './beside.js';
+import { linesBetween } from './between.js';
+import { diagramOf } from './diagram.js';
+import { costsBeside, differences } from './differing.js';
+import { element, elided, find, rowOf, say, tableOf } from './elements.js';
+import { showRow } from './events.js';
+import { isField } from './fields.js';
+import { minutesText } from './names.js';
+import { doStep, redraw, session, timesNow } from './session.js';
+import { shown, within } from './shown.js';
+import { isTab, showTab } from './tabs.js';
+import { countViolated } from './viewing.js';
 
-  // The two that are told; one that is not kept is what is shown, and the second then.
-  const sides = () => {
-    const found = NAMES.filter(name => kept.has(name)).map(name => ({ name, ...kept.get(name) }));
-    return found.length === 1 ? [...found, { name: 'now', view: Page.view, title: Page.session.opened.title }] : found;
-  };
+const NAMES = ['A', 'B'], MOST_TOLD = 300;
+const kept = new Map();
+let drawn = [], line = null;
 
-  const swap = () => {
-    const [one, other] = NAMES.map(name => kept.get(name));
-    kept.clear();
-    kept.set('A', other).set('B', one);
-    Page.say('A and B are exchanged.');
-    Page.draw();
-  };
+const keep = (name, isByKey = false) => {
+  if (!shown.view) return;
+  kept.set(name, { view: shown.view, title: session.opened.title });
+  say(kept.size < 2 ? `Kept as ${name}. Change something, and keep that as ${NAMES.find(each => each !== name)}.` : `Kept as ${name}.`);
+  if (kept.size < 2) return redraw();
+  showTab('compare');
+  if (isByKey) find('tab-compare').focus();
+};
 
-  const forget = name => {
-    kept.delete(name);
-    Page.say(`${name} is forgotten.`);
-    Page.draw();
-  };
+// The two that are told; one that is not kept is what is shown, and the second then.
+const sides = () => {
+  const found = NAMES.filter(name => kept.has(name)).map(name => ({ name, ...kept.get(name) }));
+  return found.length === 1 ? [...found, { name: 'now', view: shown.view, title: session.opened.title }] : found;
+};
 
-  // Takes one over as one step, which undo takes back.
-  const take = name => {
-    const { view } = kept.get(name), [wanted, shown] = [view, Page.view].map(({ network }) => Page.minutes(network.period));
-    if (!isOfPeriod(view)) return Page.say(`${name} repeats after ${wanted}, and what is open after ${shown}: open its files.`, true);
-    return Page.step(linesTo(view), { title: `${name} is taken over`, labels: view.labels });
-  };
+const swap = () => {
+  const [one, other] = NAMES.map(name => kept.get(name));
+  kept.clear();
+  kept.set('A', other).set('B', one);
+  say('A and B are exchanged.');
+  redraw();
+};
 
-  const button = (text, onclick, more = {}) => element('button', { type: 'button', onclick, ...more }, text);
+const forget = name => {
+  kept.delete(name);
+  say(`${name} is forgotten.`);
+  redraw();
+};
 
-  // The lines by which what is shown becomes another view of the same period.
-  const linesTo = view => Page.linesBetween({ network: Page.view.network, times: Page.timesNow() }, view);
+// Takes one over as one step, which undo takes back.
+const take = name => {
+  const { view } = kept.get(name), [wanted, now] = [view, shown.view].map(({ network }) => minutesText(network.period));
+  if (!isOfPeriod(view)) return say(`${name} repeats after ${wanted}, and what is open after ${now}: open its files.`, true);
+  return doStep(linesTo(view), { title: `${name} is taken over`, labels: view.labels });
+};
 
-  const isOfPeriod = view => view.network.period === Page.view.network.period;
+const button = (text, onclick, more = {}) => element('button', { type: 'button', onclick, ...more }, text);
 
-  const isShown = view => view === Page.view || (isOfPeriod(view) && view.labels === Page.labels && !linesTo(view).length);
+// The lines by which what is shown becomes another view of the same period.
+const linesTo = view => linesBetween({ network: shown.view.network, times: timesNow() }, view);
 
-  // Titles tell two networks apart.
-  const headOf = ({ name, title }, isTitled) => element('th', { scope: 'col' }, element('b', {}, name === 'now' ? 'what is shown' : name), ' ',
-    isTitled && element('small', {}, title));
+const isOfPeriod = view => view.network.period === shown.view.network.period;
 
-  const numbered = count => count === null ? '–' : `${count.toLocaleString('en')}`;
+const isShown = view => view === shown.view || (isOfPeriod(view) && view.labels === shown.labels && !linesTo(view).length);
 
-  const signed = more => more > 0 ? `+${more.toLocaleString('en')}` : more < 0 ? `−${(-more).toLocaleString('en')}` : '0';
-  Page.signedMinutes = more => more > 0 ? `+${Page.lengthText(more)}` : more < 0 ? `−${Page.lengthText(-more)}` : '0';
+// Titles tell two networks apart.
+const headOf = ({ name, title }, isTitled) => element('th', { scope: 'col' }, element('b', {}, name === 'now' ? 'what is shown' : name), ' ',
+  isTitled && element('small', {}, title));
 
-  const row = (name, one, other, more, look = null) => Page.rowOf(name, [one, other, more], { class: look });
+const numbered = count => count === null ? '–' : `${count.toLocaleString('en')}`;
 
-  const violatedRow = both => {
-    const counts = both.map(({ view }) => Page.countViolated(view)), [before, after] = counts, cell = count => element('td', { class: count > 0 ? 'alarm' : null }, numbered(count));
-    const more = counts.includes(null) ? '' : signed(after - before);
-    return Page.rowOf('violated', [...counts.map(cell), more]);
-  };
+const signed = more => more > 0 ? `+${more.toLocaleString('en')}` : more < 0 ? `−${(-more).toLocaleString('en')}` : '0';
 
-  // Cost in all and by kind, and what is violated.
-  const figures = (both, costs) => {
-    const rows = (costs || []).map(([kind, one, other]) =>
-      row(kind === 'in all' ? 'cost in all' : `cost of ${kind}`, one.toLocaleString('en'), other.toLocaleString('en'), signed(other - one), kind === 'in all' ? 'sum' : null));
-    const unknown = costs ? [] : [row('cost in all', ...both.map(({ view }) => numbered(view.cost)), '', 'sum')];
-    const sum = rows.pop(), isTitled = both[0].title !== both[1].title, heads = both.map(side => headOf(side, isTitled));
-    return Page.tableOf('times beside', ['', ...heads, 'change'], [violatedRow(both), sum, ...unknown, ...rows].filter(Boolean));
-  };
+const row = (name, one, other, more, look = null) => rowOf(name, [one, other, more], { class: look });
 
-  // What is told of an event leads to it, where it is in the network that is shown.
-  const item = ({ event, text }) => element('li', {}, Page.view.domains.has(event)
-    ? element('button', { class: 'link', type: 'button', onclick: () => Page.showRow(event) }, text) : text);
+const violatedRow = both => {
+  const counts = both.map(({ view }) => countViolated(view)), [before, after] = counts, cell = count => element('td', { class: count > 0 ? 'alarm' : null }, numbered(count));
+  const more = counts.includes(null) ? '' : signed(after - before);
+  return rowOf('violated', [...counts.map(cell), more]);
+};
 
-  const listOf = (title, changes) => [element('h4', {}, title), changes.length
-    ? element('ul', {}, ...changes.slice(0, MOST_TOLD).map(item)) : element('p', { class: 'quiet' }, 'no change'),
-  Page.elided(changes.length, MOST_TOLD, 'changes')].filter(Boolean);
+// Cost in all and by kind, and what is violated.
+const figures = (both, costs) => {
+  const rows = (costs || []).map(([kind, one, other]) =>
+    row(kind === 'in all' ? 'cost in all' : `cost of ${kind}`, one.toLocaleString('en'), other.toLocaleString('en'), signed(other - one), kind === 'in all' ? 'sum' : null));
+  const unknown = costs ? [] : [row('cost in all', ...both.map(({ view }) => numbered(view.cost)), '', 'sum')];
+  const sum = rows.pop(), isTitled = both[0].title !== both[1].title, heads = both.map(side => headOf(side, isTitled));
+  return tableOf('times beside', ['', ...heads, 'change'], [violatedRow(both), sum, ...unknown, ...rows].filter(Boolean));
+};
 
-  const nameOfLine = both => {
-    const names = [...new Set(both.flatMap(({ view }) => view.lines.map(each => each.name)))];
-    return { names, name: names.find(each => each === line) || names.find(each => each === Page.chosenLine) || names[0] };
-  };
+// What is told of an event leads to it, where it is in the network that is shown.
+const item = ({ event, text }) => element('li', {}, shown.view.domains.has(event)
+  ? element('button', { class: 'link', type: 'button', onclick: () => showRow(event) }, text) : text);
 
-  const lineChoice = ({ names, name }) => {
-    const select = element('select', { id: 'compared-line', onchange: () => {
-      line = select.value;
-      drawn = [];
-      Page.draw();
-      find('compared-line').focus();
-    } }, ...names.map(each => element('option', { value: each, selected: each === name }, each)));
-    return element('label', {}, 'Line ', select);
-  };
+const listOf = (title, changes) => [element('h4', {}, title), changes.length
+  ? element('ul', {}, ...changes.slice(0, MOST_TOLD).map(item)) : element('p', { class: 'quiet' }, 'no change'),
+elided(changes.length, MOST_TOLD, 'changes')].filter(Boolean);
 
-  const samePeriod = ([one, other]) => one.view.network.period === other.view.network.period;
+const nameOfLine = both => {
+  const names = [...new Set(both.flatMap(({ view }) => view.lines.map(each => each.name)))];
+  return { names, name: names.find(each => each === line) || names.find(each => each === shown.chosenLine) || names[0] };
+};
 
-  // The line in one drawing, or where its minutes are not of the same period in two.
-  const diagramsOf = (both, name) => {
-    if (samePeriod(both)) return [Page.besideDiagram(both, name), element('p', { class: 'quiet' }, `Dashed: ${both[0].name}. Whole: ${both[1].name}.`)];
-    return both.flatMap(({ view, name: side }) => Page.within(view, () => {
-      const found = view.lines.find(each => each.name === name);
-      return found && found.stations.length > 1 ? [element('h4', {}, side), Page.diagramOf(view, found).drawn] : [];
-    }));
-  };
+const lineChoice = ({ names, name }) => {
+  const select = element('select', { id: 'compared-line', onchange: () => {
+    line = select.value;
+    drawn = [];
+    redraw();
+    find('compared-line').focus();
+  } }, ...names.map(each => element('option', { value: each, selected: each === name }, each)));
+  return element('label', {}, 'Line ', select);
+};
 
-  const linePart = both => {
-    const choice = nameOfLine(both);
-    if (!choice.names.length) return [];
-    return [element('h3', {}, 'The line in both'), lineChoice(choice), element('div', { class: 'line' }, ...diagramsOf(both, choice.name).filter(Boolean),
-      Page.besideTable(both, choice.name))];
-  };
+const samePeriod = ([one, other]) => one.view.network.period === other.view.network.period;
 
-  const WORDS = 'Keep what is shown as A, change something or open another file, and keep that as B: both are told here beside each other.';
+// The line in one drawing, or where its minutes are not of the same period in two.
+const diagramsOf = (both, name) => {
+  if (samePeriod(both)) return [besideDiagram(both, name), element('p', { class: 'quiet' }, `Dashed: ${both[0].name}. Whole: ${both[1].name}.`)];
+  return both.flatMap(({ view, name: side }) => within(view, () => {
+    const found = view.lines.find(each => each.name === name);
+    return found && found.stations.length > 1 ? [element('h4', {}, side), diagramOf(view, found).drawn] : [];
+  }));
+};
 
-  const changesPart = ([before, after]) => {
-    const { network, times } = Page.differences(before.view, after.view);
-    return [element('h3', {}, 'What they differ in'), ...listOf('Network', network), ...listOf('Times', times)];
-  };
+const linePart = both => {
+  const choice = nameOfLine(both);
+  if (!choice.names.length) return [];
+  return [element('h3', {}, 'The line in both'), lineChoice(choice), element('div', { class: 'line' }, ...diagramsOf(both, choice.name).filter(Boolean),
+    besideTable(both, choice.name))];
+};
 
-  // What is told, one part below another; in a drag just what is followed with the eyes is told anew.
-  const PARTS = [
-    { draw: both => [figures(both, Page.costsBeside(...both.map(({ view }) => view)))], isFollowed: true },
-    { draw: changesPart, isFollowed: false },
-    { draw: linePart, isFollowed: true },
-    { draw: both => [element('h3', {}, 'Connections'), ...Page.besideConnections(both)], isFollowed: false },
-  ];
+const WORDS = 'Keep what is shown as A, change something or open another file, and keep that as B: both are told here beside each other.';
 
-  const tell = both => {
-    const holder = find('compared-told');
-    if (both.length < 2) return holder.replaceChildren(element('p', { class: 'quiet' }, WORDS));
-    if (holder.children.length < PARTS.length) holder.replaceChildren(...PARTS.map(() => element('div')));
-    const isTried = both.some(({ view }) => view.isTried);
-    return PARTS.forEach(({ draw, isFollowed }, place) => isFollowed || !isTried ? holder.children[place].replaceChildren(...draw(both)) : null);
-  };
+const changesPart = ([before, after]) => {
+  const { network, times } = differences(before.view, after.view);
+  return [element('h3', {}, 'What they differ in'), ...listOf('Network', network), ...listOf('Times', times)];
+};
 
-  const hands = () => {
-    const isBoth = kept.size === 2;
-    for (const name of NAMES) {
-      find(`take-${name}`).hidden = find(`forget-${name}`).hidden = !kept.has(name);
-      find(`take-${name}`).disabled = kept.has(name) && isShown(kept.get(name).view);
-    }
-    find('swap').hidden = !isBoth;
-  };
+// What is told, one part below another; in a drag just what is followed with the eyes is told anew.
+const PARTS = [
+  { draw: both => [figures(both, costsBeside(...both.map(({ view }) => view)))], isFollowed: true },
+  { draw: changesPart, isFollowed: false },
+  { draw: linePart, isFollowed: true },
+  { draw: both => [element('h3', {}, 'Connections'), ...besideConnections(both)], isFollowed: false },
+];
 
-  const update = () => {
-    if (Page.tab !== 'compare') return;
-    const both = sides(), seen = [...both.flatMap(({ name, view }) => [name, view]), Page.view, kept.size ? Page.chosenLine : null];
-    if (drawn.length === seen.length && seen.every((each, place) => each === drawn[place])) return;
-    drawn = seen;
-    hands();
-    tell(both);
-  };
+const tell = both => {
+  const holder = find('compared-told');
+  if (both.length < 2) return holder.replaceChildren(element('p', { class: 'quiet' }, WORDS));
+  if (holder.children.length < PARTS.length) holder.replaceChildren(...PARTS.map(() => element('div')));
+  const isTried = both.some(({ view }) => view.isTried);
+  return PARTS.forEach(({ draw, isFollowed }, place) => isFollowed || !isTried ? holder.children[place].replaceChildren(...draw(both)) : null);
+};
 
-  Page.panel({ update });
+const hands = () => {
+  const isBoth = kept.size === 2;
+  for (const name of NAMES) {
+    find(`take-${name}`).hidden = find(`forget-${name}`).hidden = !kept.has(name);
+    find(`take-${name}`).disabled = kept.has(name) && isShown(kept.get(name).view);
+  }
+  find('swap').hidden = !isBoth;
+};
 
-  Page.startVariants = () => {
-    find('compare-hands').replaceChildren(...NAMES.map(name => button(`Take ${name} over`, () => take(name), { id: `take-${name}`, class: 'main' })),
-      button('Exchange A and B', swap, { id: 'swap' }), ...NAMES.map(name => button(`Forget ${name}`, () => forget(name), { id: `forget-${name}` })));
-    for (const name of NAMES) find(`keep-${name}`).addEventListener('click', () => keep(name));
-    find('compared-told').addEventListener('click', event => {
-      const at = event.target.closest('[data-event]');
-      if (at && Page.view.domains.has(Number(at.dataset.event))) Page.showRow(Number(at.dataset.event));
-    });
-    window.addEventListener('keydown', event => {
-      const name = event.key.toUpperCase();
-      if (!NAMES.includes(name) || !event.shiftKey || event.ctrlKey || event.altKey || event.metaKey) return;
-      if (Page.isField(event.target) || document.querySelector('dialog[open]')) return;
-      event.preventDefault();
-      keep(name, true);
-    });
-  };
-})();
+const update = () => {
+  if (!isTab('compare')) return;
+  const both = sides(), seen = [...both.flatMap(({ name, view }) => [name, view]), shown.view, kept.size ? shown.chosenLine : null];
+  if (drawn.length === seen.length && seen.every((each, place) => each === drawn[place])) return;
+  drawn = seen;
+  hands();
+  tell(both);
+};
+
+export const variantsPanel = { update };
+
+export const startVariants = () => {
+  find('compare-hands').replaceChildren(...NAMES.map(name => button(`Take ${name} over`, () => take(name), { id: `take-${name}`, class: 'main' })),
+    button('Exchange A and B', swap, { id: 'swap' }), ...NAMES.map(name => button(`Forget ${name}`, () => forget(name), { id: `forget-${name}` })));
+  for (const name of NAMES) find(`keep-${name}`).addEventListener('click', () => keep(name));
+  find('compared-told').addEventListener('click', event => {
+    const at = event.target.closest('[data-event]');
+    if (at && shown.view.domains.has(Number(at.dataset.event))) showRow(Number(at.dataset.event));
+  });
+  window.addEventListener('keydown', event => {
+    const name = event.key.toUpperCase();
+    if (!NAMES.includes(name) || !event.shiftKey || event.ctrlKey || event.altKey || event.metaKey) return;
+    if (isField(event.target) || document.querySelector('dialog[open]')) return;
+    event.preventDefault();
+    keep(name, true);
+  });
+};

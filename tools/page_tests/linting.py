@@ -1,22 +1,24 @@
-"""The sources of the page: types, lint, and what its scripts share; and those of the tools about it. What is not installed is told."""
+"""The sources of the page: types, lint, and what its modules share; and those of the tools about it. What is not installed is told."""
 
 import os
 import re
 import shutil
 import subprocess
 import sys
-from typing import Any, Dict, Sequence, Set
+from typing import Any, Sequence
 
 from page_tests.hands import Hands
+from paging.modules import below, scripts
 from tests.harness import TOP, Suite, within
 
 SCRIPTS = TOP / "page/script"
 # Debian's modules, which another Node does not look for.
 MODULES = "/usr/share/nodejs"
-# A member of the object that scripts share: where it is read, and where it is set.
-READ, SET = re.compile(r"\bPage\.(\w+)"), re.compile(r"\bPage\.(\w+) [-+]?= ")
-TOGETHER = re.compile(r"Object\.assign\(Page, \{([^}]*)\}")
-NAMED = re.compile(r"(\w+)(?=[,:]| *$)")
+CHECKED = ["--noUnusedLocals", "--noUnusedParameters", "--noImplicitReturns", "--noImplicitThis", "--noFallthroughCasesInSwitch"]
+CHECKED += ["--strictBindCallApply", "--strictFunctionTypes"]
+# What is given to callers outside, in outside.js: `get name() ..`, `name: ..` and `name`.
+GIVEN = re.compile(r"window\.Page = Object\.freeze\(\{(.*)\}\);", re.S)
+MEMBER = re.compile(r"\bget (\w+)\(\)|(\w+): \w+,|(?<!: )\b(\w+),(?!\})")
 
 
 def told_by(suite: Suite, what: str, command: Sequence[object], **how: Any) -> None:
@@ -32,7 +34,8 @@ def told_by(suite: Suite, what: str, command: Sequence[object], **how: Any) -> N
 @within(120)
 def types_of_scripts(suite: Suite, page: Hands) -> None:
     """The scripts pass TypeScript's checker."""
-    words = ["tsc", "--allowJs", "--checkJs", "--noEmit", "--target", "es2022", "--lib", "es2022,dom,dom.iterable"]
+    words = ["tsc", "--allowJs", "--checkJs", "--noEmit", "--target", "es2022", "--module", "es2022", "--moduleResolution", "node"]
+    words += ["--lib", "es2022,dom,dom.iterable", *CHECKED]
     told_by(suite, "types of scripts", [*words, TOP / "page/types.d.ts", *sorted(SCRIPTS.glob("*.js"))])
 
 
@@ -43,27 +46,20 @@ def lint_of_scripts(suite: Suite, page: Hands) -> None:
     told_by(suite, "lint of scripts", [*words, "page/script", "page/module.js"], cwd=TOP)
 
 
-def set_in(text: str) -> Set[str]:
-    """The members of Page that a script sets."""
-    together = [name for part in TOGETHER.findall(text) for name in NAMED.findall(part)]
-    return {*SET.findall(text), *together} - {"null"}
-
-
 def what_scripts_share(suite: Suite, page: Hands) -> None:
-    """Each member of Page is set in one script, and none is read that no script sets, or set and read nowhere."""
-    texts = {path.name: path.read_text() for path in SCRIPTS.glob("*.js")}
-    places: Dict[str, Set[str]] = {}
-    for name, text in texts.items():
-        for member in set_in(text):
-            places.setdefault(member, set()).add(name)
-    read = [member for text in texts.values() for member in READ.findall(text)]
-    tried = "".join(path.read_text() for path in (TOP / "tools").rglob("*") if path.is_file() and (path.suffix == ".py" or "page" in path.name))
-    suite.note("set in more than one script", {"they": {}}, {"they": {member: sorted(names) for member, names in places.items() if len(names) > 1}})
-    suite.note("read, and not set", {"they": []}, {"they": sorted({*read} - {*places} - {"shared"})})
-    unused = [member for member in places if read.count(member) < 2 and f"Page.{member}" not in tried]
-    suite.note("set, and not read", {"they": []}, {"they": sorted(unused)})
-    index = re.findall(r"script: script/(\S+)", (TOP / "page/index.html").read_text())
-    suite.note("the page has each script once", {"they": sorted(texts)}, {"they": sorted(index)})
+    """Each export is imported by some module, each module is one of the page's, and all that is given to callers outside is used there."""
+    found, texts = scripts(SCRIPTS), {path.stem: path.read_text() for path in SCRIPTS.glob("*.js")}
+    taken = {name for script in found.values() for names in script.imports.values() for name in names}
+    suite.note("exported, and not imported", {"they": []}, {"they": sorted({name for script in found.values() for name in script.exports} - taken)})
+    entries = re.findall(r"<!-- modules: (\w+) -->", (TOP / "page/index.html").read_text())
+    suite.note("modules of the page", {"they": sorted(found)}, {"they": sorted({name for entry in entries for name in below(found, entry)})})
+    users = [path for path in (TOP / "tools").rglob("*") if path.is_file() and (path.suffix == ".py" or "page" in path.name)]
+    used = "".join(path.read_text() for path in [*users, *(TOP / "python/pespbench/report").glob("*.js")])
+    given = GIVEN.search(texts["outside"])
+    members = [name for names in MEMBER.findall(given[1] if given else "") for name in names if name]
+    suite.note("given outside, and not used", {"they": []}, {"they": sorted(name for name in members if f"Page.{name}" not in used)})
+    suite.holds("and there are some", len(members) > 50)
+    suite.note("takes what is given outside", {"they": ["outside"]}, {"they": sorted(name for name, text in texts.items() if "window.Page" in text)})
 
 
 @within(120)

@@ -50,7 +50,7 @@ def read(suite: Suite, page: Hands) -> None:
     suite.note("names are texts, and but for one button there are no hands", {"images": 0, "buttons": 1}, {"images": images, "buttons": buttons})
     suite.note("no request", {"requests": [path.as_uri()]}, {"requests": page.requests})
     suite.holds("the workbench is not seen", not page.is_shown("main") and page.is_shown("printed"))
-    suite.holds("nothing is asked of the module yet", page.ask("Page.answer === undefined"))
+    suite.holds("nothing is asked of the module yet", page.ask("Page.program === null"))
     for size in [(1360, 850), (390, 800)]:
         page.resize(*size)
         page.frame()

@@ -127,7 +127,7 @@ def archived(suite: Suite, page: Hands) -> None:
         read = [[station, list(place)] for station, place in read_places(folder / path.stem / "places").items()]
     suite.note("in the package", {"places": wanted["names"][0]}, {"places": read})
     named = {"A; B": [1.5, -2], '"C" # D': [1e-7, 3], "E": [0, 1e21]}
-    page.ask(f"Page.places = new Map(Object.entries({json.dumps(named)}))")
+    page.ask(f"Page.openTexts({{ ...Page.filesToSave(), places: Page.placesText(new Map(Object.entries({json.dumps(named)}))) }}, 'named')")
     with tempfile.TemporaryDirectory() as name:
         path = pathlib.Path(name) / "places"
         path.write_text(page.ask("Page.filesToSave().places"))

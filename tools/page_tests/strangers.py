@@ -97,9 +97,10 @@ def trapped(suite: Suite, page: Hands) -> None:
     """What was trapped is told, is not used again, and is no longer on the screen."""
     page.again()
     page.ask("""(() => {
-        const { ask } = PespModule, broken = new Set(), { say } = Page;
+        const { ask } = PespModule, broken = new Set(), said = Page.find('said');
         Object.assign(window, { usedAgain: 0, told: '' });
-        Page.say = (text, ...more) => say(window.told += text, ...more);
+        const hear = changes => changes.forEach(({ addedNodes }) => addedNodes.forEach(({ textContent }) => { window.told += textContent; }));
+        new MutationObserver(hear).observe(said, { childList: true });
         PespModule.ask = (module, session, line) => {
             if (broken.has(module)) window.usedAgain += 1;
             if (line === 'fix 1 40') {

@@ -5,11 +5,14 @@ import hashlib
 import pathlib
 import re
 import zlib
-from typing import Match
+from typing import Match, Set
 
+from paging.modules import joined, scripts
 from paging.tree import NotMade
 
-LINE = re.compile(r"^[ \t]*<!-- (?:(style|script): (\S+)|(module)) -->[ \t]*$", re.M)
+LINE = re.compile(r"^[ \t]*<!-- (?:(style|script|modules): (\S+)|(module)) -->[ \t]*$", re.M)
+# A script that runs; one of modules says which is the last of them.
+SCRIPT = re.compile(r"<script(?: data-modules=\w+)?>(.*?)</script>", re.S)
 POLICY = re.compile(r'<meta http-equiv="Content-Security-Policy" content="([^"]*)">')
 # What would end an inline script or style early, or hide a part of it.
 BREAKS = ["</script", "</style", "<!--"]
@@ -28,23 +31,29 @@ def packed(module: bytes) -> bytes:
     return packer.compress(module) + packer.flush()
 
 
-def source(folder: pathlib.Path, name: str) -> str:
+def fitting(name: str, text: str) -> str:
     """A style or script of the page, which can stand inside of it."""
-    path = (folder / name).resolve()
-    if folder.resolve() not in path.parents or not path.is_file():
-        raise NotMade(f"page/index.html names {name}, which is no file of page/")
-    text = path.read_text()
     for word in BREAKS:
         if word in text.lower():
             raise NotMade(f"page/{name} has {word}, which would end it inside of a page")
     return unindented(text)
 
 
-def part(folder: pathlib.Path, found: Match[str], module: bytes) -> str:
-    """What stands for a line of the kind `<!-- style: FILE -->`, `<!-- script: FILE -->` or `<!-- module -->`."""
+def source(folder: pathlib.Path, name: str) -> str:
+    path = (folder / name).resolve()
+    if folder.resolve() not in path.parents or not path.is_file():
+        raise NotMade(f"page/index.html names {name}, which is no file of page/")
+    return fitting(name, path.read_text())
+
+
+def part(folder: pathlib.Path, found: Match[str], module: bytes, there: Set[str]) -> str:
+    """What stands for a line of the kind `<!-- style: FILE -->`, `<!-- script: FILE -->`, `<!-- modules: NAME -->` or
+    `<!-- module -->`. Modules are those of script/NAME.js that are not there yet."""
     kind, name, is_module = found.groups()
     if is_module:
         return f'<script>const PESPBENCH_MODULE = "{base64.b64encode(packed(module)).decode()}";</script>'
+    if kind == "modules":
+        return f"<script data-modules={name}>\n{fitting(f'script/{name}.js, or what it imports,', joined(scripts(folder / 'script'), name, there))}</script>"
     return f"<{kind}>\n{source(folder, name)}</{kind}>"
 
 
@@ -58,9 +67,9 @@ def with_policy(text: str) -> str:
     policies = POLICY.findall(text)
     if len(policies) != 1 or NOTHING not in policies[0]:
         raise NotMade(f"page/index.html has no one policy with {NOTHING}")
-    scripts = " ".join(map(named, re.findall(r"<script>(.*?)</script>", text, re.S)))
+    names = " ".join(map(named, SCRIPT.findall(text)))
     rules = [rule.strip() for rule in policies[0].split(";")]
-    rules = [rule.replace("'unsafe-inline'", scripts) if rule.startswith("script-src ") else rule for rule in rules]
+    rules = [rule.replace("'unsafe-inline'", names) if rule.startswith("script-src ") else rule for rule in rules]
     return text.replace(policies[0], "; ".join(rules), 1)
 
 
@@ -69,7 +78,8 @@ def assembled(folder: pathlib.Path, module: bytes) -> bytes:
     if not (folder / "index.html").is_file():
         raise NotMade("there is no page/index.html")
     index = unindented((folder / "index.html").read_text())
-    text = LINE.sub(lambda found: part(folder, found, module), index)
+    there: Set[str] = set()
+    text = LINE.sub(lambda found: part(folder, found, module, there), index)
     if 'const PESPBENCH_MODULE = "' not in text:
         raise NotMade("page/index.html has no line <!-- module -->")
     return with_policy(text).encode()

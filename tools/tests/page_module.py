@@ -1,6 +1,7 @@
 """The page: how it is put together, and its module in Node beside the program."""
 
 import base64
+import hashlib
 import itertools
 import json
 import random
@@ -50,6 +51,7 @@ def sources(suite: Suite, name: str, **changed: str) -> Path:
     (folder / "parts").mkdir(parents=True)
     files = {"index.html": INDEX, "look.css": "p { margin: 0 }\n", "parts/first.js": "'use strict';\n"}
     for path, text in {**files, **{key.replace("__", "/").replace("_", "."): text for key, text in changed.items()}}.items():
+        (folder / path).parent.mkdir(exist_ok=True)
         (folder / path).write_text(text)
     return folder
 
@@ -93,6 +95,78 @@ def page(suite: Suite) -> None:
     for number, (name, changed) in enumerate(table.items()):
         came = refused(sources(suite, f"page {number}", **changed))
         suite.note(f"a page with {name}", {"is refused": True}, {"is refused": came.startswith("refused: ")})
+
+
+# Modules of which the first one stands on both others, and the second on the third.
+OF_MODULES = INDEX + "<!-- modules: third -->\n<!-- modules: first -->\n"
+MODULES = {
+    "script__first_js": "// Imports.\n\nimport { two } from './second.js';\nimport {\n  Three,\n} from './third.js';\n\nglobalThis.told = [two(), new Three().number];\n",
+    "script__second_js": "import { Three } from './third.js';\n\nexport const two = () => new Three().number - 1;\n",
+    "script__third_js": "const number = 3;\n\nexport class Three {\n  get number() { return number; }\n}\n",
+}
+MADE_OF_MODULES = """<script data-modules=third>
+'use strict';
+const PESPBENCH = {};
+PESPBENCH.third = (() => {
+const number = 3;
+class Three {
+get number() { return number; }
+}
+return { Three };
+})();
+</script>
+<script data-modules=first>
+'use strict';
+PESPBENCH.second = (() => {
+const { Three } = PESPBENCH.third;
+const two = () => new Three().number - 1;
+return { two };
+})();
+PESPBENCH.first = (() => {
+const { two } = PESPBENCH.second;
+const { Three } = PESPBENCH.third;
+// Imports.
+globalThis.told = [two(), new Three().number];
+})();
+</script>
+"""
+
+
+def ran(scripts: List[str]) -> Any:
+    """What is told where scripts were run one after another."""
+    runs = "for (const text of JSON.parse(process.argv[1])) require('vm').runInThisContext(text); console.log(JSON.stringify(told));"
+    return json.loads(subprocess.run(["node", "-e", runs, json.dumps(scripts)], capture_output=True, text=True, check=True).stdout)
+
+
+def page_scripts(suite: Suite) -> None:
+    """Modules are put in order into scripts that run, whose names are in the policy; what is no such module is refused."""
+    came = refused(sources(suite, "modules", index_html=OF_MODULES, **MODULES))
+    suite.note("modules", {"scripts": MADE_OF_MODULES}, {"scripts": came[came.find("<script data-modules") :]})
+    parts = re.findall(r"<script data-modules=\w+>(.*?)</script>", came, re.S)
+    names = [base64.b64encode(hashlib.sha256(text.encode()).digest()).decode() for text in parts]
+    suite.note("their names", {"in the policy": [True, True]}, {"in the policy": [f"'sha256-{name}'" in came for name in names]})
+    if shutil.which("node"):
+        suite.note("they run", {"told": [2, 3]}, {"told": ran(parts)})
+    second, third = MODULES["script__second_js"], MODULES["script__third_js"]
+    table = {
+        "a name that is not exported": {"script__third_js": third.replace("export ", "")},
+        "a module that is not there": {"script__second_js": second.replace("./third.js", "./fourth.js")},
+        "a name that is not used": {"script__second_js": "import { Three } from './third.js';\n\n// As Three.\nexport const two = () => 2;\n"},
+        "a name twice": {"script__second_js": second.replace("{ Three }", "{ Three, Three }")},
+        "a module twice": {"script__second_js": "import { Four } from './third.js';\n" + second},
+        "a name that is declared here": {"script__second_js": second + "const Three = 3;\n"},
+        "a name under another": {"script__second_js": second.replace("{ Three }", "{ Three as Four }")},
+        "itself by another one": {"script__third_js": "import { two } from './second.js';\n" + third.replace("3", "two")},
+        "an export of two modules": {"script__third_js": third + "export const two = 2;\n"},
+        "an export that may change": {"script__third_js": third + "export let four = 4;\n"},
+        "a list of exports": {"script__third_js": third + "const four = 4;\nexport { four };\n"},
+        "an import of all": {"script__second_js": second + "import * as third from './third.js';\n"},
+        "an import of no name": {"script__second_js": second + "import './third.js';\n"},
+        "a last module that is not there": {"index_html": OF_MODULES.replace("modules: first", "modules: fourth")},
+    }
+    for number, (name, changed) in enumerate(table.items()):
+        came = refused(sources(suite, f"modules {number}", **{"index_html": OF_MODULES, **MODULES, **changed}))
+        suite.note(f"modules with {name}", {"is refused": True}, {"is refused": came.startswith("refused: page/script/")})
 
 
 class Node:
@@ -201,4 +275,4 @@ def page_module(suite: Suite) -> None:
             endings(suite, node)
 
 
-GROUPS = [page, page_module]
+GROUPS = [page, page_scripts, page_module]

@@ -65,13 +65,13 @@ class Element {
 const make = tag => new Element(tag);
 const document = { createElement: make, createElementNS: (_, tag) => make(tag), getElementById: () => make('div'), body: make('body') };
 
-// The page's scripts but its last one, which starts the page.
+// The page's scripts but its last one, which starts the page; the one before gives what is drawn by.
 const started = html => {
-  const scripts = [...html.matchAll(/<script>([^]*?)<\/script>/g)].map(found => found[1]).slice(1, -1);
+  const scripts = [...html.matchAll(/<script(?: data-modules=\w+)?>([^]*?)<\/script>/g)].map(found => found[1]).slice(1, -1);
   const context = vm.createContext({ document, performance, TextEncoder, TextDecoder, console });
   vm.runInContext('var window = { addEventListener() {} };', context);
   for (const script of scripts) vm.runInContext(script, context);
-  return vm.runInContext('Page', context);
+  return vm.runInContext('window.Page', context);
 };
 
 // A picture has no variables of a style: its colors are those of the page where it is light.

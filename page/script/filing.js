@@ -1,0 +1,48 @@
+// The files of the state that is shown, in the forms that the program and the Python package read, and which of them were saved.
+
+import { labelsText, placesText } from './labels.js';
+import { rowsOf, rowsText } from './network.js';
+import { session } from './session.js';
+import { shown } from './shown.js';
+
+const FORBIDDEN = /[\\/:*?"<>|\u0000-\u001f\u007f]+/g;
+const HEADERS = {
+  activities: 'activity; from; to; lower; upper; weight', fixed: 'event; time', windows: 'event; first; length', events: 'event',
+  times: 'event; time',
+};
+
+// The files by name.
+export const filesToSave = () => filesOf(shown.view.network, shown.view.times);
+
+export const filesOf = (network, times, labels = shown.labels) => {
+  const rows = rowsOf(network, times), files = {};
+  for (const [name, header] of Object.entries(HEADERS)) files[name] = `${header}\n${rowsText(rows[name])}`;
+  files.period = `period\n${network.period}\n`;
+  if (labels.events.size || labels.kinds.size) files.labels = labelsText(labels);
+  if (shown.places.size) files.places = placesText(shown.places);
+  return files;
+};
+
+// The name that a folder and its archive have: what no system takes in a name of a file is left out.
+export const folderName = () => session.opened.title.replace(FORBIDDEN, '-').replace(/^[\s.-]+|[\s.-]+$/g, '').slice(0, 100).trim() || 'network';
+
+// The files of a folder, by their paths in it.
+export const folderFiles = files => Object.fromEntries(Object.entries(files).map(([name, text]) => [`${folderName()}/${name}`, text]));
+
+// The texts of files that were given last, of the network that was open then.
+let saved = { opened: null, files: new Map() };
+
+const savedNow = () => saved.opened === session.opened ? saved.files : new Map();
+
+// Some files were given, beside those that were before.
+export const noteSaved = files => {
+  saved = { opened: session.opened, files: new Map([...savedNow(), ...Object.entries(files)]) };
+};
+
+// What is shown is saved where each of its files is the one that was given last, or that was opened.
+export const isSaved = () => {
+  const { opened } = session, given = savedNow();
+  if (!session.steps.length && !given.size) return true;
+  const before = filesOf(opened.network, opened.times, opened.labels);
+  return Object.entries(filesToSave()).every(([name, text]) => text === (given.has(name) ? given.get(name) : before[name]));
+};

@@ -1,0 +1,39 @@
+// What is shown, and what of it is chosen. It is changed by the functions here alone, which draw nothing: session.js calls them.
+
+import { noLabels } from './labels.js';
+
+let view = null, labels = noLabels(), places = new Map(), chosen = null, chosenLine = null;
+
+// The same, to be read: the state that was told last, null where none was; the names of what is open and the places of its stations;
+// an event, and a line by its name.
+export const shown = Object.freeze({
+  get view() { return view; },
+  get labels() { return labels; },
+  get places() { return places; },
+  get chosen() { return chosen; },
+  get chosenLine() { return chosenLine; },
+});
+
+// Another network is open, of which nothing is shown or chosen yet.
+export const beginShown = (its, placesOfIt) => {
+  [view, labels, places, chosen, chosenLine] = [null, its, placesOfIt, null, null];
+};
+
+export const setView = made => { view = made; };
+
+export const setLabels = made => { labels = made; };
+
+export const setChosen = event => { chosen = event; };
+
+export const setChosenLine = name => { chosenLine = name; };
+
+// Does something as if another view were shown, with other names or its own.
+export const within = (other, act, names = other.labels) => {
+  const before = { view, labels };
+  [view, labels] = [other, names];
+  try {
+    return act();
+  } finally {
+    ({ view, labels } = before);
+  }
+};

@@ -1,0 +1,14 @@
+// What a view tells at one glance of its replies.
+
+// Whether some event can be at no minute.
+export const isInfeasible = view => view.network.events.some(event => !view.domains.get(event).length);
+
+// How many activities and events are violated; null where the working timetable lacks a time.
+export const countViolated = ({ violations }) => violations && violations.activities.size + violations.events.size;
+
+// The minutes of an activity. Replies count them up from the least ones, and so tell too few by a period too many. Where a span is
+// below a period so is what is told; else it is that of the two which is nearer to the span.
+export const minutesHad = ({ network: { activities, period }, tensions }, number) => {
+  const { lower, upper } = activities.get(number), { tension } = tensions.get(number), less = tension - period;
+  return (upper < period && less >= 0) || lower - less < tension - upper ? less : tension;
+};

@@ -1,0 +1,108 @@
+"""The scripts of the page, which are ES modules: what each imports and exports, in order and as one script.
+
+A page from disk cannot load modules, so each becomes a function that is called once and returns its exports. What a module
+imports stands above it, so that no module may need itself, by way of others either; and an export is never given another
+value, so that it may be taken by name.
+"""
+
+import pathlib
+import re
+from typing import Dict, List, NamedTuple, Sequence, Set
+
+from paging.tree import NotMade
+
+IMPORT = re.compile(r"^import \{(\s*\w+(?:,\s+\w+)*,?\s*)\} from '\./(\w+)\.js';\n", re.M)
+EXPORT = re.compile(r"^export (?=(?:const|class|function|async function) (\w+)\b)", re.M)
+DECLARED = re.compile(r"^(?:const|let|class|function|async function) (\w+)\b", re.M)
+# What begins a line that is neither an import nor an export of these forms.
+OTHER = re.compile(r"^(?:import|export)\b.*", re.M)
+# The object in which the exports of each module stand in the page.
+PARTS = "PESPBENCH"
+
+
+class Script(NamedTuple):
+    """A module: its name, the names that it imports by modules, those that it exports, and all else of its text."""
+
+    name: str
+    imports: Dict[str, List[str]]
+    exports: List[str]
+    body: str
+
+
+def refuse(name: str, what: str) -> None:
+    raise NotMade(f"page/script/{name}.js {what}")
+
+
+def twice(names: Sequence[str]) -> List[str]:
+    return sorted({name for name in names if names.count(name) > 1})
+
+
+def read(path: pathlib.Path) -> Script:
+    """The module in a file, where all that it imports is used."""
+    name, text = path.stem, path.read_text()
+    found = [(source, [word.strip() for word in names.split(",") if word.strip()]) for names, source in IMPORT.findall(text)]
+    whole = IMPORT.sub("", text)
+    exports, body = EXPORT.findall(whole), EXPORT.sub("", whole)
+    for line in OTHER.findall(body):
+        refuse(name, f"has a line of another form than tools/page reads: {line}")
+    imported = [each for _, names in found for each in names]
+    for each in twice(imported) + twice([source for source, _ in found]):
+        refuse(name, f"imports {each} twice")
+    code, declared = re.sub(r"^\s*//.*", "", body, flags=re.M), DECLARED.findall(body)
+    for each in imported:
+        if not re.search(rf"(?<![\w.$])(?<!\.\.\.){each}\b|\.\.\.{each}\b", code):
+            refuse(name, f"imports {each}, and does not use it")
+        if each in declared:
+            refuse(name, f"declares {each}, which it imports")
+    return Script(name, dict(found), exports, body)
+
+
+def scripts(folder: pathlib.Path) -> Dict[str, Script]:
+    """All modules of a folder by their names, where each import is another one's export, and no two export one name."""
+    found = {path.stem: read(path) for path in sorted(folder.glob("*.js"))}
+    for each in twice([name for script in found.values() for name in script.exports]):
+        _, *others = [name for name, script in found.items() if each in script.exports]
+        refuse(others[0], f"exports {each}, as another module does")
+    for script in found.values():
+        for source, names in script.imports.items():
+            for each in names:
+                if source not in found or each not in found[source].exports:
+                    refuse(script.name, f"imports {each} of {source}.js, which does not export it")
+    return found
+
+
+def below(found: Dict[str, Script], name: str) -> List[str]:
+    """A module and all that it imports, by way of others too, each after those that it imports."""
+    order: List[str] = []
+    open_ones: List[str] = []
+
+    def visit(each: str) -> None:
+        if each in order:
+            return
+        if each in open_ones:
+            refuse(each, f"needs itself: {' imports '.join([*open_ones[open_ones.index(each):], each])}")
+        open_ones.append(each)
+        for source in found[each].imports:
+            visit(source)
+        open_ones.pop()
+        order.append(each)
+
+    if name not in found:
+        refuse(name, "is named in page/index.html, and is not there")
+    visit(name)
+    return order
+
+
+def as_function(script: Script) -> str:
+    """A module as a function that is called once and returns its exports."""
+    taken = "".join(f"const {{ {', '.join(names)} }} = {PARTS}.{source};\n" for source, names in script.imports.items())
+    given = f"return {{ {', '.join(script.exports)} }};\n" if script.exports else ""
+    return f"{PARTS}.{script.name} = (() => {{\n{taken}{script.body}{given}}})();\n"
+
+
+def joined(found: Dict[str, Script], name: str, there: Set[str]) -> str:
+    """A module with all that it imports and that is not there yet, as one script; they are there then."""
+    start = "" if there else f"const {PARTS} = {{}};\n"
+    wanted = [each for each in below(found, name) if each not in there]
+    there.update(wanted)
+    return f"'use strict';\n{start}{''.join(as_function(found[each]) for each in wanted)}"
