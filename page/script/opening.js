@@ -27,12 +27,11 @@ const kindOf = name => {
   return word ? word[1] : 'nothing';
 };
 
-const tell = (text, help = '') => {
+// Says in the dialog what is wrong, and what mends it.
+export const tellOpening = (text, help = '') => {
   setText(find('opening-fault'), text);
   setText(find('opening-help'), help);
 };
-
-export const tellOpening = tell;
 
 // Shows the dialog, which says what would be lost.
 const show = () => {
@@ -44,12 +43,12 @@ const hide = () => find('opening').open && find('opening').close();
 
 // Lists files with what each is; they are opened at once where names and the period tell all and nothing is lost.
 export const offerFiles = async (given, isAsked = false) => {
-  tell('');
+  tellOpening('');
   try {
     files = (await bytesOf(await given)).map(([name, bytes]) => ({ name, kind: kindOf(name), bytes }));
   } catch (fault) {
     files = [];
-    tell(`The files cannot be read: ${fault.message}.`);
+    tellOpening(`The files cannot be read: ${fault.message}.`);
   }
   const kinds = files.map(file => file.kind);
   const isClear = kinds.length > 0 && !kinds.includes('nothing') && new Set(kinds).size === kinds.length && kinds.includes('period');
@@ -89,7 +88,7 @@ const openListed = async () => {
     hide();
     if (await opening !== false) say(openedWord(listed.filter(file => file.kind !== 'nothing')));
   } catch (fault) {
-    tell(fault.message, helpFor(fault.message, kind => listed.find(file => file.kind === kind)));
+    tellOpening(fault.message, helpFor(fault.message, kind => listed.find(file => file.kind === kind)));
     show();
   }
 };
@@ -111,7 +110,7 @@ const dropped = event => {
 };
 
 export const showOpening = () => {
-  tell('');
+  tellOpening('');
   show();
 };
 

@@ -1,4 +1,4 @@
-// What is taken hold of from outside under `window.Page`, by tests and measures, and by what draws reports under Node. No module uses it.
+// What tests and measures take hold of, and what draws reports under Node: `window.Page`. No module uses it.
 
 import { addLabels } from './adding.js';
 import { zipOf } from './archive.js';
@@ -21,7 +21,9 @@ import { isRefused, readCost, readDomains, readTensions, readViolations } from '
 import { reportOf, viewOfReport } from './report.js';
 import { run } from './running.js';
 import { showSaving } from './saving.js';
-import { askSession, choose, doStep, goTo, journal, present, preview, redo, refresh, session, timesNow, titleOf, undo } from './session.js';
+import {
+  askSession, choose, doStep, goTo, journal, present, preview, redo, refresh, session, timesNow, titleOf, undo,
+} from './session.js';
 import { shown, within } from './shown.js';
 import { rangeShown } from './spans.js';
 import { spread } from './spreading.js';

@@ -46,13 +46,11 @@ const remembered = read => {
 
 const numbersOf = text => text.split(' ').map(Number);
 
-const domainLines = remembered(line => {
+// Of each event the minutes at which it can still be.
+export const readDomains = remembered(line => {
   const end = line.indexOf(':');
   return [Number(line.slice(0, end)), line.length > end + 2 ? numbersOf(line.slice(end + 2)) : []];
 });
-
-// Of each event the minutes at which it can still be.
-export const readDomains = domainLines;
 
 const tensionLines = remembered(line => {
   const [activity, tension, slack] = numbersOf(line);

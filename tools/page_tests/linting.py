@@ -31,7 +31,7 @@ def told_by(suite: Suite, what: str, command: Sequence[object], **how: Any) -> N
     suite.note(what, {"status": 0, "told": []}, {"status": done.returncode, "told": (done.stdout + done.stderr).splitlines()[:20]})
 
 
-@within(120)
+@within(240)
 def types_of_scripts(suite: Suite, page: Hands) -> None:
     """The scripts pass TypeScript's checker."""
     words = ["tsc", "--allowJs", "--checkJs", "--noEmit", "--target", "es2022", "--module", "es2022", "--moduleResolution", "node"]
