@@ -3,12 +3,12 @@
 // Python package has the same over its session; here is the page's own, since a page can ask nothing but its module.
 
 import { findMends } from './mending.js';
-import { byDomains, byMember, bySearch, memberKey, probeOf } from './probing.js';
+import { byDomains, byMember, bySearch, memberKey, prefer, probeOf } from './probing.js';
 import { shapeOf } from './shapes.js';
 
 const FIRST_NODES = 500, MORE = 4;
 
-// The answer of a network: `possible`, `undecided` or `conflict`. Of the members in `kept` (memberKey) the conflict has
+// The answer of a network: `possible`, `undecided` or `conflict`. Of the members in `kept`, by their keys, the conflict has
 // no more than has to be, and no mend changes one.
 export const findWhy = (network, { nodes = 2000, seconds = 10, kept = new Set() } = {}) => {
   const probe = { ...probeOf(network), kept }, until = performance.now() + 1000 * seconds;
@@ -27,11 +27,11 @@ export const findWhy = (network, { nodes = 2000, seconds = 10, kept = new Set() 
 // Whether a domain is empty, with some event of each free part held; that event is held first from then on.
 const isSeenByDomains = (probe, until) => {
   for (const event of [null, ...probe.network.events]) {
-    probe.preferred = event;
+    prefer(probe, event);
     if (byDomains(probe, probe.members)) return true;
     if (performance.now() > until) break;
   }
-  probe.preferred = null;
+  prefer(probe, null);
   return false;
 };
 

@@ -31,6 +31,9 @@ const keyOf = members => JSON.stringify(members.map(({ of, number, bounds }) => 
 // A probe of a network. `preferred` is the event that is held before others in its part.
 export const probeOf = network => ({ network, members: membersOf(network), preferred: null, known: new Map() });
 
+// From now on an event is held before others in its part, or none where it is null.
+export const prefer = (probe, event) => { probe.preferred = event; };
+
 // The run that asks for just some members.
 const baseOf = ({ network, preferred }, members) => {
   const { period, activities } = network, kept = members.filter(member => isBinding(member, period));

@@ -28,11 +28,13 @@ const isAlong = (frame, line, events, { lower }) => {
   return Math.abs(one - other) < 2 || Math.abs(frame.reached[one] - frame.reached[other]) <= AS_LONG * lower;
 };
 
-// A train without the runs that leave the corridor, as one or more trains.
-const partsAlong = (view, frame, line, train) => {
-  const leaves = (step, place) => !isAlong(frame, line, train.events.slice(place, place + 2), view.network.activities.get(step));
-  const starts = [0, ...train.steps.flatMap((step, place) => leaves(step, place) ? [place + 1] : [])];
-  for (const start of starts.slice(1)) frame.away.add(train.steps[start - 1]);
+// The steps of a train that leave the corridor.
+const leavingOf = (view, frame, line, train) =>
+  train.steps.filter((step, place) => !isAlong(frame, line, train.events.slice(place, place + 2), view.network.activities.get(step)));
+
+// A train without the steps in `away`, as one or more trains.
+const partsAlong = ({ away }, train) => {
+  const starts = [0, ...train.steps.flatMap((step, place) => away.has(step) ? [place + 1] : [])];
   return starts.map((start, place) => trainPart(train, start, starts[place + 1] || train.events.length));
 };
 
@@ -72,9 +74,9 @@ const chosenMark = (view, frame, stops) => {
 
 // The diagram, and what it says of what is left out.
 const diagramOf = (view, line) => {
-  const frame = frameOf(line, view.network), name = `Distance-time diagram of the corridor ${line.stations.join(', ')}`;
-  const { page, clip } = sheetOf(frame, name), free = keptFree(view.network);
-  const parts = line.trains.flatMap(train => partsAlong(view, frame, line, train));
+  const whole = frameOf(line, view.network), away = new Set(line.trains.flatMap(train => leavingOf(view, whole, line, train)));
+  const frame = { ...whole, away }, { page, clip } = sheetOf(frame, `Distance-time diagram of the corridor ${line.stations.join(', ')}`);
+  const parts = line.trains.flatMap(train => partsAlong(frame, train)), free = keptFree(view.network);
   const trains = parts.map(train => ({ train, stops: stopsOf(view, frame, train) })).filter(({ stops }) => stops);
   clip.append(...trains.flatMap(({ train, stops }) => bandsOf(frame, train, stops, free)));
   const drawn = trains.map((each, count) => drawTrain(frame, each, count)), names = drawn.flatMap(each => [...each.querySelectorAll('text.end')]);

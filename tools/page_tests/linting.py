@@ -53,6 +53,7 @@ def what_scripts_share(suite: Suite, page: Hands) -> None:
     suite.note("exported, and not imported", {"they": []}, {"they": sorted({name for script in found.values() for name in script.exports} - taken)})
     entries = re.findall(r"<!-- modules: (\w+) -->", (TOP / "page/index.html").read_text())
     suite.note("modules of the page", {"they": sorted(found)}, {"they": sorted({name for entry in entries for name in below(found, entry)})})
+    suite.note("imports that are not in order", {"they": []}, {"they": [each.name for each in found.values() if [*each.imports] != sorted(each.imports)]})
     users = [path for path in (TOP / "tools").rglob("*") if path.is_file() and (path.suffix == ".py" or "page" in path.name)]
     used = "".join(path.read_text() for path in [*users, *(TOP / "python/pespbench/report").glob("*.js")])
     given = GIVEN.search(texts["outside"])

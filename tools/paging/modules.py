@@ -41,7 +41,9 @@ def read(path: pathlib.Path) -> Script:
     """The module in a file, where all that it imports is used."""
     name, text = path.stem, path.read_text()
     found = [(source, [word.strip() for word in names.split(",") if word.strip()]) for names, source in IMPORT.findall(text)]
-    whole = IMPORT.sub("", text)
+    whole, ends = IMPORT.sub("", text), [0, *(each.end() for each in IMPORT.finditer(text))]
+    if re.sub(r"^//.*", "", IMPORT.sub("", text[: ends[-1]]), flags=re.M).strip():
+        refuse(name, "imports below something else than comments")
     exports, body = EXPORT.findall(whole), EXPORT.sub("", whole)
     for line in OTHER.findall(body):
         refuse(name, f"has a line of another form than tools/page reads: {line}")

@@ -154,6 +154,7 @@ def page_scripts(suite: Suite) -> None:
         "a name that is not used": {"script__second_js": "import { Three } from './third.js';\n\n// As Three.\nexport const two = () => 2;\n"},
         "a name twice": {"script__second_js": second.replace("{ Three }", "{ Three, Three }")},
         "a module twice": {"script__second_js": "import { Four } from './third.js';\n" + second},
+        "an import below its code": {"script__second_js": "const one = 1;\n" + second},
         "a name that is declared here": {"script__second_js": second + "const Three = 3;\n"},
         "a name under another": {"script__second_js": second.replace("{ Three }", "{ Three as Four }")},
         "itself by another one": {"script__third_js": "import { two } from './second.js';\n" + third.replace("3", "two")},
