@@ -1,15 +1,13 @@
 -- Leaves, and nodes that are open: together they have each map below a cap.
-use Rattle.std.proofs.Common.{◌≡◌, ℕ, ◌⊎◌, inl, inr, All, List, [], ◌∷◌, ◌++◌, Some, refl, sym, ap, subst, ◌∙◌, arith}
-use Rattle.std.proofs.lemmas.List.Elements.{All-pop, All-push}
-use Rattle.pesp_search_least.specs.Sums.{AreHalves, InSome, IsCut, IsLowerBound, IsWithin, Sums}
+use Rattle.std.proofs.Common.{◌≡◌, ℕ, ◌≤◌, Option, None, IfSome, MatchOption, ◌⊎◌, inl, inr, All, List, [], ◌∷◌, ◌++◌, Some, refl, sym, ap, subst, ◌∙◌, arith}
+use Rattle.std.proofs.lemmas.List.Elements.{All-head, All-nil, All-pop, All-push, All-tail}
+use Rattle.std.proofs.lemmas.Bool.{cases_lt}
+use Rattle.pesp_search_least.specs.Sums.{AreHalves, InSome, IsCut, IsEmpty, IsLowerBound, IsWithin, Sums}
 use Rattle.pesp_search_least.proofs.Stack.{in_some_pop, in_some_push}
 use Rattle.pesp_search_cycles.specs.declared.boxes.Boxes.{Boxes}
 use Rattle.pesp_search_cycles.specs.declared.node.Node.{Node}
+use Rattle.pesp_search_cycles.specs.Leaves.{sums_of}
 use Rattle.pesp_search_cycles.specs.Maps.{AreBoxes, IsSummed, Net}
-
--- the maps of a node
-abbrev pub sums_of : Node → Sums
-sums_of n = IsSummed n.cycles.now n.boxes
 
 -- where boxes and cycles stay, the maps do
 pub same_sums : (new old : Node) → new.cycles ≡ old.cycles → new.boxes ≡ old.boxes → IsWithin (sums_of old) (sums_of new)
@@ -20,6 +18,11 @@ same_sums new old e f map sum s =
 pub bound_before : (new old : Node) (bound : ℕ) → new.cycles ≡ old.cycles → new.boxes ≡ old.boxes → IsLowerBound (sums_of new) bound → IsLowerBound (sums_of old) bound
 bound_before new old bound e f h map sum s = h map sum (same_sums new old e f map sum s)
 
+-- what a bound tells of maps is what a lesser one does
+pub bounded : (sums : Sums) (bound : Option ℕ) (n : ℕ) → MatchOption bound (IsEmpty sums) (IsLowerBound sums) → IfSome bound (λ b. n ≤ b) → IsLowerBound sums n
+bounded sums None n told less map sum s = absurd (told map sum s)
+bounded sums (Some b) n told less map sum s = omega (arith, told map sum s, less)
+
 -- those of leaves and of nodes
 abbrev pub InEither : Net → List Boxes → List Node → Sums
 InEither N leaves nodes map sum = InSome (IsSummed N) leaves map sum ⊎ InSome sums_of nodes map sum
@@ -29,6 +32,52 @@ pub record AreCovered (N : Net) (cap : ℕ) (all : Sums) (leaves : List Boxes) (
   pub same : All (λ n. n.cycles.now ≡ N) nodes
   pub fit : All (AreBoxes N) leaves
   pub cut : IsCut cap all (InEither N leaves nodes)
+
+-- no map of a leaf costs less
+abbrev pub AreAbove : Net → ℕ → List Boxes → Type 0
+AreAbove N least leaves = All (λ B. IsLowerBound (IsSummed N B) least) leaves
+
+-- what is told of the leaves so far
+pub record AreKept (N : Net) (cap : ℕ) (leaves : List Boxes) (least : ℕ) : Type 0 where
+  pub above : AreAbove N least leaves
+  pub low : least ≤ cap
+
+pub kept_more : (N M : Net) (cap : ℕ) (leaves : List Boxes) (least new : ℕ) (B : Boxes) → AreKept N cap leaves least → new ≤ least → M ≡ N → IsLowerBound (IsSummed M B) new → AreKept N cap (leaves ++ B ∷ []) new
+kept_more N M cap leaves least new B kept less same bound = record {
+  above =
+      All-push (λ (C : Boxes). IsLowerBound (IsSummed N C) new) leaves B (λ k d h map sum s. omega (arith, kept.above k d h map sum s, less))
+      (subst (λ (O : Net). IsLowerBound (IsSummed O B) new) same bound);
+  low = omega (arith, kept.low, less);
+}
+
+in_some_above : (N : Net) (least : ℕ) (leaves : List Boxes) → AreAbove N least leaves → IsLowerBound (InSome (IsSummed N) leaves) least
+in_some_above N least [] above map sum s = absurd s
+in_some_above N least (B ∷ leaves) above map sum s =
+    elim s [
+      | inl here ↦ All-head (λ (C : Boxes). IsLowerBound (IsSummed N C) least) B leaves above map sum here
+      | inr there ↦ in_some_above N least leaves (All-tail (λ (C : Boxes). IsLowerBound (IsSummed N C) least) B leaves above) map sum there
+    ]
+
+-- what all maps cost at least
+pub least_of_kept : (N : Net) (cap : ℕ) (all : Sums) (leaves : List Boxes) (least : ℕ) → AreKept N cap leaves least → IsCut cap all (InSome (IsSummed N) leaves) → IsLowerBound all least
+least_of_kept N cap all leaves least kept cut map sum s =
+    elim (cases_lt sum cap) [
+      | inl low ↦ in_some_above N least leaves kept.above map sum (cut.keeps map sum low s)
+      | inr high ↦ omega (arith, high, kept.low)
+    ]
+
+pub covered_first : (N : Net) (cap : ℕ) (nodes : List Node) → All (λ n. n.cycles.now ≡ N) nodes → AreCovered N cap (InSome sums_of nodes) [] nodes
+covered_first N cap nodes same = record {
+  same = same;
+  fit = All-nil (AreBoxes N);
+  cut = record { keeps = λ map sum less has. inr has; within = λ map sum has. elim has [ inl none ↦ absurd none | inr node ↦ node ] };
+}
+
+pub covered_last : (N : Net) (cap : ℕ) (all : Sums) (leaves : List Boxes) → AreCovered N cap all leaves [] → IsCut cap all (InSome (IsSummed N) leaves)
+covered_last N cap all leaves is = record {
+  keeps = λ map sum less has. elim (is.cut.keeps map sum less has) [ inl leaf ↦ leaf | inr none ↦ absurd none ];
+  within = λ map sum has. is.cut.within map sum (inl has);
+}
 
 module _ (N : Net) (cap : ℕ) (all : Sums) where
   module _ (leaves : List Boxes) (ns : List Node) (n : Node) (is : AreCovered N cap all leaves (ns ++ n ∷ [])) where

@@ -1,3 +1,4 @@
+pub mod Alike
 pub mod Asked
 pub mod Covered
 pub mod Firsts
@@ -7,7 +8,9 @@ pub mod Halved
 pub mod Narrowed
 pub mod Numbered
 pub mod Numbers
+pub mod Opened
 pub mod Outcomes
+pub mod Parted
 pub mod Pushed
 pub mod Ranged
 pub mod Regions

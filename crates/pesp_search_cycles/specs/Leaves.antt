@@ -1,11 +1,15 @@
 -- What becomes of a node where all maps below a cap are to be kept.
 use Rattle.std.specs.Prelude.{◌≡◌, ℕ, ◌<◌}
-use Rattle.pesp_search_least.specs.Sums.{AreHalves, IsLowerBound}
+use Rattle.pesp_search_least.specs.Sums.{AreHalves, IsLowerBound, Sums}
 use Rattle.pesp_search_cycles.specs.declared.leaves.Next.{Next}
 use Rattle.pesp_search_cycles.specs.declared.leaves.Next.TheVariants.{Nothing, Leaf, Halves}
 use Rattle.pesp_search_cycles.specs.declared.node.Node.{Node}
 use Rattle.pesp_search_cycles.specs.Maps.{IsSummed}
 use Rattle.pesp_search_cycles.specs.Splits.{size}
+
+-- the maps of a node
+abbrev pub sums_of : Node → Sums
+sums_of n = IsSummed n.cycles.now n.boxes
 
 -- no map of it is below the cap; or it has the same maps as before; or its maps are in two halves of a lesser size
 abbrev pub IsNext : ℕ → Node → Node → Next → Type 0

@@ -45,7 +45,7 @@ impl Boxes {
     }
 
     /// The same ranges once more.
-    fn copy(&self) -> Result<Boxes, Memory>
+    pub(crate) fn copy(&self) -> Result<Boxes, Memory>
         ensures { IfOk result (AreSame self.now) }
     {
         let Ok(numbers) = self.numbers.clone() else {

@@ -1,6 +1,7 @@
 //! Networks with walks in them.
 
 ghost use Rattle.std.specs.Prelude.{◌≡◌, ◌++◌, All, List, IfOk, IsTrue};
+ghost use Rattle.pesp_search_network.specs.Weights.{AreAlike};
 ghost use Rattle.pesp_search_cycles.specs.Maps.{AreCycles, Holds};
 ghost use Rattle.pesp_search_cycles.specs.Walks.{Path, joins};
 
@@ -86,6 +87,22 @@ impl<'a> Cycles<'a> {
                 return Err(Memory);
             }
         }
+        Ok(Cycles {
+            network,
+            walks,
+            cuts: self.cuts,
+        })
+    }
+
+    /// The same walks and cuts in a network that is the same but for what its arcs weigh.
+    pub(crate) fn over(&self, alloc: Global, network: &'a Network) -> Result<Cycles<'a>, Memory>
+        requires same { network.now ≡ record self.now.network { arcs = network.now.arcs } }
+        requires alike { AreAlike network.now.arcs self.now.network.arcs }
+        ensures network { IfOk result (λ cycles. cycles.network ≡ network.now) }
+        ensures walks { IfOk result (λ cycles. cycles.walks ≡ self.now.walks) }
+    {
+        network.sound();
+        let walks = copied(alloc, &self.walks)?;
         Ok(Cycles {
             network,
             walks,

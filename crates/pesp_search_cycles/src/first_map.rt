@@ -1,19 +1,21 @@
 //! The first map of least cost, phase by phase.
 
-ghost use Rattle.std.specs.Prelude.{◌≡◌, ◌+◌, ◌<◌, ◌^◌, IfOk};
+ghost use Rattle.std.specs.Prelude.{◌≡◌, ◌+◌, ◌<◌, ◌^◌, All, IfOk, length};
 ghost use Rattle.pesp_search_least.specs.Order.{EndsUnlessSpent, IsFirst, IsFirstOutcome};
 ghost use Rattle.pesp_search_least.specs.Spending.{OnlySpends};
-ghost use Rattle.pesp_search_least.specs.Sums.{IsLeast};
+ghost use Rattle.pesp_search_least.specs.Sums.{InSome, IsCut, IsLeast};
 ghost use Rattle.pesp_search_network.specs.Arcs.{IsCosted};
+ghost use Rattle.pesp_search_cycles.specs.Maps.{AreBoxes, IsAmong, IsSummed};
 
-use crate::Cycles;
 use crate::cuts::cuts_among;
 use crate::graph::Basis;
 use crate::held::Held;
-use crate::leaves::leaves_of;
+use crate::leaves::{Leaves, leaves_of};
 use crate::method::{basis_within, units_of_narrow, walks_of};
 use crate::phase::{Phase, Seeking, first_phase, phases_of, spent_of};
 use crate::residues::residue_ranges;
+use crate::starts::starts_of;
+use crate::{Cycles, Range};
 use pesp_base::Memory;
 use pesp_search_least::{Budget, Candidate, First, first as first_of};
 use pesp_search_network::Network;
@@ -25,6 +27,26 @@ fn seeking_by(basis: Basis, seeking: Seeking) -> Seeking {
         Basis::Narrow => seeking,
         Basis::Tree => Seeking::Nowhere,
     }
+}
+
+/// Boxes that have each map with these residues that costs as much as the candidate, where none costs less.
+fn leaves_at<'a>(
+    alloc: Global,
+    cycles: &'a Cycles<'a>,
+    residues: &'a [Range],
+    candidate: &'a Candidate,
+    budget: &mut Budget,
+) -> Result<Leaves, Memory>
+    requires long { length residues.now ≡ cycles.now.network.events }
+    requires room { candidate.now.cost + 1 < 2 ^ 64 }
+    ensures cut { IfOk result (λ leaves. IsCut (candidate.now.cost + 1)
+        (IsAmong cycles.now.network residues.now) (InSome (IsSummed cycles.now) leaves.boxes.items)) }
+    ensures fit { IfOk result (λ leaves. All (AreBoxes cycles.now) leaves.boxes.items) }
+    ensures budget { OnlySpends budget.old.left budget.new.left }
+{
+    let starts = starts_of(alloc, cycles, residues, candidate, budget)?;
+    let leaves = leaves_of(alloc, &starts, residues, candidate.cost, budget)?;
+    Ok(leaves)
 }
 
 /// The same as [`first`], with these cuts.
@@ -49,7 +71,7 @@ fn first_by(
     let seeking = seeking_by(basis, seeking);
     let cuts = cuts_among(alloc, &plain, &residues, seeking, candidate.cost, budget)?;
     let cycles = Cycles::new(alloc, network, walks, &cuts)?;
-    let leaves = leaves_of(alloc, &cycles, &residues, candidate.cost, budget)?;
+    let leaves = leaves_at(alloc, &cycles, &residues, &candidate, budget)?;
     let region = Held::new(alloc, &cycles, residues, leaves)?;
     first_of(alloc, region, candidate, budget)
 }

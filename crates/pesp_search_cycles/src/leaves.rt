@@ -1,14 +1,17 @@
 //! The leaves of a search for all maps of least cost: boxes that have each of them.
 
-ghost use Rattle.std.specs.Prelude.{◌≡◌, ◌+◌, ◌++◌, ◌∷◌, ◌^◌, ◌<◌, [], All, IfOk, OnOk, length};
+ghost use Rattle.std.specs.Prelude.{◌≡◌, ℕ, ◌+◌, ◌++◌, ◌∷◌, ◌^◌, ◌<◌, ◌≤◌, [], All, IfOk, IfSome, List, OnOk, length};
 ghost use Rattle.pesp_search_least.specs.Spending.{OnlySpends};
-ghost use Rattle.pesp_search_least.specs.Sums.{InSome, IsCut, IsWithin};
-ghost use Rattle.pesp_search_cycles.specs.Leaves.{IsNext};
+ghost use Rattle.pesp_search_least.specs.Sums.{InSome, IsCut, IsLowerBound, IsWithin};
+ghost use Rattle.pesp_search_cycles.specs.Leaves.{IsNext, sums_of};
 ghost use Rattle.pesp_search_cycles.specs.Maps.{AreBoxes, IsAmong, IsSummed};
+ghost use Rattle.pesp_search_cycles.specs.Starts.{AreStarts, IsInBoxes};
 
 use crate::boxes::Boxes;
 use crate::node::Node;
+use crate::parts::Part;
 use crate::proposer::Proposer;
+use crate::starts::Starts;
 use crate::{Cycles, Range, Walk};
 use pesp_base::Memory;
 use pesp_search_graph::Arc;
@@ -28,6 +31,8 @@ pub(crate) struct Leaves {
     pub(crate) boxes: Vec<Boxes>,
     // One for each of the boxes: it knows walks more, and nothing that it says is relied upon.
     proposers: Vec<Proposer>,
+    // What the maps in all boxes cost at least.
+    pub(crate) least: u64,
 }
 
 /// What becomes of a node.
@@ -41,13 +46,36 @@ pub(crate) enum Next<'a> {
     Halves(Node<'a>),
 }
 
+/// What maps cost at least where some cost so much at least, and others as a bound tells, which is none where there are no others.
+fn lesser(least: u64, bound: Option<u64>) -> u64
+    ensures least { result ≤ least }
+    ensures bound { IfSome bound (λ bound. result ≤ bound) }
+{
+    match bound {
+        Some(bound) => least.min(bound),
+        None => least,
+    }
+}
+
+/// Nodes that are to be gone on with.
+#[derive(Drop)]
+pub(crate) struct Open<'a> {
+    // Those of all nodes.
+    cycles: &'a Cycles<'a>,
+    // The last one comes first.
+    nodes: Vec<Node<'a>>,
+}
+
 impl Leaves {
-    fn new(alloc: Global) -> Leaves
-        ensures { result.boxes.items ≡ [] }
+    /// None, of maps that cost so much at least.
+    fn new(alloc: Global, least: u64) -> Leaves
+        ensures boxes { result.boxes.items ≡ [] }
+        ensures least { result.least ≡ least }
     {
         Leaves {
             boxes: Vec::new(alloc),
             proposers: Vec::new(alloc),
+            least,
         }
     }
 
@@ -55,7 +83,10 @@ impl Leaves {
     fn push(&mut self, node: Node) -> Result<(), Memory>
         ensures boxes { OnOk result (self.new.boxes.items ≡ self.old.boxes.items ++ node.entry.boxes ∷ []) }
         ensures fit { AreBoxes node.entry.cycles.now node.entry.boxes }
+        ensures least { self.new.least ≤ self.old.least }
+        ensures bound { OnOk result (IsLowerBound (sums_of node.entry) self.new.least) }
     {
+        self.least = lesser(self.least, node.bound());
         let (boxes, proposer) = node.into_parts();
         if self.proposers.push(proposer).is_err() || self.boxes.push(boxes).is_err() {
             return Err(Memory);
@@ -121,7 +152,7 @@ fn go_on<'a>(
     if limits.cap <= bound {
         return Ok(Next::Nothing);
     }
-    if limits.floor <= bound && node.candidate(alloc)?.is_some() {
+    if limits.floor <= bound && node.is_settled(alloc)? {
         return Ok(Next::Leaf);
     }
     match node.halves()? {
@@ -144,25 +175,24 @@ fn push_halves<'a>(
     Ok(())
 }
 
-/// The leaves of a node that may have maps below the cap: `most` and one more, and then all that are open, where there are more;
+/// The leaves of nodes that may have maps below the cap: `most` and one more, and then all that are open, where there are more;
 /// and all that are open where the budget is spent.
 fn leaves_below<'a>(
     alloc: Global,
-    root: Node<'a>,
+    stack: Open<'a>,
     limits: Limits,
     most: usize,
     budget: &mut Budget,
 ) -> Result<Leaves, Memory>
-    ensures cut { IfOk result (λ leaves. IsCut limits.cap (IsSummed root.entry.cycles.now root.entry.boxes)
-        (InSome (IsSummed root.entry.cycles.now) leaves.boxes.items)) }
-    ensures fit { IfOk result (λ leaves. All (AreBoxes root.entry.cycles.now) leaves.boxes.items) }
+    requires same { All (λ n. n.cycles.now ≡ stack.cycles.now) stack.nodes.items }
+    ensures cut { IfOk result (λ leaves. IsCut limits.cap (InSome sums_of stack.entry.nodes.items)
+        (InSome (IsSummed stack.entry.cycles.now) leaves.boxes.items)) }
+    ensures fit { IfOk result (λ leaves. All (AreBoxes stack.entry.cycles.now) leaves.boxes.items) }
+    ensures least { IfOk result (λ leaves. IsLowerBound (InSome sums_of stack.entry.nodes.items) leaves.least) }
     ensures budget { OnlySpends budget.old.left budget.new.left }
 {
-    let mut leaves = Leaves::new(alloc);
-    let mut nodes = Vec::new(alloc);
-    if nodes.push(root).is_err() {
-        return Err(Memory);
-    }
+    let mut leaves = Leaves::new(alloc, limits.cap);
+    let mut nodes = stack.nodes;
     'nodes: while let Some(mut node) = nodes.pop() {
         let is_over = budget.is_spent() || most < leaves.boxes.len();
         match go_on(alloc, &mut node, limits, is_over, budget)? {
@@ -174,8 +204,13 @@ fn leaves_below<'a>(
     Ok(leaves)
 }
 
-/// The node of all maps with these residues.
-fn whole<'a>(alloc: Global, cycles: &'a Cycles<'a>, residues: &[Range]) -> Result<Node<'a>, Memory>
+/// The node of all maps with these residues, where the walks of one part are looked at, if there is one.
+pub(crate) fn whole<'a>(
+    alloc: Global,
+    cycles: &'a Cycles<'a>,
+    residues: &[Range],
+    part: Option<Part>,
+) -> Result<Node<'a>, Memory>
     requires { length residues.now ≡ cycles.now.network.events }
     ensures cycles { IfOk result (λ node. node.cycles.now ≡ cycles.now) }
     ensures all { IfOk result (λ node. IsWithin (IsAmong cycles.now.network residues.now)
@@ -183,18 +218,20 @@ fn whole<'a>(alloc: Global, cycles: &'a Cycles<'a>, residues: &[Range]) -> Resul
     ensures within { IfOk result (λ node. IsWithin (IsSummed cycles.now node.boxes)
         (IsAmong cycles.now.network residues.now)) }
 {
-    let proposer = Proposer::new(alloc, cycles)?;
-    match Node::among(alloc, cycles, residues, proposer, true)? {
+    let proposer = Proposer::of(alloc, cycles, part)?;
+    match Node::among(alloc, cycles, residues, proposer, part.is_none())? {
         Some(node) => Ok(node),
         None => Err(Memory),
     }
 }
 
-/// Boxes that have each map with these residues of this cost, where none costs less: few, or those of all maps.
-pub(crate) fn leaves_of<'a>(
+/// Boxes that have each map with these residues of this cost, where none costs less, or others too: what maps in them cost at
+/// least is told. The walks of one part are looked at.
+pub(crate) fn leaves_of_part<'a>(
     alloc: Global,
     cycles: &'a Cycles<'a>,
     residues: &[Range],
+    part: Part,
     cost: u64,
     budget: &mut Budget,
 ) -> Result<Leaves, Memory>
@@ -203,19 +240,75 @@ pub(crate) fn leaves_of<'a>(
     ensures cut { IfOk result (λ leaves. IsCut (cost + 1) (IsAmong cycles.now.network residues.now)
         (InSome (IsSummed cycles.now) leaves.boxes.items)) }
     ensures fit { IfOk result (λ leaves. All (AreBoxes cycles.now) leaves.boxes.items) }
+    ensures least { IfOk result (λ leaves. IsLowerBound (IsAmong cycles.now.network residues.now) leaves.least) }
     ensures budget { OnlySpends budget.old.left budget.new.left }
 {
-    let root = whole(alloc, cycles, residues)?;
+    let root = whole(alloc, cycles, residues, Some(part))?;
     let most = most_of(root.entries());
     let limits = Limits {
         floor: cost,
         cap: cost + 1,
     };
-    let leaves = leaves_below(alloc, root, limits, most, budget)?;
+    let mut nodes = Vec::new(alloc);
+    if nodes.push(root).is_err() {
+        return Err(Memory);
+    }
+    let stack = Open { cycles, nodes };
+    let leaves = leaves_below(alloc, stack, limits, most, budget)?;
+    Ok(leaves)
+}
+
+/// The nodes of all maps with these residues in each of some boxes.
+fn opened<'a>(alloc: Global, starts: &Starts<'a>, residues: &[Range]) -> Result<Open<'a>, Memory>
+    requires long { length residues.now ≡ starts.now.cycles.now.network.events }
+    ensures cycles { IfOk result (λ stack. stack.cycles.now ≡ starts.now.cycles.now) }
+    ensures same { IfOk result (λ stack. All (λ n. n.cycles.now ≡ stack.cycles.now) stack.nodes.items) }
+    ensures all { IfOk result (λ stack. (xs : List ℕ) (sum : ℕ)
+        → IsAmong starts.now.cycles.now.network residues.now xs sum
+        → InSome (IsInBoxes starts.now.cycles.now) starts.now.boxes.items xs sum
+        → InSome sums_of stack.nodes.items xs sum) }
+    ensures within { IfOk result (λ stack. IsWithin (InSome sums_of stack.nodes.items)
+        (IsAmong starts.now.cycles.now.network residues.now)) }
+{
+    let cycles = starts.cycles;
+    let mut nodes = Vec::new(alloc);
+    for index in 0..starts.boxes.len() {
+        let root = whole(alloc, cycles, residues, None)?;
+        if nodes.push(root.narrowed(&starts.boxes[index])).is_err() {
+            return Err(Memory);
+        }
+    }
+    Ok(Open { cycles, nodes })
+}
+
+/// Boxes that have each map with these residues of this cost, where none costs less: few, or those of all maps.
+pub(crate) fn leaves_of<'a>(
+    alloc: Global,
+    starts: &Starts<'a>,
+    residues: &[Range],
+    cost: u64,
+    budget: &mut Budget,
+) -> Result<Leaves, Memory>
+    requires long { length residues.now ≡ starts.now.cycles.now.network.events }
+    requires room { cost + 1 < 2 ^ 64 }
+    requires starts { AreStarts starts.now.cycles.now.network starts.now.cycles.now residues.now cost starts.now.boxes.items }
+    ensures cut { IfOk result (λ leaves. IsCut (cost + 1) (IsAmong starts.now.cycles.now.network residues.now)
+        (InSome (IsSummed starts.now.cycles.now) leaves.boxes.items)) }
+    ensures fit { IfOk result (λ leaves. All (AreBoxes starts.now.cycles.now) leaves.boxes.items) }
+    ensures budget { OnlySpends budget.old.left budget.new.left }
+{
+    let root = whole(alloc, starts.cycles, residues, None)?;
+    let most = most_of(root.entries());
+    let stack = opened(alloc, starts, residues)?;
+    let limits = Limits {
+        floor: cost,
+        cap: cost + 1,
+    };
+    let leaves = leaves_below(alloc, stack, limits, most, budget)?;
     if leaves.boxes.len() <= most {
         return Ok(leaves);
     }
-    let mut leaves = Leaves::new(alloc);
-    leaves.push(whole(alloc, cycles, residues)?)?;
+    let mut leaves = Leaves::new(alloc, 0);
+    leaves.push(root)?;
     Ok(leaves)
 }

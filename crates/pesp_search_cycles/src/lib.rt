@@ -15,12 +15,14 @@ mod held;
 mod leaves;
 mod method;
 mod node;
+mod parts;
 mod phase;
 mod proposer;
 mod range;
 mod residues;
 mod root;
 mod separate;
+mod starts;
 mod terms;
 #[cfg(test)]
 mod tests;

@@ -175,6 +175,14 @@ impl<'a> Node<'a> {
         self
     }
 
+    /// Whether one of its maps is at hand; where not all walks are looked at, whether those that are take whole periods.
+    pub(crate) fn is_settled(&self, alloc: Global) -> Result<bool, Memory> {
+        if self.proposer.is_part() {
+            return Ok(self.proposer.is_whole(self.cycles.period()));
+        }
+        Ok(self.candidate(alloc)?.is_some())
+    }
+
     /// How many entries its tableau has.
     pub(crate) fn entries(&self) -> usize {
         self.proposer.size()

@@ -8,13 +8,14 @@ mod terms;
 
 use crate::boxes::Boxes;
 use crate::flip::FlipCut;
+use crate::parts::Part;
 use crate::{Cycles, Walk};
 use pesp_base::Memory;
 use pesp_search_graph::Arc;
 use pesp_search_network::Network;
-use pesp_search_simplex::{End, PARTS, SCALE, Tableau};
+use pesp_search_simplex::{End, PARTS, SCALE, Tableau, Term};
 use std::alloc::Global;
-use terms::{base_of, costs_of, most_of, terms_of, terms_of_cut};
+use terms::{are_of, base_of, costs_of, most_of, terms_of, terms_of_cut};
 
 /// How many entries the tableaus of waiting nodes have together at most: 16 MB. The others of them find theirs anew.
 const MOST_ENTRIES: usize = 2_097_152;
@@ -25,8 +26,10 @@ const MOST_ENTRIES: usize = 2_097_152;
 pub(crate) struct Proposer {
     // A row for each walk, and for each cut.
     tableau: Tableau,
-    // Of each walk, what the lower bounds of its arcs add up to.
-    bases: Vec<i64>,
+    // Of each walk that is looked at, what the lower bounds of its arcs add up to.
+    bases: Vec<Option<i64>>,
+    // Whether some walks are not looked at.
+    is_part: bool,
     // After how many walks the cuts come, and how many there are.
     before: usize,
     cuts: usize,
@@ -41,11 +44,21 @@ pub(crate) struct Proposer {
 impl Proposer {
     /// A tableau of a network with these walks.
     pub(crate) fn new(alloc: Global, cycles: &Cycles) -> Result<Proposer, Memory> {
+        Proposer::of(alloc, cycles, None)
+    }
+
+    /// The same, in which the walks and cuts of one part are looked at, if there is one; others may take any times.
+    pub(crate) fn of(
+        alloc: Global,
+        cycles: &Cycles,
+        part: Option<Part>,
+    ) -> Result<Proposer, Memory> {
         let network = cycles.network();
         let costs = costs_of(alloc, network)?;
         let mut proposer = Proposer {
             tableau: Tableau::new(alloc, &costs)?,
             bases: Vec::new(alloc),
+            is_part: part.is_some(),
             before: cycles.walks().len(),
             cuts: 0,
             numbers: costs.len(),
@@ -53,10 +66,19 @@ impl Proposer {
             depth: 0,
         };
         for walk in cycles.walks() {
-            proposer.push(alloc, network.arcs(), walk)?;
+            let terms = terms_of(alloc, network.arcs().len(), walk)?;
+            let base = base_of(network.arcs(), walk);
+            proposer.push_row(
+                &terms,
+                if are_of(&terms, part) {
+                    Some(base)
+                } else {
+                    None
+                },
+            )?;
         }
         for cut in cycles.cuts() {
-            proposer.push_cut(alloc, network, cut)?;
+            proposer.push_cut(alloc, network, cut, part)?;
         }
         Ok(proposer)
     }
@@ -64,23 +86,33 @@ impl Proposer {
     /// Takes one walk more.
     pub(crate) fn push(&mut self, alloc: Global, arcs: &[Arc], walk: &Walk) -> Result<(), Memory> {
         let terms = terms_of(alloc, arcs.len(), walk)?;
-        self.tableau.push_row(&terms)?;
-        if self.bases.push(base_of(arcs, walk)).is_err() {
+        self.push_row(&terms, Some(base_of(arcs, walk)))
+    }
+
+    /// Takes the terms of a walk, with what the lower bounds of its arcs add up to where it is looked at.
+    fn push_row(&mut self, terms: &[Term], base: Option<i64>) -> Result<(), Memory> {
+        self.tableau.push_row(terms)?;
+        if self.bases.push(base).is_err() {
             return Err(Memory);
         }
         Ok(())
     }
 
     /// Takes a cut: a number for what its terms are together.
-    fn push_cut(&mut self, alloc: Global, network: &Network, cut: &FlipCut) -> Result<(), Memory> {
+    fn push_cut(
+        &mut self,
+        alloc: Global,
+        network: &Network,
+        cut: &FlipCut,
+        part: Option<Part>,
+    ) -> Result<(), Memory> {
         let terms = terms_of_cut(alloc, cut)?;
         self.tableau.push_row(&terms)?;
-        let number = self
-            .numbers
-            .saturating_add(self.before)
-            .saturating_add(self.cuts);
-        let most = most_of(network, &cut.terms).max(cut.least);
-        self.tableau.set_range(number, cut.least, most);
+        if are_of(&terms, part) {
+            let number = self.number_of_cut(self.cuts);
+            let most = most_of(network, &cut.terms).max(cut.least);
+            self.tableau.set_range(number, cut.least, most);
+        }
         self.cuts = self.cuts.saturating_add(1);
         Ok(())
     }
@@ -105,6 +137,11 @@ impl Proposer {
         !self.tableau.is_basic(self.number_of_cut(cut))
     }
 
+    /// Whether some walks are not looked at.
+    pub(crate) fn is_part(&self) -> bool {
+        self.is_part
+    }
+
     /// What the tableau says of a slack or a residue, in parts.
     pub(crate) fn parts(&self, index: usize) -> i64 {
         self.tableau.value(index)
@@ -118,6 +155,7 @@ impl Proposer {
         Ok(Proposer {
             tableau,
             bases,
+            is_part: self.is_part,
             before: self.before,
             cuts: self.cuts,
             numbers: self.numbers,
@@ -151,14 +189,12 @@ impl Proposer {
             self.tableau.set_range(number, range.low, range.high);
         }
         for (index, range) in boxes.rounds.iter().enumerate() {
-            let base = match self.bases.get(index) {
-                Some(base) => *base,
-                None => 0,
-            };
-            let low = range.low.saturating_sub(base);
-            let high = range.high.saturating_sub(base);
-            let number = self.number_of(index);
-            self.tableau.set_range(number, low, high);
+            if let Some(Some(base)) = self.bases.get(index) {
+                let low = range.low.saturating_sub(*base);
+                let high = range.high.saturating_sub(*base);
+                let number = self.number_of(index);
+                self.tableau.set_range(number, low, high);
+            }
         }
     }
 

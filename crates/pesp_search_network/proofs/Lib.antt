@@ -7,3 +7,4 @@ pub mod Thinned
 pub mod Together
 pub mod Tried
 pub mod Turned
+pub mod Weights

@@ -4,3 +4,4 @@ pub mod Only
 pub mod Pieces
 pub mod SumsApart
 pub mod Tried
+pub mod Weights

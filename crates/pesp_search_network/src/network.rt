@@ -1,12 +1,13 @@
 //! Networks.
 
-ghost use Rattle.std.specs.Prelude.{◌≡◌, ℕ, ◌+◌, ◌*◌, ◌<◌, ◌≤◌, [], ◌∷◌, ◌++◌, true, false, All, IfOk, OnOk, OnErr, filter, length, replicate, slice_index_or, slice_set};
+ghost use Rattle.std.specs.Prelude.{◌≡◌, ◌==◌, ℕ, ◌+◌, ◌*◌, ◌<◌, ◌≤◌, [], ◌∷◌, ◌++◌, true, false, All, IfOk, OnOk, OnErr, filter, length, replicate, slice_index_or, slice_set};
 ghost use Rattle.pesp_search_network.specs.Arcs.{AreArcs, IsBetween, has};
 ghost use Rattle.pesp_search_network.specs.Pieces.{is_of};
+ghost use Rattle.pesp_search_network.specs.Weights.{kept, weighed};
 
 use crate::Arc;
 use crate::separation::Separation;
-use pesp_base::{Memory, Period};
+use pesp_base::{Memory, Period, Weight};
 use std::alloc::Global;
 use std::marker::Model;
 
@@ -31,6 +32,39 @@ impl Model for Network {
     ghost view = { λ a. record { period = a.period; events = a.events; arcs = a.arcs.items; rows = a.rows.items } };
 
     ghost invariant = { λ a. AreArcs (record { period = a.period; events = a.events; arcs = a.arcs.items; rows = a.rows.items }) };
+}
+
+/// The same arc, without its weight where that is not kept.
+fn weighing(arc: Arc, is_kept: bool) -> Arc
+    ensures { result ≡ kept is_kept arc }
+{
+    if is_kept {
+        return arc;
+    }
+    match Weight::new(0) {
+        Some(weight) => Arc { weight, ..arc },
+        None => arc,
+    }
+}
+
+/// The same arcs, of which those of this part alone have their weights.
+fn arcs_of_part(
+    alloc: Global,
+    arcs: &[Arc],
+    parts: &[usize],
+    part: usize,
+) -> Result<Vec<Arc>, Memory>
+    requires { length parts.now ≡ length arcs.now }
+    ensures { IfOk result (λ of_part. of_part.items ≡ weighed (λ p. p == part) parts.now arcs.now) }
+{
+    let mut of_part = Vec::new(alloc);
+    for index in 0..arcs.len() {
+        let arc = weighing(arcs[index], parts[index] == part);
+        if of_part.push(arc).is_err() {
+            return Err(Memory);
+        }
+    }
+    Ok(of_part)
 }
 
 impl Network {
@@ -127,6 +161,24 @@ impl Network {
             }) }
     {
         let arcs = self.arcs_of(alloc, cut, side)?;
+        let Ok(rows) = self.rows.clone() else {
+            return Err(Memory);
+        };
+        Ok(Network {
+            period: self.period,
+            events: self.events,
+            arcs,
+            rows,
+        })
+    }
+
+    /// The same network, whose arcs weigh nothing but those of this part.
+    pub fn of_part(&self, alloc: Global, parts: &[usize], part: usize) -> Result<Network, Memory>
+        requires { length parts.now ≡ length self.now.arcs }
+        ensures { IfOk result (λ network.
+            network ≡ record self.now { arcs = weighed (λ p. p == part) parts.now self.now.arcs }) }
+    {
+        let arcs = arcs_of_part(alloc, &self.arcs, parts, part)?;
         let Ok(rows) = self.rows.clone() else {
             return Err(Memory);
         };

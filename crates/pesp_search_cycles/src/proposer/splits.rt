@@ -30,7 +30,7 @@ impl Proposer {
         if !self.tableau.is_basic(number) {
             return None;
         }
-        let base = self.bases.get(walk)?.saturating_mul(PARTS);
+        let base = (*self.bases.get(walk)?)?.saturating_mul(PARTS);
         let time = self.tableau.value(number).saturating_add(base);
         let whole = period.saturating_mul(PARTS);
         if whole <= 0 {
@@ -69,7 +69,7 @@ impl Proposer {
     }
 
     /// Whether the time of each walk is a whole number of periods.
-    pub(super) fn is_whole(&self, period: Period) -> bool {
+    pub(crate) fn is_whole(&self, period: Period) -> bool {
         for walk in 0..self.bases.len() {
             if self.value_of(walk, i64::from(period.get())).is_some() {
                 return false;

@@ -1,7 +1,8 @@
 //! What the rows of a tableau are made of: walks and cuts as terms.
 
 use crate::Walk;
-use crate::flip::{FlipCut, Part};
+use crate::flip::{FlipCut, Part as Share};
+use crate::parts::Part;
 use pesp_base::Memory;
 use pesp_search_graph::Arc;
 use pesp_search_network::Network;
@@ -79,8 +80,17 @@ pub(super) fn terms_of_cut(alloc: Global, cut: &FlipCut) -> Result<Vec<Term>, Me
     Ok(terms)
 }
 
+/// Whether the first of the terms is in the part; all are, where one is.
+pub(super) fn are_of(terms: &[Term], part: Option<Part>) -> bool {
+    match (part, terms.first()) {
+        (Some(part), Some(term)) => part.has(term.number),
+        (Some(_), None) => false,
+        (None, _) => true,
+    }
+}
+
 /// What terms are together at most.
-pub(super) fn most_of(network: &Network, terms: &[Part]) -> i64 {
+pub(super) fn most_of(network: &Network, terms: &[Share]) -> i64 {
     let period = network.period();
     let mut most: i64 = 0;
     for term in terms {

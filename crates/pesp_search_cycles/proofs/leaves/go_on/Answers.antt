@@ -1,7 +1,8 @@
 -- The bound is that of the maps before.
 use Rattle.std.proofs.Common.{◌≡◌, ℕ, Option, Some, None, MatchOption, refl, arith}
 use Rattle.pesp_search_least.specs.Sums.{IsEmpty, IsLowerBound}
-use Rattle.pesp_search_cycles.proofs.Covered.{bound_before, sums_of}
+use Rattle.pesp_search_cycles.specs.Leaves.{sums_of}
+use Rattle.pesp_search_cycles.proofs.Covered.{bound_before}
 use Rattle.pesp_search_cycles.proofs.leaves.go_on.Goals as goal
 
 pub returns-in_default-clause-next : goal.returns-in_default-clause-next
