@@ -66,7 +66,7 @@ int main(int count, char **words) {
     struct bytes activities = file_at(words[2]), times = file_at(words[3]);
     struct pesp_session session = {0};
     struct pesp_told told;
-    pesp_open((uint16_t)period, activities.at, activities.length, activities.at, 0, times.at, times.length, &session, &told);
+    pesp_open((uint16_t)period, activities.at, activities.length, NULL, 0, times.at, times.length, &session, &told);
     if (told.status != PESP_DONE) fail("not opened", &told);
 
     static uint32_t events[20000];

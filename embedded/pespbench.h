@@ -64,14 +64,15 @@ struct pesp_told {
  * commands: the lines, with or without a last line feed.
  * out: the room for the replies. As many of their bytes as fit are put in front of it, and what is after them stays as
  *     it was. Where `told->length` is greater than `out_length`, call once more with so much room: a run gives the same
- *     replies each time, but for where memory is wanted.
+ *     replies each time (tested, not proved), but for where memory is wanted.
  * told: is filled in whole, whatever was there.
  *
  * Nothing is kept between calls, and nothing of the caller's is kept or given back: all memory that a call takes it has
  * given back when it returns. It takes it by malloc, realloc and free (heap.c). Calls on several threads do not meet.
  *
- * The caller sees to it that each pointer is one of memory that is its own, and is not null, also where the length is 0;
- * that the bytes after the first four pairs are set, and stay as they are during the call; that `out` (which need not be
+ * The caller sees to it that each pointer is one of memory that is its own, or null where the length is 0 (the library
+ * itself is never given null: the names at the end of this file see to that, for calls that are written with it); that the
+ * bytes after the first four pairs are set, and stay as they are during the call; that `out` (which need not be
  * set) and `told` meet nothing else that the call is given; that each length is below 2^63; and that the stack has room
  * (128 kB). `period` takes the whole numbers of 16 bits. */
 void pesp_answer(uint16_t period, const uint8_t *activities, size_t activities_length, const uint8_t *fixed,
@@ -166,5 +167,41 @@ void pesp_search(struct pesp_session *session, uint64_t nodes, uint16_t *out, si
 #ifdef __cplusplus
 }
 #endif
+
+/* In the place of null where there is nothing: bytes, and room for bytes and numbers, of which none is read or written. */
+static inline const uint8_t *pesp_bytes(const uint8_t *bytes) {
+    static const uint8_t none = 0;
+    return bytes != NULL ? bytes : &none;
+}
+
+static inline uint8_t *pesp_room(uint8_t *out) {
+    static uint8_t none;
+    return out != NULL ? out : &none;
+}
+
+static inline uint16_t *pesp_room_of_times(uint16_t *out) {
+    static uint16_t none;
+    return out != NULL ? out : &none;
+}
+
+static inline uint32_t *pesp_room_of_events(uint32_t *out) {
+    static uint32_t none;
+    return out != NULL ? out : &none;
+}
+
+#define pesp_answer(period, activities, activities_length, fixed, fixed_length, times, times_length, commands, commands_length, \
+                    out, out_length, told)                                                                                      \
+    pesp_answer(period, pesp_bytes(activities), activities_length, pesp_bytes(fixed), fixed_length, pesp_bytes(times),          \
+                times_length, pesp_bytes(commands), commands_length, pesp_room(out), out_length, told)
+#define pesp_open(period, activities, activities_length, fixed, fixed_length, times, times_length, session, told)         \
+    pesp_open(period, pesp_bytes(activities), activities_length, pesp_bytes(fixed), fixed_length, pesp_bytes(times), \
+              times_length, session, told)
+#define pesp_ask(session, line, line_length, out, out_length, told) \
+    pesp_ask(session, pesp_bytes(line), line_length, pesp_room(out), out_length, told)
+#define pesp_events(session, out, out_length, told) pesp_events(session, pesp_room_of_events(out), out_length, told)
+#define pesp_times(session, out, out_length, told) pesp_times(session, pesp_room_of_times(out), out_length, told)
+#define pesp_domain(session, event, out, out_length, told) pesp_domain(session, event, pesp_room(out), out_length, told)
+#define pesp_search(session, nodes, out, out_length, found, told) \
+    pesp_search(session, nodes, pesp_room_of_times(out), out_length, found, told)
 
 #endif

@@ -22,7 +22,7 @@ int main(int count, char **words) {
     struct pesp_session session = {0};
     struct pesp_found found = {0, 0, PESP_NOTHING_YET};
     struct pesp_told told;
-    pesp_open((uint16_t)strtoul(words[1], NULL, 10), file, length, file, 0, file, 0, &session, &told);
+    pesp_open((uint16_t)strtoul(words[1], NULL, 10), file, length, NULL, 0, NULL, 0, &session, &told);
 
     static uint16_t times[20000];
     clock_t begun = clock();

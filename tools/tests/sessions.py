@@ -284,13 +284,27 @@ static void one(void) {
     uint8_t reply[128];
     uint16_t best[2];
     uint64_t cost = 0;
-    pesp_open(10, (const uint8_t *)two, strlen(two), reply, 0, (const uint8_t *)times, strlen(times), &session, &told);
+    pesp_open(10, (const uint8_t *)two, strlen(two), NULL, 0, (const uint8_t *)times, strlen(times), &session, &told);
     if (told.status != PESP_DONE) abort();
     pesp_ask(&session, (const uint8_t *)"span 1 4 5", 10, reply, sizeof reply, &told);
     if (told.status != PESP_DONE || told.length != 3 || memcmp(reply, "ok\n", 3) != 0) abort();
+    /* Null where there is nothing. */
+    pesp_ask(&session, NULL, 0, NULL, 0, &told);
+    if (told.status != PESP_DONE || told.length != 0) abort();
+    pesp_ask(&session, (const uint8_t *)"cost", 4, NULL, 0, &told);
+    if (told.status != PESP_DONE || told.length != 7) abort();
+    pesp_events(&session, NULL, 0, &told);
+    if (told.status != PESP_DONE || told.length != 2) abort();
+    pesp_times(&session, NULL, 0, &told);
+    if (told.status != PESP_DONE || told.length != 2) abort();
+    pesp_domain(&session, 1, NULL, 0, &told);
+    if (told.status != PESP_DONE || told.length != 2) abort();
+    pesp_answer(10, NULL, 0, NULL, 0, NULL, 0, NULL, 0, NULL, 0, &told);
+    if (told.status != PESP_DONE || told.length != 0) abort();
     pesp_cost(&session, &cost, &told);
     if (told.status != PESP_DONE || cost != 2) abort();
     pesp_search(&session, 1000, best, 2, &found, &told);
+    pesp_search(&session, 0, NULL, 0, &found, &told);
     if (told.length != 2 || found.state != PESP_OPTIMUM || found.cost != 2 || found.lower_bound != 2) abort();
     pesp_close(&session);
 }
