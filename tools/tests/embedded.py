@@ -87,7 +87,7 @@ def asked_by(words: Sequence[str]) -> List[str]:
     return [given["--period"], given[""], given["--fixed"], given["--times"]]
 
 
-@within(240)
+@within(480)
 def embedded(suite: Suite) -> None:
     """The stories of examples/ that have commands, and drawn runs."""
     made_of = callers(suite)
