@@ -36,10 +36,12 @@ def limit_of(group: Group) -> int:
 def alone(group: Group, suite: Suite) -> None:
     """Runs a group in a session of its own, so that all that it starts can be ended with it.
 
-    Who starts the tests in the background of a script has interrupts ignored, and so would all that they start.
+    Who starts the tests in the background of a script has interrupts ignored, or by `nohup` hang-ups, and so would all that they
+    start.
     """
     os.setsid()
     signal.signal(signal.SIGINT, signal.default_int_handler)
+    signal.signal(signal.SIGHUP, signal.SIG_DFL)
     try:
         group(suite)
     except Exception as fault:  # noqa: BLE001  what breaks a group off is told, whatever it is
