@@ -148,18 +148,23 @@ struct pesp_found {
     uint32_t state;       /* of pesp_search_state */
 };
 
-/* Looks for the optimum within so many nodes, as the line `try` does, and tells the timetable that it comes to, what that
- * costs, and what none can undercut. Instance and working timetable stay.
+/* Looks for the optimum by as much work as so many nodes stand for (docs/FORMATS.md, `try`), and tells the best timetable that
+ * it has come to, what that costs, and what none can undercut. Instance and working timetable stay.
+ *
+ * Calls one after the other are one search: each goes on where the one before it stopped, so call with as many nodes as take as
+ * long as you can wait, again and again, until the state is PESP_OPTIMUM or PESP_NO_TIMETABLE. No later call of a search tells
+ * a dearer timetable, or a lower bound that is less. A line that is accepted and changes the network (an event, a window, a
+ * fixed time, an activity, its ends, span or weight) ends it, and the next call begins anew, with the best timetable so far
+ * where that still meets everything. Lines that change times alone leave it as it is, and so do questions: `try` and
+ * `optimum` among them are searches of their own.
  *
  * nodes: any number. With 0 nothing is searched but what needs no node, as an event whose domain is empty: what is known is
- *     told again, or the best timetable so far, as long as it meets everything; the bound of that is 0.
+ *     told again, or the best timetable so far, as long as it meets everything; before a search has begun its bound is 0.
  * out: the time of each event in that timetable, as in pesp_times; for PESP_OPTIMUM those that `optimum` tells. Where no
  *     timetable is told, `told->length` is 0, and `out` as it was. Where it has less room, ask once more with 0 nodes.
  * found: is filled in whole where `told->status` is PESP_DONE, and else as it was. PESP_CLOSED; PESP_MEMORY.
  *
  * What is known stays until an edit that may change it, and till then `optimum`, `adopt` and this call are answered at once.
- * Of a search that stopped the next one has the timetable alone, and else begins anew: ask with twice the nodes each time, so
- * that all calls take about twice what the last one does, and keep the greatest bound. docs/FORMATS.md says what a node is.
  * No call can be stopped. */
 void pesp_search(struct pesp_session *session, uint64_t nodes, uint16_t *out, size_t out_length, struct pesp_found *found,
                  struct pesp_told *told);

@@ -1,5 +1,5 @@
-/* A search over a session that tells how good its timetable is: opens an activities file and doubles the nodes until the
- * optimum is known or a second is over.
+/* A search over a session that tells how good its timetable is: opens an activities file and goes on by calls of the same
+ * size, until the optimum is known or a second is over.
  *
  * usage: search PERIOD ACTIVITIES */
 #include "pespbench.h"
@@ -8,6 +8,9 @@
 #include <stdio.h>
 #include <stdlib.h>
 #include <time.h>
+
+/* The nodes of a call. */
+enum { NODES = 1000 };
 
 static uint8_t file[1 << 26];
 
@@ -26,21 +29,17 @@ int main(int count, char **words) {
 
     static uint16_t times[20000];
     clock_t begun = clock();
-    uint64_t bound = 0;
-    for (uint64_t nodes = 1000; told.status == PESP_DONE && found.state < PESP_OPTIMUM; nodes *= 2) {
-        if (clock() - begun >= CLOCKS_PER_SEC) break;
-        pesp_search(&session, nodes, times, sizeof times / sizeof *times, &found, &told);
-        /* A bound holds until an edit, and a later call may tell a lower one. */
-        if (found.lower_bound > bound) bound = found.lower_bound;
-    }
+    /* Each call goes on where the one before it stopped. */
+    while (told.status == PESP_DONE && found.state < PESP_OPTIMUM && clock() - begun < CLOCKS_PER_SEC)
+        pesp_search(&session, NODES, times, sizeof times / sizeof *times, &found, &told);
     pesp_close(&session);
     if (told.status != PESP_DONE) {
         fprintf(stderr, "search: status %" PRIu32 "\n", told.status);
         return 1;
     }
     if (found.state == PESP_NO_TIMETABLE) puts("no timetable meets everything");
-    if (found.state == PESP_NOTHING_YET) printf("no timetable yet, none costs less than %" PRIu64 "\n", bound);
+    if (found.state == PESP_NOTHING_YET) printf("no timetable yet, none costs less than %" PRIu64 "\n", found.lower_bound);
     if (found.state == PESP_BEST_SO_FAR || found.state == PESP_OPTIMUM)
-        printf("cost %" PRIu64 ", none costs less than %" PRIu64 "\n", found.cost, bound);
+        printf("cost %" PRIu64 ", none costs less than %" PRIu64 "\n", found.cost, found.lower_bound);
     return 0;
 }

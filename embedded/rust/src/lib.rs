@@ -187,7 +187,10 @@ impl Session {
         Ok((found, told.length as usize))
     }
 
-    /// Looks for the optimum within so many nodes, as the line `try` does. The working timetable stays.
+    /// Looks for the optimum by as much work as so many nodes stand for. The working timetable stays.
+    ///
+    /// Calls one after the other are one search: each goes on where the one before it stopped, and tells no dearer timetable and
+    /// no lesser bound. A line that changes the network begins anew; lines that change times alone, and questions, do not.
     pub fn search(&mut self, nodes: u64) -> Result<Search, Fault> {
         let mut times = vec![0; self.events()?.len()];
         let (Found { cost, lower_bound, state }, length) = self.sought(nodes, &mut times)?;
@@ -268,6 +271,27 @@ mod tests {
         session.ask("span 1 3 3")?;
         assert_eq!(session.search(1_000)?, Search::NoTimetable);
         Ok(())
+    }
+
+    #[test]
+    fn calls_one_after_the_other_are_one_search() -> Result<(), Fault> {
+        let mut session = Session::open(10, TWO)?;
+        let mut bound = 0;
+        for _ in 0..1_000 {
+            match session.search(1)? {
+                Search::Stopped { lower_bound, .. } => {
+                    assert!(lower_bound >= bound);
+                    bound = lower_bound;
+                }
+                ended => {
+                    assert_eq!(ended, Search::Optimum(Best { cost: 4, times: vec![0, 4] }));
+                    return Ok(());
+                }
+            }
+            // A time does not begin it anew.
+            session.ask("time 2 5")?;
+        }
+        panic!("a thousand nodes do not settle two trains");
     }
 
     #[test]
