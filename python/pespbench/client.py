@@ -205,14 +205,15 @@ class Bench(Kept):
     def search(self, seconds: float, nodes: int = 1_000, watch: Optional[Watcher] = None) -> Search:
         """A search for the optimum within a time, that tells what it has as it goes: `for progress in bench.search(10.0)`.
 
-        It begins with the working timetable, where that meets everything; searches through `nodes` nodes, twice as many, and so
-        on; and ends where the optimum is known, or that there is no timetable (`found` of the last Progress is Infeasible, as
-        `optimum` answers it), or where the time is over, or where the caller stops. A lower bound is told as it goes by the
-        library alone; at a gap of 0 it goes on until the first of the cheapest timetables is known.
+        It begins with the working timetable, where that meets everything; goes step by step (Search says how), with `nodes`
+        nodes in the first; and ends where the optimum is known, or that there is no timetable (`found` of the last Progress is
+        Infeasible, as `optimum` answers it), or where the time is over, or where the caller stops. A lower bound is told as it
+        goes by the library alone; at a gap of 0 it goes on until the first of the cheapest timetables is known.
 
-        `bench.search(10.0).found()` gives what it comes to at the end. `watch` is called with each Progress, too. At Ctrl-C
-        KeyboardInterrupt is raised, and what was found is `progress` of the search. Network, working timetable and journal
-        stay as they are. Raises ValueError for seconds that are not from 0 to 1,000,000, or nodes from 1 to 10**12.
+        `bench.search(10.0).found()` gives what it comes to at the end. Over the library another search of the same network
+        goes on from there, as Search says. `watch` is called with each Progress, too. At Ctrl-C KeyboardInterrupt is raised,
+        and what was found is `progress` of the search; another one begins anew. Network, working timetable and journal stay as
+        they are. Raises ValueError for seconds that are not from 0 to 1,000,000, or nodes from 1 to 10**12.
         """
         check_limits(seconds, nodes)
         return Search(self._session, self.standing(), seconds, nodes, watch)

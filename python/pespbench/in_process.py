@@ -26,6 +26,8 @@ SEARCHES = ("optimum", "try", "adopt")
 ROOM = 1 << 19
 # Seconds: so soon Ctrl-C is heard at the latest.
 LITTLE = 0.1
+# Seconds after its deadline at which a search that would go on is given up, and lost with its session.
+PATIENCE = 1.0
 OK = b"ok\n"
 
 
@@ -33,9 +35,9 @@ class InProcess(Transport):
     """An open session of the library.
 
     All but a search is answered where it is asked, within about a second: Ctrl-C is heard after it. A search goes on in
-    a thread of its own, while the caller waits for it, for Ctrl-C and for its deadline. The library cannot be stopped: a
-    search that is given up takes a processor until it has come to its end, and then the session's memory is given back; or
-    until the process ends, which waits for none. It meets no other session.
+    a thread of its own, while the caller waits for it, for Ctrl-C and for its deadline. A call of the library cannot be
+    stopped: one that is given up takes a processor until it has come to its end, and then the session's memory is given back;
+    or until the process ends, which waits for none. It meets no other session.
     """
 
     def __init__(self, calls: Calls, period: int, texts: Mapping[str, bytes]) -> None:
@@ -152,9 +154,11 @@ class InProcess(Transport):
         return self._cost.value if self._told.status == DONE else None
 
     def searched(self, nodes: int, events: Sequence[int], deadline: Optional[float] = None) -> Optional[Reached]:
-        """What a search comes to, by the call for it, where the library has one."""
+        """What a search comes to, by the call for it, where the library has one: it goes on from one call to the next."""
         call = self._calls.search
-        return None if call is None else self._in_time(partial(self._reached, call, nodes, events), deadline)
+        if call is None:
+            return None
+        return self._in_time(partial(self._reached, call, nodes, events), None if deadline is None else deadline + PATIENCE)
 
     def _reached(self, call: Callable[..., None], nodes: int, events: Sequence[int]) -> Reached:
         times, came = (ctypes.c_uint16 * len(events))(), ToldFound()
@@ -163,7 +167,7 @@ class InProcess(Transport):
             raise ended_by(self._told)
         if self._told.length != (len(events) if came.state in (BEST_SO_FAR, OPTIMUM) else 0):
             raise BadReply(f"{self._told.length} times of {len(events)} events in state {came.state}")
-        return Reached(found_by(came.state, came.cost, dict(zip(events, times))), came.lower_bound)
+        return Reached(found_by(came.state, came.cost, dict(zip(events, times))), came.lower_bound, goes_on=True)
 
     def kill(self) -> None:
         """Gives the session's memory back, or leaves that to the search that is under way."""

@@ -7,6 +7,7 @@ from typing import Callable, Iterator, Optional
 
 from pespbench.answers import Found, Optimum, Stopped
 from pespbench.commands import MOST_NODES
+from pespbench.pacing import Pace
 from pespbench.progress import Progress
 from pespbench.session import Session
 from pespbench.transport import OutOfTime, Reached
@@ -28,19 +29,21 @@ def check_limits(seconds: float, nodes: int) -> None:
 class Search:
     """Goes on while it is iterated over, and gives its Progress after each step; `progress` is the last that was told.
 
-    A step asks anew, with twice as many nodes as the one before: so what is gone through again is at most as much as all
-    before it. It is likely to take twice as long, too. One is begun where more time is left than the last one took, and given
-    up where the time is over, which goes on between the steps.
+    The time is looked at between steps, and goes on there. Over a library that has the call for searches a step goes on where
+    the one before it stopped, whichever search of the same session that was, as long as the engine was not opened anew and the
+    network is as it was, whatever times it was given. Such a step takes about a quarter of a second, and is let come to its end
+    where the time is over in it.
+
+    Over the program a step begins anew, with twice as many nodes as the one before: so what is gone through again is at most as
+    much as all before it. One is begun where more time is left than the last one took, and given up where the time is over.
     """
 
     def __init__(self, session: Session, standing: Stopped, seconds: float, nodes: int, watch: Optional[Watcher]) -> None:
         """A search of so many nodes at first, from a timetable that is known, or from none."""
-        self._session, self._nodes, self._watch = session, nodes, watch
+        self._session, self._pace, self._watch = session, Pace(nodes), watch
         self._network = session.work.network.copy()
         self._began = clock.monotonic()
         self._until = self._began + seconds
-        # The seconds that the last step took.
-        self._took = 0.0
         self.progress = Progress(standing, None, False, 0.0)
         self._rest = self._steps()
 
@@ -63,19 +66,19 @@ class Search:
         while not self.progress.is_ended and self._has_room():
             began = clock.monotonic()
             reached = self._step()
-            self._took, self._nodes = clock.monotonic() - began, 2 * self._nodes
+            self._pace.follow(clock.monotonic() - began, reached.goes_on)
             yield self._told(reached)
         if not self.progress.is_ended:
             yield self._told(Reached(Stopped()))
 
     def _has_room(self) -> bool:
-        return self._nodes <= MOST_NODES and self._until - clock.monotonic() > self._took
+        return self._pace.has_room(self._until - clock.monotonic())
 
     def _step(self) -> Reached:
         if self._session.work.network != self._network:
             raise ValueError("the network is another one than when the search began")
         try:
-            return self._session.searched(self._nodes, self._until)
+            return self._session.searched(self._pace.nodes, self._until)
         except OutOfTime:
             return Reached(Stopped())
 

@@ -17,10 +17,14 @@ class OutOfTime(Exception):
 
 
 class Reached(NamedTuple):
-    """What a search came to, and what each timetable that meets everything costs at least, where that is told."""
+    """What a search came to, and what each timetable that meets everything costs at least, where that is told.
+
+    Where it `goes_on`, the next one of the same network begins where this one stopped, and else anew.
+    """
 
     found: Found
     lower_bound: Optional[int] = None
+    goes_on: bool = False
 
 
 class Transport:
@@ -53,7 +57,7 @@ class Transport:
     def searched(self, nodes: int, events: Sequence[int], deadline: Optional[float] = None) -> Optional[Reached]:
         """What a search of so many nodes comes to, where it tells more than a reply; `events` are all, ascending.
 
-        Raises what `replies` raises.
+        One that goes on may come to its end after the deadline. Raises what `replies` raises.
         """
         return None
 

@@ -7,23 +7,28 @@ import re
 from array import array
 from typing import Callable, Dict, List, MutableSequence, Optional, Union
 
+from pespbench.commands import CHANGES, name_of
 from pespbench.library import Calls, Handle, Told, ToldFound
 
 Answer = Union[bytes, int]
 MEMORY, REFUSED = 6, 13
 # The state of a search by the first words of the reply to `try`.
 STATES = {b"stopped none": 0, b"stopped": 1, b"optimum": 2, b"infeasible": 3}
+# What changes more than times.
+EDITS = CHANGES - {"time", "untime"}
 
 
 class StandIn:
     """Answers by the reply to a line, or by the status that is told in its place. It counts what was opened and closed.
 
-    Where it has the lower bound that a search of so many nodes tells, it has the call for searches, too.
+    Where it has the lower bound that a search tells after so many nodes, it has the call for searches, too. Calls of that one
+    after the other are one search, which answers as `try` does with all their nodes; an edit of the network begins it anew.
     """
 
     def __init__(self, answer: Callable[[bytes], Answer], status: int = 0, bound: Optional[Callable[[int], int]] = None) -> None:
         self.answer, self.status, self.bound = answer, status, bound
-        self.opened = self.closed = 0
+        # The last is the nodes of the search so far.
+        self.opened = self.closed = self.nodes = 0
         # What was asked.
         self.lines: MutableSequence[bytes] = []
 
@@ -35,11 +40,14 @@ class StandIn:
         Told.from_address(given[-1]).status = self.status
         if self.status == 0:
             self.opened += 1
+            self.nodes = 0
             Handle.from_address(given[-2]).is_open = True
 
     def _ask(self, _: int, line: bytes, length: int, room: int, room_length: int, told: int) -> None:
         assert len(line) == length
         self.lines.append(line)
+        if name_of(line.decode()) in EDITS:
+            self.nodes = 0
         self._tell(self.answer(line), room, room_length, Told.from_address(told))
 
     def _tell(self, answer: Answer, room: int, room_length: int, told: Told) -> None:
@@ -56,20 +64,21 @@ class StandIn:
 
     def _search(self, _: int, nodes: int, room: int, room_length: int, found: int, told: int) -> None:
         self.lines.append(b"pesp_search %d" % nodes)
-        answer, telling = self.answer(b"try %d" % nodes), Told.from_address(told)
+        self.nodes += nodes
+        answer, telling = self.answer(b"try %d" % self.nodes), Told.from_address(told)
         telling.status = answer if isinstance(answer, int) else 0
         if isinstance(answer, bytes):
             first, *rows = answer.splitlines()
-            self._tell_found(ToldFound.from_address(found), first.split(), nodes)
+            self._tell_found(ToldFound.from_address(found), first.split())
             times = array("H", [int(row.split()[1]) for row in rows])
             telling.length = len(times)
             ctypes.memmove(room, times.tobytes(), 2 * min(room_length, len(times)))
 
-    def _tell_found(self, found: ToldFound, words: List[bytes], nodes: int) -> None:
+    def _tell_found(self, found: ToldFound, words: List[bytes]) -> None:
         """Tells what the first words of a reply say, and the bound."""
         found.state = STATES[b" ".join(words) if words[-1] == b"none" else words[0]]
         found.cost = int(words[1]) if found.state in (1, 2) else 0
-        found.lower_bound = self.bound(nodes) if self.bound else 0
+        found.lower_bound = self.bound(self.nodes) if self.bound else 0
 
     def _close(self, handle: int) -> None:
         self.closed += Handle.from_address(handle).is_open

@@ -31,8 +31,8 @@ class Script:
     def searched(self, nodes: int, deadline: float) -> Reached:
         seconds, reached = next(self._steps)
         self.asked.append(nodes)
-        self.now += min(seconds, deadline - self.now)
-        if self.now >= deadline:
+        self.now += seconds if reached.goes_on else min(seconds, deadline - self.now)
+        if self.now >= deadline and not reached.goes_on:
             raise OutOfTime
         return reached
 
@@ -41,8 +41,8 @@ class Script:
         return Search(self, standing, seconds, nodes, None)  # type: ignore[arg-type]  # of a session it has what a search asks
 
 
-def stopped(cost: Optional[int], bound: Optional[int] = None) -> Reached:
-    return Reached(Stopped() if cost is None else Stopped(cost, {1: cost}), bound)
+def stopped(cost: Optional[int], bound: Optional[int] = None, goes_on: bool = False) -> Reached:
+    return Reached(Stopped() if cost is None else Stopped(cost, {1: cost}), bound, goes_on)
 
 
 class Steps(unittest.TestCase):
@@ -66,6 +66,25 @@ class Steps(unittest.TestCase):
         script = self.over((1, stopped(None)), (2, stopped(9)), (4, stopped(8)))
         self.assertEqual(self.told(script.search(11)), [(None, None, False), (9, None, False), (8, None, True)])
         self.assertEqual((script.asked, script.now), ([1_000, 2_000, 4_000], 107))
+
+    def test_even(self) -> None:
+        """A step that goes on takes about a quarter of a second: it is doubled where it was much quicker, halved where slower."""
+        seconds = [0.01, 0.12, 0.13, 0.5, 0.6, 0.01, 0.3]
+        script = self.over(*((took, stopped(9, 1, True)) for took in seconds))
+        self.assertEqual(self.told(script.search(1.6)), [(9, 1, False)] * 6 + [(9, 1, True)])
+        self.assertEqual(script.asked, [1_000, 2_000, 4_000, 4_000, 4_000, 2_000, 4_000])
+        script = self.over(*((took, stopped(None, 1, True)) for took in [9, 9, 0.01]))
+        self.told(script.search(18.005, nodes=2))
+        self.assertEqual(script.asked, [2, 1, 1])
+        script = self.over((0.01, stopped(None, 1, True)), (1, stopped(None, 1, True)))
+        self.told(script.search(1, nodes=10**12))
+        self.assertEqual(script.asked, [10**12, 10**12])
+
+    def test_even_to_the_end(self) -> None:
+        """A step that goes on is begun where any time is left, and is let come to its end."""
+        script = self.over((0.25, stopped(None, 1, True)), (0.25, stopped(None, 2, True)), (0.25, stopped(9, 3, True)))
+        self.assertEqual(self.told(script.search(0.51)), [(None, 1, False), (None, 2, False), (9, 3, True)])
+        self.assertEqual((script.asked, script.now), ([1_000] * 3, 100.75))
 
     def test_no_time(self) -> None:
         script = self.over()
@@ -226,11 +245,18 @@ def over(case: Case, library: StandIn) -> Bench:
     return bench
 
 
+def after(table: Dict[int, Any], nodes: int) -> Any:
+    """What a table has for the most nodes that are no more than these."""
+    return table[max(least for least in table if least <= nodes)]
+
+
 class OverCalls(Case):
     """Over a stand-in of the library that has the call for searches."""
 
     REPLIES = {1_000: b"stopped none\n", 2_000: b"stopped 9 2\n4 1\n7 3\n", 4_000: b"stopped 8 2\n4 1\n7 2\n", 8_000: b"optimum 6 2\n4 0\n7 5\n"}
     BOUNDS = {1_000: 2, 2_000: 1, 4_000: 5, 8_000: 6}
+    # Of quick calls one after the other.
+    SIZES = (1_000, 2_000, 4_000, 8_000)
 
     def opened(self, library: StandIn) -> Bench:
         """A bench with two events over a stand-in."""
@@ -238,10 +264,16 @@ class OverCalls(Case):
         bench.many(["add event 7", "add event 4"])
         return bench
 
-    def library(self, others: Optional[Dict[bytes, Callable[[], Answer]]] = None, bound: Any = BOUNDS.__getitem__) -> StandIn:
+    def library(self, others: Optional[Dict[bytes, Callable[[], Answer]]] = None, bound: Any = partial(after, BOUNDS)) -> StandIn:
         """Answers searches by the tables above, but for other lines."""
-        replies: Dict[bytes, Callable[[], Answer]] = {b"try %d" % nodes: partial(str.encode, reply.decode()) for nodes, reply in self.REPLIES.items()}
-        return StandIn(lambda line: usual(line, {**replies, **(others or {})}), bound=bound)
+
+        def answer(line: bytes) -> Answer:
+            if line.startswith(b"try ") and line not in (others or {}):
+                reply: bytes = after(self.REPLIES, int(line.split()[1]))
+                return reply
+            return usual(line, others or {})
+
+        return StandIn(answer, bound=bound)
 
     def told(self, bench: Bench) -> List[Tuple[Optional[int], Optional[int]]]:
         return [(each.cost, each.lower_bound) for each in bench.search(60)]
@@ -253,11 +285,38 @@ class OverCalls(Case):
         told = list(bench.search(60))
         self.assertEqual([(each.cost, each.lower_bound, each.gap) for each in told], [(None, 2, None), (9, 2, 7 / 9), (8, 5, 3 / 8), (6, 6, 0.0)])
         self.assertEqual((told[1].times, told[-1].found), ({4: 1, 7: 3}, Optimum(6, {4: 0, 7: 5})))
-        self.assertEqual(list(library.lines)[-4:], [b"pesp_search %d" % nodes for nodes in self.REPLIES])
+        self.assertEqual(asked(library), list(self.SIZES))
+        self.assertEqual(list(library.lines)[-4:], [b"pesp_search %d" % nodes for nodes in self.SIZES])
         self.assertEqual(bench.journal, ["add event 7", "add event 4"])
 
+    def test_asked_on(self) -> None:
+        """Another search goes on where one before it stopped, beside times that are set and questions; an edit begins anew."""
+        library = self.library()
+        bench = self.opened(library)
+        first = bench.search(60)
+        self.assertEqual([next(first).cost for _ in range(2)], [None, 9])
+        bench.time(4, 3)
+        bench.dump()
+        self.assertEqual(self.told(bench), [(8, 5), (8, 5), (6, 6)])
+        self.assertEqual((asked(library), library.opened), ([1_000, 2_000, 1_000, 2_000, 4_000], 1))
+        bench.untime(4)
+        self.assertEqual((self.told(bench), library.nodes), ([(6, 6)], 11_000))
+        bench.fix(4, 1)
+        self.assertEqual((next(bench.search(60)).cost, library.nodes, library.opened), (None, 1_000, 1))
+
+    def test_sizes(self) -> None:
+        """A call takes about a quarter of a second, however many nodes a second a library goes through, and it is asked often."""
+        for rate, nodes, least, most, last in [(4_000, 1, 1, 512, 512), (4_000, 10**6, 1_953, 10**6, 1_953), (10, 1_000, 3, 1_000, 3)]:
+            now = [time.monotonic()]
+            slow = Slow(now, rate)
+            with self.subTest(rate=rate, nodes=nodes), mock.patch("pespbench.searching.clock", mock.Mock(monotonic=lambda: now[0])):
+                over(self, slow).search(1_000, nodes).found()
+                sizes = asked(slow)
+                self.assertEqual((min(sizes), max(sizes), sizes[-1]), (least, most, last))
+                self.assertGreater(sizes.count(last), 100)
+
     def test_none(self) -> None:
-        library = self.library({b"try 2000": lambda: b"infeasible\n"}, lambda nodes: 0)
+        library = self.library({b"try 3000": lambda: b"infeasible\n"}, lambda nodes: 0)
         [first, last] = self.opened(library).search(60)
         self.assertEqual((first.found, last.found, last.is_ended, last.cost, last.gap), (Stopped(), Infeasible(), True, None, None))
 
@@ -265,11 +324,11 @@ class OverCalls(Case):
         """Without the call a search goes by lines, and is told no bound before the end."""
         library = self.library(bound=None)
         self.assertEqual(self.told(self.opened(library)), [(None, None), (9, None), (8, None), (6, 6)])
-        self.assertEqual(list(library.lines)[-4:], [b"try %d" % nodes for nodes in self.REPLIES])
+        self.assertEqual(list(library.lines)[-4:], [b"try %d" % nodes for nodes in self.SIZES])
 
     def test_no_memory(self) -> None:
         """It is told as of any line; what was found until then is there."""
-        bench = self.opened(self.library({b"try 4000": lambda: MEMORY}))
+        bench = self.opened(self.library({b"try 7000": lambda: MEMORY}))
         search = bench.search(60)
         with self.assertRaises(Ended) as told:
             search.found()
@@ -283,6 +342,25 @@ class OverCalls(Case):
             self.assertRaises(BadReply, bench.search(60).found)
             bench.add_event(9)
             self.assertEqual((bench.network.events, library.opened, library.closed), ([4, 7, 9], 2, 1))
+
+
+def asked(library: StandIn) -> List[int]:
+    """The nodes of the calls for searches."""
+    return [int(line.split()[1]) for line in library.lines if line.startswith(b"pesp_search")]
+
+
+class Slow(StandIn):
+    """Goes through so many nodes in a second of a clock, and finds nothing."""
+
+    def __init__(self, clock: List[float], rate: int) -> None:
+        super().__init__(lambda line: usual(line, {b"violations": lambda: b"violations 1\nactivity 1\n"}), bound=lambda nodes: 0)
+        self.clock, self.rate = clock, rate
+
+    def _search(self, _: int, nodes: int, room: int, room_length: int, found: int, told: int) -> None:
+        self.lines.append(b"pesp_search %d" % nodes)
+        self.clock[0] += nodes / self.rate
+        ToldFound.from_address(found).state = 0
+        Told.from_address(told).length = Told.from_address(told).status = 0
 
 
 class Wrong(StandIn):
@@ -308,7 +386,7 @@ class GivenUp(Case):
             may_end.wait(LONG)
             return b"infeasible\n"
 
-        library = StandIn(lambda line: usual(line, {b"try 1000": lambda: b"stopped 4 1\n1 3\n", b"try 2000": wait}), bound=lambda nodes: 3)
+        library = StandIn(lambda line: usual(line, {b"try 1000": lambda: b"stopped 4 1\n1 3\n", b"try 3000": wait}), bound=lambda nodes: 3)
         bench = over(self, library)
         bench.add_event(1)
         return bench, library, may_end

@@ -12,6 +12,7 @@ from pespbench.answers import Found, Infeasible, Optimum, Stopped
 from pespbench.client import Bench
 from pespbench.helps.answers import Helps
 from pespbench.helps.questions import questions
+from pespbench.methods import found_by
 from pespbench.searching import check_limits
 from pespbench.transport import OutOfTime
 from pespbench.variants import AT_ONCE, Base, Task, answer_task, at_work, hands_of
@@ -63,7 +64,7 @@ def best_within(bench: Bench, nodes: int, until: float) -> Found:
     """What a search of so many nodes comes to until a time, or the working timetable where that is cheaper."""
     standing = bench.standing()
     try:
-        found, _ = bench._session.searched(nodes, until)
+        found = found_by(bench._session.answer(f"try {nodes}", until))
     except OutOfTime:
         return standing
     return standing if isinstance(found, Stopped) and not found.is_below(standing.cost) else found
