@@ -17,7 +17,7 @@
 // embedded/pespbench.h lists it: { status, place, reason, field }; its status is 0 where all lines are answered. `fault` is then
 // '', and else the program's own text for it, without its name, in which the one line of `ask` is line 1. `session` is null
 // where the files have a fault. `cost` is a BigInt; null where an event has no time. `bits` are the domains of events at a period,
-// one after another, each in as many whole bytes as hold a bit for each time. A search is that of `try` with so many nodes:
+// one after another, each in as many whole bytes as hold a bit for each time. A search goes on by so many nodes at each call:
 // `state` is of enum pesp_search_state, `cost` and `lowerBound` are BigInts, and `times` a Uint16Array, a time for each event,
 // ascending; none where it came to no timetable. After an instance that was trapped, as by a stack that is too short, a call
 // throws; its sessions are lost, and `start` makes a new one, or `startNow`.

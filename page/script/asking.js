@@ -1,5 +1,5 @@
 // What the page has a Worker do, one thing at a time, so that it stays usable: searches, why there is none, what would help, and
-// long files of lines. Ending the Worker ends it at once.
+// long files of lines. A search is stopped between two steps of the Worker, which keeps it to be gone on with; all else by ending it.
 
 import { find, lead, say } from './elements.js';
 import { programNow } from './program.js';
@@ -48,11 +48,16 @@ export const askFor = (question, { tell, fail = fault => say(fault, true), end =
   lead(find('stop'));
 };
 
-// Ends what the Worker does, at once.
-export const stopAsking = () => {
-  if (!asked) return;
+const endWorker = () => {
   worker.terminate();
   worker = null;
+};
+
+// Ends what the Worker does, at once: of a step that it is in nothing is heard any more.
+export const stopAsking = () => {
+  if (!asked) return;
+  if (asked.kind === 'search') worker.postMessage({ kind: 'rest' });
+  else endWorker();
   ended();
 };
 

@@ -35,7 +35,7 @@ export const answer = run => {
   return { output: decoder.decode(output), fault };
 };
 
-// A session of files, with a fault or '': it answers lines until it is closed, and tells domains and searches in numbers, where
+// A session of files, with a fault or '': it answers lines until it is closed, and tells searches in numbers, and domains where
 // the module does.
 export const openFiles = files => {
   const owner = moduleNow(), { session, fault } = called(owner, each => PespModule.open(each, files));
@@ -48,6 +48,6 @@ export const openFiles = files => {
     return { text: decoder.decode(output), ...more };
   };
   const domains = PespModule.canTellDomains(owner) ? (...of) => told(each => PespModule.domains(each, session, ...of)) : null;
-  const search = PespModule.canSearch(owner) ? nodes => told(each => PespModule.search(each, session, nodes)) : null;
+  const search = nodes => told(each => PespModule.search(each, session, nodes));
   return { fault, ask, domains, search, close: () => called(owner, each => PespModule.close(each, session)) };
 };

@@ -41,8 +41,7 @@ const toldBy = ({ fault, isWanting, ...told }) => {
 };
 
 // A session of the files of a base. `ask` gives the reply to a line, and the same one where it is told again; `domains` those of a
-// network; `search` what a search of so many nodes has come to, its times by some events, with a bound where the module tells one.
-// Raises RunFault.
+// network; `search` what its search has come to after so many nodes more, its times by some events, with a bound. Raises RunFault.
 const sessionOf = base => {
   const { fault, ask: askText, domains, search, close } = openFiles(base), told = new Map(), read = domainReader();
   if (fault) throw new RunFault(fault);
@@ -56,7 +55,7 @@ const sessionOf = base => {
   return {
     close, ask,
     domains: ({ events, period }) => domains ? read(toldBy(domains(events, period)).bits, events, period) : readDomains(ask('domains')),
-    search: (nodes, events) => search ? foundIn(toldBy(search(nodes)), events) : readFound(ask(`try ${nodes}`)),
+    search: (nodes, events) => foundIn(toldBy(search(nodes)), events),
   };
 };
 

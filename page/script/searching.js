@@ -12,8 +12,8 @@ import { countViolated } from './viewing.js';
 // The most that a search can be asked for.
 const EVERY_CASE = 1e12;
 
-// What searches of one network, by its mark, have come to; whether it was offered; and the seconds before the search that runs.
-let found = null, wasOffered = false, before = 0;
+// What searches of one network, by its mark, have come to; whether it was offered; and the nodes and seconds before the search that runs.
+let found = null, wasOffered = false, before = { nodes: 0, seconds: 0 };
 
 // It is told as long as its network is shown, with whatever times.
 const isOfNow = () => Boolean(found) && found.mark === markNow();
@@ -28,22 +28,21 @@ const bestKnown = () => {
 // A search that was stopped, or ended without being sure, is gone on with.
 const search = most => {
   if (!isOfNow()) found = { kind: 'none', nodes: 0, seconds: 0, mark: markNow() };
-  const { nodes, seconds } = isSure(found) ? { nodes: 0, seconds: 0 } : found;
-  before = seconds;
+  before = isSure(found) ? { nodes: 0, seconds: 0 } : { nodes: found.nodes, seconds: found.seconds };
   found = { ...found, isStopped: true };
-  const question = { kind: 'search', first: 2 * nodes, most, best: bestKnown(), events: shown.view.network.events };
+  const question = { kind: 'search', most, best: bestKnown(), events: shown.view.network.events };
   askFor(question, { tell: hear, end });
 };
 
 const hear = ({ found: now, nodes, isDone }) => {
-  const seconds = before + askedNow().seconds;
-  found = { ...betterFound(found, { ...now, nodes, seconds }), mark: found.mark, isStopped: !isDone };
+  const seconds = before.seconds + askedNow().seconds;
+  found = { ...betterFound(found, { ...now, nodes: before.nodes + nodes, seconds }), mark: found.mark, isStopped: !isDone };
   if (isSure(found) && !isDone) stopAsking();
 };
 
 const end = seconds => {
   if (!found) return;
-  if (found.isStopped && !isSure(found)) found = { ...found, seconds: before + seconds };
+  if (found.isStopped && !isSure(found)) found = { ...found, seconds: before.seconds + seconds };
   tell();
   lead(find(found.kind === 'infeasible' ? 'ask-mends' : 'adopt'));
 };
@@ -57,7 +56,7 @@ const begin = () => {
 
 // The seconds that pass, or those that a search took.
 const clockText = (asked, isSearching) => {
-  if (asked) return `${Math.floor(asked.seconds + (isSearching ? before : 0))} s`;
+  if (asked) return `${Math.floor(asked.seconds + (isSearching ? before.seconds : 0))} s`;
   return isOfNow() ? tookText(found) : '';
 };
 

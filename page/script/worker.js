@@ -7,13 +7,13 @@ import { startProgram } from './program.js';
 import { isSure, readFound } from './replies.js';
 import { openFirst, openSession } from './running.js';
 
-// A search is asked for in rising numbers of nodes, each of which tells more, so that it can be stopped with what it has come to.
-// It begins anew each time; what is asked once more is no more than what is new.
-const FIRST_NODES = 1000, MORE = 2;
+// A search is asked for in steps, each of which goes on where the one before it stopped, takes about so many milliseconds, and tells
+// what the search has come to. Between two of them it is heard what is asked next.
+const STEP = 250, FIRST_NODES = 1000;
 
-// The session of the network that was asked about last, by its mark, and what the best timetable costs with which its searches
-// begin. It stays open, so that a next search goes on from what was found; the Worker is ended with it to stop it.
-const NOTHING = { mark: null, session: null, cost: Infinity };
+// The session of the network that was asked about last, by its mark; whether its search has begun; and the nodes of the next step. It
+// stays open, so that a search that was stopped is gone on with.
+const NOTHING = { mark: null, session: null, isBegun: false, step: FIRST_NODES };
 let kept = NOTHING;
 
 const sessionOf = ({ mark, base, lines }) => {
@@ -28,25 +28,43 @@ const close = () => {
   kept = NOTHING;
 };
 
-// The same, whose searches begin with the best timetable that is known, where it has not found one as cheap.
-const primedFor = asked => {
+// The same, with a search that begins with the best timetable that is known, where it has not begun.
+const searchedFor = asked => {
   const session = sessionOf(asked), { best } = asked;
-  if (best && best.cost < kept.cost && canPrime(best.times)) {
+  if (!kept.isBegun && best && canPrime(best.times)) {
     const primed = primedSession(session.ask('dump'), best.times);
     session.close();
-    kept = { ...kept, session: primed, cost: best.cost };
+    kept = { ...kept, session: primed };
   }
+  kept = { ...kept, isBegun: true };
   return kept.session;
 };
 
-// Begins with `first` nodes, and has at most `most`.
-const search = (asked, tell) => {
-  const session = primedFor(asked), { first, most, events } = asked;
-  for (let nodes = Math.min(most, Math.max(FIRST_NODES, first)); ; nodes = Math.min(most, MORE * nodes)) {
-    const found = session.search(nodes, events), isDone = isSure(found) || nodes === most;
-    if (found.times) kept.cost = found.cost;
-    tell({ found, nodes, isDone });
-    if (isDone) return;
+// Doubled where it was much quicker than a step is to be, and halved where it was much slower.
+const paced = (nodes, took) => {
+  if (took < STEP / 2) return 2 * nodes;
+  return took > 2 * STEP ? Math.max(1, Math.floor(nodes / 2)) : nodes;
+};
+
+// What a step of at most so many nodes has come to, and how many it had.
+const stepOf = (session, most, events) => {
+  const nodes = Math.min(kept.step, most), from = performance.now(), found = session.search(nodes, events);
+  if (nodes === kept.step) kept = { ...kept, step: paced(nodes, performance.now() - from) };
+  return { found, nodes };
+};
+
+// What was posted meanwhile is heard first.
+const hear = () => new Promise(done => { setTimeout(done); });
+
+// Goes on by `most` nodes, or until something else is asked.
+const search = async (asked, tell, isLeft) => {
+  const session = searchedFor(asked), { most, events } = asked;
+  for (let gone = 0, isDone = false; !isDone && !isLeft();) {
+    const { found, nodes } = stepOf(session, most - gone, events);
+    gone += nodes;
+    isDone = isSure(found) || gone === most;
+    tell({ found, nodes: gone, isDone });
+    await hear();
   }
 };
 
@@ -75,35 +93,45 @@ const gains = (asked, tell) => {
     tell({ gain: { ...question, found: best() }, isDone: place === asked.questions.length - 1 });
     session.ask(back);
   });
-  // What was found with other spans stands in the place of what a search would begin with.
-  kept = { ...kept, cost: Infinity };
+  // With other spans the search has begun anew, and what was found with them stands in the place of what it would begin with.
+  kept = { ...kept, isBegun: false };
 };
 
-const WORK = { search, why, play, gains };
+// Takes the place of a search that is stopped.
+const rest = () => {};
 
-// Does what was asked; `tell` is called with each answer.
-const work = (asked, tell) => {
+const WORK = { search, why, play, gains, rest };
+
+// Does what was asked; `tell` is called with each answer, and `isLeft` says whether something else is asked.
+const work = async (asked, tell, isLeft) => {
   try {
-    WORK[asked.kind](asked, tell);
+    await WORK[asked.kind](asked, tell, isLeft);
   } catch (fault) {
     close();
     tell({ fault: String(fault.message || fault), isDone: true });
   }
 };
 
-// Waits for the program, and for what is asked; what was asked before the program has started is done then, the last of it.
+// Waits for the program, and for what is asked; of what was asked before the program has started, or while something else is done, the
+// last is done then.
 const listen = () => {
-  let waiting = null, isReady = false;
+  let waiting = null, isReady = false, isAtWork = false;
+  const workOn = async () => {
+    isAtWork = true;
+    while (waiting) {
+      const given = waiting;
+      waiting = null;
+      await work(given, told => self.postMessage({ ...told, id: given.id }), () => Boolean(waiting));
+    }
+    isAtWork = false;
+  };
   self.addEventListener('message', async ({ data }) => {
     if (data.kind) waiting = data;
     else {
       await startProgram(data.program);
       isReady = true;
     }
-    if (!isReady || !waiting) return;
-    const { id } = waiting, given = waiting;
-    waiting = null;
-    work(given, told => self.postMessage({ ...told, id }));
+    if (isReady && !isAtWork) workOn();
   });
 };
 

@@ -14,36 +14,12 @@ FOUND, CLOCK = "Page.find('found').textContent", "Page.find('clock').textContent
 BEST = re.compile(r"Cost ([\d,]+), (?:at most [\d,.]+ % above the best|perhaps not the best)(?: \(none can cost less than ([\d,]+)\))?$")
 IS_BEST = f"{FOUND}.startsWith('Cost ')"
 
-# Stands in for pesp_search where a module has none: the line `try` answers it, and a bound is made up of how often it was asked.
-SEARCH = """(() => {
-    const withSearch = calls => {
-        let count = 0;
-        const search = (at, nodes, out, room, found, told) => {
-            const line = new TextEncoder().encode(`try ${nodes}`), size = 1 << 20, given = calls.pesp_take(BigInt(line.length)), reply = calls.pesp_take(BigInt(size));
-            new Uint8Array(calls.memory.buffer, Number(given), line.length).set(line);
-            calls.pesp_ask(at, given, BigInt(line.length), reply, BigInt(size), told);
-            const view = new DataView(calls.memory.buffer), length = Number(view.getBigUint64(Number(told), true));
-            const [head, ...rows] = new TextDecoder().decode(new Uint8Array(calls.memory.buffer, Number(reply), length)).trim().split('\\n');
-            const [word, cost = '0'] = head.split(' '), state = head === 'stopped none' ? 0 : ['', 'stopped', 'optimum', 'infeasible'].indexOf(word);
-            const bound = state === 2 ? BigInt(cost) : state === 3 ? 0n : BigInt(((count) => MADE_UP)(count += 1));
-            view.setBigUint64(Number(found), state === 0 ? 0n : BigInt(cost), true);
-            view.setBigUint64(Number(found) + 8, bound, true);
-            view.setUint32(Number(found) + 16, state, true);
-            rows.forEach((row, place) => view.setUint16(Number(out) + 2 * place, Number(row.split(' ')[1]), true));
-            view.setBigUint64(Number(told), BigInt(rows.length), true);
-            [given, reply].forEach(calls.pesp_give_back);
-        };
-        return calls.pesp_search ? calls : { ...calls, pesp_search: search };
-    };
-    PespModule.text = `const withSearch = ${withSearch};\\n${PespModule.text.replace('calls: instance.exports', 'calls: withSearch(instance.exports)')}`;
-})()"""
-
-# Keeps what a Worker is asked, which does not come to it where that is said.
+# Keeps what a Worker is asked, but for rest, which does not come to it where that is said.
 HEARD = """(() => {
     const { postMessage } = Worker.prototype;
     window.questions = [];
     Worker.prototype.postMessage = function post(question) {
-        if (question.kind) window.questions.push(question);
+        if (question.kind && question.kind !== 'rest') window.questions.push(question);
         if (!question.kind || !window.isHeld) postMessage.call(this, question);
     };
 })()"""
@@ -118,10 +94,9 @@ def answers_kept(suite: Suite, page: Hands) -> None:
 
 @within(240)
 def stopped_and_gone_on(suite: Suite, page: Hands) -> None:
-    """A search is stopped at once, and gone on with: its clock and what it has come to are as they were, and it asks with more."""
+    """A search is stopped at once, and gone on with: its clock and what it has come to are as they were."""
     for by in ("mouse", "keys"):
         page.again()
-        page.ask(SEARCH.replace("MADE_UP", "Math.min(250000, 100000 * count)"))
         page.ask(HEARD)
         page.show(soon_found())
         begun(page, by)
@@ -151,9 +126,8 @@ def stopped_and_gone_on(suite: Suite, page: Hands) -> None:
         # What a search took is told in tenths, to the nearest one.
         suite.holds(f"{by}: the clock goes on", int(page.text("#clock").split()[0]) >= int(float(took[1]) - 0.05))
         suite.holds(f"{by}: what it has come to stays", cost_of(page.text("#found")) == [cost, bound])
-        before, after = page.ask("window.questions.map(({ first, best }) => ({ first, best: best && Number(best.cost) }))")
-        suite.note(f"{by}: it asks with more, and begins with the best", {"best": [None, cost]}, {"best": [before["best"], after["best"]]})
-        suite.holds(f"{by}: with how many", before["first"] == 0 and after["first"] >= 2000)
+        before, after = page.ask("window.questions.map(({ best }) => best && Number(best.cost))")
+        suite.note(f"{by}: the best is told it", {"best": [None, cost]}, {"best": [before, after]})
         page.press("stop")
 
 
@@ -253,21 +227,21 @@ def without_any(suite: Suite, page: Hands) -> None:
 
 
 def in_numbers(suite: Suite, page: Hands) -> None:
-    """A module that searches in numbers tells the same as one that answers lines."""
-    found: List[List[object]] = []
-    for shim in ("", SEARCH.replace("MADE_UP", "count")):
+    """What is told in numbers is what the line `optimum` tells."""
+    none = {**TWO_TRAINS, "times": "", "activities": "1; 1; 2; 3; 3; 2\n2; 2; 1; 4; 6; 1\n"}
+    for texts, told, lines in [
+        ({**TWO_TRAINS, "times": ""}, "Cost 4: no timetable costs less.", ["optimum 4 2", "1 0", "2 4"]),
+        (none, "✕ No timetable meets everything.", ["infeasible"]),
+    ]:
         page.again()
-        page.ask(shim or "0")
-        for texts in ({**TWO_TRAINS, "times": ""}, {**TWO_TRAINS, "times": "", "activities": "1; 1; 2; 3; 3; 2\n2; 2; 1; 4; 6; 1\n"}):
-            page.show(texts)
-            page.press("optimum")
-            page.until(DONE)
-            adopt = page.is_shown("adopt")
-            if adopt:
-                page.press("adopt")
-            found.append([page.text("#found"), adopt, page.ask("[...Page.view.times]")])
-    wanted = [["Cost 4: no timetable costs less.", True, [[1, 0], [2, 4]]], ["✕ No timetable meets everything.", False, []]]
-    suite.note("by lines and in numbers", {"found": wanted * 2}, {"found": found})
+        page.show(texts)
+        page.press("optimum")
+        page.until(DONE)
+        if page.is_shown("adopt"):
+            page.press("adopt")
+        times = page.ask("[...Page.view.times].map(([event, time]) => `${event} ${time}`)")
+        came = {"found": page.text("#found"), "lines": page.ask("Page.ask(['optimum'])[0]"), "times": times}
+        suite.note(told, {"found": told, "lines": lines, "times": lines[1:]}, came)
 
 
 @within(120)

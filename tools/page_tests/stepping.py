@@ -1,0 +1,129 @@
+"""A search goes on step by step in one session of the Worker, which hears between two steps that it is to rest."""
+
+from page_tests.hands import TWO_TRAINS, Hands
+from page_tests.searching import DONE, long_search, soon_found
+from page_tests.stopping import begun
+from tests.harness import Suite, within
+
+# Has a Worker do something first, and keeps what it tells of its calls beside its answers.
+BESIDE = """(() => {
+    const { addEventListener } = Worker.prototype;
+    window.calls = [];
+    Worker.prototype.addEventListener = function listen(name, listener) {
+        addEventListener.call(this, name, event => event.data && event.data.call ? window.calls.push(event.data) : listener(event));
+    };
+    PespModule.text += `\\n(${() => { FIRST }})();`;
+})()"""
+
+# It tells of Workers that are started, sessions that are opened, and steps of searches that are done.
+TELLS = """for (const call of ['start', 'open', 'search']) {
+    const does = PespModule[call];
+    PespModule[call] = (...given) => {
+        const came = does(...given);
+        self.postMessage({ call });
+        return came;
+    };
+}"""
+
+# By its clock, searches go through so many nodes in a millisecond, and find nothing.
+SLOW = """const { performance } = self, now = performance.now.bind(performance);
+let later = 0;
+performance.now = () => now() + later;
+PespModule.search = (module, session, nodes) => {
+    later += nodes / RATE;
+    self.postMessage({ call: 'search', nodes });
+    return { state: 0, cost: 0n, lowerBound: 0n, times: null, ending: { status: 0 }, fault: '' };
+};"""
+
+
+def count(page: Hands, call: str) -> int:
+    """How often the Worker has done something."""
+    done: int = page.ask(f"window.calls.filter(({{ call }}) => call === '{call}').length")
+    return done
+
+
+def wait(page: Hands, milliseconds: int) -> None:
+    """Lets so much time pass."""
+    page.ask(f"new Promise(done => setTimeout(done, {milliseconds}))")
+
+
+def gone_on(page: Hands) -> None:
+    """Goes on with a search, waits until it has done two steps, and stops it."""
+    before = count(page, "search")
+    page.press("optimum")
+    page.until(f"window.calls.filter(({{ call }}) => call === 'search').length > {before + 1}")
+    page.press("stop")
+
+
+@within(240)
+def one_session(suite: Suite, page: Hands) -> None:
+    """What was stopped is gone on with in the same session, beside times that are set, and after an edit that is undone."""
+    page.again()
+    page.ask(BESIDE.replace("FIRST", TELLS))
+    page.show(soon_found())
+    begun(page)
+    page.press("stop")
+    for name, script in [
+        ("at once", "0"), ("beside times", "Page.step(['time 1 5', 'time 2 8'])"), ("after Undo", "Page.step(['weight 1 5']); Page.undo()"),
+    ]:
+        page.ask(script)
+        suite.note(f"gone on {name}: the button", {"it": "Go on"}, {"it": page.text("#optimum")})
+        gone_on(page)
+        suite.note(f"gone on {name}", {"open": 1, "start": 1}, {"open": count(page, "open"), "start": count(page, "start")})
+    page.ask("Page.find('adopt').click()")
+    gone_on(page)
+    suite.note("gone on with what was adopted", {"open": 1, "start": 1}, {"open": count(page, "open"), "start": count(page, "start")})
+    page.ask("Page.step(['weight 1 5'])")
+    gone_on(page)
+    suite.holds("another network has another session", count(page, "open") > 1 and count(page, "start") == 1)
+
+
+@within(240)
+def at_once(suite: Suite, page: Hands) -> None:
+    """A long search is stopped within half a second, and the Worker rests after its step; what has no steps ends with the Worker."""
+    page.again()
+    page.ask(BESIDE.replace("FIRST", TELLS))
+    page.show(long_search())
+    page.press("optimum")
+    page.until("window.calls.filter(({ call }) => call === 'search').length > 6")
+    took = page.ask("(() => { const from = performance.now(); Page.find('stop').click(); return performance.now() - from; })()")
+    before = count(page, "search")
+    suite.holds(f"stopped after {took} ms", took < 500 and not page.is_shown("stop") and page.said() == "the search was stopped")
+    wait(page, 1000)
+    steps = count(page, "search") - before
+    suite.holds(f"{steps} steps after that", steps <= 1)
+    wait(page, 1000)
+    suite.note("it rests", {"steps": steps, "start": 1}, {"steps": count(page, "search") - before, "start": count(page, "start")})
+    page.press("ask-why")
+    page.until("!Page.find('stop').hidden")
+    page.press("stop")
+    suite.note("what has no steps is stopped, too", {"said": "stopped", "stop": False}, {"said": page.said(), "stop": page.is_shown("stop")})
+    gone_on(page)
+    suite.note("by another Worker", {"start": 2}, {"start": count(page, "start")})
+
+
+@within(120)
+def even_steps(suite: Suite, page: Hands) -> None:
+    """A step takes about a quarter of a second, however many nodes a second the module goes through; a last one has what is left."""
+    for rate, sizes in [(4, [1000] * 5), (40, [1000, 2000, 4000, 8000, 8000]), (0.4, [1000, 500, 250, 125, 125])]:
+        page.again()
+        page.ask(BESIDE.replace("FIRST", SLOW.replace("RATE", str(rate))))
+        page.show({**TWO_TRAINS, "times": ""})
+        page.press("optimum")
+        page.until("window.calls.length > 9")
+        page.press("stop")
+        came = page.ask("window.calls.map(({ nodes }) => nodes)")
+        suite.note(f"{rate} nodes in a millisecond", {"first": sizes, "last": sizes[-1]}, {"first": came[:5], "last": came[-1]})
+    page.again()
+    page.ask(BESIDE.replace("FIRST", SLOW.replace("RATE", "40")))
+    page.show({**TWO_TRAINS, "times": ""})
+    for name, sizes, told in [("tried", [1000, 1500], 2500), ("tried on", [1000, 1500, 2000, 500], 5000)]:
+        page.ask("Page.find('nodes').value = '2500'")
+        page.press("try")
+        page.until(DONE)
+        suite.note(name, {"nodes": sizes}, {"nodes": page.ask("window.calls.map(({ nodes }) => nodes)")})
+        suite.holds(f"{name}: after so many", page.text("#clock").startswith(f"after {told:,} cases"))
+    page.again()
+
+
+GROUPS = [one_session, at_once, even_steps]
