@@ -11,15 +11,17 @@ import { openFirst, openSession } from './running.js';
 // what the search has come to. Between two of them it is heard what is asked next.
 const STEP = 250, FIRST_NODES = 1000;
 
-// The session of the network that was asked about last, by its mark; whether its search has begun; and the nodes of the next step. It
-// stays open, so that a search that was stopped is gone on with.
-const NOTHING = { mark: null, session: null, isBegun: false, step: FIRST_NODES };
+// The session of the network that was asked about last, by its mark; whether its search has begun, and has not come to its end; and the
+// nodes of the next step. It stays open, so that a search that was stopped is gone on with.
+const NOTHING = { mark: null, session: null, isBegun: false, isOpen: false, step: FIRST_NODES };
 let kept = NOTHING;
 
-const sessionOf = ({ mark, base, lines }) => {
-  if (kept.mark === mark) return kept.session;
+const opened = ({ base, lines }) => openSession(base, [...base.setup, ...lines]);
+
+const sessionOf = asked => {
+  if (kept.mark === asked.mark) return kept.session;
   close();
-  kept = { ...NOTHING, mark, session: openSession(base, [...base.setup, ...lines]) };
+  kept = { ...NOTHING, mark: asked.mark, session: opened(asked) };
   return kept.session;
 };
 
@@ -49,7 +51,8 @@ const paced = (nodes, took) => {
 // What a step of at most so many nodes has come to, and how many it had.
 const stepOf = (session, most, events) => {
   const nodes = Math.min(kept.step, most), from = performance.now(), found = session.search(nodes, events);
-  if (nodes === kept.step) kept = { ...kept, step: paced(nodes, performance.now() - from) };
+  const step = nodes === kept.step ? paced(nodes, performance.now() - from) : kept.step;
+  kept = { ...kept, step, isOpen: !isSure(found) };
   return { found, nodes };
 };
 
@@ -84,17 +87,39 @@ const play = ({ played }, tell) => {
 // A search may look at so many cases before it is told what it has come to.
 const MOST_OF_A_GAIN = 100000;
 
-// The best timetable as the network is, and then with each of some lines alone.
-const gains = (asked, tell) => {
-  const session = sessionOf(asked), best = () => readFound(session.ask(`try ${MOST_OF_A_GAIN}`));
+// A session for lines that change the network: the one that is kept, or where its search can be gone on with, another one that begins
+// with the best that was found.
+const sessionForLines = asked => {
+  const session = sessionOf(asked);
+  if (!kept.isOpen) return session;
+  const script = session.ask('dump'), { times } = session.search(0, readNetwork(script).events);
+  return times && canPrime(times) ? primedSession(script, times) : opened(asked);
+};
+
+// What was found with other lines stands in the place of what a search would begin with.
+const leave = session => {
+  if (session === kept.session) kept = { ...kept, isBegun: false };
+  else session.close();
+};
+
+const askGains = (session, questions, tell) => {
+  const best = () => readFound(session.ask(`try ${MOST_OF_A_GAIN}`));
   tell({ gain: { found: best() } });
-  asked.questions.forEach(({ back, ...question }, place) => {
+  questions.forEach(({ back, ...question }, place) => {
     session.ask(question.line);
-    tell({ gain: { ...question, found: best() }, isDone: place === asked.questions.length - 1 });
+    tell({ gain: { ...question, found: best() }, isDone: place === questions.length - 1 });
     session.ask(back);
   });
-  // With other spans the search has begun anew, and what was found with them stands in the place of what it would begin with.
-  kept = { ...kept, isBegun: false };
+};
+
+// The best timetable as the network is, and then with each of some lines alone.
+const gains = (asked, tell) => {
+  const session = sessionForLines(asked);
+  try {
+    askGains(session, asked.questions, tell);
+  } finally {
+    leave(session);
+  }
 };
 
 // Takes the place of a search that is stopped.

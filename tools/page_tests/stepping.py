@@ -31,8 +31,15 @@ let later = 0;
 performance.now = () => now() + later;
 PespModule.search = (module, session, nodes) => {
     later += nodes / RATE;
-    self.postMessage({ call: 'search', nodes });
+    self.postMessage({ call: 'search', nodes, at: Number(session.at) });
     return { state: 0, cost: 0n, lowerBound: 0n, times: null, ending: { status: 0 }, fault: '' };
+};"""
+
+# It tells in which session a line is asked.
+ASKS = """const { ask } = PespModule;
+PespModule.ask = (module, session, line) => {
+    self.postMessage({ call: 'ask', line, at: Number(session.at) });
+    return ask(module, session, line);
 };"""
 
 
@@ -76,6 +83,25 @@ def one_session(suite: Suite, page: Hands) -> None:
     page.ask("Page.step(['weight 1 5'])")
     gone_on(page)
     suite.holds("another network has another session", count(page, "open") > 1 and count(page, "start") == 1)
+
+
+@within(120)
+def beside_gains(suite: Suite, page: Hands) -> None:
+    """What a minute more would save is asked in another session than that of a search that can be gone on with."""
+    page.again()
+    page.ask(BESIDE.replace("FIRST", SLOW.replace("RATE", "4") + ASKS))
+    page.show({**TWO_TRAINS, "times": ""})
+    gone_on(page)
+    page.press("tab-gains")
+    page.ask("document.querySelectorAll('#allowed-kinds input').forEach(each => { each.checked = true; })")
+    page.click(*page.middle("#gains-form .main"))
+    page.until(f"{DONE} && /^2 of 2 asked/.test(Page.find('gains-progress').textContent)")
+    gone_on(page)
+    searched = page.ask("[...new Set(window.calls.filter(({ call, nodes }) => call === 'search' && nodes).map(({ at }) => at))]")
+    changed = page.ask("window.calls.filter(({ call, line }) => call === 'ask' && line.startsWith('span')).map(({ at }) => at)")
+    suite.note("the search has one session", {"sessions": 1, "lines": 4}, {"sessions": len(searched), "lines": len(changed)})
+    suite.holds(f"another one than {changed}: {searched}", not set(searched) & set(changed))
+    page.ask("Page.showTab('diagram')")
 
 
 @within(240)
@@ -126,4 +152,4 @@ def even_steps(suite: Suite, page: Hands) -> None:
     page.again()
 
 
-GROUPS = [one_session, at_once, even_steps]
+GROUPS = [one_session, beside_gains, at_once, even_steps]
