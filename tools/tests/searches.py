@@ -18,6 +18,8 @@ DRAWN = 60
 SEARCHES = {b"try %d" % limit: limit for limit in [0, 1, 2, 5, 20, 100, 1000]}
 NOTHING_YET, BEST_SO_FAR, OPTIMUM, NO_TIMETABLE = range(4)
 WORDS = {"stopped": BEST_SO_FAR, "optimum": OPTIMUM}
+# What is known before a search.
+NOTHING: Searched = (NOTHING_YET, 0, 0, [])
 
 
 class Answer(TypedDict):
@@ -66,26 +68,37 @@ def judged(suite: Suite, title: str, found: Searched, apart: Library) -> None:
     suite.note(f"{title}: the end", {"found": ends.get(state, found)}, {"found": found})
 
 
+def is_further(before: Searched, after: Searched) -> bool:
+    """Whether a search of the same instance tells no dearer timetable and no lower bound than the one before it, and ends once."""
+    (state, cost, bound, _), (state_after, cost_after, bound_after, _) = before, after
+    if state >= OPTIMUM:
+        return before == after
+    return bound <= bound_after and (state == NOTHING_YET or (state_after != NOTHING_YET and cost_after <= cost))
+
+
 def drawn_searches(suite: Suite, by_lines: Library, by_number: Library, apart: Library) -> None:
-    """A search tells what `try` tells in a session with the same lines, and leaves all that is asked but the optimum as it was."""
+    """A search goes on from the one before it, and leaves all that is asked but the optimum as it was."""
     draw = random.Random(71)
     for number in range(DRAWN):
         asked = with_searches(draw, drawn_run(draw))
         opened = [library.open(asked.period, asked.activities, asked.fixed, asked.times) for library in (by_lines, by_number, apart)]
         if opened != [DONE] * 3:
             continue
-        replies = b""
+        replies, last = b"", NOTHING
         for line in lines_of(asked.commands):
             title, limit, reply = f"drawn session {number} at {line!r}", SEARCHES.get(line), by_lines.ask(line)
             replies += reply
             if limit is None:
                 suite.note(title, {"reply": reply}, {"reply": by_number.ask(line)})
                 apart.ask(line)
+                last = NOTHING
                 continue
             before = by_number.times(), by_number.cost()
             found = by_number.search(limit)
-            suite.note(title, read(reply), {"state": found[0], "cost": found[1], "times": found[3]})
             suite.note(f"{title}: what was", {"left": before}, {"left": (by_number.times(), by_number.cost())})
+            if limit > 0:
+                suite.holds(f"{title}: {found} is further than {last}", is_further(last, found))
+                last = found
             if asked.period <= GREATEST_SHORT:
                 judged(suite, title, found, apart)
         suite.note(f"drawn session {number} in the program", told_by(suite, asked), {"replies": replies, "fault": ""})
@@ -104,24 +117,48 @@ def drawn_activities(draw: random.Random) -> List[Row]:
     return activities
 
 
-def growing_searches(suite: Suite, library: Library) -> None:
-    """With nodes that double no cost rises, the optimum keeps each bound, and some stops tell one above 0."""
+def steps_of(library: Library, nodes: int) -> List[Searched]:
+    """What searches of so many nodes come to, one after the other, up to the end."""
+    found = [library.search(nodes)]
+    while found[-1][0] < OPTIMUM and len(found) < 2000:
+        found.append(library.search(nodes))
+    return found
+
+
+def searches_in_steps(suite: Suite, library: Library) -> None:
+    """Calls of one size are one search: each is further than the one before, and the last one tells the optimum."""
     draw = random.Random(73)
-    of_stops: List[int] = []
+    bounds: List[int] = []
     for number in range(5):
-        library.open(60, rows_of(drawn_activities(draw)), b"", b"")
-        found = [library.search(0)]
-        while found[-1][0] < OPTIMUM and len(found) < 16:
-            found.append(library.search(2 ** (len(found) - 1)))
-        state, least, bound, _ = found[-1]
-        suite.note(f"drawn activities {number} end", {"state, bound": (OPTIMUM, least)}, {"state, bound": (state, bound)})
-        costs = [cost for state, cost, _, _ in found if state != NOTHING_YET]
-        suite.holds(f"drawn activities {number}: no cost rises in {costs}", costs == sorted(costs, reverse=True))
-        bounds = [bound for _, _, bound, _ in found]
-        suite.holds(f"drawn activities {number}: the optimum at {least} keeps {bounds}", max(bounds) <= least)
-        of_stops += bounds[:-1]
+        title, files = f"drawn activities {number}", (60, rows_of(drawn_activities(draw)), b"", b"")
+        library.open(*files)
+        found = steps_of(library, 1)
         library.close()
-    suite.holds(f"a stop tells a bound above 0: {of_stops}", any(of_stops))
+        library.open(*files)
+        best = read(library.ask(b"optimum"))
+        library.close()
+        ended = OPTIMUM, best["cost"], best["cost"], best["times"]
+        suite.note(f"{title} after {len(found)} steps", {"end": ended}, {"end": found[-1]})
+        suite.holds(f"{title}: each is further", all(is_further(*pair) for pair in zip(found, found[1:])))
+        suite.holds(f"{title}: the optimum keeps each bound", max(bound for _, _, bound, _ in found) <= best["cost"])
+        bounds += [bound for _, _, bound, _ in found[:-1]]
+    suite.holds(f"a stop tells a bound above 0: {bounds}", any(bounds))
+
+
+def edited_between(suite: Suite, library: Library, apart: Library) -> None:
+    """An edit ends a search: what is told after it is of the network as it is then. Times do not."""
+    draw = random.Random(79)
+    for number in range(10):
+        rows = drawn_activities(draw)
+        for each in (library, apart):
+            each.open(60, rows_of(rows), b"", b"")
+        for step, line in enumerate([b"", b"time 3 7", b"weight 4 0", b"span 9 0 59", b"drop activity 7", b"fix 2 5", b"unfix 2"]):
+            library.ask(line)
+            apart.ask(line)
+            judged(suite, f"drawn activities {number}, step {step}, after {line!r}", library.search(1), apart)
+        suite.note(f"drawn activities {number} at the end", {"state": OPTIMUM}, {"state": steps_of(library, 50)[-1][0]})
+        library.close()
+        apart.close()
 
 
 def uses(suite: Suite, library: Library) -> None:
@@ -210,4 +247,5 @@ def searches(suite: Suite, module: ModuleType, path: Path) -> None:
     libraries = [Library(module, path) for _ in range(3)]
     uses(suite, libraries[0])
     drawn_searches(suite, *libraries)
-    growing_searches(suite, libraries[0])
+    searches_in_steps(suite, libraries[0])
+    edited_between(suite, *libraries[:2])

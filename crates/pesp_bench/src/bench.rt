@@ -12,7 +12,7 @@ ghost use Rattle.pesp_search.specs.Optima.{IsAnswer};
 use crate::costing::KeptCost;
 use pesp_domains::Keeper;
 use pesp_instance::Instance;
-use pesp_search::Answer;
+use pesp_search::{Answer, Searches};
 use pesp_tension::Timetable;
 use std::alloc::Global;
 use std::marker::Model;
@@ -31,6 +31,8 @@ pub struct Bench<K: Keeper> {
     // The timetable of an optimum that was forgotten, or that a search stopped with; whether it meets everything is
     // asked where it is used.
     candidate: Option<Timetable>,
+    // What a search that stopped is gone on with from; whether it is of this instance is asked where it is used.
+    searches: Searches,
     // Of the last search.
     nodes: u64,
 }
@@ -66,6 +68,7 @@ impl<K: Keeper> Bench<K> {
             kept,
             known: None,
             candidate: None,
+            searches: Searches::new(alloc),
             nodes: 0,
         }
     }

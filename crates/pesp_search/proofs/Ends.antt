@@ -194,16 +194,17 @@ dead_tried I bound limit (Stopped best) nodes network dead is few =
     absurd (let less = below.2 in omega (arith, none, less))
 
 -- so what is known of it is that
-pub dead_known : (I : Network) (bound : Option ℕ) (limit : ℕ) (stopped : Bool) (best : Option Best) (nodes : ℕ) → IsNetwork I → IsDeadEnd I [] → IsOutcome I bound (Some limit) stopped best nodes → AreNodes I nodes
+pub dead_known : (I : Network) (bound limit : Option ℕ) (stopped : Bool) (best : Option Best) (nodes : ℕ) → IsNetwork I → IsDeadEnd I [] → IsOutcome I bound limit stopped best nodes → AreNodes I nodes
     → (stopped ≡ false) × (best ≡ None) × (nodes ≡ 0)
 dead_known I bound limit false None nodes network dead is few = (refl, refl, (dead_answer I Infeasible nodes network dead is.0 few).1)
 dead_known I bound limit false (Some best) nodes network dead is few = absurd (no_member I best.times network dead is.0.member)
-dead_known I bound limit true best nodes network dead is few =
+dead_known I bound None true best nodes network dead is few = absurd is
+dead_known I bound (Some limit) true best nodes network dead is few =
     let below = is.0.below in
     let none = size_unique I (length (event_ids I)) [] below.0 0 below.1 (dead_size I dead) in
     absurd (let less = below.2 in omega (arith, none, less))
 
-pub known_dead : (I : Network) (bound : Option ℕ) (limit : ℕ) (r : Result (Known × ℕ) Memory) → IsNetwork I → IsDeadEnd I [] → IfOk r (λ k. IsKnown I bound (Some limit) k.0 k.1) → IfOk r (λ k. AreNodes I k.1)
+pub known_dead : (I : Network) (bound limit : Option ℕ) (r : Result (Known × ℕ) Memory) → IsNetwork I → IsDeadEnd I [] → IfOk r (λ k. IsKnown I bound limit k.0 k.1) → IfOk r (λ k. AreNodes I k.1)
     → IfOk r (λ k. (k.0.is_stopped ≡ false) × (k.0.best ≡ None) × (k.1 ≡ 0))
 known_dead I bound limit (Ok k) network dead known few = dead_known I bound limit k.0.is_stopped k.0.best k.1 network dead known.outcome few
 known_dead I bound limit (Err e) network dead known few = tt

@@ -11,6 +11,7 @@ ghost use Rattle.pesp_search.specs.Known.{IsFloor, IsKnown};
 ghost use Rattle.pesp_search.specs.Tried.{IsFound, MayTry};
 
 use crate::outcome::{answer_of, best_told, known, lowest};
+use crate::searches::{Ask, Searches};
 use crate::seek::{Sought, seek};
 use crate::steps::has_empty_row;
 use crate::tree_search::TreeSearch;
@@ -42,24 +43,23 @@ fn search_tree<K: Keeper>(
     keeper: &mut K,
     events: &[EventId],
     sought: Sought,
-    bound: Option<u64>,
-    limit: Option<u64>,
+    ask: Ask,
 ) -> Result<(Known, u64), Memory>
     requires network { IsNetwork (K.network keeper.old) }
     requires events { events.now ≡ event_ids (K.network keeper.old) }
     requires pushes { K.pushes keeper.old ≡ [] }
-    requires bound { IsBound (K.network keeper.old) bound }
-    requires found { IfSome sought.best (IsFound (K.network keeper.old) bound) }
+    requires bound { IsBound (K.network keeper.old) ask.bound }
+    requires found { IfSome sought.best (IsFound (K.network keeper.old) ask.bound) }
     requires floor { IsFloor (K.network keeper.old) sought.floor }
-    requires none { limit ≡ Some 0 → sought.best ≡ None }
-    ensures known { IfOk result (λ r. IsKnown (K.network keeper.old) bound limit r.0 r.1) }
+    requires none { ask.limit ≡ Some 0 → sought.best ≡ None }
+    ensures known { IfOk result (λ r. IsKnown (K.network keeper.old) ask.bound ask.limit r.0 r.1) }
     ensures nodes { IfOk result (λ r. AreNodes (K.network keeper.old) r.1) }
     ensures network { K.network keeper.new ≡ K.network keeper.old }
     ensures pushes { K.pushes keeper.new ≡ [] }
 {
-    let lowest = lowest(bound, &sought.best);
+    let lowest = lowest(ask.bound, &sought.best);
     // All memory is taken here, before the first node: `run` has no allocator.
-    let search = TreeSearch::new(alloc, keeper, events, lowest, limit)?;
+    let search = TreeSearch::new(alloc, keeper, events, lowest, ask.limit)?;
     let outcome = search.run(keeper);
     let (is_stopped, nodes) = (outcome.is_stopped, outcome.nodes);
     let best = best_told(outcome, sought.best);
@@ -71,35 +71,35 @@ fn search_in_turn<K: Keeper>(
     alloc: Global,
     keeper: &mut K,
     events: &[EventId],
-    bound: Option<u64>,
-    limit: Option<u64>,
+    before: &mut Searches,
+    ask: Ask,
 ) -> Result<(Known, u64), Memory>
     requires network { IsNetwork (K.network keeper.old) }
     requires events { events.now ≡ event_ids (K.network keeper.old) }
     requires pushes { K.pushes keeper.old ≡ [] }
-    requires bound { IsBound (K.network keeper.old) bound }
-    ensures known { IfOk result (λ r. IsKnown (K.network keeper.old) bound limit r.0 r.1) }
+    requires bound { IsBound (K.network keeper.old) ask.bound }
+    ensures known { IfOk result (λ r. IsKnown (K.network keeper.old) ask.bound ask.limit r.0 r.1) }
     ensures nodes { IfOk result (λ r. AreNodes (K.network keeper.old) r.1) }
     ensures network { K.network keeper.new ≡ K.network keeper.old }
     ensures pushes { K.pushes keeper.new ≡ [] }
 {
-    let sought = seek(alloc, keeper, events, bound, limit)?;
+    let sought = seek(alloc, keeper, events, before, ask)?;
     if sought.is_end {
         return Ok((known(sought.best, false, sought.floor), 0));
     }
-    search_tree(alloc, keeper, events, sought, bound, limit)
+    search_tree(alloc, keeper, events, sought, ask)
 }
 
 /// Looks for an empty domain, and else searches.
 fn search<K: Keeper>(
     alloc: Global,
     keeper: &mut K,
-    bound: Option<u64>,
-    limit: Option<u64>,
+    before: &mut Searches,
+    ask: Ask,
 ) -> Result<(Known, u64), Memory>
     requires pushes { K.pushes keeper.old ≡ [] }
-    requires bound { IsBound (K.network keeper.old) bound }
-    ensures known { IfOk result (λ r. IsKnown (K.network keeper.old) bound limit r.0 r.1) }
+    requires bound { IsBound (K.network keeper.old) ask.bound }
+    ensures known { IfOk result (λ r. IsKnown (K.network keeper.old) ask.bound ask.limit r.0 r.1) }
     ensures nodes { IfOk result (λ r. AreNodes (K.network keeper.old) r.1) }
     ensures is_network { IsNetwork (K.network keeper.old) }
     ensures network { K.network keeper.new ≡ K.network keeper.old }
@@ -110,7 +110,7 @@ fn search<K: Keeper>(
     if has_empty_row(keeper, &events) {
         return Ok((known(None, false, u64::MAX), 0));
     }
-    search_in_turn(alloc, keeper, &events, bound, limit)
+    search_in_turn(alloc, keeper, &events, before, ask)
 }
 
 /// The optimum of the keeper's instance, and the number of nodes.
@@ -133,8 +133,32 @@ pub fn best<K: Keeper>(
     ensures network { K.network keeper.new ≡ K.network keeper.old }
     ensures pushes { K.pushes keeper.new ≡ [] }
 {
-    let (known, nodes) = search(alloc, keeper, bound, None)?;
+    let ask = Ask { bound, limit: None };
+    let (known, nodes) = search(alloc, keeper, &mut Searches::new(alloc), ask)?;
     Ok((answer_of(known.best), nodes))
+}
+
+/// What is known of the keeper's instance when the search ends, or when as many nodes were counted as the limit, if there is one.
+///
+/// Searches by cycles that stopped are gone on with where they are of this instance, and what stops now is kept for the next one.
+/// What is told is that of [`known_within`].
+pub fn known_after<K: Keeper>(
+    alloc: Global,
+    keeper: &mut K,
+    before: &mut Searches,
+    bound: Option<u64>,
+    limit: Option<u64>,
+) -> Result<(Known, u64), Memory>
+    requires pushes { K.pushes keeper.old ≡ [] }
+    requires bound { IsBound (K.network keeper.old) bound }
+    ensures known { IfOk result (λ r. IsKnown (K.network keeper.old) bound limit r.0 r.1) }
+    ensures dead { IsDeadEnd (K.network keeper.old) []
+        → IfOk result (λ r. (r.0.is_stopped ≡ false) × (r.0.best ≡ None) × (r.1 ≡ 0)) }
+    ensures nodes { IfOk result (λ r. AreNodes (K.network keeper.old) r.1) }
+    ensures network { K.network keeper.new ≡ K.network keeper.old }
+    ensures pushes { K.pushes keeper.new ≡ [] }
+{
+    search(alloc, keeper, before, Ask { bound, limit })
 }
 
 /// What is known of the keeper's instance when the search ends, or when as many nodes were counted as the limit.
@@ -157,7 +181,7 @@ pub fn known_within<K: Keeper>(
     ensures network { K.network keeper.new ≡ K.network keeper.old }
     ensures pushes { K.pushes keeper.new ≡ [] }
 {
-    search(alloc, keeper, bound, Some(limit))
+    known_after(alloc, keeper, &mut Searches::new(alloc), bound, Some(limit))
 }
 
 /// The optimum as [`best`] finds it, or what was found when as many nodes were counted as the limit.
@@ -178,7 +202,11 @@ pub fn best_within<K: Keeper>(
     ensures network { K.network keeper.new ≡ K.network keeper.old }
     ensures pushes { K.pushes keeper.new ≡ [] }
 {
-    let (known, nodes) = search(alloc, keeper, bound, Some(limit))?;
+    let ask = Ask {
+        bound,
+        limit: Some(limit),
+    };
+    let (known, nodes) = search(alloc, keeper, &mut Searches::new(alloc), ask)?;
     let tried = if known.is_stopped {
         Tried::Stopped { best: known.best }
     } else {

@@ -13,10 +13,11 @@ use crate::Best;
 use crate::arcs::network_of;
 use crate::branch::all_at_zero;
 use crate::outcome::put_times;
+use crate::searches::{Ask, Searches};
 use pesp_base::{EventId, Memory};
 use pesp_domains::Keeper;
 use pesp_instance::Instance;
-use pesp_search_cycles::{ByCycles, first, is_of_use};
+use pesp_search_cycles::{ByCycles, is_of_use};
 use pesp_search_least::{Budget, Candidate, First, Limits, Outcome};
 use pesp_search_network::Network;
 use std::alloc::Global;
@@ -67,6 +68,7 @@ fn cap_of(bound: Option<u64>) -> u64
 /// From a map of least cost to the first one.
 fn first_map(
     alloc: Global,
+    cycles: &mut ByCycles,
     network: &Network,
     candidate: Candidate,
     budget: &mut Budget,
@@ -78,9 +80,9 @@ fn first_map(
     ensures floor { IfOk result (λ sought. sought.floor ≡ candidate.cost) }
 {
     let floor = candidate.cost;
-    let (best, is_end) = match first(alloc, network, candidate, budget)? {
+    let (best, is_end) = match cycles.first(alloc, network, candidate, budget)? {
         First::Done(best) => (best, true),
-        First::Spent(best) => (best, false),
+        First::Spent { best, .. } => (best, false),
     };
     Ok(SoughtMap {
         best: Some(best),
@@ -92,6 +94,7 @@ fn first_map(
 /// The first map of least cost, where some cost is below the cap.
 fn seek_map(
     alloc: Global,
+    cycles: &mut ByCycles,
     network: &Network,
     cap: u64,
     budget: &mut Budget,
@@ -100,8 +103,8 @@ fn seek_map(
         IsSoughtMap (IsCosted network.now) cap sought.is_end sought.best) }
     ensures floor { IfOk result (λ sought. IsLowerBound (IsCosted network.now) sought.floor) }
 {
-    match network.least(alloc, &ByCycles, Limits { floor: 0, cap }, budget)? {
-        Outcome::Found(candidate) => first_map(alloc, network, candidate, budget),
+    match network.least(alloc, cycles, Limits { floor: 0, cap }, budget)? {
+        Outcome::Found(candidate) => first_map(alloc, cycles, network, candidate, budget),
         Outcome::NoneBelow => Ok(SoughtMap {
             best: None,
             floor: cap,
@@ -172,17 +175,17 @@ pub(crate) fn seek<K: Keeper>(
     alloc: Global,
     keeper: &K,
     events: &[EventId],
-    bound: Option<u64>,
-    limit: Option<u64>,
+    before: &mut Searches,
+    ask: Ask,
 ) -> Result<Sought, Memory>
     requires network { IsNetwork (K.network keeper.now) }
     requires events { events.now ≡ event_ids (K.network keeper.now) }
     requires pushes { K.pushes keeper.now ≡ [] }
-    requires bound { IsBound (K.network keeper.now) bound }
+    requires bound { IsBound (K.network keeper.now) ask.bound }
     ensures sought { IfOk result (λ sought.
-        IsSought (K.network keeper.now) bound sought.is_end sought.best) }
+        IsSought (K.network keeper.now) ask.bound sought.is_end sought.best) }
     ensures floor { IfOk result (λ sought. IsFloor (K.network keeper.now) sought.floor) }
-    ensures none { limit ≡ Some 0
+    ensures none { ask.limit ≡ Some 0
         → IfOk result (λ sought. (sought.is_end ≡ false) × (sought.best ≡ None)) }
 {
     let nothing = Sought {
@@ -190,14 +193,15 @@ pub(crate) fn seek<K: Keeper>(
         floor: 0,
         is_end: false,
     };
-    if limit == Some(0) {
+    if ask.limit == Some(0) {
         return Ok(nothing);
     }
     let network = network_of(alloc, keeper, events)?;
     if !is_of_use(alloc, &network)? {
         return Ok(nothing);
     }
-    let mut budget = budget_of(limit);
-    let sought = seek_map(alloc, &network, cap_of(bound), &mut budget)?;
+    let mut budget = budget_of(ask.limit);
+    let cycles = &mut before.cycles;
+    let sought = seek_map(alloc, cycles, &network, cap_of(ask.bound), &mut budget)?;
     with_times(alloc, keeper.instance(), events, sought)
 }

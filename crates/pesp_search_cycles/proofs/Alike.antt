@@ -4,13 +4,13 @@ use Rattle.std.proofs.lemmas.Bool.{cases_lt}
 use Rattle.std.proofs.lemmas.List.{get_or_past}
 use Rattle.pesp_search_graph.specs.declared.arc.Arc.{Arc}
 use Rattle.pesp_search_graph.specs.declared.step.Step.{Step}
-use Rattle.pesp_search_network.specs.Arcs.{AreArcs, Arcs, IsMet, has, meets}
+use Rattle.pesp_search_network.specs.Arcs.{AreArcs, Arcs, IsMet, meets}
 use Rattle.pesp_search_network.specs.Weights.{AreAlike, kept}
 use Rattle.pesp_search_network.proofs.Weights.{all_alike, length-alike, same_at}
 use Rattle.pesp_search_cycles.specs.declared.boxes.Boxes.{Boxes}
 use Rattle.pesp_search_cycles.specs.declared.flip.FlipCut.{FlipCut}
-use Rattle.pesp_search_cycles.specs.Maps.{AreCycles, Holds, IsInside, Net, numbers_of, slack_at, slacks_of}
-use Rattle.pesp_search_cycles.specs.Ranges.{AllIn, AreIn, IsIn, no_range}
+use Rattle.pesp_search_cycles.specs.Maps.{AreCycles, Holds, IsInside, Net, numbers_of, slack_at}
+use Rattle.pesp_search_cycles.specs.Ranges.{AreIn, IsIn, no_range}
 use Rattle.pesp_search_cycles.specs.Terms.{IsKept}
 use Rattle.pesp_search_cycles.specs.Walks.{Path, RoundsAreIn, arc_at, end_of, joins, leads, no_arc, no_path, residue, round, signed, start_of, time_of, times}
 

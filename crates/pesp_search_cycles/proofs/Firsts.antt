@@ -1,14 +1,18 @@
 -- First maps of sums of which only those below a cap are kept.
-use Rattle.std.proofs.Common.{◌≡◌, ℕ, ◌+◌, IfOk, List, Result, Ok, Err, inl, inr, sym, subst, arith}
+use Rattle.std.proofs.Common.{◌≡◌, ℕ, ◌+◌, ◌∙◌, List, take, inl, inr, sym, subst, arith}
 use Rattle.std.proofs.lemmas.Bool.{cases_lt}
 use Rattle.pesp_search_least.specs.declared.outcome.Candidate.{Candidate}
 use Rattle.pesp_search_least.specs.declared.outcome.First.{First}
 use Rattle.pesp_search_least.specs.declared.outcome.First.TheVariants.{Done, Spent}
-use Rattle.pesp_search_least.specs.Order.{IsFirst, IsFirstOutcome}
+use Rattle.pesp_search_least.specs.Order.{IsFirst, IsFirstOutcome, IsSettled, Precedes}
+use Rattle.pesp_search_least.specs.Reached.{AreEqual}
+use Rattle.pesp_search_least.proofs.Reached.{least_equal}
 use Rattle.pesp_search_least.specs.Sums.{InSome, IsCut, IsLeast, Sums}
 use Rattle.pesp_search_network.specs.Arcs.{Arcs, IsCosted, IsMet}
 use Rattle.pesp_search_cycles.specs.declared.boxes.Boxes.{Boxes}
 use Rattle.pesp_search_cycles.specs.declared.range.Range.{Range}
+use Rattle.pesp_search_cycles.specs.declared.settling.Settling.{Settling}
+use Rattle.pesp_search_cycles.specs.Settlings.{IsTold}
 use Rattle.pesp_search_cycles.specs.Maps.{IsAmong, IsLeft, IsSummed, Net}
 use Rattle.pesp_search_cycles.specs.Ranges.{AreIn}
 
@@ -36,13 +40,19 @@ module _ (all few : Sums) (cost : ℕ) (cut : IsCut (cost + 1) all few) where
         ];
   }
 
-  outcome_of_all : (least : Candidate) (first : First) → IsLeast all least → least.cost ≡ cost → IsFirstOutcome (IsFirst few) few cost first → IsFirstOutcome (IsFirst all) all cost first
-  outcome_of_all least (Done candidate) l e h = (first_of_all least candidate l e h.1 h.0, h.1)
-  outcome_of_all least (Spent candidate) l e h = (least_of_all least candidate l e h.1 h.0, h.1)
+  settled_of_all : (least candidate : Candidate) (settled : ℕ) → candidate.cost ≡ cost → IsSettled few settled candidate → IsSettled all settled candidate
+  settled_of_all least candidate settled f h map sum has before =
+      elim (cases_lt sum (cost + 1)) [
+        | inl low ↦ h map sum (cut.keeps map sum low has) before
+        | inr high ↦ omega (arith, high, f)
+      ]
 
-  pub first_along : {E : Type 0} (least : Candidate) (result : Result First E) → IsLeast all least → least.cost ≡ cost → IfOk result (IsFirstOutcome (IsFirst few) few cost) → IfOk result (IsFirstOutcome (IsFirst all) all cost)
-  first_along least (Ok first) l e h = outcome_of_all least first l e h
-  first_along least (Err error) l e h = tt
+  pub settled_of_few : (candidate : Candidate) (settled : ℕ) → IsSettled all settled candidate → IsSettled few settled candidate
+  settled_of_few candidate settled h map sum has before = h map sum (cut.within map sum has) before
+
+  pub first_of : (least : Candidate) (first : First) → IsLeast all least → least.cost ≡ cost → IsFirstOutcome few cost first → IsFirstOutcome all cost first
+  first_of least (Done candidate) l e h = (first_of_all least candidate l e h.1 h.0, h.1)
+  first_of least (Spent candidate settled) l e h = (least_of_all least candidate l e h.1 h.0, h.1, settled_of_all least candidate settled h.1 h.2)
 
 -- where the ranges have the residues of all maps, the maps of the leaves are those below the cap
 pub left_cut : (A : Arcs) (N : Net) (R : List Range) (leaves : List Boxes) (cap : ℕ) → N.network ≡ A → ((xs : List ℕ) → IsMet A xs → AreIn R xs) → IsCut cap (IsAmong A R) (InSome (IsSummed N) leaves) → IsCut cap (IsCosted A) (IsLeft N R leaves)
@@ -60,3 +70,17 @@ region_cut A V N R S Q leaves kept cap network cycles deref residues boxes all c
     subst (λ (M : Net). IsCut cap (IsCosted A) (IsLeft M Q kept)) (sym cycles)
     (subst (λ (T : List Range). IsCut cap (IsCosted A) (IsLeft V T kept)) (sym residues)
     (subst (λ (ls : List Boxes). IsCut cap (IsCosted A) (IsLeft V R ls)) (sym boxes) there))
+
+-- ---- what is told where a search stops
+
+settled_equal : (sums : Sums) (settled : ℕ) (one other : Candidate) → AreEqual one other → IsSettled sums settled one → IsSettled sums settled other
+settled_equal sums settled one other same is map sum has before =
+    omega (arith, is map sum has (subst (λ (xs : List ℕ). Precedes (take settled map) (take settled xs)) same.map before), same.cost)
+
+pub told_first : (A : Arcs) (cost : ℕ) (s : Settling) (first : First) → IsTold s first → IsLeast (IsCosted A) s.best → s.best.cost ≡ cost → IsSettled (IsCosted A) s.settled s.best → IsFirstOutcome (IsCosted A) cost first
+told_first A cost s (Done candidate) told least e settled = absurd told
+told_first A cost s (Spent candidate events) told least e settled = (
+  least_equal (IsCosted A) s.best candidate told.0 least,
+  told.0.cost ∙ e,
+  subst (λ (n : ℕ). IsSettled (IsCosted A) n candidate) (sym told.1) (settled_equal (IsCosted A) s.settled s.best candidate told.0 settled),
+)

@@ -1,10 +1,12 @@
 pub mod Alike
 pub mod Asked
+pub mod Asleep
 pub mod Covered
 pub mod Firsts
 pub mod Flipped
 pub mod Floors
 pub mod Halved
+pub mod Leaved
 pub mod Narrowed
 pub mod Numbered
 pub mod Numbers
@@ -16,6 +18,7 @@ pub mod Ranged
 pub mod Regions
 pub mod Rounds
 pub mod Split
+pub mod Stood
 pub mod Taken
 pub mod Tested
 pub mod Totals

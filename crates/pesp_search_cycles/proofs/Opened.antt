@@ -1,14 +1,13 @@
 -- Nodes that are opened at boxes: together they have each map that is in one of these.
-use Rattle.std.proofs.Common.{◌≡◌, ℕ, ◌+◌, ◌<◌, ◌≤◌, ◌++◌, ◌∷◌, [], inl, inr, List, All, length, take, get_or, sym, subst, ap, ◌∙◌, arith}
-use Rattle.std.proofs.lemmas.List.{take_all, take_more}
+use Rattle.std.proofs.Common.{◌≡◌, ℕ, ◌+◌, ◌++◌, ◌∷◌, [], inl, inr, List, All, sym, subst, arith}
 use Rattle.std.proofs.lemmas.List.Elements.{All-push}
-use Rattle.pesp_search_least.specs.Sums.{InSome, IsCut, IsWithin, Sums}
+use Rattle.pesp_search_least.specs.Sums.{InSome, IsCut, IsWithin}
 use Rattle.pesp_search_least.proofs.Stack.{in_some_pop, in_some_push}
 use Rattle.pesp_search_cycles.specs.declared.boxes.Boxes.{Boxes}
 use Rattle.pesp_search_cycles.specs.declared.node.Node.{Node}
 use Rattle.pesp_search_cycles.specs.declared.range.Range.{Range}
 use Rattle.pesp_search_cycles.specs.Leaves.{sums_of}
-use Rattle.pesp_search_cycles.specs.Maps.{AreBoxes, IsAmong, IsInside, IsSummed, Net}
+use Rattle.pesp_search_cycles.specs.Maps.{IsAmong, IsInside, IsSummed, Net}
 use Rattle.pesp_search_cycles.specs.Splits.{IsNarrowed}
 use Rattle.pesp_search_cycles.specs.Starts.{AreStarts, IsInBoxes}
 use Rattle.pesp_search_cycles.proofs.Narrowed.{IsInFront, inside_narrowed, narrowed_inside}

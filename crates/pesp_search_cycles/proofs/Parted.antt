@@ -1,9 +1,8 @@
 -- Maps of a network, part by part: of each part it is known what maps cost at least, and in which boxes those are that cost as much.
-use Rattle.std.proofs.Common.{◌≡◌, ◌==◌, nat_lt, ℕ, ◌+◌, ◌<◌, ◌≤◌, inl, inr, Bool, List, [], ◌∷◌, All, length, sum_by, refl, sym, subst, ap, ◌∙◌, arith}
-use Rattle.std.proofs.lemmas.List.Elements.{All-same}
-use Rattle.pesp_search_least.specs.Sums.{InSome, IsCut, IsLowerBound, Sums}
-use Rattle.pesp_search_network.specs.Arcs.{Arcs, IsCosted, cost_in}
-use Rattle.pesp_search_network.specs.Weights.{AreAlike, weighed}
+use Rattle.std.proofs.Common.{◌≡◌, ◌==◌, nat_lt, ℕ, ◌+◌, ◌≤◌, inl, inr, Bool, List, [], ◌∷◌, All, length, sum_by, refl, sym, ap, ◌∙◌, arith}
+use Rattle.pesp_search_least.specs.Sums.{InSome, IsCut, IsLowerBound}
+use Rattle.pesp_search_network.specs.Arcs.{Arcs, cost_in}
+use Rattle.pesp_search_network.specs.Weights.{weighed}
 use Rattle.pesp_search_network.proofs.Weights.{costs_fewer, costs_next, length-alike, weighed_alike}
 use Rattle.pesp_search_cycles.specs.declared.boxes.Boxes.{Boxes}
 use Rattle.pesp_search_cycles.specs.declared.range.Range.{Range}

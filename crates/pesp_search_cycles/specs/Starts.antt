@@ -1,5 +1,5 @@
 -- Boxes to begin a search at: each map that costs little enough is in one of them.
-use Rattle.std.specs.Prelude.{◌≡◌, ℕ, ◌<◌, ◌≤◌, Bool, nat_lt, ◌==◌, List, All}
+use Rattle.std.specs.Prelude.{ℕ, ◌≤◌, Bool, nat_lt, ◌==◌, List, All}
 use Rattle.pesp_search_least.specs.Sums.{InSome, IsLowerBound, Sums}
 use Rattle.pesp_search_network.specs.Arcs.{Arcs}
 use Rattle.pesp_search_network.specs.Weights.{weighed}

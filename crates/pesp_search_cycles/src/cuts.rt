@@ -11,6 +11,7 @@ use crate::graph::{Graph, units_of};
 use crate::node::Node;
 use crate::phase::{Seeking, spent_of};
 use crate::proposer::Proposer;
+use crate::residues::residue_ranges;
 use crate::root::root;
 use crate::separate::separate;
 use crate::walk::copied;
@@ -160,6 +161,15 @@ fn candidates_of(
     Ok(walks)
 }
 
+/// What cuts are for.
+#[derive(Clone, Copy)]
+pub(crate) struct Aim {
+    // Where they are sought.
+    pub(crate) seeking: Seeking,
+    // Maps that cost as much are of no use.
+    pub(crate) cap: u64,
+}
+
 /// Where cuts are sought: at the first node of a network.
 #[derive(Drop)]
 struct Site<'a> {
@@ -169,10 +179,7 @@ struct Site<'a> {
     residues: &'a [Range],
     // In which all numbers of a map are.
     numbers: Vec<Range>,
-    // Of this phase.
-    seeking: Seeking,
-    // Maps that cost as much are of no use.
-    cap: u64,
+    aim: Aim,
     ghost long: { length residues.now ≡ cycles.now.network.events },
     ghost inside: { (xs : List ℕ) → IsMet cycles.now.network xs
         → AreIn numbers.items (numbers_of cycles.now.network xs) },
@@ -236,9 +243,9 @@ fn round(
     let Some(mut node) = Node::among(alloc, &with_cuts, site.residues, proposer, false)? else {
         return Err(Memory);
     };
-    let (bound, cost) = measured(alloc, &mut node, site.cap, budget)?;
-    let gap = gap_of(bound, cost, site.cap);
-    let (flips, goes_on) = if is_worth(site.seeking, before.bound, bound, gap)
+    let (bound, cost) = measured(alloc, &mut node, site.aim.cap, budget)?;
+    let gap = gap_of(bound, cost, site.aim.cap);
+    let (flips, goes_on) = if is_worth(site.aim.seeking, before.bound, bound, gap)
         && !budget.is_spent()
     {
         renewed(alloc, &node, before.flips, candidates, budget)?
@@ -273,14 +280,12 @@ fn flips_of(alloc: Global, site: &Site, budget: &mut Budget) -> Result<Vec<Flip>
     Ok(stage.flips)
 }
 
-/// Flip cuts of a network whose events have their residues in these ranges, at all maps that it has, where maps below the cap
-/// are sought.
-pub(crate) fn cuts_among<'x>(
+/// Flip cuts beside these walks, where maps below a cap are sought.
+fn cuts_among<'x>(
     alloc: Global,
     cycles: &'x Cycles<'x>,
     residues: &'x [Range],
-    seeking: Seeking,
-    cap: u64,
+    aim: Aim,
     budget: &mut Budget,
 ) -> Result<Vec<FlipCut>, Memory>
     requires long { length residues.now ≡ cycles.now.network.events }
@@ -288,9 +293,6 @@ pub(crate) fn cuts_among<'x>(
     ensures kept { IfOk result (λ cuts. All (Holds cycles.now.network) cuts.items) }
     ensures budget { OnlySpends budget.old.left budget.new.left }
 {
-    if seeking == Seeking::Nowhere {
-        return Ok(Vec::new(alloc));
-    }
     let Some(boxes) = root(alloc, cycles, residues)? else {
         return Ok(Vec::new(alloc));
     };
@@ -298,11 +300,29 @@ pub(crate) fn cuts_among<'x>(
         cycles,
         residues,
         numbers: boxes.numbers,
-        seeking,
-        cap,
+        aim,
     };
     let mut part = Budget { left: budget.left };
     let flips = flips_of(alloc, &site, &mut part)?;
     budget.spend(spent_of(budget.left, part.left));
     cuts_of(alloc, cycles, &site.numbers, &flips)
+}
+
+/// Flip cuts of a network beside walks.
+pub(crate) fn cuts_beside(
+    alloc: Global,
+    network: &Network,
+    walks: &[Walk],
+    aim: Aim,
+    budget: &mut Budget,
+) -> Result<Vec<FlipCut>, Memory>
+    ensures kept { IfOk result (λ cuts. All (Holds network.now) cuts.items) }
+    ensures budget { OnlySpends budget.old.left budget.new.left }
+{
+    if aim.seeking == Seeking::Nowhere {
+        return Ok(Vec::new(alloc));
+    }
+    let residues = residue_ranges(alloc, network)?;
+    let plain = Cycles::without_cuts(alloc, network, walks)?;
+    cuts_among(alloc, &plain, &residues, aim, budget)
 }

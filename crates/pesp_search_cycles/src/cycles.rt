@@ -3,6 +3,7 @@
 ghost use Rattle.std.specs.Prelude.{◌≡◌, ◌++◌, All, List, IfOk, IsTrue};
 ghost use Rattle.pesp_search_network.specs.Weights.{AreAlike};
 ghost use Rattle.pesp_search_cycles.specs.Maps.{AreCycles, Holds};
+ghost use Rattle.pesp_search_cycles.specs.Stacks.{net_of};
 ghost use Rattle.pesp_search_cycles.specs.Walks.{Path, joins};
 
 use crate::Walk;
@@ -43,7 +44,8 @@ impl<'a> Cycles<'a> {
         cuts: &'a [FlipCut],
     ) -> Result<Cycles<'a>, Memory>
         requires { All (Holds network.now) cuts.now }
-        ensures { IfOk result (λ cycles. cycles.network ≡ network.now) }
+        ensures network { IfOk result (λ cycles. cycles.network ≡ network.now) }
+        ensures cuts { IfOk result (λ cycles. cycles.cuts ≡ cuts.now) }
     {
         network.sound();
         let mut joined = Vec::new(alloc);
@@ -57,6 +59,26 @@ impl<'a> Cycles<'a> {
             walks: joined,
             cuts,
         })
+    }
+
+    /// The network with walks that all lead from their first event to their last.
+    pub(crate) fn joined(network: &'a Network, walks: Vec<Walk>, cuts: &'a [FlipCut]) -> Cycles<'a>
+        requires { AreCycles (net_of network.now walks.items cuts.now) }
+        ensures { result ≡ net_of network.now walks.items cuts.now }
+    {
+        Cycles {
+            network,
+            walks,
+            cuts,
+        }
+    }
+
+    /// The walks alone.
+    pub(crate) fn into_walks(self) -> Vec<Walk>
+        ensures walks { result.items ≡ self.entry.walks }
+        ensures sound { AreCycles self.entry }
+    {
+        self.walks
     }
 
     /// The same without cuts.

@@ -1,17 +1,20 @@
 //! The leaves of a search for all maps of least cost: boxes that have each of them.
 
 ghost use Rattle.std.specs.Prelude.{◌≡◌, ℕ, ◌+◌, ◌++◌, ◌∷◌, ◌^◌, ◌<◌, ◌≤◌, [], All, IfOk, IfSome, List, OnOk, length};
+ghost use Rattle.std.specs.List.{AllZip};
 ghost use Rattle.pesp_search_least.specs.Spending.{OnlySpends};
 ghost use Rattle.pesp_search_least.specs.Sums.{InSome, IsCut, IsLowerBound, IsWithin};
 ghost use Rattle.pesp_search_cycles.specs.Leaves.{IsNext, sums_of};
 ghost use Rattle.pesp_search_cycles.specs.Maps.{AreBoxes, IsAmong, IsSummed};
-ghost use Rattle.pesp_search_cycles.specs.Starts.{AreStarts, IsInBoxes};
+ghost use Rattle.pesp_search_cycles.specs.Splits.{AreSame};
+ghost use Rattle.pesp_search_cycles.specs.Starts.{IsInBoxes};
 
 use crate::boxes::Boxes;
 use crate::node::Node;
 use crate::parts::Part;
 use crate::proposer::Proposer;
 use crate::starts::Starts;
+use crate::waiting::Waiting;
 use crate::{Cycles, Range, Walk};
 use pesp_base::Memory;
 use pesp_search_graph::Arc;
@@ -92,6 +95,24 @@ impl Leaves {
             return Err(Memory);
         }
         Ok(())
+    }
+
+    /// The same leaves once more.
+    pub(crate) fn copy(&self, alloc: Global) -> Result<Leaves, Memory>
+        ensures { IfOk result (λ copy. AllZip AreSame self.now.boxes.items copy.boxes.items) }
+    {
+        let mut copy = Leaves::new(alloc, self.least);
+        for index in 0..self.boxes.len() {
+            if copy.boxes.push(self.boxes[index].copy()?).is_err() {
+                return Err(Memory);
+            }
+        }
+        for proposer in &self.proposers {
+            if copy.proposers.push(proposer.copy()?).is_err() {
+                return Err(Memory);
+            }
+        }
+        Ok(copy)
     }
 
     /// What is proposed in a leaf, with a walk more, if there is one.
@@ -258,54 +279,96 @@ pub(crate) fn leaves_of_part<'a>(
     Ok(leaves)
 }
 
-/// The nodes of all maps with these residues in each of some boxes.
-fn opened<'a>(alloc: Global, starts: &Starts<'a>, residues: &[Range]) -> Result<Open<'a>, Memory>
-    requires long { length residues.now ≡ starts.now.cycles.now.network.events }
-    ensures cycles { IfOk result (λ stack. stack.cycles.now ≡ starts.now.cycles.now) }
-    ensures same { IfOk result (λ stack. All (λ n. n.cycles.now ≡ stack.cycles.now) stack.nodes.items) }
-    ensures all { IfOk result (λ stack. (xs : List ℕ) (sum : ℕ)
-        → IsAmong starts.now.cycles.now.network residues.now xs sum
-        → InSome (IsInBoxes starts.now.cycles.now) starts.now.boxes.items xs sum
-        → InSome sums_of stack.nodes.items xs sum) }
-    ensures within { IfOk result (λ stack. IsWithin (InSome sums_of stack.nodes.items)
-        (IsAmong starts.now.cycles.now.network residues.now)) }
-{
-    let cycles = starts.cycles;
-    let mut nodes = Vec::new(alloc);
-    for index in 0..starts.boxes.len() {
-        let root = whole(alloc, cycles, residues, None)?;
-        if nodes.push(root.narrowed(&starts.boxes[index])).is_err() {
-            return Err(Memory);
+impl<'a> Open<'a> {
+    /// The nodes of all maps with these residues in each of some boxes.
+    pub(crate) fn at(
+        alloc: Global,
+        starts: &Starts<'a>,
+        residues: &[Range],
+    ) -> Result<Open<'a>, Memory>
+        requires long { length residues.now ≡ starts.now.cycles.now.network.events }
+        ensures cycles { IfOk result (λ stack. stack.cycles.now ≡ starts.now.cycles.now) }
+        ensures same { IfOk result (λ stack. All (λ n. n.cycles.now ≡ stack.cycles.now) stack.nodes.items) }
+        ensures all { IfOk result (λ stack. (xs : List ℕ) (sum : ℕ)
+            → IsAmong starts.now.cycles.now.network residues.now xs sum
+            → InSome (IsInBoxes starts.now.cycles.now) starts.now.boxes.items xs sum
+            → InSome sums_of stack.nodes.items xs sum) }
+        ensures within { IfOk result (λ stack. IsWithin (InSome sums_of stack.nodes.items)
+            (IsAmong starts.now.cycles.now.network residues.now)) }
+    {
+        let cycles = starts.cycles;
+        let mut nodes = Vec::new(alloc);
+        for index in 0..starts.boxes.len() {
+            let root = whole(alloc, cycles, residues, None)?;
+            if nodes.push(root.narrowed(&starts.boxes[index])).is_err() {
+                return Err(Memory);
+            }
         }
+        Ok(Open { cycles, nodes })
     }
-    Ok(Open { cycles, nodes })
+
+    /// The nodes of leaves that are to be gone on with.
+    pub(crate) fn again(
+        alloc: Global,
+        cycles: &'a Cycles<'a>,
+        leaves: Leaves,
+    ) -> Result<Open<'a>, Memory>
+        requires { All (AreBoxes cycles.now) leaves.boxes.items }
+        ensures cycles { IfOk result (λ stack. stack.cycles.now ≡ cycles.now) }
+        ensures same { IfOk result (λ stack. All (λ n. n.cycles.now ≡ cycles.now) stack.nodes.items) }
+        ensures there { IfOk result (λ stack. IsWithin (InSome (IsSummed cycles.now) leaves.boxes.items)
+            (InSome sums_of stack.nodes.items)) }
+        ensures back { IfOk result (λ stack. IsWithin (InSome sums_of stack.nodes.items)
+            (InSome (IsSummed cycles.now) leaves.boxes.items)) }
+    {
+        let Leaves {
+            boxes: mut rest,
+            mut proposers,
+            ..
+        } = leaves;
+        let mut nodes = Vec::new(alloc);
+        'leaves: while let Some(boxes) = rest.pop() {
+            let proposer = match proposers.pop() {
+                Some(proposer) => proposer,
+                None => Proposer::new(alloc, cycles)?,
+            };
+            let node = Node::awake(alloc, cycles, Waiting::new(boxes, proposer))?;
+            if nodes.push(node).is_err() {
+                return Err(Memory);
+            }
+        }
+        Ok(Open { cycles, nodes })
+    }
 }
 
-/// Boxes that have each map with these residues of this cost, where none costs less: few, or those of all maps.
+/// Boxes that have each map with these residues of this cost, where none costs less, and where the nodes have them: few, or
+/// those of all maps; where the budget is spent as many as there are.
 pub(crate) fn leaves_of<'a>(
     alloc: Global,
-    starts: &Starts<'a>,
+    stack: Open<'a>,
     residues: &[Range],
     cost: u64,
     budget: &mut Budget,
 ) -> Result<Leaves, Memory>
-    requires long { length residues.now ≡ starts.now.cycles.now.network.events }
+    requires long { length residues.now ≡ stack.cycles.now.network.events }
     requires room { cost + 1 < 2 ^ 64 }
-    requires starts { AreStarts starts.now.cycles.now.network starts.now.cycles.now residues.now cost starts.now.boxes.items }
-    ensures cut { IfOk result (λ leaves. IsCut (cost + 1) (IsAmong starts.now.cycles.now.network residues.now)
-        (InSome (IsSummed starts.now.cycles.now) leaves.boxes.items)) }
-    ensures fit { IfOk result (λ leaves. All (AreBoxes starts.now.cycles.now) leaves.boxes.items) }
+    requires same { All (λ n. n.cycles.now ≡ stack.cycles.now) stack.nodes.items }
+    requires cut { IsCut (cost + 1) (IsAmong stack.cycles.now.network residues.now)
+        (InSome sums_of stack.nodes.items) }
+    ensures cut { IfOk result (λ leaves. IsCut (cost + 1) (IsAmong stack.entry.cycles.now.network residues.now)
+        (InSome (IsSummed stack.entry.cycles.now) leaves.boxes.items)) }
+    ensures fit { IfOk result (λ leaves. All (AreBoxes stack.entry.cycles.now) leaves.boxes.items) }
     ensures budget { OnlySpends budget.old.left budget.new.left }
 {
-    let root = whole(alloc, starts.cycles, residues, None)?;
+    let root = whole(alloc, stack.cycles, residues, None)?;
     let most = most_of(root.entries());
-    let stack = opened(alloc, starts, residues)?;
     let limits = Limits {
         floor: cost,
         cap: cost + 1,
     };
     let leaves = leaves_below(alloc, stack, limits, most, budget)?;
-    if leaves.boxes.len() <= most {
+    let is_few = leaves.boxes.len() <= most || budget.is_spent();
+    if is_few {
         return Ok(leaves);
     }
     let mut leaves = Leaves::new(alloc, 0);

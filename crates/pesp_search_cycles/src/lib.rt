@@ -2,16 +2,18 @@
 #![tactic(auto)]
 
 mod admitted;
+mod basis;
 mod boxes;
 mod cut;
 mod cuts;
 mod cycles;
 mod empty;
-mod first_map;
+mod first_search;
 mod flip;
 mod gap;
 mod graph;
 mod held;
+mod least_search;
 mod leaves;
 mod method;
 mod node;
@@ -22,14 +24,18 @@ mod range;
 mod residues;
 mod root;
 mod separate;
+mod settling;
+mod stack;
 mod starts;
 mod terms;
 #[cfg(test)]
 mod tests;
+mod turn;
+mod waiting;
 mod walk;
 
+pub use basis::is_of_use;
 pub use cycles::Cycles;
-pub use first_map::first;
-pub use method::{ByCycles, is_of_use};
+pub use method::ByCycles;
 pub use range::Range;
 pub use walk::Walk;

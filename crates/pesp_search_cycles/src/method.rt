@@ -1,183 +1,300 @@
-//! The search for a map of least cost.
+//! The search for a map of least cost, and what it keeps where it stops.
 
-ghost use Rattle.std.specs.Prelude.{◌≡◌, ◌≢◌, ◌<◌, ℕ, List, Some, IfOk, OnOk, length};
-ghost use Rattle.pesp_search_least.specs.Spending.{OnlySpends, SpendsUnit};
-ghost use Rattle.pesp_search_least.specs.Sums.{IsLowerBound, IsOutcome, IsStop, StopsWhereSpent};
-ghost use Rattle.pesp_search_network.specs.Arcs.{IsCosted, IsMet};
-ghost use Rattle.pesp_search_cycles.specs.Ranges.{AreIn};
+ghost use Rattle.std.specs.Prelude.{◌≡◌, ◌+◌, ◌<◌, ◌^◌, IfOk, IfSome};
+ghost use Rattle.pesp_search_least.specs.Order.{EndsUnlessSpent, IsFirstOutcome};
+ghost use Rattle.pesp_search_least.specs.Spending.{OnlySpends};
+ghost use Rattle.pesp_search_least.specs.Sums.{IsLeast, IsLowerBound, IsOutcome, IsStop, StopsWhereSpent};
+ghost use Rattle.pesp_search_network.specs.Arcs.{IsCosted};
 
-use crate::cuts::cuts_among;
-use crate::graph::{Basis, Graph, units_of};
-use crate::node::Node;
-use crate::phase::{Phase, first_phase, phases_of, spent_of};
-use crate::proposer::Proposer;
+use crate::basis::units_of_narrow;
+use crate::first_search::FirstSearch;
+use crate::least_search::LeastSearch;
+use crate::phase::spent_of;
 use crate::residues::residue_ranges;
-use crate::{Cycles, Range, Walk};
+use crate::settling::Settling;
+use crate::stack::Progress;
+use crate::turn::Turn;
 use pesp_base::Memory;
-use pesp_search_least::{Budget, Limits, Outcome, both, least, limits_after};
+use pesp_search_least::{Budget, Candidate, First, Limits, Outcome};
 use pesp_search_network::{Method, Network};
 use std::alloc::Global;
 
-/// How many cycles a network may have.
-const MOST_CYCLES: usize = 1_000;
+/// How many phases a search has at most; the last one goes on to the end.
+const MOST_PHASES: usize = 3;
 
-/// how many events,
-const MOST_EVENTS: usize = 2_000;
+/// How many solved networks are kept.
+const MOST_SOLVED: usize = 100;
 
-/// how many entries a tableau, which takes 16 MB then,
-const MOST_ENTRIES: usize = 2_097_152;
-
-/// and what all arcs may cost at most: sums of the bound are in parts, and have 64 bits.
-const MOST_COST: u64 = 1 << 37;
-
-/// A search by what the slacks of a network add up to along its cycles.
+/// A network, and a map of least cost.
 #[derive(Drop)]
-pub struct ByCycles;
-
-/// What all arcs cost at most.
-fn most_cost(network: &Network) -> u64 {
-    let period = network.period();
-    let mut most: u64 = 0;
-    for arc in network.arcs() {
-        let width = u64::from(arc.width(period));
-        most = most.saturating_add(u64::from(arc.weight.get()).saturating_mul(width));
-    }
-    most
+struct Solved {
+    network: Network,
+    least: Candidate,
+    ghost solves: { IsLeast (IsCosted network) least },
 }
 
-/// Whether a search by cycles is of use: whether there are few enough, and costs are small enough.
-pub fn is_of_use(alloc: Global, network: &Network) -> Result<bool, Memory> {
-    if network.events() > MOST_EVENTS || most_cost(network) > MOST_COST {
-        return Ok(false);
-    }
-    let residues = residue_ranges(alloc, network)?;
-    let graph = Graph::of(alloc, network, &residues)?;
-    let cycles = graph.cycle_count(alloc, network.period())?;
-    let numbers = network.arcs().len().saturating_add(network.events());
-    Ok(cycles <= MOST_CYCLES && cycles.saturating_mul(numbers) <= MOST_ENTRIES)
-}
-
-/// How many units it takes to find narrow cycles, or none where there are too many.
-pub(crate) fn units_of_narrow(
-    alloc: Global,
-    network: &Network,
-    residues: &[Range],
-) -> Result<Option<u64>, Memory> {
-    let graph = Graph::of(alloc, network, residues)?;
-    graph.units_of_narrow(alloc, network.period())
-}
-
-/// Narrow cycles where finding them takes at most a quarter of the budget, and else those of a tree.
-pub(crate) fn basis_within(
-    alloc: Global,
-    network: &Network,
-    residues: &[Range],
-    budget: &Budget,
-) -> Result<Basis, Memory> {
-    let narrow = units_of_narrow(alloc, network, residues)?;
-    match (narrow, budget.left) {
-        (None, _) => Ok(Basis::Tree),
-        (Some(units), Some(left)) if left / 4 <= units => Ok(Basis::Tree),
-        (Some(_), _) => Ok(Basis::Narrow),
+impl Solved {
+    /// What a search below the cap would find.
+    fn outcome(&self, cap: u64) -> Result<Outcome, Memory>
+        ensures outcome { IfOk result (IsOutcome (IsCosted self.now.network) cap) }
+        ensures ends { IfOk result (λ outcome. IsStop outcome → ⊥) }
+    {
+        if self.least.cost < cap {
+            Ok(Outcome::Found(self.least.copy()?))
+        } else {
+            Ok(Outcome::NoneBelow)
+        }
     }
 }
 
-/// Walks that make up all others, and what it took to find them is spent.
-pub(crate) fn walks_of(
-    alloc: Global,
-    network: &Network,
-    residues: &[Range],
-    basis: Basis,
-    budget: &mut Budget,
-) -> Result<Vec<Walk>, Memory>
-    ensures { OnlySpends budget.old.left budget.new.left }
-{
-    let graph = Graph::of(alloc, network, residues)?;
-    let mut work = 0;
-    let walks = graph.walks(alloc, network.period(), basis, &mut work)?;
-    budget.spend(units_of(work));
-    Ok(walks)
+/// Searches by what the slacks of a network add up to along its cycles.
+///
+/// One that stops is kept, and goes on where it is asked for the same network again.
+#[derive(Drop)]
+pub struct ByCycles {
+    // Where the last one stopped.
+    stopped: Option<LeastSearch>,
+    // Where the last one for a first map stopped.
+    unsettled: Option<FirstSearch>,
+    // Networks that were searched to the end within budgets.
+    solved: Vec<Solved>,
 }
 
-/// A map of least cost among those with these residues, in one phase.
-fn least_by(
-    alloc: Global,
-    network: &Network,
-    residues: &[Range],
-    phase: Phase,
-    limits: Limits,
-    budget: &mut Budget,
-) -> Result<Outcome, Memory>
-    requires long { length residues.now ≡ network.now.events }
-    requires floor { IsLowerBound (IsCosted network.now) limits.floor }
-    requires all { (map : List ℕ) → IsMet network.now map → AreIn residues.now map }
-    ensures outcome { IfOk result (IsOutcome (IsCosted network.now) limits.cap) }
-    ensures spent { IfOk result (StopsWhereSpent budget.new.left) }
-    ensures budget { OnlySpends budget.old.left budget.new.left }
-    ensures stops { limits.floor < limits.cap → budget.old.left ≡ Some 0 → IfOk result IsStop }
-{
-    let walks = walks_of(alloc, network, residues, phase.basis, budget)?;
-    let plain = Cycles::without_cuts(alloc, network, &walks)?;
-    let cuts = cuts_among(alloc, &plain, residues, phase.seeking, limits.cap, budget)?;
-    let cycles = Cycles::new(alloc, network, walks, &cuts)?;
-    let proposer = Proposer::new(alloc, &cycles)?;
-    let Some(root) = Node::among(alloc, &cycles, residues, proposer, true)? else {
-        return Err(Memory);
-    };
-    least(alloc, root, limits, budget)
-}
-
-/// A map of least cost among those with these residues, phase by phase.
-fn least_in_turn(
-    alloc: Global,
-    network: &Network,
-    residues: &[Range],
-    phases: &[Phase],
-    limits: Limits,
-    budget: &mut Budget,
-) -> Result<Outcome, Memory>
-    requires long { length residues.now ≡ network.now.events }
-    requires floor { IsLowerBound (IsCosted network.now) limits.floor }
-    requires all { (map : List ℕ) → IsMet network.now map → AreIn residues.now map }
-    ensures outcome { IfOk result (IsOutcome (IsCosted network.now) limits.cap) }
-    ensures spent { IfOk result (StopsWhereSpent budget.new.left) }
-    ensures budget { OnlySpends budget.old.left budget.new.left }
-    ensures stops { limits.floor < limits.cap → budget.old.left ≡ Some 0 → IfOk result IsStop }
-{
-    let Some((phase, rest)) = phases.split_first() else {
-        return least_by(alloc, network, residues, Phase::last(), limits, budget);
-    };
-    let Some(units) = phase.units else {
-        return least_by(alloc, network, residues, *phase, limits, budget);
-    };
-    if budget.is_spent() {
-        return least_by(alloc, network, residues, *phase, limits, budget);
+impl ByCycles {
+    /// Nothing was searched yet.
+    pub fn new(alloc: Global) -> ByCycles {
+        ByCycles {
+            stopped: None,
+            unsettled: None,
+            solved: Vec::new(alloc),
+        }
     }
-    let mut part = budget.part(units);
-    let given = part.left;
-    let begun = least_by(alloc, network, residues, *phase, limits, &mut part)?;
-    budget.spend(spent_of(given, part.left));
-    let Outcome::Spent { best, lower_bound } = begun else {
-        return Ok(begun);
-    };
-    let left = limits_after(limits, &best, lower_bound);
-    let next = least_in_turn(alloc, network, residues, rest, left, budget)?;
-    Ok(both(limits.cap, best, next))
+
+    /// What a search of the network below the cap would find, if a map of least cost is known.
+    fn known(&self, network: &Network, cap: u64) -> Result<Option<Outcome>, Memory>
+        ensures outcome { IfOk result (λ known. IfSome known (IsOutcome (IsCosted network.now) cap)) }
+        ensures ends { IfOk result (λ known. IfSome known (λ outcome. IsStop outcome → ⊥)) }
+    {
+        for index in 0..self.solved.len() {
+            if self.solved[index].network.is_same(network) {
+                return Ok(Some(self.solved[index].outcome(cap)?));
+            }
+        }
+        Ok(None)
+    }
+
+    /// Keeps a map of least cost, where there is memory for it.
+    fn keep(&mut self, network: &Network, least: &Candidate)
+        requires { IsLeast (IsCosted network.now) least.now }
+    {
+        if self.solved.len() >= MOST_SOLVED {
+            self.solved.clear();
+        }
+        let (Ok(network), Ok(least)) = (network.copy(), least.copy()) else {
+            return;
+        };
+        // Where memory is out, it is not kept.
+        let _ = self.solved.push(Solved { network, least });
+    }
+
+    /// The search of the network that stopped, if it can be gone on with for this.
+    fn stopped(&mut self, network: &Network, limits: Limits) -> Option<LeastSearch>
+        requires { IsLowerBound (IsCosted network.now) limits.floor }
+        ensures network { IfSome result (λ search. search.network ≡ network.now) }
+        ensures cap { IfSome result (λ search. search.cap ≡ limits.cap) }
+    {
+        let search = self.stopped.take()?;
+        if !search.network().is_same(network) {
+            return None;
+        }
+        search.within(limits)
+    }
+
+    /// A search of the network at its beginning.
+    fn begun(
+        alloc: Global,
+        network: &Network,
+        limits: Limits,
+        budget: &mut Budget,
+    ) -> Result<LeastSearch, Memory>
+        requires { IsLowerBound (IsCosted network.now) limits.floor }
+        ensures network { IfOk result (λ search. search.network ≡ network.now) }
+        ensures cap { IfOk result (λ search. search.cap ≡ limits.cap) }
+        ensures budget { OnlySpends budget.old.left budget.new.left }
+    {
+        let residues = residue_ranges(alloc, network)?;
+        let narrow = units_of_narrow(alloc, network, &residues)?;
+        let turn = Turn::first(narrow, budget);
+        let progress = Progress { limits, best: None };
+        LeastSearch::new(alloc, network.copy()?, turn, progress, budget)
+    }
+
+    /// Goes on with a search, by so many phases that have an end and then to the end, as far as the budget goes.
+    fn go_on(
+        &mut self,
+        alloc: Global,
+        search: LeastSearch,
+        phases: usize,
+        budget: &mut Budget,
+    ) -> Result<Outcome, Memory>
+        ensures outcome { IfOk result (IsOutcome (IsCosted search.network)
+            search.cap) }
+        ensures spent { IfOk result (StopsWhereSpent budget.new.left) }
+        ensures budget { OnlySpends budget.old.left budget.new.left }
+    {
+        let units = if phases == 0 { None } else { search.units() };
+        let Some(units) = units else {
+            let (outcome, rest) = search.advance(alloc, budget)?;
+            self.stopped = rest;
+            return Ok(outcome);
+        };
+        let mut part = budget.part(units);
+        let given = part.left;
+        let (outcome, rest) = search.advance(alloc, &mut part)?;
+        budget.spend(spent_of(given, part.left));
+        let Some(rest) = rest else {
+            return Ok(outcome);
+        };
+        if budget.is_spent() {
+            self.stopped = Some(rest);
+            return Ok(outcome);
+        }
+        let next = rest.next(alloc, budget)?;
+        self.go_on(alloc, next, phases - 1, budget)
+    }
+}
+
+impl ByCycles {
+    /// The search for the first map of the network at this cost that stopped, if there is one.
+    fn unsettled(&mut self, network: &Network, cost: u64) -> Option<FirstSearch>
+        ensures network { IfSome result (λ search. search.network ≡ network.now) }
+        ensures cost { IfSome result (λ search. search.cost ≡ cost) }
+    {
+        let search = self.unsettled.take()?;
+        if search.cost() == cost && search.network().is_same(network) {
+            Some(search)
+        } else {
+            None
+        }
+    }
+
+    /// The same search at its beginning, from a map of least cost.
+    fn begun_from(
+        alloc: Global,
+        network: &Network,
+        candidate: Candidate,
+        budget: &mut Budget,
+    ) -> Result<FirstSearch, Memory>
+        requires least { IsLeast (IsCosted network.now) candidate }
+        requires room { candidate.cost + 1 < 2 ^ 64 }
+        ensures network { IfOk result (λ search. search.network ≡ network.now) }
+        ensures cost { IfOk result (λ search. search.cost ≡ candidate.cost) }
+        ensures budget { OnlySpends budget.old.left budget.new.left }
+    {
+        let residues = residue_ranges(alloc, network)?;
+        let narrow = units_of_narrow(alloc, network, &residues)?;
+        let turn = Turn::first(narrow, &Budget::unlimited());
+        let settling = Settling::new(candidate);
+        FirstSearch::new(alloc, network.copy()?, turn, settling, budget)
+    }
+
+    /// Goes on with a search for a first map, by so many phases that have an end and then to the end, as far as the budget goes.
+    fn settle(
+        &mut self,
+        alloc: Global,
+        search: FirstSearch,
+        phases: usize,
+        budget: &mut Budget,
+    ) -> Result<First, Memory>
+        ensures first { IfOk result (IsFirstOutcome (IsCosted search.network)
+            search.cost) }
+        ensures spent { IfOk result (EndsUnlessSpent budget.new.left) }
+        ensures budget { OnlySpends budget.old.left budget.new.left }
+    {
+        let units = if phases == 0 { None } else { search.units() };
+        let Some(units) = units else {
+            let (told, rest) = search.advance(alloc, budget)?;
+            self.unsettled = rest;
+            return Ok(told);
+        };
+        let mut part = budget.part(units);
+        let given = part.left;
+        let (told, rest) = search.advance(alloc, &mut part)?;
+        budget.spend(spent_of(given, part.left));
+        let Some(rest) = rest else {
+            return Ok(told);
+        };
+        if budget.is_spent() {
+            self.unsettled = Some(rest);
+            return Ok(told);
+        }
+        let next = rest.next(alloc, budget)?;
+        self.settle(alloc, next, phases - 1, budget)
+    }
+
+    /// From a map of least cost to the first one of that cost.
+    ///
+    /// Of two maps that one comes first that has the smaller residue at the first event at which they differ. A search that stops
+    /// is kept, and goes on where it is asked for the same network again.
+    pub fn first(
+        &mut self,
+        alloc: Global,
+        network: &Network,
+        candidate: Candidate,
+        budget: &mut Budget,
+    ) -> Result<First, Memory>
+        requires least { IsLeast (IsCosted network.now) candidate }
+        requires room { candidate.cost + 1 < 2 ^ 64 }
+        ensures first { IfOk result (IsFirstOutcome (IsCosted network.now) candidate.cost) }
+        ensures spent { IfOk result (EndsUnlessSpent budget.new.left) }
+        ensures budget { OnlySpends budget.old.left budget.new.left }
+    {
+        if budget.is_spent() {
+            return Ok(First::Spent {
+                best: candidate,
+                settled: 0,
+            });
+        }
+        let search = match self.unsettled(network, candidate.cost) {
+            Some(search) => search,
+            None => ByCycles::begun_from(alloc, network, candidate, budget)?,
+        };
+        self.settle(alloc, search, MOST_PHASES, budget)
+    }
 }
 
 impl Method for ByCycles {
     fn least(
-        &self,
+        &mut self,
         alloc: Global,
         network: &Network,
         limits: Limits,
         budget: &mut Budget,
     ) -> Result<Outcome, Memory> {
+        if limits.cap <= limits.floor {
+            return Ok(Outcome::NoneBelow);
+        }
+        if budget.is_spent() {
+            return Ok(Outcome::Spent {
+                best: None,
+                lower_bound: limits.floor,
+            });
+        }
         budget.spend(1);
-        let residues = residue_ranges(alloc, network)?;
-        let narrow = units_of_narrow(alloc, network, &residues)?;
-        let phases = phases_of(narrow);
-        let first = first_phase(narrow, budget);
-        least_in_turn(alloc, network, &residues, &phases[first..], limits, budget)
+        if let Some(outcome) = self.known(network, limits.cap)? {
+            return Ok(outcome);
+        }
+        let search = match self.stopped(network, limits) {
+            Some(search) => search,
+            None => ByCycles::begun(alloc, network, limits, budget)?,
+        };
+        let is_kept = budget.left.is_some();
+        let outcome = self.go_on(alloc, search, MOST_PHASES, budget)?;
+        if let Outcome::Found(least) = &outcome {
+            if is_kept {
+                self.keep(network, least);
+            }
+        }
+        Ok(outcome)
     }
 }

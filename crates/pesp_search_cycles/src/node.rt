@@ -4,9 +4,10 @@ ghost use Rattle.std.specs.Prelude.{◌≡◌, ℕ, ◌+◌, ◌<◌, ◌≤◌,
 ghost use Rattle.std.specs.Option.{ForNone, ForSome};
 ghost use Rattle.pesp_search_least.specs.Spending.{OnlySpends};
 ghost use Rattle.pesp_search_least.specs.Sums.{IsCandidate, IsEmpty, IsLeast, IsLowerBound, IsWithin};
-ghost use Rattle.pesp_search_cycles.specs.Maps.{AreBoxes, AreCycles, IsAmong, IsSummed};
+ghost use Rattle.pesp_search_cycles.specs.Maps.{AreBoxes, AreCycles, IsAmong, IsSummed, Net};
 ghost use Rattle.pesp_search_cycles.specs.Splits.{AreSingle, IsNarrowed, size};
 ghost use Rattle.pesp_search_cycles.specs.Terms.{greater};
+ghost use Rattle.pesp_search_cycles.specs.Waiting.{IsWaiting};
 
 mod splits;
 
@@ -19,6 +20,7 @@ use crate::proposer::Proposer;
 use crate::root::root;
 use crate::separate::separate;
 use crate::terms::floor;
+use crate::waiting::Waiting;
 use crate::{Cycles, Range, Walk};
 use pesp_base::Memory;
 use pesp_search_least::{Budget, Candidate, Relaxation, Split};
@@ -196,6 +198,54 @@ impl<'a> Node<'a> {
         (self.boxes, self.proposer)
     }
 
+    /// The same node, apart from its cycles.
+    pub(crate) fn asleep(self) -> Waiting
+        ensures waiting { IsWaiting self.entry.cycles.now result }
+        ensures boxes { result.boxes ≡ self.entry.boxes }
+    {
+        Waiting {
+            boxes: self.boxes,
+            bound: self.bound,
+            proposer: self.proposer,
+            is_polished: self.is_polished,
+        }
+    }
+
+    /// The node of these cycles that waited.
+    pub(crate) fn awake(
+        alloc: Global,
+        cycles: &'a Cycles<'a>,
+        waiting: Waiting,
+    ) -> Result<Node<'a>, Memory>
+        requires { IsWaiting cycles.now waiting }
+        ensures cycles { IfOk result (λ node. node.cycles.now ≡ cycles.now) }
+        ensures boxes { IfOk result (λ node. node.boxes ≡ waiting.boxes) }
+    {
+        cycles.sound();
+        let network = cycles.network();
+        let Ok(rates) = vec![in alloc; 0; network.arcs().len() + network.events()] else {
+            return Err(Memory);
+        };
+        let Ok(multipliers) = vec![in alloc; 0; cycles.walks().len() + cycles.cuts().len()] else {
+            return Err(Memory);
+        };
+        let Waiting {
+            boxes,
+            bound,
+            proposer,
+            is_polished,
+        } = waiting;
+        Ok(Node {
+            cycles,
+            boxes,
+            bound,
+            rates,
+            multipliers,
+            proposer,
+            is_polished,
+        })
+    }
+
     /// A map with its cost, if the boxes admit it.
     fn candidate_of(&self, alloc: Global, map: Vec<u16>) -> Result<Option<Candidate>, Memory>
         ensures none { IfOk result (λ found. IfNone found ((cost : ℕ)
@@ -264,6 +314,10 @@ impl<'a> Relaxation for Node<'a> {
     ghost sums = { λ n. IsSummed n.cycles.now n.boxes };
 
     ghost size = { λ n. size n.boxes };
+
+    ghost Base = { Net };
+
+    ghost base = { λ n. n.cycles.now };
 
     fn bound(&self) -> Option<u64> {
         self.bound

@@ -4,7 +4,7 @@ ghost use Rattle.std.specs.Prelude.{◌+◌, ◌<◌, ◌^◌};
 ghost use Rattle.pesp_search_least.specs.Sums.{IsLeast, IsOutcome};
 ghost use Rattle.pesp_search_network.specs.Arcs.{IsCosted};
 
-use crate::{ByCycles, first};
+use crate::ByCycles;
 use pesp_base::{Period, Span, Weight};
 use pesp_search_graph::Arc;
 use pesp_search_least::{Budget, Candidate, First, Limits, Outcome};
@@ -130,7 +130,7 @@ fn found(rt: &impl Abort, alloc: Global, network: &Network, cap: u64, units: u64
     let limits = Limits { floor: 0, cap };
     let mut budget = Budget::of(units);
     network
-        .least(alloc, &ByCycles, limits, &mut budget)
+        .least(alloc, &mut ByCycles::new(alloc), limits, &mut budget)
         .ok()
         .expect(rt, "memory")
 }
@@ -153,12 +153,13 @@ fn least_at(rt: &impl Abort, alloc: Global, network: &Network, cost: u64) -> Can
 fn try_first(rt: &impl Abort, alloc: Global, network: &Network, cost: u64, map: &[u16]) {
     let candidate = least_at(rt, alloc, network, cost);
     let mut budget = Budget::of(1_000_000);
-    match first(alloc, network, candidate, &mut budget)
+    match ByCycles::new(alloc)
+        .first(alloc, network, candidate, &mut budget)
         .ok()
         .expect(rt, "memory")
     {
         First::Done(found) => assert!(rt; found.map.as_slice() == map, "the first map"),
-        First::Spent(_) => assert!(rt; false, "many units"),
+        First::Spent { .. } => assert!(rt; false, "many units"),
     }
 }
 

@@ -6,7 +6,7 @@ ghost use Rattle.std.specs.Prelude.{pos, ◌≡◌, ◌<◌, ◌≤◌, ◌-ℤ�
 use pesp_base::{Period, Span, Weight};
 
 /// An activity between events by index.
-#[derive(Clone, Copy)]
+#[derive(Clone, Copy, PartialEq, Eq)]
 pub struct Arc {
     pub from: usize,
     pub to: usize,

@@ -1,6 +1,6 @@
 -- Budgets that are only spent.
-use Rattle.std.proofs.Common.{ℕ, Option, Some, None, refl, arith}
-use Rattle.pesp_search_least.specs.Spending.{OnlySpends, SpendsUnit}
+use Rattle.std.proofs.Common.{◌≢◌, ℕ, zero, suc, Option, Some, None, refl, arith}
+use Rattle.pesp_search_least.specs.Spending.{OnlySpends, SpendsUnit, after}
 
 -- what does not change is only spent
 pub spends_none : (old : Option ℕ) → OnlySpends old old
@@ -41,3 +41,9 @@ unit_after (Some l) (Some m) (Some n) first second = omega (arith, first, second
 pub unit_none : (new : Option ℕ) → SpendsUnit (Some 0) new → ⊥
 unit_none None spends = spends
 unit_none (Some n) spends = omega (arith, spends)
+
+-- a unit is spent where there is one
+pub unit_of_one : (old : Option ℕ) → old ≢ Some 0 → SpendsUnit old (after old 1)
+unit_of_one None some = refl
+unit_of_one (Some zero) some = absurd (some refl)
+unit_of_one (Some (suc n)) some = omega arith

@@ -3,5 +3,6 @@ pub mod Budgets
 pub mod Expanded
 pub mod Lines
 pub mod Outcomes
+pub mod Reached
 pub mod Stack
 pub mod Underway

@@ -1,5 +1,6 @@
 -- A stack of nodes: what sums it has, and the most nodes that may yet be expanded.
-use Rattle.std.proofs.Common.{◌≡◌, ℕ, zero, suc, ◌+◌, ◌<◌, ◌≤◌, ◌⊎◌, List, [], ◌∷◌, ◌++◌, inl, inr, arith}
+use Rattle.std.proofs.Common.{◌≡◌, ℕ, zero, suc, ◌+◌, ◌<◌, ◌≤◌, ◌⊎◌, List, [], ◌∷◌, ◌++◌, inl, inr, arith, All, Some, refl}
+use Rattle.std.proofs.lemmas.List.Elements.{All-pop, All-push}
 use Rattle.pesp_search_least.specs.Sums.{InSome, Sums}
 
 -- ---- sums
@@ -55,3 +56,11 @@ pub to_expand-push : {R : Type 0} (size : R → ℕ) (rs : List R) (r : R) → t
 unfolding to_expand
 to_expand-push {R} size [] r = omega arith
 to_expand-push {R} size (q ∷ rs) r = omega (arith, to_expand-push size rs r)
+
+-- ---- what holds of each node
+
+pub all_popped : {X : Type 0} (P : X → Type 0) (xs : List X) (x : X) → All P (xs ++ x ∷ []) → All P xs × P x
+all_popped {X} P xs x all = All-pop P (xs ++ x ∷ []) xs (Some x) refl all
+
+pub all_pushed : {X : Type 0} (P : X → Type 0) (xs : List X) (first second : X) → All P xs → P first → P second → All P ((xs ++ second ∷ []) ++ first ∷ [])
+all_pushed {X} P xs first second all one other = All-push P (xs ++ second ∷ []) first (All-push P xs second all other) one

@@ -1,29 +1,40 @@
 -- How far a search has come: what its stack still has, what it found, and what it spent of the budget.
-use Rattle.std.proofs.Common.{◌≡◌, ◌≢◌, ℕ, ◌<◌, ◌≤◌, ◌⊎◌, max, sym, ◌∙◌, List, [], ◌∷◌, ◌++◌, Option, Some, None, IfSome, inl, inr, arith}
+use Rattle.std.proofs.Common.{◌≡◌, ◌≢◌, ℕ, ◌<◌, ◌≤◌, ◌⊎◌, max, refl, sym, ◌∙◌, List, [], ◌∷◌, ◌++◌, Option, Some, None, IfSome, IsSomeAnd, inl, inr, arith}
 use Rattle.std.proofs.lemmas.Bool.{cases_lt}
 use Rattle.pesp_search_least.specs.declared.outcome.Candidate.{Candidate}
 use Rattle.pesp_search_least.specs.declared.outcome.Outcome.TheVariants.{Spent}
 use Rattle.pesp_search_least.specs.Spending.{OnlySpends, SpendsUnit}
 use Rattle.pesp_search_least.specs.Sums.{AreHalvesBelow, InSome, IsBelow, IsLowerBound, IsOutcome, IsWithin, Sums}
 use Rattle.pesp_search_least.specs.Expansions.{IsBetter, limit_of, outcome_of}
+use Rattle.pesp_search_least.specs.Reached.{IsReached, IsUnderway}
 use Rattle.pesp_search_least.proofs.Budgets.{spends_none, unit_after, unit_none, unit_spends}
 use Rattle.pesp_search_least.proofs.Stack.{in_some_pop, in_some_push}
 use Rattle.pesp_search_least.proofs.Expanded.{better_limit}
 
--- every sum of the root below the limit is in some open node, and these have no others; the best is below the cap
-pub record IsUnderway {R : Type 0} (sums : R → Sums) (root : Sums) (nodes : List R) (cap : ℕ) (best : Option Candidate) : Type 0 where
-  pub within : IsWithin (InSome sums nodes) root
-  pub left : (map : List ℕ) (sum : ℕ) → root map sum → sum < limit_of cap best → InSome sums nodes map sum
-  pub found : IfSome best (IsBelow root cap)
+-- what is told of the best
+reached_best : {R : Type 0} (sums : R → Sums) (nodes : List R) (cap : ℕ) (best : Option Candidate) → IfSome best (λ c. c.cost < cap) → IfSome best (IsBelow (IsReached sums nodes best) cap)
+reached_best {R} sums nodes cap None below = tt
+reached_best {R} sums nodes cap (Some c) below = (inr (refl, refl), below)
 
 -- at first
-pub underway_start : {R : Type 0} (sums : R → Sums) (root : R) (cap : ℕ) → IsUnderway sums (sums root) (root ∷ []) cap None
-underway_start {R} sums root cap =
+pub underway_start : {R : Type 0} (sums : R → Sums) (nodes : List R) (cap : ℕ) (best : Option Candidate) → IfSome best (λ c. c.cost < cap) → IsUnderway sums (IsReached sums nodes best) nodes cap best
+underway_start {R} sums nodes cap best below =
     record {
-      within = λ map sum has. elim has [ inl here ↦ here | inr none ↦ absurd none ];
-      left = λ map sum has below. inl has;
-      found = tt;
+      within = λ map sum has. inl has;
+      left = λ map sum has less. elim has [ inl here ↦ here | inr is ↦ absurd (not_less cap best sum map is less) ];
+      found = reached_best sums nodes cap best below;
     }
+  where
+    not_less : (cap : ℕ) (best : Option Candidate) (sum : ℕ) (map : List ℕ) → IsSomeAnd best (λ c. (map ≡ c.map.items) × (sum ≡ c.cost)) → sum < limit_of cap best → ⊥
+    not_less cap None sum map is less = is
+    not_less cap (Some c) sum map is less = omega (arith, is.1, less)
+
+-- one node, and nothing found: its sums, and no others
+pub reached_alone : {R : Type 0} (sums : R → Sums) (root : R) → IsWithin (IsReached sums (root ∷ []) None) (sums root)
+reached_alone {R} sums root map sum has = elim has [ inl (inl here) ↦ here | inl (inr none) ↦ absurd none | inr none ↦ absurd none ]
+
+pub alone_reached : {R : Type 0} (sums : R → Sums) (root : R) → IsWithin (sums root) (IsReached sums (root ∷ []) None)
+alone_reached {R} sums root map sum has = inl (inl has)
 
 -- the limit is at most the cap
 pub limit_under : (root : Sums) (cap : ℕ) (best : Option Candidate) → IfSome best (IsBelow root cap) → limit_of cap best ≤ cap
@@ -74,15 +85,15 @@ underway_halves {R} sums root ns n a b cap old new is better halves =
       found = found_on (sums n) root cap old new (top_within sums root ns n is.within) is.found better;
     }
 
--- at a stop, with a bound on the node that was popped, on all the others and on the root
-pub underway_stop : {R : Type 0} (sums : R → Sums) (root : Sums) (ns : List R) (n : R) (cap bound lower_bound floor : ℕ) (best : Option Candidate) → IsUnderway sums root (ns ++ n ∷ []) cap best → IsLowerBound (sums n) bound → bound ≤ limit_of cap best → IsLowerBound (InSome sums ns) lower_bound → lower_bound ≤ bound → IsLowerBound root floor → IsOutcome root cap (Spent best (max lower_bound floor))
-underway_stop {R} sums root ns n cap bound lower_bound floor best is here small there less under = (is.found, bounded)
+-- at a stop, with a bound on the open nodes and on the root
+pub underway_stop : {R : Type 0} (sums : R → Sums) (root : Sums) (nodes : List R) (cap lower_bound floor : ℕ) (best : Option Candidate) → IsUnderway sums root nodes cap best → IsLowerBound (InSome sums nodes) lower_bound → lower_bound ≤ limit_of cap best → IsLowerBound root floor → IsOutcome root cap (Spent best (max lower_bound floor))
+underway_stop {R} sums root nodes cap lower_bound floor best is there small under = (is.found, bounded)
   where
     lower_bound_holds : (map : List ℕ) (sum : ℕ) → root map sum → lower_bound ≤ sum
     lower_bound_holds map sum has =
         elim (cases_lt sum (limit_of cap best)) [
-          | inl below ↦ elim (in_some_pop sums ns n map sum (is.left map sum has below)) [ inl other ↦ there map sum other | inr one ↦ omega (arith, here map sum one, less) ]
-          | inr over ↦ omega (arith, over, small, less)
+          | inl below ↦ there map sum (is.left map sum has below)
+          | inr over ↦ omega (arith, over, small)
         ]
 
     bounded : (map : List ℕ) (sum : ℕ) → root map sum → sum < cap → max lower_bound floor ≤ sum
@@ -111,24 +122,36 @@ lowest_step {R} sums ns n lower_bound new there here less map sum has =
 -- ---- the budget
 
 -- nothing was expanded yet, or a unit was spent
-abbrev pub HasBegun : {R : Type 0} → R → List R → Option Candidate → Option ℕ → Option ℕ → Type 0
-HasBegun {R} root nodes best old new = ((nodes ≡ root ∷ []) × (best ≡ None) × (new ≡ old)) ⊎ SpendsUnit old new
+abbrev pub HasBegun : {R : Type 0} → List R → Option Candidate → List R → Option Candidate → Option ℕ → Option ℕ → Type 0
+HasBegun {R} first start nodes best old new = ((nodes ≡ first) × (best ≡ start) × (new ≡ old)) ⊎ SpendsUnit old new
 
--- either way nothing was put back
-pub begun_spends : {R : Type 0} (root : R) (nodes : List R) (best : Option Candidate) (old new : Option ℕ) → HasBegun root nodes best old new → OnlySpends old new
-begun_spends {R} root nodes best old new (inl first) = rw first.2 (spends_none old)
-begun_spends {R} root nodes best old new (inr spends) = unit_spends old new spends
+module _ {R : Type 0} (first : List R) (start : Option Candidate) (nodes : List R) (best : Option Candidate) where
+  -- either way nothing was put back
+  pub begun_spends : (old new : Option ℕ) → HasBegun first start nodes best old new → OnlySpends old new
+  begun_spends old new (inl begun) = rw begun.2 (spends_none old)
+  begun_spends old new (inr spends) = unit_spends old new spends
 
--- an expansion spends a unit
-pub begun_expansion : {R : Type 0} (root : R) (nodes : List R) (best : Option Candidate) (old mid new : Option ℕ) → HasBegun root nodes best old mid → SpendsUnit mid new → SpendsUnit old new
-begun_expansion {R} root nodes best old mid new is spends = unit_after old mid new (begun_spends root nodes best old mid is) spends
+  -- an expansion spends a unit
+  pub begun_expansion : (old mid new : Option ℕ) → HasBegun first start nodes best old mid → SpendsUnit mid new → SpendsUnit old new
+  begun_expansion old mid new is spends = unit_after old mid new (begun_spends old mid is) spends
 
--- where the budget is spent at first, nothing is expanded
-pub begun_at_none : {R : Type 0} (root : R) (nodes : List R) (best : Option Candidate) (old new : Option ℕ) → HasBegun root nodes best old new → old ≡ Some 0 → (nodes ≡ root ∷ []) × (best ≡ None)
-begun_at_none {R} root nodes best old new (inl first) spent = (first.0, first.1)
-begun_at_none {R} root nodes best old new (inr spends) spent = absurd (unit_none new (rw spent at spends))
+  -- where the budget is spent at first, nothing is expanded
+  pub begun_at_none : (old new : Option ℕ) → HasBegun first start nodes best old new → old ≡ Some 0 → (nodes ≡ first) × (best ≡ start)
+  begun_at_none old new (inl begun) spent = (begun.0, begun.1)
+  begun_at_none old new (inr spends) spent = absurd (unit_none new (rw spent at spends))
 
--- where it is not spent at first, but then, a unit was spent
-pub begun_at_stop : {R : Type 0} (root : R) (nodes : List R) (best : Option Candidate) (old new : Option ℕ) → HasBegun root nodes best old new → old ≢ Some 0 → new ≡ Some 0 → SpendsUnit old new
-begun_at_stop {R} root nodes best old new (inl first) some spent = absurd (some (sym first.2 ∙ spent))
-begun_at_stop {R} root nodes best old new (inr spends) some spent = spends
+  -- where something is to be done and the budget is spent at first, it is not the end
+  pub begun_no_end : (old new : Option ℕ) (cap floor : ℕ) → HasBegun first start nodes best old new → old ≡ Some 0 → floor < limit_of cap start → first ≢ [] → floor < limit_of cap best × (nodes ≢ [])
+  begun_no_end old new cap floor is spent less some =
+      let same = begun_at_none old new is spent in
+      (rw same.1 less, rw same.0 some)
+
+  -- where something is to be done and the budget is not, at first, but then is spent, a unit was
+  pub begun_at_stop : (old new : Option ℕ) → HasBegun first start nodes best old new → old ≢ Some 0 → new ≡ Some 0 → SpendsUnit old new
+  begun_at_stop old new (inl begun) some spent = absurd (some (sym begun.2 ∙ spent))
+  begun_at_stop old new (inr spends) some spent = spends
+
+  -- and at an end
+  pub begun_at_end : (old new : Option ℕ) (cap floor : ℕ) → HasBegun first start nodes best old new → floor < limit_of cap start → first ≢ [] → (floor < limit_of cap best → nodes ≡ []) → SpendsUnit old new
+  begun_at_end old new cap floor (inl begun) less some over = absurd (some (sym begun.0 ∙ over (rw begun.1 less)))
+  begun_at_end old new cap floor (inr spends) less some over = spends

@@ -1,6 +1,6 @@
 pub mod Expansions
 pub mod Lines
 pub mod Order
-pub mod Progress
+pub mod Reached
 pub mod Spending
 pub mod Sums

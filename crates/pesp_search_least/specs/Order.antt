@@ -1,5 +1,5 @@
 -- The first map of least sum.
-use Rattle.std.specs.Prelude.{◌≡◌, ℕ, ◌<◌, ◌⊎◌, ⊤, List, [], ◌∷◌, Option, Some, slice_index}
+use Rattle.std.specs.Prelude.{◌≡◌, ℕ, ◌<◌, ◌≤◌, ◌⊎◌, ⊤, List, [], ◌∷◌, Option, Some, slice_index, take}
 use Rattle.pesp_search_least.specs.declared.outcome.Candidate.{Candidate}
 use Rattle.pesp_search_least.specs.declared.outcome.First.{First}
 use Rattle.pesp_search_least.specs.declared.outcome.First.TheVariants.{Done, Spent}
@@ -31,12 +31,22 @@ pub record IsFirstAt (sums : Sums) (event : ℕ) (candidate : Candidate) : Type 
   pub least : IsLeast sums candidate
   pub first : (map : List ℕ) (sum : ℕ) → sums map sum → slice_index map event < slice_index candidate.map.items event → candidate.cost < sum
 
--- what was wanted of the candidate, at this cost; or a map of least sum
-abbrev pub IsFirstOutcome : (Candidate → Type 0) → Sums → ℕ → First → Type 0
-IsFirstOutcome wanted sums cost (Done candidate) = wanted candidate × (candidate.cost ≡ cost)
-IsFirstOutcome wanted sums cost (Spent candidate) = IsLeast sums candidate × (candidate.cost ≡ cost)
+-- each map that precedes the candidate at one of so many events in front has a greater sum
+abbrev pub IsSettled : Sums → ℕ → Candidate → Type 0
+IsSettled sums events candidate =
+    (map : List ℕ) (sum : ℕ) → sums map sum → Precedes (take events map) (take events candidate.map.items) → candidate.cost < sum
+
+-- the first map of least sum, which is this cost; or a map of least sum that is settled up to where it stopped
+abbrev pub IsFirstOutcome : Sums → ℕ → First → Type 0
+IsFirstOutcome sums cost (Done candidate) = IsFirst sums candidate × (candidate.cost ≡ cost)
+IsFirstOutcome sums cost (Spent candidate settled) = IsLeast sums candidate × (candidate.cost ≡ cost) × IsSettled sums settled candidate
+
+-- no more events are settled than there are
+abbrev pub IsSettledWithin : ℕ → First → Type 0
+IsSettledWithin events (Done candidate) = ⊤
+IsSettledWithin events (Spent candidate settled) = settled ≤ events
 
 -- it stops only where nothing is left of the budget
 abbrev pub EndsUnlessSpent : Option ℕ → First → Type 0
 EndsUnlessSpent left (Done candidate) = ⊤
-EndsUnlessSpent left (Spent candidate) = left ≡ Some 0
+EndsUnlessSpent left (Spent candidate settled) = left ≡ Some 0

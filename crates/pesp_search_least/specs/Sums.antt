@@ -62,6 +62,12 @@ IsSplit {R} sums size old new (Solved candidate) = IsLeast (sums old) candidate
 IsSplit {R} sums size old new Empty = IsEmpty (sums old)
 IsSplit {R} sums size old new (Halves other) = (size new < size old) × (size other < size old) × AreHalves (sums old) (sums new) (sums other)
 
+-- the other half of a split stands on this
+abbrev pub IsOn : {R B : Type 0} → (R → B) → B → Split R → Type 0
+IsOn {R} {B} base b (Solved candidate) = ⊤
+IsOn {R} {B} base b Empty = ⊤
+IsOn {R} {B} base b (Halves other) = base other ≡ b
+
 -- a map has the sum in one of these
 abbrev pub InSome : {R : Type 0} → (R → Sums) → List R → Sums
 InSome {R} sums [] map sum = ⊥

@@ -77,7 +77,7 @@ fn first_residue(alloc: Global, all: &Line, units: u64) -> Option<u16> {
     else {
         return None;
     };
-    match first(alloc, all.part(0, 6), found, &mut budget) {
+    match first(alloc, all.part(0, 6), found, 0, &mut budget) {
         Ok(First::Done(best)) => best.map.first().copied(),
         _ => None,
     }

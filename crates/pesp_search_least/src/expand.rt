@@ -1,6 +1,6 @@
 //! The expansion of one node.
 
-ghost use Rattle.std.specs.Prelude.{◌≡◌, ◌≢◌, ◌≤◌, ℕ, IfOk, OnOk, Some};
+ghost use Rattle.std.specs.Prelude.{◌≡◌, ◌≢◌, ◌≤◌, ℕ, IfOk, IfSome, OnOk, Some};
 ghost use Rattle.pesp_search_least.specs.Spending.{SpendsUnit};
 ghost use Rattle.pesp_search_least.specs.Expansions.{IsBetter, IsExpanded, limit_of};
 
@@ -21,6 +21,8 @@ pub(crate) fn expand<R: Relaxation>(
     requires { budget.old.left ≢ Some 0 }
     ensures expanded { IfOk result (IsExpanded (limit_of incumbent.new.cap incumbent.new.best)
         R.sums R.size node.old node.new) }
+    ensures base { R.base node.new ≡ R.base node.old }
+    ensures other { IfOk result (λ other. IfSome other (λ other. R.base other ≡ R.base node.old)) }
     ensures cap { incumbent.new.cap ≡ incumbent.old.cap }
     ensures better { IsBetter (R.sums node.old) incumbent.old.cap incumbent.old.best
         incumbent.new.best }

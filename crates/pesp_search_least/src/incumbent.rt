@@ -1,6 +1,6 @@
 //! The best that a search has found.
 
-ghost use Rattle.std.specs.Prelude.{◌≡◌, ◌≤◌, ◌<◌, Some, None};
+ghost use Rattle.std.specs.Prelude.{◌≡◌, ◌≤◌, ◌<◌, Some};
 ghost use Rattle.pesp_search_least.specs.Expansions.{IsKept, limit_of, outcome_of};
 
 use crate::{Candidate, Outcome};
@@ -15,12 +15,12 @@ pub(crate) struct Incumbent {
 }
 
 impl Incumbent {
-    /// Nothing is found yet.
-    pub(crate) fn new(cap: u64) -> Incumbent
+    /// What was found before.
+    pub(crate) fn new(cap: u64, best: Option<Candidate>) -> Incumbent
         ensures cap { result.cap ≡ cap }
-        ensures best { result.best ≡ None }
+        ensures best { result.best ≡ best }
     {
-        Incumbent { cap, best: None }
+        Incumbent { cap, best }
     }
 
     /// Only sums below this are of use: the cost of the best, or the cap where there is none.

@@ -1,6 +1,6 @@
 //! A plain instance, for examples: one event, and a sum for each of its residues.
 
-ghost use Rattle.std.specs.Prelude.{◌≡◌, ◌≤◌, ◌<◌, ◌∷◌, [], min, IfOk, MatchOption, Some, None, slice_get};
+ghost use Rattle.std.specs.Prelude.{◌≡◌, ◌≤◌, ◌<◌, ◌∷◌, [], min, ℕ, List, Option, IfOk, MatchOption, Some, None, slice_get};
 
 use crate::{Budget, Candidate, Limits, Outcome, Region, Relaxation, Split, least};
 use pesp_base::Memory;
@@ -56,6 +56,10 @@ impl Relaxation for Line {
     ghost sums = { λ line. IsOnLine line.costs line.lowest line.end };
 
     ghost size = { λ line. line.end - line.lowest };
+
+    ghost Base = { List (Option ℕ) };
+
+    ghost base = { λ line. line.costs };
 
     fn bound(&self) -> Option<u64> {
         if self.lowest < self.end {

@@ -1,7 +1,7 @@
 //! The first map of least sum: event by event ascending, the least residue that some map of this sum has there.
 
-ghost use Rattle.std.specs.Prelude.{◌≡◌, ◌+◌, ◌<◌, ◌^◌, ℕ, IfOk};
-ghost use Rattle.pesp_search_least.specs.Order.{EndsUnlessSpent, IsFirst, IsFirstAt, IsFirstOutcome};
+ghost use Rattle.std.specs.Prelude.{◌≡◌, ◌+◌, ◌<◌, ◌≤◌, ◌^◌, ℕ, true, false, Some, IfOk};
+ghost use Rattle.pesp_search_least.specs.Order.{EndsUnlessSpent, IsFirstAt, IsFirstOutcome, IsSettled, IsSettledWithin};
 ghost use Rattle.pesp_search_least.specs.Spending.{OnlySpends};
 ghost use Rattle.pesp_search_least.specs.Sums.{AreLong, IsLeast};
 
@@ -9,61 +9,73 @@ use crate::{Budget, Candidate, First, Outcome, Region};
 use pesp_base::Memory;
 use std::alloc::Global;
 
-/// From a map of least sum to one that has, of those with that sum, the least residue at the event.
+/// From a map of least sum to one that has, of those with that sum, the least residue at the event; and whether it has, or the
+/// budget was spent.
 fn first_at<R: Region>(
     alloc: Global,
     rest: &R,
     event: usize,
     candidate: Candidate,
     budget: &mut Budget,
-) -> Result<First, Memory>
+) -> Result<(Candidate, bool), Memory>
     requires least { IsLeast (R.sums rest.now) candidate }
     requires event { event < R.events rest.now }
     requires long { AreLong (R.sums rest.now) (R.events rest.now) }
     requires room { candidate.cost + 1 < 2 ^ 64 }
-    ensures first { IfOk result (IsFirstOutcome (IsFirstAt (R.sums rest.now) event)
-        (R.sums rest.now) candidate.cost) }
-    ensures spent { IfOk result (EndsUnlessSpent budget.new.left) }
+    ensures least { IfOk result (λ r. IsLeast (R.sums rest.now) r.0) }
+    ensures costs { IfOk result (λ r. r.0.cost ≡ candidate.cost) }
+    ensures first { IfOk result (λ r. r.1 ≡ true → IsFirstAt (R.sums rest.now) event r.0) }
+    ensures spent { IfOk result (λ r. r.1 ≡ false → budget.new.left ≡ Some 0) }
     ensures budget { OnlySpends budget.old.left budget.new.left }
 {
     let mut best = candidate;
     'lesser: while 0 < best.map[event] {
         match rest.least_below(alloc, event, best.map[event], best.cost, budget)? {
             Outcome::Found(found) => best = found,
-            Outcome::NoneBelow => return Ok(First::Done(best)),
-            Outcome::Spent { .. } => return Ok(First::Spent(best)),
+            Outcome::NoneBelow => return Ok((best, true)),
+            Outcome::Spent { .. } => return Ok((best, false)),
         }
     }
-    Ok(First::Done(best))
+    Ok((best, true))
 }
 
-/// From a map of least sum to the first of those with that sum.
+/// From a map of least sum to the first of those with that sum, where none precedes it at the first `settled` events.
 ///
-/// Of two maps that one comes first that has the smaller residue at the first event at which they differ.
+/// Of two maps that one comes first that has the smaller residue at the first event at which they differ. A search that stops
+/// can be gone on with by what it tells.
 pub fn first<R: Region>(
     alloc: Global,
     region: R,
     candidate: Candidate,
+    settled: usize,
     budget: &mut Budget,
 ) -> Result<First, Memory>
     requires least { IsLeast (R.sums region) candidate }
     requires room { candidate.cost + 1 < 2 ^ 64 }
-    ensures first { IfOk result (IsFirstOutcome (IsFirst (R.sums region)) (R.sums region)
-        candidate.cost) }
+    requires events { settled ≤ R.events region }
+    requires settled { IsSettled (R.sums region) settled candidate }
+    ensures first { IfOk result (IsFirstOutcome (R.sums region) candidate.cost) }
+    ensures events { IfOk result (IsSettledWithin (R.events region)) }
     ensures spent { IfOk result (EndsUnlessSpent budget.new.left) }
     ensures budget { OnlySpends budget.old.left budget.new.left }
 {
     // What agrees with the best up to the event.
     let mut rest = region;
+    let events = rest.events();
+    'held: for event in 0..settled {
+        rest.hold(event, candidate.map[event]);
+    }
     let mut best = candidate;
-    'events: for event in 0..rest.events() {
-        match first_at(alloc, &rest, event, best, budget)? {
-            First::Spent(found) => return Ok(First::Spent(found)),
-            First::Done(found) => {
-                rest.hold(event, found.map[event]);
-                best = found;
-            }
+    'events: for event in settled..events {
+        let (found, is_first) = first_at(alloc, &rest, event, best, budget)?;
+        if !is_first {
+            return Ok(First::Spent {
+                best: found,
+                settled: event,
+            });
         }
+        rest.hold(event, found.map[event]);
+        best = found;
     }
     Ok(First::Done(best))
 }

@@ -22,13 +22,19 @@ pub enum Split<R> {
 pub trait Relaxation: Drop {
     ghost use Rattle.std.specs.Prelude.{◌≡◌, ℕ, ◌<◌, ◌≤◌, IfOk, IfSome, MatchOption};
     ghost use Rattle.pesp_search_least.specs.Spending.{OnlySpends};
-    ghost use Rattle.pesp_search_least.specs.Sums.{IsCandidate, IsCut, IsEmpty, IsLowerBound, IsSplit, Sums};
+    ghost use Rattle.pesp_search_least.specs.Sums.{IsCandidate, IsCut, IsEmpty, IsLowerBound, IsOn, IsSplit, Sums};
 
     /// The sum of each map that has one.
     ghost sums: { Self → Sums };
 
     /// What each split lessens.
     ghost size: { Self → ℕ };
+
+    /// What it stands on.
+    ghost Base: { Type 0 };
+
+    /// It stays, in both halves, too.
+    ghost base: { Self → Base };
 
     /// A lower bound on every sum, or none where no map has a sum.
     fn bound(&self) -> Option<u64>
@@ -39,6 +45,7 @@ pub trait Relaxation: Drop {
     fn tighten(&mut self, cap: u64, budget: &mut Budget)
         ensures cut { IsCut cap (sums self.old) (sums self.new) }
         ensures size { size self.new ≤ size self.old }
+        ensures base { base self.new ≡ base self.old }
         ensures budget { OnlySpends budget.old.left budget.new.left };
 
     /// A map with its sum, if one is at hand.
@@ -47,5 +54,7 @@ pub trait Relaxation: Drop {
 
     /// Splits the maps in two, or tells a map of least sum where that is known, or that none has a sum.
     fn split(&mut self, alloc: Global) -> Result<Split<Self>, Memory>
-        ensures { IfOk result (IsSplit sums size self.old self.new) };
+        ensures split { IfOk result (IsSplit sums size self.old self.new) }
+        ensures base { base self.new ≡ base self.old }
+        ensures other { IfOk result (IsOn base (base self.old)) };
 }

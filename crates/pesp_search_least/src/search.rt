@@ -1,12 +1,14 @@
 //! The search for a least sum: depth first, over a stack of open nodes.
 
-ghost use Rattle.std.specs.Prelude.{◌≡◌, ◌≢◌, ◌≤◌, ◌<◌, ◌++◌, ◌∷◌, [], ℕ, IfOk, OnOk, Some};
+ghost use Rattle.std.specs.Prelude.{◌≡◌, ◌≢◌, ◌≤◌, ◌<◌, ◌++◌, ◌∷◌, [], ℕ, All, IfOk, IfSome, OnOk, Some};
+ghost use Rattle.pesp_search_least.specs.Expansions.{limit_of};
+ghost use Rattle.pesp_search_least.specs.Reached.{IsLeft, IsReached};
 ghost use Rattle.pesp_search_least.specs.Spending.{OnlySpends, SpendsUnit};
 ghost use Rattle.pesp_search_least.specs.Sums.{InSome, IsLowerBound, IsOutcome, IsStop, StopsWhereSpent};
 
 use crate::expand::expand;
 use crate::incumbent::Incumbent;
-use crate::{Budget, Limits, Outcome, Relaxation};
+use crate::{Budget, Candidate, Limits, Outcome, Relaxation};
 use pesp_base::Memory;
 use std::alloc::Global;
 
@@ -54,6 +56,52 @@ fn stack_of<R: Drop>(alloc: Global, root: R) -> Result<Vec<R>, Memory>
     Ok(nodes)
 }
 
+/// Goes on with a search in which these nodes are open, the last one first, and this is the best that was found: a map of least
+/// sum of all that they reach, where some sum is below the cap.
+///
+/// Without a limit of the budget it ends with that outcome. With one it stops where nothing is left, and tells what it
+/// found and a lower bound on every sum below the cap; then it can be gone on with by the nodes that it leaves and by what it
+/// found. Every expansion spends a unit.
+pub fn go_on<R: Relaxation>(
+    alloc: Global,
+    nodes: &mut Vec<R>,
+    best: Option<Candidate>,
+    limits: Limits,
+    budget: &mut Budget,
+) -> Result<Outcome, Memory>
+    requires floor { IsLowerBound (IsReached R.sums nodes.old.items best) limits.floor }
+    requires below { IfSome best (λ best. best.cost < limits.cap) }
+    ensures outcome { IfOk result (IsOutcome (IsReached R.sums nodes.old.items best) limits.cap) }
+    ensures left { IfOk result (IsLeft R.sums (IsReached R.sums nodes.old.items best) nodes.new.items limits.cap best) }
+    ensures base { OnOk result ((b : R.Base) → All (λ n. R.base n ≡ b) nodes.old.items
+        → All (λ n. R.base n ≡ b) nodes.new.items) }
+    ensures spent { IfOk result (StopsWhereSpent budget.new.left) }
+    ensures budget { OnlySpends budget.old.left budget.new.left }
+    // Without a unit no node is expanded, and so nothing more is known.
+    ensures stops { limits.floor < limit_of limits.cap best → nodes.old.items ≢ [] → budget.old.left ≡ Some 0
+        → IfOk result IsStop }
+    ensures spends { limits.floor < limit_of limits.cap best → nodes.old.items ≢ [] → budget.old.left ≢ Some 0
+        → OnOk result (SpendsUnit budget.old.left budget.new.left) }
+{
+    let mut incumbent = Incumbent::new(limits.cap, best);
+    'expansions: while limits.floor < incumbent.limit() && !nodes.is_empty() {
+        if budget.is_spent() {
+            let lower_bound = lowest(nodes, incumbent.limit());
+            return Ok(Outcome::Spent {
+                best: incumbent.best,
+                lower_bound: lower_bound.max(limits.floor),
+            });
+        }
+        let Some(mut node) = nodes.pop() else {
+            break;
+        };
+        if let Some(other) = expand(alloc, &mut node, &mut incumbent, budget)? {
+            push_halves(nodes, node, other)?;
+        }
+    }
+    Ok(incumbent.outcome())
+}
+
 /// A map of least sum, where some sum is below the cap.
 ///
 /// Without a limit of the budget it ends with that outcome. With one it stops where nothing is left, and tells what it
@@ -74,21 +122,5 @@ pub fn least<R: Relaxation>(
         → OnOk result (SpendsUnit budget.old.left budget.new.left) }
 {
     let mut nodes = stack_of(alloc, root)?;
-    let mut incumbent = Incumbent::new(limits.cap);
-    'expansions: while limits.floor < incumbent.limit() {
-        let Some(mut node) = nodes.pop() else {
-            break;
-        };
-        if budget.is_spent() {
-            let lower_bound = lowest(&nodes, bound_of(&node, incumbent.limit()));
-            return Ok(Outcome::Spent {
-                best: incumbent.best,
-                lower_bound: lower_bound.max(limits.floor),
-            });
-        }
-        if let Some(other) = expand(alloc, &mut node, &mut incumbent, budget)? {
-            push_halves(&mut nodes, node, other)?;
-        }
-    }
-    Ok(incumbent.outcome())
+    go_on(alloc, &mut nodes, None, limits, budget)
 }

@@ -2,6 +2,7 @@ pub mod ArcCosts
 pub mod Joined
 pub mod Narrowed
 pub mod Residues
+pub mod Same
 pub mod Shares
 pub mod Thinned
 pub mod Together

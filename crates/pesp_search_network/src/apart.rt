@@ -66,7 +66,7 @@ impl Network {
     fn least_apart<M: Method>(
         &self,
         alloc: Global,
-        method: &M,
+        method: &mut M,
         limits: Limits,
         budget: &mut Budget,
         pieces: usize,
@@ -116,7 +116,7 @@ impl Network {
     pub fn least<M: Method>(
         &self,
         alloc: Global,
-        method: &M,
+        method: &mut M,
         limits: Limits,
         budget: &mut Budget,
     ) -> Result<Outcome, Memory>

@@ -5,7 +5,8 @@ use pesp_base::Memory;
 use pesp_search_least::{Budget, Limits, Outcome};
 use std::alloc::Global;
 
-/// A search for maps of least cost of a network that is not cut into pieces.
+/// A search for maps of least cost of a network that is not cut into pieces. It may keep what it came to where it stopped, and go on
+/// where it is asked for the same network again.
 pub trait Method {
     ghost use Rattle.std.specs.Prelude.{◌≡◌, ◌≢◌, ◌<◌, Some, IfOk, OnOk};
     ghost use Rattle.pesp_search_least.specs.Spending.{OnlySpends, SpendsUnit};
@@ -17,7 +18,7 @@ pub trait Method {
     /// No cost is below the floor. The search ends with a least one, and stops before that only where
     /// the budget is spent.
     fn least(
-        &self,
+        &mut self,
         alloc: Global,
         network: &Network,
         limits: Limits,

@@ -1,6 +1,6 @@
 //! Networks.
 
-ghost use Rattle.std.specs.Prelude.{◌≡◌, ◌==◌, ℕ, ◌+◌, ◌*◌, ◌<◌, ◌≤◌, [], ◌∷◌, ◌++◌, true, false, All, IfOk, OnOk, OnErr, filter, length, replicate, slice_index_or, slice_set};
+ghost use Rattle.std.specs.Prelude.{◌≡◌, ◌==◌, ◌↔◌, ℕ, ◌+◌, ◌*◌, ◌<◌, ◌≤◌, [], ◌∷◌, ◌++◌, true, false, All, IfOk, IsTrue, OnOk, OnErr, filter, length, replicate, slice_index_or, slice_set};
 ghost use Rattle.pesp_search_network.specs.Arcs.{AreArcs, IsBetween, has};
 ghost use Rattle.pesp_search_network.specs.Pieces.{is_of};
 ghost use Rattle.pesp_search_network.specs.Weights.{kept, weighed};
@@ -117,7 +117,7 @@ impl Network {
     }
 
     /// The same network once more.
-    pub(crate) fn copy(&self) -> Result<Network, Memory>
+    pub fn copy(&self) -> Result<Network, Memory>
         ensures { IfOk result (λ network. network ≡ self.now) }
     {
         let Ok(arcs) = self.arcs.clone() else {
@@ -188,6 +188,16 @@ impl Network {
             arcs,
             rows,
         })
+    }
+
+    /// Whether both have the same period, events, arcs and rows.
+    pub fn is_same(&self, other: &Network) -> bool
+        ensures { IsTrue result ↔ (other.now ≡ self.now) }
+    {
+        if self.period != other.period || self.events != other.events {
+            return false;
+        }
+        self.arcs == other.arcs && self.rows == other.rows
     }
 
     /// What holds of all networks.

@@ -75,7 +75,7 @@ fn found(rt: &impl Abort, alloc: Global, network: &Network, cap: u64, units: u64
     let limits = Limits { floor: 0, cap };
     let mut budget = Budget::of(units);
     network
-        .least(alloc, &Trials, limits, &mut budget)
+        .least(alloc, &mut Trials, limits, &mut budget)
         .ok()
         .expect(rt, "memory")
 }

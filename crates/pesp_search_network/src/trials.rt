@@ -1,6 +1,6 @@
 //! A method that tries all maps.
 
-ghost use Rattle.std.specs.Prelude.{◌<◌, IfOk, IfSome, MatchOption};
+ghost use Rattle.std.specs.Prelude.{◌<◌, ℕ, IfOk, IfSome, MatchOption};
 ghost use Rattle.pesp_search_least.specs.Sums.{IsEmpty, IsLeast, IsLowerBound, IsSplit};
 ghost use Rattle.pesp_search_network.specs.Arcs.{IsBetween, IsCosted};
 ghost use Rattle.pesp_search_network.specs.Tried.{AreOnly, IsArcFloor, IsUnmet};
@@ -15,6 +15,7 @@ use std::alloc::Global;
 const MOST_SPLITS: u32 = 1_000;
 
 /// Leaves each event residue after residue, and leaves out what costs too much.
+#[derive(Drop)]
 pub(crate) struct Trials;
 
 /// The maps of a network that are tried.
@@ -124,6 +125,10 @@ impl Relaxation for Trial {
 
     ghost size = { λ t. t.splits };
 
+    ghost Base = { ℕ };
+
+    ghost base = { λ t. t.network.period };
+
     fn bound(&self) -> Option<u64> {
         self.floor()
     }
@@ -147,7 +152,7 @@ impl Relaxation for Trial {
 
 impl Method for Trials {
     fn least(
-        &self,
+        &mut self,
         alloc: Global,
         network: &Network,
         limits: Limits,

@@ -6,7 +6,7 @@ use crate::made::event;
 use crate::unpushed::Unpushed;
 use pesp_counts::CountKeeper;
 use pesp_domains::{Keeper, PlainKeeper};
-use pesp_search::{Answer, Tried};
+use pesp_search::{Answer, Known, Tried};
 use pesp_tension::Timetable;
 use std::process::Abort;
 
@@ -26,6 +26,8 @@ pub(crate) enum Step<'a> {
     Within(u64, Outcome<'a>),
     /// What is known after so many nodes: the cost of the best, if any, the lower bound, and whether it stopped.
     Known(u64, Option<u64>, u64, bool),
+    /// The same after two searches of so many nodes, the second one from where the first one stopped.
+    KnownAfter(u64, Option<u64>, u64, bool),
 }
 
 /// How a search within a limit goes.
@@ -145,14 +147,7 @@ fn assert_within<K: Keeper>(
     assert_outcome(rt, &tried, outcome, message);
 }
 
-fn assert_known<K: Keeper>(
-    rt: &(impl Abort + AllocGlobal),
-    kept: &mut Unpushed<K>,
-    limit: u64,
-    wanted: (Option<u64>, u64, bool),
-    message: &str,
-) {
-    let known = kept.known(rt, limit);
+fn assert_known(rt: &impl Abort, known: &Known, wanted: (Option<u64>, u64, bool), message: &str) {
     let cost = known.best.as_ref().map(|best| best.cost);
     same(rt, cost, wanted.0, message);
     same(rt, known.lower_bound, wanted.1, message);
@@ -171,7 +166,12 @@ fn take<K: Keeper>(
         Step::Infeasible(nodes) => assert_infeasible(rt, kept, nodes, message),
         Step::Within(limit, outcome) => assert_within(rt, kept, limit, outcome, message),
         Step::Known(limit, cost, bound, is_stopped) => {
-            assert_known(rt, kept, limit, (cost, bound, is_stopped), message);
+            let known = kept.known(rt, limit);
+            assert_known(rt, &known, (cost, bound, is_stopped), message);
+        }
+        Step::KnownAfter(limit, cost, bound, is_stopped) => {
+            let known = kept.known_after(rt, limit);
+            assert_known(rt, &known, (cost, bound, is_stopped), message);
         }
     }
 }

@@ -7,7 +7,7 @@ use pesp_base::Period;
 use pesp_counts::CountKeeper;
 use pesp_domains::Keeper;
 use pesp_instance::{Edit, Instance};
-use pesp_search::{Answer, Known, Tried, best, best_within, known_within};
+use pesp_search::{Answer, Known, Searches, Tried, best, best_within, known_after, known_within};
 use std::marker::Model;
 use std::process::Abort;
 
@@ -106,6 +106,17 @@ impl<K: Keeper> Unpushed<K> {
         let known = known_within(rt.alloc(), &mut self.keeper, None, limit);
         let (known, nodes) = known.ok().expect(rt, "memory");
         hold(rt, nodes <= limit, "no more nodes than the limit");
+        known
+    }
+
+    /// What is known after two searches within a limit, the second one from where the first one stopped.
+    pub(crate) fn known_after(&mut self, rt: &(impl Abort + AllocGlobal), limit: u64) -> Known {
+        let mut before = Searches::new(rt.alloc());
+        let limit = Some(limit);
+        let first = known_after(rt.alloc(), &mut self.keeper, &mut before, None, limit);
+        hold(rt, first.is_ok(), "memory");
+        let next = known_after(rt.alloc(), &mut self.keeper, &mut before, None, limit);
+        let (known, _) = next.ok().expect(rt, "memory");
         known
     }
 

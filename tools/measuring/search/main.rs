@@ -1,6 +1,6 @@
 //! The search by cycles on one activities file: its answer, and seconds of a processor.
 //!
-//! usage: search PERIOD FILE [UNITS]
+//! usage: search PERIOD FILE [UNITS [steps]]
 
 #![allow(dead_code, unused_labels)]
 
@@ -54,24 +54,28 @@ fn network_of(period: u16, rows: &[Row]) -> Option<Network> {
     Some(network)
 }
 
-/// From a timetable of least cost to the first one of that cost.
-fn first_after(network: &Network, candidate: Candidate, budget: &mut Budget) -> Option<String> {
+/// What the first map is found to be, from a map of least cost.
+fn first_after(cycles: &mut ByCycles, network: &Network, candidate: Candidate, budget: &mut Budget) -> Option<String> {
     let (cost, begun) = (candidate.cost, seconds());
-    let is_first = match pesp_search_cycles::first(Global, network, candidate, budget).ok()? {
-        First::Done(_) => "the first",
-        First::Spent(_) => "not the first",
+    let is_first = match cycles.first(Global, network, candidate, budget).ok()? {
+        First::Done(best) => format!("the first ({})", sum_of(&best.map)),
+        First::Spent { .. } => "not the first".into(),
     };
     Some(format!("optimum {cost}; {is_first} after {:.3} s more", seconds() - begun))
 }
 
-fn searched(network: &Network, units: Option<u64>) -> Option<String> {
-    let mut budget = units.map_or_else(Budget::unlimited, Budget::of);
+/// A number by which two maps are told apart.
+fn sum_of(map: &[u16]) -> u64 {
+    map.iter().fold(0, |sum: u64, residue| sum.wrapping_mul(31).wrapping_add(u64::from(*residue))) % 1_000_000
+}
+
+fn searched(cycles: &mut ByCycles, network: &Network, budget: &mut Budget) -> Option<String> {
     let limits = Limits { floor: 0, cap: u64::MAX };
     let begun = seconds();
-    let outcome = network.least(Global, &ByCycles, limits, &mut budget).ok()?;
+    let outcome = network.least(Global, cycles, limits, budget).ok()?;
     let taken = seconds() - begun;
     let told = match outcome {
-        Outcome::Found(candidate) => first_after(network, candidate, &mut budget)?,
+        Outcome::Found(candidate) => first_after(cycles, network, candidate, budget)?,
         Outcome::NoneBelow => "infeasible".into(),
         Outcome::Spent { best, lower_bound } => {
             let best = best.map_or("none".into(), |best| best.cost.to_string());
@@ -81,11 +85,32 @@ fn searched(network: &Network, units: Option<u64>) -> Option<String> {
     Some(format!("{taken:.3} s: {told}"))
 }
 
+/// One search after another of so many units, each from where the one before it stopped, to the end.
+fn in_steps(network: &Network, units: u64) -> Option<String> {
+    let (mut cycles, begun) = (ByCycles::new(Global), seconds());
+    for step in 1.. {
+        let mut budget = Budget::of(units);
+        let told = searched(&mut cycles, network, &mut budget)?;
+        let line = format!("step {step}, {:.3} s in all: {told}", seconds() - begun);
+        if !budget.is_spent() {
+            return Some(line);
+        }
+        if step % 50 == 0 {
+            eprintln!("{line}");
+        }
+    }
+    None
+}
+
 fn run(words: &[String]) -> Option<String> {
     let rows = rows_of(&std::fs::read_to_string(words.get(1)?).ok()?)?;
     let network = network_of(words.first()?.parse().ok()?, &rows)?;
     let units = words.get(2).map(|word| word.parse()).transpose().ok()?;
-    searched(&network, units)
+    if words.get(3).is_some_and(|word| word == "steps") {
+        return in_steps(&network, units?);
+    }
+    let mut budget = units.map_or_else(Budget::unlimited, Budget::of);
+    searched(&mut ByCycles::new(Global), &network, &mut budget)
 }
 
 fn main() {

@@ -15,7 +15,7 @@ use crate::costing::KeptCost;
 use crate::{Attempt, Bench, Sought};
 use pesp_base::{Memory, Refusal};
 use pesp_domains::Keeper;
-use pesp_search::{Answer, Best, Known, best, known_within};
+use pesp_search::{Answer, Best, Known, Searches, known_after};
 use pesp_tension::Timetable;
 use std::alloc::Global;
 
@@ -90,10 +90,11 @@ impl<K: Keeper> Bench<K> {
             return Ok(());
         }
         let bound = candidate_cost(self.keeper.instance(), &self.candidate);
-        let Ok((answer, nodes)) = best(alloc, &mut self.keeper, bound) else {
+        let before = &mut self.searches;
+        let Ok((known, nodes)) = known_after(alloc, &mut self.keeper, before, bound, None) else {
             return Err(Refusal::Memory);
         };
-        self.known = Some(answer);
+        self.known = Some(answer_of(known.best));
         self.candidate = None;
         self.nodes = nodes;
         Ok(())
@@ -115,7 +116,7 @@ impl<K: Keeper> Bench<K> {
 
     /// Looks for the optimum by at most so many nodes, where it is not known, and tells how good that is which it comes to.
     ///
-    /// No timetable that meets everything costs less than the lower bound. Refusal 10 comes before the first node.
+    /// A search that stopped is gone on with, where the instance is as it was then. No timetable that meets everything costs less than the lower bound. Refusal 10 comes before the first node.
     #[tactic(auto, using(pesp_search::proofs::Sizes::no_nodes))]
     pub fn seek_optimum(&mut self, alloc: Global, limit: u64) -> Result<Sought, Refusal>
         ensures ok { IfOk result (IsSought self.old.instance self.new limit) }
@@ -129,7 +130,9 @@ impl<K: Keeper> Bench<K> {
             return Ok(Sought::done(answer));
         }
         let bound = candidate_cost(self.keeper.instance(), &self.candidate);
-        let Ok((known, nodes)) = known_within(alloc, &mut self.keeper, bound, limit) else {
+        let before = &mut self.searches;
+        let keeper = &mut self.keeper;
+        let Ok((known, nodes)) = known_after(alloc, keeper, before, bound, Some(limit)) else {
             return Err(Refusal::Memory);
         };
         self.nodes = nodes;
@@ -154,7 +157,7 @@ impl<K: Keeper> Bench<K> {
         Ok(sought)
     }
 
-    /// What [`Bench::seek_optimum`] comes to, without the bound.
+    /// What [`Bench::seek_optimum`] comes to that begins anew, without the bound: how far other searches have come does not matter.
     pub fn try_optimum(&mut self, alloc: Global, limit: u64) -> Result<Attempt, Refusal>
         ensures ok { IfOk result (IsAttempt self.new limit) }
         ensures searched { IsSearched self.old self.new }
@@ -162,7 +165,10 @@ impl<K: Keeper> Bench<K> {
         ensures refused { IfErr result (λ refusal. refusal ≡ no.Memory) }
         ensures unsearched { OnErr result (IsUnsearched self.old self.new) }
     {
-        Ok(self.seek_optimum(alloc, limit)?.attempt)
+        let kept = std::mem::replace(&mut self.searches, Searches::new(alloc));
+        let sought = self.seek_optimum(alloc, limit);
+        self.searches = kept;
+        Ok(sought?.attempt)
     }
 
     /// Finds the optimum and makes it the working timetable.

@@ -26,9 +26,9 @@ pub returns-then-sought-clause-known : goal.returns-then-sought-clause-known
 returns-then-sought-clause-known g c =
     let I = g.K.Keeper.network c.args.keeper.now in
     let sought = c.in_ok-sought.sought in
-    let end = subst (λ b. IsSought I c.args.bound b sought.best) c.if-sought.true c.in_ok-sought.ensures.sought in
-    let outcome = ended_outcome I c.args.bound c.args.limit sought.best end (λ zero. false≢true (sym (c.in_ok-sought.ensures.none zero).0 ∙ c.if-sought.true)) in
-    rw (c.known.ensures.best, c.known.ensures.bound, c.known.ensures.stopped) (known_of_end I c.args.bound c.args.limit sought.best sought.floor outcome c.in_ok-sought.ensures.floor)
+    let end = subst (λ b. IsSought I c.args.ask.bound b sought.best) c.if-sought.true c.in_ok-sought.ensures.sought in
+    let outcome = ended_outcome I c.args.ask.bound c.args.ask.limit sought.best end (λ zero. false≢true (sym (c.in_ok-sought.ensures.none zero).0 ∙ c.if-sought.true)) in
+    rw (c.known.ensures.best, c.known.ensures.bound, c.known.ensures.stopped) (known_of_end I c.args.ask.bound c.args.ask.limit sought.best sought.floor outcome c.in_ok-sought.ensures.floor)
 
 pub returns-then-sought-clause-nodes : goal.returns-then-sought-clause-nodes
 returns-then-sought-clause-nodes g c = no_nodes (g.K.Keeper.network c.args.keeper.now)
@@ -50,7 +50,7 @@ search_tree-requires-clause-bound g c = c.requires.bound
 pub search_tree-requires-clause-found : goal.search_tree-requires-clause-found
 search_tree-requires-clause-found g c =
     let sought = c.in_ok-sought.sought in
-    found_of_sought (g.K.Keeper.network c.args.keeper.now) c.args.bound sought.is_end sought.best c.if-sought.false c.in_ok-sought.ensures.sought
+    found_of_sought (g.K.Keeper.network c.args.keeper.now) c.args.ask.bound sought.is_end sought.best c.if-sought.false c.in_ok-sought.ensures.sought
 
 pub search_tree-requires-clause-none : goal.search_tree-requires-clause-none
 search_tree-requires-clause-none g c zero = (c.in_ok-sought.ensures.none zero).1

@@ -22,13 +22,13 @@ returns-clause-known g c =
     let I = g.K.Keeper.network c.args.keeper.now in
     let outcome = c.run-outcome.result in
     let sought = c.args.sought in
-    let least = bound_of_before I c.args.bound sought.best c.requires.bound c.requires.found in
+    let least = bound_of_before I c.args.ask.bound sought.best c.requires.bound c.requires.found in
     let run = (rw (c.in_ok-search.ensures.bound, c.in_ok-search.ensures.limit, c.lowest-lowest.ensures) at c.run-outcome.ensures.outcome) least in
-    let told = outcome_told I c.args.bound c.args.limit sought.best outcome.best outcome.is_stopped outcome.nodes c.requires.found c.requires.none run in
-    let is : IsOutcome I c.args.bound c.args.limit outcome.is_stopped c.best_told-best.result outcome.nodes = rw c.best_told-best.ensures told in
+    let told = outcome_told I c.args.ask.bound c.args.ask.limit sought.best outcome.best outcome.is_stopped outcome.nodes c.requires.found c.requires.none run in
+    let is : IsOutcome I c.args.ask.bound c.args.ask.limit outcome.is_stopped c.best_told-best.result outcome.nodes = rw c.best_told-best.ensures told in
     record {
       outcome = rw (c.known.ensures.best, c.known.ensures.stopped) is;
-      floor = rw c.known.ensures.bound (floor_told I c.args.bound c.args.limit outcome.is_stopped c.best_told-best.result sought.floor outcome.nodes c.requires.floor is);
+      floor = rw c.known.ensures.bound (floor_told I c.args.ask.bound c.args.ask.limit outcome.is_stopped c.best_told-best.result sought.floor outcome.nodes c.requires.floor is);
       exact = rw (c.known.ensures.best, c.known.ensures.bound, c.known.ensures.stopped) (exact_told outcome.is_stopped c.best_told-best.result sought.floor);
     }
 

@@ -1,7 +1,6 @@
 -- The leaves are those of the node of all maps.
-use Rattle.std.proofs.Common.{◌≡◌, ℕ, ◌+◌, ◌∷◌, [], List, subst, rules}
-use Rattle.pesp_search_least.specs.Sums.{InSome, IsCut, IsWithin}
-use Rattle.pesp_search_cycles.specs.declared.node.Node.{Node}
+use Rattle.std.proofs.Common.{◌≡◌, ◌+◌, ◌∷◌, [], rules}
+use Rattle.pesp_search_least.specs.Sums.{InSome}
 use Rattle.pesp_search_cycles.specs.Leaves.{sums_of}
 use Rattle.pesp_search_cycles.specs.Maps.{IsAmong, IsSummed}
 use Rattle.pesp_search_cycles.proofs.Covered.{cut_along}

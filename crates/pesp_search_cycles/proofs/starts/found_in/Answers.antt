@@ -1,5 +1,5 @@
 -- What the search of a part has found.
-use Rattle.std.proofs.Common.{◌≡◌, ◌==◌, ℕ, ◌≤◌, Bool, List, sym, subst, ap, ◌∙◌, rules, arith}
+use Rattle.std.proofs.Common.{◌≡◌, ◌==◌, ◌≤◌, sym, subst, ◌∙◌, rules, arith}
 use Rattle.pesp_search_network.specs.Arcs.{Arcs}
 use Rattle.pesp_search_network.specs.Weights.{AreAlike}
 use Rattle.pesp_search_network.proofs.Weights.{weighed_alike}

@@ -1,10 +1,10 @@
 -- Part by part.
-use Rattle.std.proofs.Common.{◌≡◌, ℕ, ◌+◌, List, All, sym, subst, ap, ◌∙◌, rules, arith}
+use Rattle.std.proofs.Common.{◌≡◌, ℕ, ◌+◌, List, All, sym, subst, ◌∙◌, rules}
 use Rattle.pesp_search_least.specs.Sums.{InSome}
 use Rattle.pesp_search_least.proofs.Budgets.{spends_on}
 use Rattle.pesp_search_cycles.specs.declared.boxes.Boxes.{Boxes}
 use Rattle.pesp_search_cycles.specs.Maps.{AreBoxes, Net}
-use Rattle.pesp_search_cycles.specs.Starts.{IsFound, IsInBoxes, parts_before}
+use Rattle.pesp_search_cycles.specs.Starts.{IsInBoxes}
 use Rattle.pesp_search_cycles.proofs.Parted.{found_more, found_none}
 use Rattle.pesp_search_cycles.proofs.starts.found_in_all.Goals as goal
 

@@ -1,9 +1,7 @@
 -- The boxes are those of all maps, or have what was found in the parts.
-use Rattle.std.proofs.Common.{◌≡◌, ℕ, ◌≤◌, List, sym, subst, rules}
-use Rattle.pesp_search_least.specs.Sums.{InSome}
+use Rattle.std.proofs.Common.{sym, subst}
 use Rattle.pesp_search_cycles.specs.declared.boxes.Boxes.{Boxes}
-use Rattle.pesp_search_cycles.specs.Maps.{IsAmong, IsInside}
-use Rattle.pesp_search_cycles.specs.Starts.{IsInBoxes}
+use Rattle.pesp_search_cycles.specs.Maps.{IsInside}
 use Rattle.pesp_search_cycles.proofs.Parted.{starts_of_parts}
 use Rattle.pesp_search_cycles.proofs.starts.starts_of.Goals as goal
 

@@ -32,7 +32,7 @@ returns-in-Solved-clause-better g c =
       | in_default-2 w ↦ rw w.incumbent-is (refl, inl refl)
     ]
     in
-    let least = rw c.in-Solved.is at c.in_ok-candidate-2.ensures in
+    let least = rw c.in-Solved.is at c.in_ok-candidate-2.ensures.split in
     let second : IsBetter (sums tight) before.cap then.best after.best = better_kept (sums tight) before.cap c.in-Solved.candidate then.best after.best (rw first.0 at c.keep-in-Solved.ensures.kept) least.has in
     better_within (sums tight) (sums c.args.node.now) before.cap before.best after.best c.tighten.ensures.cut.within
     (better_on (sums tight) before.cap before.best then.best after.best first.1 second)

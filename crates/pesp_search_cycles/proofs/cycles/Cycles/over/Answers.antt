@@ -1,5 +1,5 @@
 -- All that hangs on no weight holds of both.
-use Rattle.std.proofs.Common.{◌≡◌, ℕ, ap, sym, rules}
+use Rattle.std.proofs.Common.{ap, sym, rules}
 use Rattle.pesp_search_network.specs.Arcs.{Arcs}
 use Rattle.pesp_search_cycles.specs.Maps.{Net}
 use Rattle.pesp_search_cycles.proofs.Alike.{IsAlike, cycles_along}

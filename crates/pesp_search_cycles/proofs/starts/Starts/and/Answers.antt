@@ -1,5 +1,5 @@
 -- Those in one more of the boxes.
-use Rattle.std.proofs.Common.{◌≡◌, ◌+◌, ◌<◌, ◌++◌, ◌∷◌, [], inl, inr, List, length, take, get_or, subst, sym, ap, ◌∙◌, rules}
+use Rattle.std.proofs.Common.{◌≡◌, ◌+◌, ◌<◌, ◌++◌, ◌∷◌, [], List, length, take, get_or, subst, ap, ◌∙◌, rules}
 use Rattle.std.proofs.lemmas.List.{take_more}
 use Rattle.pesp_search_least.specs.Sums.{InSome}
 use Rattle.pesp_search_cycles.specs.declared.boxes.Boxes.{Boxes}

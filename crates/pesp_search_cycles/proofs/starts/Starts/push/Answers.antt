@@ -1,5 +1,5 @@
 -- One more of the others.
-use Rattle.std.proofs.Common.{◌≡◌, ◌+◌, ◌<◌, ◌++◌, ◌∷◌, [], inl, List, length, take, get_or, subst, sym, ap, ◌∙◌, rules}
+use Rattle.std.proofs.Common.{◌≡◌, ◌+◌, ◌<◌, ◌++◌, ◌∷◌, [], inl, List, length, take, get_or, subst, ap, ◌∙◌, rules}
 use Rattle.std.proofs.lemmas.List.{take_more}
 use Rattle.pesp_search_least.proofs.Stack.{in_some_push}
 use Rattle.pesp_search_cycles.specs.declared.boxes.Boxes.{Boxes}

@@ -1,0 +1,5 @@
+-- One phase less.
+use Rattle.pesp_search_cycles.proofs.method.ByCycles.+settle.Given as goal
+
+abbrev pub decreases-settle : goal.decreases-settle
+decreases-settle l = l.phases

@@ -1,0 +1,169 @@
+//! Searches for the first map of least cost of a network that are kept, and can be gone on with.
+
+ghost use Rattle.std.specs.Prelude.{◌≡◌, ◌+◌, ◌<◌, ◌^◌, IfOk, IfSome, IsNone};
+ghost use Rattle.pesp_search_least.specs.Order.{EndsUnlessSpent, IsFirstOutcome};
+ghost use Rattle.pesp_search_least.specs.Spending.{OnlySpends};
+ghost use Rattle.pesp_search_least.specs.Sums.{IsLeast};
+ghost use Rattle.pesp_search_network.specs.Arcs.{IsCosted};
+ghost use Rattle.pesp_search_cycles.specs.Maps.{Net};
+ghost use Rattle.pesp_search_cycles.specs.Settlings.{IsSettling, IsUnsettled};
+
+use crate::basis::{basis_within, walks_of};
+use crate::cuts::{Aim, cuts_beside};
+use crate::flip::FlipCut;
+use crate::graph::Basis;
+use crate::phase::{Seeking, spent_of};
+use crate::residues::residue_ranges;
+use crate::settling::Settling;
+use crate::turn::Turn;
+use crate::{Cycles, Walk};
+use pesp_base::Memory;
+use pesp_search_least::{Budget, First};
+use pesp_search_network::Network;
+use std::alloc::Global;
+use std::marker::Model;
+
+/// A search for the first map of least cost that stands still.
+#[derive(Drop)]
+pub(crate) struct FirstSearch {
+    // As it was given.
+    network: Network,
+    // Each is kept by all maps.
+    cuts: Vec<FlipCut>,
+    // Each leads from its first event to its last.
+    walks: Vec<Walk>,
+    // Of the cycles that these make.
+    settling: Settling,
+    // The phase in which it is.
+    turn: Turn,
+}
+
+impl Model for FirstSearch {
+    ghost use Rattle.pesp_search_cycles.specs.Maps.{AreCycles};
+    ghost use Rattle.pesp_search_cycles.specs.Searches.{FirstStanding};
+    ghost use Rattle.pesp_search_cycles.specs.Settlings.{IsSettling};
+    ghost use Rattle.pesp_search_cycles.specs.Stacks.{net_of};
+
+    ghost Value = { FirstStanding };
+
+    ghost view = { λ a. record { network = a.network; cost = a.settling.best.cost } };
+
+    ghost invariant = { λ a. AreCycles (net_of a.network a.walks.items a.cuts.items)
+        × IsSettling (net_of a.network a.walks.items a.cuts.items) a.settling };
+}
+
+/// Where cuts are sought: not beside the cycles of a tree.
+fn seeking_by(basis: Basis, seeking: Seeking) -> Seeking {
+    match basis {
+        Basis::Narrow => seeking,
+        Basis::Tree => Seeking::Nowhere,
+    }
+}
+
+impl FirstSearch {
+    /// A phase at its beginning.
+    pub(crate) fn new(
+        alloc: Global,
+        network: Network,
+        turn: Turn,
+        settling: Settling,
+        budget: &mut Budget,
+    ) -> Result<FirstSearch, Memory>
+        requires { (N : Net) → N.network ≡ network → IsSettling N settling }
+        ensures network { IfOk result (λ search. search.network ≡ network) }
+        ensures cost { IfOk result (λ search. search.cost ≡ settling.best.cost) }
+        ensures budget { OnlySpends budget.old.left budget.new.left }
+    {
+        let before = budget.left;
+        let residues = residue_ranges(alloc, &network)?;
+        let basis = basis_within(alloc, &network, &residues, budget)?;
+        let walks = walks_of(alloc, &network, &residues, basis, budget)?;
+        let aim = Aim {
+            seeking: seeking_by(basis, turn.phase().seeking),
+            cap: settling.best.cost,
+        };
+        let cuts = cuts_beside(alloc, &network, &walks, aim, budget)?;
+        let walks = Cycles::new(alloc, &network, walks, &cuts)?.into_walks();
+        Ok(FirstSearch {
+            network,
+            cuts,
+            walks,
+            settling,
+            turn: turn.after(spent_of(before, budget.left)),
+        })
+    }
+
+    /// The network that is searched.
+    pub(crate) fn network(&self) -> &Network
+        ensures { result.now ≡ self.now.network }
+    {
+        &self.network
+    }
+
+    /// What its maps of least cost cost.
+    pub(crate) fn cost(&self) -> u64
+        ensures { result ≡ self.now.cost }
+    {
+        self.settling.best.cost
+    }
+
+    /// How many units its phase has left; none where it goes on to the end.
+    pub(crate) fn units(&self) -> Option<u64> {
+        self.turn.units
+    }
+
+    /// Goes on as far as the budget goes: what the search comes to, and where it stops how it can be gone on with.
+    pub(crate) fn advance(
+        self,
+        alloc: Global,
+        budget: &mut Budget,
+    ) -> Result<(First, Option<FirstSearch>), Memory>
+        ensures first { IfOk result (λ r. IsFirstOutcome (IsCosted self.network)
+            self.cost r.0) }
+        ensures network { IfOk result (λ r. IfSome r.1 (λ search. search.network ≡ self.network)) }
+        ensures cost { IfOk result (λ r. IfSome r.1 (λ search.
+            search.cost ≡ self.cost)) }
+        ensures ends { IfOk result (λ r. IsNone r.1 → IsUnsettled r.0 → ⊥) }
+        ensures spent { IfOk result (λ r. EndsUnlessSpent budget.new.left r.0) }
+        ensures budget { OnlySpends budget.old.left budget.new.left }
+    {
+        let before = budget.left;
+        let FirstSearch {
+            network,
+            cuts,
+            walks,
+            settling,
+            turn,
+        } = self;
+        let cycles = Cycles::joined(&network, walks, &cuts);
+        let (told, rest) = settling.advance(alloc, &cycles, budget)?;
+        let walks = cycles.into_walks();
+        let Some(settling) = rest else {
+            return Ok((told, None));
+        };
+        let search = FirstSearch {
+            network,
+            cuts,
+            walks,
+            settling,
+            turn: turn.after(spent_of(before, budget.left)),
+        };
+        Ok((told, Some(search)))
+    }
+
+    /// The phase that comes after.
+    pub(crate) fn next(self, alloc: Global, budget: &mut Budget) -> Result<FirstSearch, Memory>
+        ensures network { IfOk result (λ search. search.network ≡ self.network) }
+        ensures cost { IfOk result (λ search.
+            search.cost ≡ self.cost) }
+        ensures budget { OnlySpends budget.old.left budget.new.left }
+    {
+        let FirstSearch {
+            network,
+            settling,
+            turn,
+            ..
+        } = self;
+        FirstSearch::new(alloc, network, turn.next(), settling.anew(), budget)
+    }
+}

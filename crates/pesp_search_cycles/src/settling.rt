@@ -1,0 +1,222 @@
+//! Searches for the first map of least cost that stand still: where it is, and how far it is settled.
+
+ghost use Rattle.std.specs.Prelude.{◌≡◌, ℕ, ◌+◌, ◌<◌, ◌≤◌, ◌^◌, List, Some, IfOk, IfSome, IsNone, length};
+ghost use Rattle.pesp_search_least.specs.Order.{EndsUnlessSpent, IsFirstOutcome, IsSettled};
+ghost use Rattle.pesp_search_least.specs.Spending.{OnlySpends};
+ghost use Rattle.pesp_search_least.specs.Sums.{IsLeast};
+ghost use Rattle.pesp_search_network.specs.Arcs.{IsCosted, IsMet};
+ghost use Rattle.pesp_search_cycles.specs.Ranges.{AreIn};
+ghost use Rattle.pesp_search_cycles.specs.Settlings.{AreLeaves, IsKnown, IsSettling, IsTold, IsUnclosed, IsUnsettled};
+ghost use Rattle.pesp_search_cycles.specs.Maps.{Net};
+
+use crate::held::Held;
+use crate::leaves::{Leaves, Open, leaves_of};
+use crate::phase::spent_of;
+use crate::residues::residue_ranges;
+use crate::starts::starts_of;
+use crate::{Cycles, Range};
+use pesp_base::Memory;
+use pesp_search_least::{Budget, Candidate, First, first};
+use std::alloc::Global;
+
+/// What is known of where the maps of least cost are.
+#[derive(Drop)]
+pub(crate) enum Known {
+    /// Nothing: parts were searched with so many units in vain.
+    Nothing(u64),
+    /// In leaves that are to be gone on with.
+    Open(Leaves),
+    /// In leaves that are gone on with no more.
+    Closed(Leaves),
+}
+
+/// A search for the first map of least cost.
+#[derive(Drop)]
+pub(crate) struct Settling {
+    known: Known,
+    // A map of least cost; none precedes it at one of so many events in front.
+    pub(crate) best: Candidate,
+    settled: usize,
+}
+
+/// What parts may be searched with: what is left, and twice as much as they were searched with in vain.
+fn allowance(budget: &Budget, in_vain: u64) -> Budget {
+    match budget.left {
+        Some(left) => Budget::of(left.max(in_vain.saturating_mul(2))),
+        None => Budget::unlimited(),
+    }
+}
+
+/// Boxes that have each map with these residues that costs as much as the candidate, where none costs less; and whether all parts
+/// were searched for them.
+fn leaves_by_parts<'a>(
+    alloc: Global,
+    cycles: &'a Cycles<'a>,
+    residues: &'a [Range],
+    best: &'a Candidate,
+    budget: &mut Budget,
+) -> Result<(Leaves, bool), Memory>
+    requires long { length residues.now ≡ cycles.now.network.events }
+    requires room { best.now.cost + 1 < 2 ^ 64 }
+    requires all { (map : List ℕ) → IsMet cycles.now.network map → AreIn residues.now map }
+    ensures leaves { IfOk result (λ r. AreLeaves cycles.now best.now.cost r.0) }
+    ensures budget { OnlySpends budget.old.left budget.new.left }
+{
+    let starts = starts_of(alloc, cycles, residues, best, budget)?;
+    let are_all = !budget.is_spent();
+    let stack = Open::at(alloc, &starts, residues)?;
+    let leaves = leaves_of(alloc, stack, residues, best.cost, budget)?;
+    Ok((leaves, are_all))
+}
+
+/// The same from leaves that are to be gone on with.
+fn leaves_again<'a>(
+    alloc: Global,
+    cycles: &'a Cycles<'a>,
+    leaves: Leaves,
+    cost: u64,
+    budget: &mut Budget,
+) -> Result<Leaves, Memory>
+    requires leaves { AreLeaves cycles.now cost leaves }
+    requires room { cost + 1 < 2 ^ 64 }
+    ensures leaves { IfOk result (AreLeaves cycles.now cost) }
+    ensures budget { OnlySpends budget.old.left budget.new.left }
+{
+    let residues = residue_ranges(alloc, cycles.network())?;
+    let stack = Open::again(alloc, cycles, leaves)?;
+    leaves_of(alloc, stack, &residues, cost, budget)
+}
+
+impl Known {
+    /// These leaves, which are to be gone on with where the budget is spent.
+    fn of(leaves: Leaves, budget: &Budget) -> Known
+        ensures known { (N : Net) (cost : ℕ) → AreLeaves N cost leaves → IsKnown N cost result }
+        ensures unclosed { IsUnclosed result → budget.now.left ≡ Some 0 }
+    {
+        if budget.is_spent() {
+            Known::Open(leaves)
+        } else {
+            Known::Closed(leaves)
+        }
+    }
+
+    /// Goes on to leaves that are gone on with no more, as far as the budget goes.
+    fn advance<'a>(
+        self,
+        alloc: Global,
+        cycles: &'a Cycles<'a>,
+        best: &'a Candidate,
+        budget: &mut Budget,
+    ) -> Result<Known, Memory>
+        requires known { IsKnown cycles.now best.now.cost self }
+        requires room { best.now.cost + 1 < 2 ^ 64 }
+        ensures known { IfOk result (IsKnown cycles.now best.now.cost) }
+        ensures spent { IfOk result (λ known. IsUnclosed known → budget.new.left ≡ Some 0) }
+        ensures budget { OnlySpends budget.old.left budget.new.left }
+    {
+        let in_vain = match self {
+            Known::Closed(leaves) => return Ok(Known::Closed(leaves)),
+            Known::Open(leaves) => {
+                let leaves = leaves_again(alloc, cycles, leaves, best.cost, budget)?;
+                return Ok(Known::of(leaves, budget));
+            }
+            Known::Nothing(in_vain) => in_vain,
+        };
+        let residues = residue_ranges(alloc, cycles.network())?;
+        let mut own = allowance(budget, in_vain);
+        let given = own.left;
+        let (leaves, are_all) = leaves_by_parts(alloc, cycles, &residues, best, &mut own)?;
+        let units = spent_of(given, own.left);
+        budget.spend(units);
+        if !are_all && budget.is_spent() {
+            return Ok(Known::Nothing(units));
+        }
+        Ok(Known::of(leaves, budget))
+    }
+}
+
+impl Settling {
+    /// A search from a map of least cost, of which no event is settled.
+    pub(crate) fn new(best: Candidate) -> Settling
+        ensures settling { (N : Net) → IsLeast (IsCosted N.network) best → best.cost + 1 < 2 ^ 64
+            → IsSettling N result }
+        ensures best { result.best ≡ best }
+    {
+        Settling {
+            known: Known::Nothing(0),
+            best,
+            settled: 0,
+        }
+    }
+
+    /// The same search by other cycles of the same network: what is settled stays.
+    pub(crate) fn anew(self) -> Settling
+        ensures settling { (N M : Net) → IsSettling N self → M.network ≡ N.network → IsSettling M result }
+        ensures best { result.best ≡ self.best }
+    {
+        Settling {
+            known: Known::Nothing(0),
+            best: self.best,
+            settled: self.settled,
+        }
+    }
+
+    /// What it tells where it stops, and how it stands then.
+    fn stopped(self) -> Result<(First, Option<Settling>), Memory>
+        ensures first { IfOk result (λ r. IsTold self r.0) }
+        ensures settling { IfOk result (λ r. r.1 ≡ Some self) }
+    {
+        let told = First::Spent {
+            best: self.best.copy()?,
+            settled: self.settled,
+        };
+        Ok((told, Some(self)))
+    }
+
+    /// Goes on as far as the budget goes: what the search comes to, and where it stops how it stands then.
+    pub(crate) fn advance<'a>(
+        self,
+        alloc: Global,
+        cycles: &'a Cycles<'a>,
+        budget: &mut Budget,
+    ) -> Result<(First, Option<Settling>), Memory>
+        requires { IsSettling cycles.now self }
+        ensures first { IfOk result (λ r. IsFirstOutcome (IsCosted cycles.now.network) self.best.cost r.0) }
+        ensures settling { IfOk result (λ r. IfSome r.1 (IsSettling cycles.now)) }
+        ensures cost { IfOk result (λ r. IfSome r.1 (λ settling. settling.best.cost ≡ self.best.cost)) }
+        ensures ends { IfOk result (λ r. IsNone r.1 → IsUnsettled r.0 → ⊥) }
+        ensures spent { IfOk result (λ r. EndsUnlessSpent budget.new.left r.0) }
+        ensures budget { OnlySpends budget.old.left budget.new.left }
+    {
+        let Settling {
+            known,
+            best,
+            settled,
+        } = self;
+        let leaves = match known.advance(alloc, cycles, &best, budget)? {
+            Known::Closed(leaves) => leaves,
+            known => {
+                let settling = Settling {
+                    known,
+                    best,
+                    settled,
+                };
+                return settling.stopped();
+            }
+        };
+        let known = Known::Closed(leaves.copy(alloc)?);
+        let residues = residue_ranges(alloc, cycles.network())?;
+        let region = Held::new(alloc, cycles, residues, leaves)?;
+        match first(alloc, region, best, settled, budget)? {
+            First::Done(best) => Ok((First::Done(best), None)),
+            First::Spent { best, settled } => {
+                let settling = Settling {
+                    known,
+                    best,
+                    settled,
+                };
+                settling.stopped()
+            }
+        }
+    }
+}

@@ -1,0 +1,130 @@
+//! Searches for a least map that stand still: their open nodes, and what they have found.
+
+ghost use Rattle.std.specs.Prelude.{◌≡◌, ℕ, List, IfOk, IfSome, IsNone, length};
+ghost use Rattle.pesp_search_least.specs.Spending.{OnlySpends};
+ghost use Rattle.pesp_search_least.specs.Sums.{IsLowerBound, IsOutcome, IsStop, StopsWhereSpent};
+ghost use Rattle.pesp_search_network.specs.Arcs.{IsCosted, IsMet};
+ghost use Rattle.pesp_search_cycles.specs.Maps.{Net};
+ghost use Rattle.pesp_search_cycles.specs.Ranges.{AreIn};
+ghost use Rattle.pesp_search_cycles.specs.Stacks.{AreEqualBests, IsProgress, IsStack};
+
+use crate::leaves::whole;
+use crate::waiting::{Waiting, asleep, awake};
+use crate::{Cycles, Range};
+use pesp_base::Memory;
+use pesp_search_least::{Budget, Candidate, Limits, Outcome, go_on};
+use std::alloc::Global;
+
+/// What a search is for, and what it has found.
+#[derive(Drop)]
+pub(crate) struct Progress {
+    // No map costs less than the floor; those below the cap are wanted.
+    pub(crate) limits: Limits,
+    // A map below the cap.
+    pub(crate) best: Option<Candidate>,
+}
+
+/// The open nodes of a search: each map that costs less than the best, or than the cap where there is none, is one of theirs.
+#[derive(Drop)]
+pub(crate) struct Stack {
+    // Of the same cycles.
+    pub(crate) nodes: Vec<Waiting>,
+    pub(crate) progress: Progress,
+}
+
+impl Progress {
+    /// Only maps that cost less are of use.
+    pub(crate) fn limit(&self) -> u64 {
+        match &self.best {
+            Some(best) => best.cost,
+            None => self.limits.cap,
+        }
+    }
+}
+
+/// The best once more, if there is one.
+fn copy_of(best: &Option<Candidate>) -> Result<Option<Candidate>, Memory>
+    ensures { IfOk result (AreEqualBests best.now) }
+{
+    match best {
+        Some(best) => Ok(Some(best.copy()?)),
+        None => Ok(None),
+    }
+}
+
+impl Stack {
+    /// A search at its beginning: the node of all maps is open.
+    pub(crate) fn new<'a>(
+        alloc: Global,
+        cycles: &'a Cycles<'a>,
+        residues: &[Range],
+        progress: Progress,
+    ) -> Result<Stack, Memory>
+        requires long { length residues.now ≡ cycles.now.network.events }
+        requires all { (map : List ℕ) → IsMet cycles.now.network map → AreIn residues.now map }
+        requires progress { IsProgress (IsCosted cycles.now.network) progress }
+        ensures stack { IfOk result (IsStack cycles.now) }
+        ensures progress { IfOk result (λ stack. stack.progress ≡ progress) }
+    {
+        let root = whole(alloc, cycles, residues, None)?;
+        let mut nodes = Vec::new(alloc);
+        if nodes.push(root.asleep()).is_err() {
+            return Err(Memory);
+        }
+        Ok(Stack { nodes, progress })
+    }
+
+    /// The same for what costs less than another cap, if its nodes have all of that.
+    pub(crate) fn within(self, limits: Limits) -> Option<Stack>
+        ensures { (N : Net) → IsStack N self → IsLowerBound (IsCosted N.network) limits.floor
+            → IfSome result (λ stack. IsStack N stack × (stack.progress.limits.cap ≡ limits.cap)) }
+    {
+        let Stack { nodes, progress } = self;
+        let limits = Limits {
+            floor: limits.floor.max(progress.limits.floor),
+            cap: limits.cap,
+        };
+        let best = match progress.best {
+            Some(best) if best.cost < limits.cap => Some(best),
+            Some(_) => None,
+            None if limits.cap <= progress.limits.cap => None,
+            None => return None,
+        };
+        let progress = Progress { limits, best };
+        Some(Stack { nodes, progress })
+    }
+
+    /// Goes on as far as the budget goes: what the search comes to, and where it stops how it stands then.
+    pub(crate) fn advance<'a>(
+        self,
+        alloc: Global,
+        cycles: &'a Cycles<'a>,
+        budget: &mut Budget,
+    ) -> Result<(Outcome, Option<Stack>), Memory>
+        requires { IsStack cycles.now self }
+        ensures outcome { IfOk result (λ r. IsOutcome (IsCosted cycles.now.network)
+            self.progress.limits.cap r.0) }
+        ensures stack { IfOk result (λ r. IfSome r.1 (IsStack cycles.now)) }
+        ensures cap { IfOk result (λ r. IfSome r.1 (λ stack.
+            stack.progress.limits.cap ≡ self.progress.limits.cap)) }
+        ensures ends { IfOk result (λ r. IsNone r.1 → IsStop r.0 → ⊥) }
+        ensures spent { IfOk result (λ r. StopsWhereSpent budget.new.left r.0) }
+        ensures budget { OnlySpends budget.old.left budget.new.left }
+    {
+        let Stack { nodes, progress } = self;
+        let Progress { limits, best } = progress;
+        let mut open = awake(alloc, cycles, nodes)?;
+        let outcome = go_on(alloc, &mut open, best, limits, budget)?;
+        let Outcome::Spent { best, lower_bound } = &outcome else {
+            return Ok((outcome, None));
+        };
+        let best = copy_of(best)?;
+        let limits = Limits {
+            floor: limits.floor.max((*lower_bound).min(limits.cap)),
+            cap: limits.cap,
+        };
+        let nodes = asleep(alloc, cycles, open)?;
+        let progress = Progress { limits, best };
+        Ok((outcome, Some(Stack { nodes, progress })))
+    }
+}
