@@ -153,13 +153,13 @@ struct pesp_found {
  *
  * Calls one after the other are one search: each goes on where the one before it stopped, so call with as many nodes as take as
  * long as you can wait, again and again, until the state is PESP_OPTIMUM or PESP_NO_TIMETABLE. No later call of a search tells
- * a dearer timetable, or a lower bound that is less. A line that is accepted and changes the network (an event, a window, a
- * fixed time, an activity, its ends, span or weight) ends it, and the next call begins anew, with the best timetable so far
- * where that still meets everything. Lines that change times alone leave it as it is, and so do questions: `try` and
- * `optimum` among them are searches of their own.
+ * a dearer timetable, or a lower bound that is less. Where lines have changed the network in between (an event, a window, a
+ * fixed time, an activity, its ends, span or weight), the next call begins anew, with the best timetable so far where that
+ * still meets everything. Lines that change times alone leave it as it is, and so do questions: `try` is a search of its own,
+ * and `optimum` and `adopt` go on with this one to its end.
  *
  * nodes: any number. With 0 nothing is searched but what needs no node, as an event whose domain is empty: what is known is
- *     told again, or the best timetable so far, as long as it meets everything; before a search has begun its bound is 0.
+ *     told again, or the best timetable so far, as long as it meets everything; the bound of that is 0.
  * out: the time of each event in that timetable, as in pesp_times; for PESP_OPTIMUM those that `optimum` tells. Where no
  *     timetable is told, `told->length` is 0, and `out` as it was. Where it has less room, ask once more with 0 nodes.
  * found: is filled in whole where `told->status` is PESP_DONE, and else as it was. PESP_CLOSED; PESP_MEMORY.

@@ -1,6 +1,6 @@
 //! A method that tries all maps.
 
-ghost use Rattle.std.specs.Prelude.{◌<◌, ℕ, IfOk, IfSome, MatchOption};
+ghost use Rattle.std.specs.Prelude.{◌<◌, IfOk, IfSome, MatchOption};
 ghost use Rattle.pesp_search_least.specs.Sums.{IsEmpty, IsLeast, IsLowerBound, IsSplit};
 ghost use Rattle.pesp_search_network.specs.Arcs.{IsBetween, IsCosted};
 ghost use Rattle.pesp_search_network.specs.Tried.{AreOnly, IsArcFloor, IsUnmet};
@@ -125,9 +125,9 @@ impl Relaxation for Trial {
 
     ghost size = { λ t. t.splits };
 
-    ghost Base = { ℕ };
+    ghost Base = { Unit {0} };
 
-    ghost base = { λ t. t.network.period };
+    ghost base = { λ t. tt };
 
     fn bound(&self) -> Option<u64> {
         self.floor()
