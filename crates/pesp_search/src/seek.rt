@@ -47,10 +47,13 @@ struct SoughtMap {
     is_end: bool,
 }
 
-/// What the search may do: so many units for each node of the limit.
-fn budget_of(limit: Option<u64>) -> Budget {
+/// What the search may do: so many units for each node of the limit, and one for each network that is known.
+fn budget_of(limit: Option<u64>, known: usize) -> Budget {
     match limit {
-        Some(limit) => Budget::of(limit.saturating_mul(UNITS_OF_NODE)),
+        Some(limit) => {
+            let units = limit.saturating_mul(UNITS_OF_NODE);
+            Budget::of(units.saturating_add(known as u64))
+        }
         None => Budget::unlimited(),
     }
 }
@@ -200,8 +203,8 @@ pub(crate) fn seek<K: Keeper>(
     if !is_of_use(alloc, &network)? {
         return Ok(nothing);
     }
-    let mut budget = budget_of(ask.limit);
     let cycles = &mut before.cycles;
+    let mut budget = budget_of(ask.limit, cycles.solved());
     let sought = seek_map(alloc, cycles, &network, cap_of(ask.bound), &mut budget)?;
     with_times(alloc, keeper.instance(), events, sought)
 }

@@ -22,8 +22,8 @@ use std::alloc::Global;
 /// How many phases a search has at most; the last one goes on to the end.
 const MOST_PHASES: usize = 3;
 
-/// How many solved networks are kept.
-const MOST_SOLVED: usize = 100;
+/// How many solved networks are kept: more than a network is cut into.
+const MOST_SOLVED: usize = 128;
 
 /// A network, and a map of least cost.
 #[derive(Drop)]
@@ -68,6 +68,11 @@ impl ByCycles {
             unsettled: None,
             solved: Vec::new(alloc),
         }
+    }
+
+    /// How many networks were solved: to be told again each takes a unit.
+    pub fn solved(&self) -> usize {
+        self.solved.len()
     }
 
     /// What a search of the network below the cap would find, if a map of least cost is known.
