@@ -29,9 +29,11 @@ int main(int count, char **words) {
 
     static uint16_t times[20000];
     clock_t begun = clock();
-    /* Each call goes on where the one before it stopped. */
-    while (told.status == PESP_DONE && found.state < PESP_OPTIMUM && clock() - begun < CLOCKS_PER_SEC)
-        pesp_search(&session, NODES, times, sizeof times / sizeof *times, &found, &told);
+    /* Each call goes on where the one before it stopped; where the least cost is known they grow. */
+    for (uint64_t nodes = NODES; told.status == PESP_DONE && found.state < PESP_OPTIMUM && clock() - begun < CLOCKS_PER_SEC;) {
+        pesp_search(&session, nodes, times, sizeof times / sizeof *times, &found, &told);
+        if (found.state == PESP_BEST_SO_FAR && found.cost == found.lower_bound) nodes *= 2;
+    }
     pesp_close(&session);
     if (told.status != PESP_DONE) {
         fprintf(stderr, "search: status %" PRIu32 "\n", told.status);

@@ -42,16 +42,17 @@ const searchedFor = asked => {
   return kept.session;
 };
 
-// Doubled where it was much quicker than a step is to be, and halved where it was much slower.
-const paced = (nodes, took) => {
-  if (took < STEP / 2) return 2 * nodes;
+// Doubled where it was much quicker than a step is to be, and where the least cost is known, since a question after the first of
+// the timetables that cost it is asked anew; halved where it was much slower.
+const paced = (nodes, took, { cost, bound }) => {
+  if (took < STEP / 2 || cost === bound) return 2 * nodes;
   return took > 2 * STEP ? Math.max(1, Math.floor(nodes / 2)) : nodes;
 };
 
 // What a step of at most so many nodes has come to, and how many it had.
 const stepOf = (session, most, events) => {
   const nodes = Math.min(kept.step, most), from = performance.now(), found = session.search(nodes, events);
-  const step = nodes === kept.step ? paced(nodes, performance.now() - from) : kept.step;
+  const step = nodes === kept.step ? paced(nodes, performance.now() - from, found) : kept.step;
   kept = { ...kept, step, isOpen: !isSure(found) };
   return { found, nodes };
 };

@@ -9,7 +9,8 @@ STEP = 0.25
 
 
 class Pace:
-    """The nodes of the next step, by how long the one before it took, and whether that went on from its own."""
+    """The nodes of the next step, by how long the one before it took, and whether steps are even: whether each goes on with all that
+    the one before it has come to."""
 
     def __init__(self, nodes: int) -> None:
         """So many nodes at first."""
@@ -21,9 +22,9 @@ class Pace:
         """Whether a step is begun where so many seconds are left."""
         return self.nodes <= MOST_NODES and left > self._wanted
 
-    def follow(self, took: float, goes_on: bool) -> None:
+    def follow(self, took: float, is_even: bool) -> None:
         """After a step that took so many seconds."""
-        if goes_on:
+        if is_even:
             self._keep_even(took)
         else:
             # What begins anew with twice the nodes is likely to take twice as long.

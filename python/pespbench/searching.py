@@ -32,7 +32,8 @@ class Search:
     The time is looked at between steps, and goes on there. Over a library that has the call for searches a step goes on where
     the one before it stopped, whichever search of the same session that was, as long as the engine was not opened anew and the
     network is as it was, whatever times it was given. Such a step takes about a quarter of a second, and is let come to its end
-    where the time is over in it.
+    where the time is over in it. Where the least cost is known, and the first timetable of that cost is looked for, each has twice
+    the nodes of the one before.
 
     Over the program a step begins anew, with twice as many nodes as the one before: so what is gone through again is at most as
     much as all before it. One is begun where more time is left than the last one took, and given up where the time is over.
@@ -66,7 +67,7 @@ class Search:
         while not self.progress.is_ended and self._has_room():
             began = clock.monotonic()
             reached = self._step()
-            self._pace.follow(clock.monotonic() - began, reached.goes_on)
+            self._pace.follow(clock.monotonic() - began, reached.is_even)
             yield self._told(reached)
         if not self.progress.is_ended:
             yield self._told(Reached(Stopped()))

@@ -118,9 +118,11 @@ def drawn_activities(draw: random.Random) -> List[Row]:
 
 
 def steps_of(library: Library, nodes: int) -> List[Searched]:
-    """What searches of so many nodes come to, one after the other, up to the end."""
+    """What searches of so many nodes come to, one after the other, up to the end; of more where the least cost is known."""
     found = [library.search(nodes)]
     while found[-1][0] < OPTIMUM and len(found) < 2000:
+        state, cost, bound, _ = found[-1]
+        nodes *= 2 if state == BEST_SO_FAR and cost == bound else 1
         found.append(library.search(nodes))
     return found
 
