@@ -152,10 +152,10 @@ struct pesp_found {
  * it has come to, what that costs, and what none can undercut. Instance and working timetable stay.
  *
  * Calls one after the other are one search: each goes on where the one before it stopped, so call with as many nodes as take as
- * long as you can wait, again and again, until the state is PESP_OPTIMUM or PESP_NO_TIMETABLE. Where the state is
- * PESP_BEST_SO_FAR and cost and bound are the same, the first of the timetables that cost so much is looked for, question by
- * question, of which one that is cut off is asked anew: double the nodes then. No later call of a search tells a dearer
- * timetable, or a lower bound that is less. Where lines have changed the network in between (an event, a window, a
+ * long as you can wait, again and again, until the state is PESP_OPTIMUM or PESP_NO_TIMETABLE. Double them after a call that
+ * tells nothing new: a question after the first of the timetables of least cost is asked anew where it was cut off, and a network
+ * of too many cycles is searched anew. No later call of a search tells a dearer timetable, or a lower bound that is less.
+ * Where lines have changed the network in between (an event, a window, a
  * fixed time, an activity, its ends, span or weight), the next call begins anew, with the best timetable so far where that
  * still meets everything. Lines that change times alone leave it as it is, and so do questions: `try` is a search of its own,
  * and `optimum` and `adopt` go on with this one to its end.

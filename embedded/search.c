@@ -29,10 +29,11 @@ int main(int count, char **words) {
 
     static uint16_t times[20000];
     clock_t begun = clock();
-    /* Each call goes on where the one before it stopped; where the least cost is known they grow. */
+    /* Each call goes on where the one before it stopped; after one that told nothing new the next has twice the nodes. */
     for (uint64_t nodes = NODES; told.status == PESP_DONE && found.state < PESP_OPTIMUM && clock() - begun < CLOCKS_PER_SEC;) {
+        struct pesp_found before = found;
         pesp_search(&session, nodes, times, sizeof times / sizeof *times, &found, &told);
-        if (found.state == PESP_BEST_SO_FAR && found.cost == found.lower_bound) nodes *= 2;
+        if (found.cost == before.cost && found.lower_bound == before.lower_bound) nodes *= 2;
     }
     pesp_close(&session);
     if (told.status != PESP_DONE) {

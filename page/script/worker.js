@@ -42,18 +42,19 @@ const searchedFor = asked => {
   return kept.session;
 };
 
-// Doubled where it was much quicker than a step is to be, and where the least cost is known, since a question after the first of
-// the timetables that cost it is asked anew; halved where it was much slower.
-const paced = (nodes, took, { cost, bound }) => {
-  if (took < STEP / 2 || cost === bound) return 2 * nodes;
+// Doubled where it was much quicker than a step is to be, and where it told nothing new, since not all of a search is gone on with;
+// halved where it was much slower.
+const paced = (nodes, took, isNew) => {
+  if (took < STEP / 2 || !isNew) return 2 * nodes;
   return took > 2 * STEP ? Math.max(1, Math.floor(nodes / 2)) : nodes;
 };
 
 // What a step of at most so many nodes has come to, and how many it had.
 const stepOf = (session, most, events) => {
   const nodes = Math.min(kept.step, most), from = performance.now(), found = session.search(nodes, events);
-  const step = nodes === kept.step ? paced(nodes, performance.now() - from, found) : kept.step;
-  kept = { ...kept, step, isOpen: !isSure(found) };
+  const { cost, bound } = found, isNew = cost !== kept.cost || bound !== kept.bound;
+  const step = nodes === kept.step ? paced(nodes, performance.now() - from, isNew) : kept.step;
+  kept = { ...kept, step, cost, bound, isOpen: !isSure(found) };
   return { found, nodes };
 };
 

@@ -9,8 +9,8 @@ STEP = 0.25
 
 
 class Pace:
-    """The nodes of the next step, by how long the one before it took, and whether steps are even: whether each goes on with all that
-    the one before it has come to."""
+    """The nodes of the next step, by how long the one before it took, and whether steps are even: whether each goes on from
+    the one before it, and tells something new."""
 
     def __init__(self, nodes: int) -> None:
         """So many nodes at first."""
@@ -27,7 +27,7 @@ class Pace:
         if is_even:
             self._keep_even(took)
         else:
-            # What begins anew with twice the nodes is likely to take twice as long.
+            # With twice the nodes it is likely to take twice as long.
             self.nodes, self._wanted = 2 * self.nodes, took
 
     def _keep_even(self, took: float) -> None:

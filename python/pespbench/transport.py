@@ -5,7 +5,7 @@ from __future__ import annotations
 import re
 from typing import Iterator, List, NamedTuple, Optional, Sequence, Tuple, Union
 
-from pespbench.answers import Found, Stopped
+from pespbench.answers import Found
 
 # The cost after a move, or the replies to `time` and to `cost` where they are others.
 AfterMove = Union[int, Tuple[List[str], List[str]]]
@@ -25,12 +25,6 @@ class Reached(NamedTuple):
     found: Found
     lower_bound: Optional[int] = None
     goes_on: bool = False
-
-    @property
-    def is_even(self) -> bool:
-        """Whether the next one goes on with all of it: where the least cost is known, a question after the first of the timetables
-        that cost it is asked anew."""
-        return self.goes_on and not (isinstance(self.found, Stopped) and self.found.cost == self.lower_bound)
 
 
 class Transport:

@@ -350,7 +350,7 @@ def asked(library: StandIn) -> List[int]:
 
 
 class Slow(StandIn):
-    """Goes through so many nodes in a second of a clock, and finds nothing."""
+    """Goes through so many nodes in a second of a clock, and finds nothing but bounds."""
 
     def __init__(self, clock: List[float], rate: int) -> None:
         super().__init__(lambda line: usual(line, {b"violations": lambda: b"violations 1\nactivity 1\n"}), bound=lambda nodes: 0)
@@ -360,6 +360,7 @@ class Slow(StandIn):
         self.lines.append(b"pesp_search %d" % nodes)
         self.clock[0] += nodes / self.rate
         ToldFound.from_address(found).state = 0
+        ToldFound.from_address(found).lower_bound = len(self.lines)
         Told.from_address(told).length = Told.from_address(told).status = 0
 
 

@@ -27,12 +27,13 @@ TELLS = """for (const call of ['start', 'open', 'search']) {
 
 # By its clock, searches go through so many nodes in a millisecond, and find nothing.
 SLOW = """const { performance } = self, now = performance.now.bind(performance);
-let later = 0;
+let later = 0, told = 0n;
 performance.now = () => now() + later;
 PespModule.search = (module, session, nodes) => {
     later += nodes / RATE;
     self.postMessage({ call: 'search', nodes, at: Number(session.at) });
-    return { state: 0, cost: 0n, lowerBound: 0n, times: null, ending: { status: 0 }, fault: '' };
+    told += 1n;
+    return { state: 0, cost: 0n, lowerBound: told, times: null, ending: { status: 0 }, fault: '' };
 };"""
 
 # It tells in which session a line is asked.

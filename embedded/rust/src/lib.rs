@@ -191,7 +191,7 @@ impl Session {
     ///
     /// Calls one after the other are one search: each goes on where the one before it stopped, and tells no dearer timetable and
     /// no lesser bound. A line that changes the network begins anew; lines that change times alone, and questions, do not. Double the
-    /// nodes where cost and bound are the same, and the first of the best timetables is looked for.
+    /// nodes after a call that tells nothing new.
     pub fn search(&mut self, nodes: u64) -> Result<Search, Fault> {
         let mut times = vec![0; self.events()?.len()];
         let (Found { cost, lower_bound, state }, length) = self.sought(nodes, &mut times)?;
