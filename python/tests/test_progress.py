@@ -70,15 +70,18 @@ class Steps(unittest.TestCase):
     def test_even(self) -> None:
         """A step that goes on takes about a quarter of a second: it is doubled where it was much quicker, halved where slower."""
         seconds = [0.01, 0.12, 0.13, 0.5, 0.6, 0.01, 0.3]
-        script = self.over(*((took, stopped(9, 1, True)) for took in seconds))
-        self.assertEqual(self.told(script.search(1.6)), [(9, 1, False)] * 6 + [(9, 1, True)])
+        script = self.over(*((took, stopped(9, place, True)) for place, took in enumerate(seconds, 1)))
+        self.assertEqual(self.told(script.search(1.6)), [(9, place, place == 7) for place in range(1, 8)])
         self.assertEqual(script.asked, [1_000, 2_000, 4_000, 4_000, 4_000, 2_000, 4_000])
-        script = self.over(*((took, stopped(None, 1, True)) for took in [9, 9, 0.01]))
+        script = self.over(*((took, stopped(None, place, True)) for place, took in enumerate([9, 9, 0.01], 1)))
         self.told(script.search(18.005, nodes=2))
         self.assertEqual(script.asked, [2, 1, 1])
-        script = self.over((0.01, stopped(None, 1, True)), (1, stopped(None, 1, True)))
+        script = self.over((0.01, stopped(None, 1, True)), (1, stopped(None, 2, True)))
         self.told(script.search(1, nodes=10**12))
         self.assertEqual(script.asked, [10**12, 10**12])
+        script = self.over(*((took, stopped(9, 1, True)) for took in [0.25, 0.25, 0.5, 1]))
+        self.assertEqual(self.told(script.search(2)), [(9, 1, False)] * 3 + [(9, 1, True)])
+        self.assertEqual(script.asked, [1_000, 1_000, 2_000, 4_000])
 
     def test_even_to_the_end(self) -> None:
         """A step that goes on is begun where any time is left, and is let come to its end."""
