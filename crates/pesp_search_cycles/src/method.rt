@@ -28,7 +28,9 @@ const MOST_SOLVED: usize = 128;
 /// A network, and a map of least cost.
 #[derive(Drop)]
 struct Solved {
+    // As it was given.
     network: Network,
+    // None costs less.
     least: Candidate,
     ghost solves: { IsLeast (IsCosted network) least },
 }

@@ -33,6 +33,7 @@ pub(crate) enum Known {
 /// A search for the first map of least cost.
 #[derive(Drop)]
 pub(crate) struct Settling {
+    // Leaves that are known have all maps of least cost.
     known: Known,
     // A map of least cost; none precedes it at one of so many events in front.
     pub(crate) best: Candidate,
