@@ -1,11 +1,13 @@
 -- Searches for a least map that go on from where they stand.
-use Rattle.std.proofs.Common.{◌≡◌, ℕ, All, List, [], ◌∷◌, Option, Some, None, IfSome, inl, inr, sym, subst, refl, arith}
+use Rattle.std.proofs.Common.{◌≡◌, ℕ, ◌<◌, ◌≤◌, All, List, [], ◌∷◌, Option, Some, None, IfSome, inl, inr, sym, subst, refl, arith}
 use Rattle.std.proofs.lemmas.List.Elements.{All-cons, All-nil}
 use Rattle.pesp_search_least.specs.declared.outcome.Candidate.{Candidate}
 use Rattle.pesp_search_least.specs.declared.outcome.Outcome.{Outcome}
 use Rattle.pesp_search_least.specs.declared.outcome.Outcome.TheVariants.{Found, NoneBelow, Spent}
+use Rattle.pesp_search_least.specs.declared.limits.Limits.{Limits}
+use Rattle.pesp_search_least.specs.Expansions.{limit_of}
 use Rattle.pesp_search_least.specs.Reached.{IsLeft, IsReached, IsUnderway}
-use Rattle.pesp_search_least.specs.Sums.{InSome, IsBelow, IsOutcome, IsStop, IsWithin, Sums}
+use Rattle.pesp_search_least.specs.Sums.{InSome, IsBelow, IsLowerBound, IsOutcome, IsStop, IsWithin, Sums}
 use Rattle.pesp_search_least.proofs.Reached.{below_equal, left_of_all, outcome_of_all, underway_alike}
 use Rattle.pesp_search_network.specs.Arcs.{Arcs, IsCosted, IsMet}
 use Rattle.pesp_search_cycles.specs.declared.flip.FlipCut.{FlipCut}
@@ -15,7 +17,8 @@ use Rattle.pesp_search_cycles.specs.Leaves.{sums_of}
 use Rattle.pesp_search_cycles.specs.declared.range.Range.{Range}
 use Rattle.pesp_search_cycles.specs.Maps.{AreCycles, IsAmong, IsSummed, Net}
 use Rattle.pesp_search_cycles.specs.Ranges.{AreIn}
-use Rattle.pesp_search_cycles.specs.Stacks.{AreEqualBests, net_of}
+use Rattle.pesp_search_cycles.specs.declared.stack.Progress.{Progress}
+use Rattle.pesp_search_cycles.specs.Stacks.{AreEqualBests, IsProgress, net_of}
 use Rattle.pesp_search_cycles.specs.Waiting.{IsWaiting, sums_in}
 use Rattle.pesp_search_cycles.specs.Walks.{Path}
 
@@ -71,3 +74,38 @@ cycles_of M A walks cuts network same kept is =
     subst (λ (B : Arcs). AreCycles (net_of B walks cuts)) network
     (subst (λ (ws : List Path). AreCycles (net_of M.network ws cuts)) (sym same)
     (subst (λ (cs : List FlipCut). AreCycles (net_of M.network M.walks cs)) kept is))
+
+-- ---- what another search has found
+
+pub found_copied : (sums : Sums) (cap : ℕ) (best copy : Option Candidate) → AreEqualBests best copy → IfSome best (IsBelow sums cap) → IfSome copy (IsBelow sums cap)
+found_copied sums cap None None same is = tt
+found_copied sums cap None (Some c) same is = absurd same
+found_copied sums cap (Some b) None same is = absurd same
+found_copied sums cap (Some b) (Some c) same is = below_equal sums cap b c same is
+
+pub limit_copied : (cap : ℕ) (best copy : Option Candidate) → AreEqualBests best copy → limit_of cap copy ≡ limit_of cap best
+limit_copied cap None None same = refl
+limit_copied cap None (Some c) same = absurd same
+limit_copied cap (Some b) None same = absurd same
+limit_copied cap (Some b) (Some c) same = same.cost
+
+-- a lesser limit wants less of the nodes
+pub underway_less : {R : Type 0} (sums : R → Sums) (root : Sums) (nodes : List R) (cap : ℕ) (best less : Option Candidate) → limit_of cap less ≤ limit_of cap best → IfSome less (IsBelow root cap)
+    → IsUnderway sums root nodes cap best → IsUnderway sums root nodes cap less
+underway_less {R} sums root nodes cap best less limit found is = record {
+  within = is.within;
+  left = λ map sum has below. is.left map sum has (omega (arith, below, limit));
+  found = found;
+}
+
+-- the best of another search, where it costs less
+pub underway_copied : {R : Type 0} (sums : R → Sums) (root : Sums) (nodes : List R) (cap : ℕ) (best other copy : Option Candidate) → AreEqualBests other copy → limit_of cap other < limit_of cap best
+    → IfSome other (IsBelow root cap) → IsUnderway sums root nodes cap best → IsUnderway sums root nodes cap copy
+underway_copied {R} sums root nodes cap best other copy same less found is =
+    underway_less sums root nodes cap best copy (let limit = limit_copied cap other copy same in omega (arith, limit, less)) (found_copied root cap other copy same found) is
+
+pub progress_copied : (sums : Sums) (p q : Progress) → q.limits ≡ p.limits → AreEqualBests p.best q.best → IsProgress sums p → IsProgress sums q
+progress_copied sums p q limits same is = record {
+  floor = subst (λ (l : Limits). IsLowerBound sums l.floor) (sym limits) is.floor;
+  found = subst (λ (l : Limits). IfSome q.best (IsBelow sums l.cap)) (sym limits) (found_copied sums p.limits.cap p.best q.best same is.found);
+}

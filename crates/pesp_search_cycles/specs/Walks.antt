@@ -56,6 +56,10 @@ times arcs zs (s ∷ ss) = time_of arcs zs s +ℤ times arcs zs ss
 abbrev pub residue : List Arc → List ℕ → ℕ → ℤ
 residue arcs zs v = pos (slice_index zs (length arcs + v))
 
+-- the residue at the first event less that at the last
+abbrev pub ends : List Arc → List ℕ → Path → ℤ
+ends arcs zs p = residue arcs zs p.from -ℤ residue arcs zs p.to
+
 -- the time that the steps take, from the residue at the first event and less that at the last: a whole number of periods
 abbrev pub round : List Arc → List ℕ → Path → ℤ
 round arcs zs p = times arcs zs p.steps +ℤ (residue arcs zs p.from -ℤ residue arcs zs p.to)

@@ -9,7 +9,7 @@ ghost use Rattle.pesp_search_cycles.specs.Ranges.{AreIn};
 use crate::flip::{Flip, FlipCut, flip_cut};
 use crate::graph::{Graph, units_of};
 use crate::node::Node;
-use crate::phase::{Seeking, spent_of};
+use crate::phase::spent_of;
 use crate::proposer::Proposer;
 use crate::residues::residue_ranges;
 use crate::root::root;
@@ -22,7 +22,7 @@ use pesp_search_network::Network;
 use std::alloc::Global;
 
 /// How many rounds there are at most.
-const ROUNDS: usize = 20;
+const ROUNDS: u64 = 20;
 
 /// How many narrow cycles are looked at in each.
 const MOST_CANDIDATES: usize = 1_000;
@@ -35,6 +35,9 @@ const LEAST_WALKS: usize = 12;
 
 /// The last round is one that gains less than so many hundredths of what lies between the bound and a map.
 const LEAST_GAIN: u64 = 100;
+
+/// A round is in vain where all rounds that are left do not bring the bound to so many hundredths of the best map's cost.
+const LEAST_BOUND: u64 = 66;
 
 /// Where the map costs less than a sixty-fourth more than the bound, no cuts are sought.
 const LEAST_GAP: u64 = 64;
@@ -70,21 +73,41 @@ fn cuts_of(
     Ok(cuts)
 }
 
-/// What is left between a bound and the best that is known: a map's cost, or the cap, or half as much more.
-fn gap_of(bound: u64, cost: Option<u64>, cap: u64) -> u64 {
-    let top = match cost {
-        Some(cost) => cost.min(cap),
-        None => cap.min(bound.saturating_add(bound / 2)),
-    };
-    top.saturating_sub(bound)
+/// What is known of the least cost at the first node.
+#[derive(Clone, Copy)]
+struct Known {
+    // No map costs less.
+    bound: u64,
+    // What is of use costs no more, or an eighth more than the bound where nothing is known.
+    top: u64,
 }
 
-/// Whether another round is of use, after one that brought the bound from the last one to this one.
-fn is_worth(seeking: Seeking, last: Option<u64>, bound: u64, gap: u64) -> bool {
-    match last {
-        Some(last) => bound.saturating_sub(last).saturating_mul(LEAST_GAIN) >= gap && 0 < gap,
-        None if bound == 0 => seeking == Seeking::Everywhere,
-        None => gap.saturating_mul(LEAST_GAP) > bound,
+impl Known {
+    /// A bound, the cost of a map, if one is at hand, and the cap.
+    fn of(bound: u64, cost: Option<u64>, cap: u64) -> Known {
+        let top = match cost {
+            Some(cost) => cost.min(cap),
+            None => cap.min(bound.saturating_add(bound / 8)),
+        };
+        Known { bound, top }
+    }
+
+    /// Whether more cuts are of use before the first ones.
+    fn wants_cuts(self) -> bool {
+        let gap = self.top.saturating_sub(self.bound);
+        self.bound == 0 || self.bound < gap.saturating_mul(LEAST_GAP)
+    }
+
+    /// Whether more cuts are of use after a round that gained so much, where so many rounds are left.
+    fn wants_more(self, gain: u64, rounds: u64) -> bool {
+        let gap = self.top.saturating_sub(self.bound);
+        0 < gap && gap <= gain.saturating_mul(LEAST_GAIN) && self.is_near(gain.saturating_mul(rounds))
+    }
+
+    /// Whether the bound with so much more is near the cost of the best map.
+    fn is_near(self, more: u64) -> bool {
+        let bound = self.bound.saturating_add(more);
+        self.top.saturating_mul(LEAST_BOUND) <= bound.saturating_mul(100)
     }
 }
 
@@ -164,8 +187,8 @@ fn candidates_of(
 /// What cuts are for.
 #[derive(Clone, Copy)]
 pub(crate) struct Aim {
-    // Where they are sought.
-    pub(crate) seeking: Seeking,
+    // Whether they are sought.
+    pub(crate) with_cuts: bool,
     // Maps that cost as much are of no use.
     pub(crate) cap: u64,
 }
@@ -190,10 +213,12 @@ struct Site<'a> {
 struct Stage {
     // Of cuts that are tight, and new ones.
     flips: Vec<Flip>,
-    // What each map costs at least; none before the first round.
-    bound: Option<u64>,
+    // What is known by the cuts before; nothing before the first round.
+    known: Option<Known>,
     // Whether another one is of use.
     goes_on: bool,
+    // So many rounds are left.
+    rounds: u64,
 }
 
 /// What the maps of a node cost at least, and what one of them costs that is at hand.
@@ -244,19 +269,31 @@ fn round(
         return Err(Memory);
     };
     let (bound, cost) = measured(alloc, &mut node, site.aim.cap, budget)?;
-    let gap = gap_of(bound, cost, site.aim.cap);
-    let (flips, goes_on) = if is_worth(site.aim.seeking, before.bound, bound, gap)
-        && !budget.is_spent()
-    {
+    let known = Known::of(bound, cost, site.aim.cap);
+    let rounds = before.rounds.saturating_sub(1);
+    let is_worth = match before.known {
+        Some(last) => known.wants_more(bound.saturating_sub(last.bound), rounds),
+        None => known.wants_cuts(),
+    };
+    let (flips, goes_on) = if is_worth && !budget.is_spent() {
         renewed(alloc, &node, before.flips, candidates, budget)?
     } else {
         (before.flips, false)
     };
     Ok(Stage {
         flips,
-        bound: Some(bound),
+        known: Some(known),
         goes_on,
+        rounds,
     })
+}
+
+/// The flips of a stage, where its bound is near the cost of the best map.
+fn worth_it(alloc: Global, stage: Stage) -> Vec<Flip> {
+    match stage.known {
+        Some(known) if known.is_near(0) => stage.flips,
+        _ => Vec::new(alloc),
+    }
 }
 
 /// The flips whose cuts are worth it, round by round.
@@ -268,8 +305,9 @@ fn flips_of(alloc: Global, site: &Site, budget: &mut Budget) -> Result<Vec<Flip>
     let candidates = candidates_of(alloc, network, site.residues, budget)?;
     let mut stage = Stage {
         flips: Vec::new(alloc),
-        bound: None,
+        known: None,
         goes_on: true,
+        rounds: ROUNDS,
     };
     for _round in 0..ROUNDS {
         if !stage.goes_on {
@@ -277,7 +315,7 @@ fn flips_of(alloc: Global, site: &Site, budget: &mut Budget) -> Result<Vec<Flip>
         }
         stage = round(alloc, site, stage, &candidates, budget)?;
     }
-    Ok(stage.flips)
+    Ok(worth_it(alloc, stage))
 }
 
 /// Flip cuts beside these walks, where maps below a cap are sought.
@@ -319,7 +357,7 @@ pub(crate) fn cuts_beside(
     ensures kept { IfOk result (λ cuts. All (Holds network.now) cuts.items) }
     ensures budget { OnlySpends budget.old.left budget.new.left }
 {
-    if aim.seeking == Seeking::Nowhere {
+    if !aim.with_cuts {
         return Ok(Vec::new(alloc));
     }
     let residues = residue_ranges(alloc, network)?;

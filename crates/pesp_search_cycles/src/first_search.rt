@@ -12,7 +12,7 @@ use crate::basis::{basis_within, walks_of};
 use crate::cuts::{Aim, cuts_beside};
 use crate::flip::FlipCut;
 use crate::graph::Basis;
-use crate::phase::{Seeking, spent_of};
+use crate::phase::spent_of;
 use crate::residues::residue_ranges;
 use crate::settling::Settling;
 use crate::turn::Turn;
@@ -52,11 +52,10 @@ impl Model for FirstSearch {
         × IsSettling (net_of a.network a.walks.items a.cuts.items) a.settling };
 }
 
-/// Where cuts are sought: not beside the cycles of a tree.
-fn seeking_by(basis: Basis, seeking: Seeking) -> Seeking {
+fn is_narrow(basis: Basis) -> bool {
     match basis {
-        Basis::Narrow => seeking,
-        Basis::Tree => Seeking::Nowhere,
+        Basis::Narrow => true,
+        Basis::Tree => false,
     }
 }
 
@@ -79,7 +78,7 @@ impl FirstSearch {
         let basis = basis_within(alloc, &network, &residues, budget)?;
         let walks = walks_of(alloc, &network, &residues, basis, budget)?;
         let aim = Aim {
-            seeking: seeking_by(basis, turn.phase().seeking),
+            with_cuts: turn.phase.with_cuts && is_narrow(basis),
             cap: settling.best.cost,
         };
         let cuts = cuts_beside(alloc, &network, &walks, aim, budget)?;
@@ -164,6 +163,7 @@ impl FirstSearch {
             turn,
             ..
         } = self;
-        FirstSearch::new(alloc, network, turn.next(), settling.anew(), budget)
+        let turn = turn.with_cuts().endless();
+        FirstSearch::new(alloc, network, turn, settling.anew(), budget)
     }
 }

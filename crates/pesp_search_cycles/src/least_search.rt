@@ -63,11 +63,11 @@ impl LeastSearch {
         ensures budget { OnlySpends budget.old.left budget.new.left }
     {
         let before = budget.left;
-        let phase = turn.phase();
+        let phase = turn.phase;
         let residues = residue_ranges(alloc, &network)?;
         let walks = walks_of(alloc, &network, &residues, phase.basis, budget)?;
         let aim = Aim {
-            seeking: phase.seeking,
+            with_cuts: phase.with_cuts,
             cap: progress.limit(),
         };
         let cuts = cuts_beside(alloc, &network, &walks, aim, budget)?;
@@ -159,19 +159,61 @@ impl LeastSearch {
         Ok((outcome, Some(search)))
     }
 
-    /// The phase that comes after.
-    pub(crate) fn next(self, alloc: Global, budget: &mut Budget) -> Result<LeastSearch, Memory>
-        ensures network { IfOk result (λ search. search.network ≡ self.network) }
-        ensures cap { IfOk result (λ search.
-            search.cap ≡ self.cap) }
+    /// Whether it goes by cuts, too.
+    pub(crate) fn has_cuts(&self) -> bool {
+        !self.cuts.is_empty()
+    }
+
+    /// The turn in which it is.
+    pub(crate) fn turn(&self) -> Turn {
+        self.turn
+    }
+
+    /// The same search in another turn of its phase.
+    pub(crate) fn at(self, turn: Turn) -> LeastSearch
+        ensures network { result.network ≡ self.network }
+        ensures cap { result.cap ≡ self.cap }
+    {
+        LeastSearch { turn, ..self }
+    }
+
+    /// Another search for the same, from its first node on but with what this one has found.
+    pub(crate) fn beside(
+        &self,
+        alloc: Global,
+        turn: Turn,
+        budget: &mut Budget,
+    ) -> Result<LeastSearch, Memory>
+        ensures network { IfOk result (λ search. search.network ≡ self.now.network) }
+        ensures cap { IfOk result (λ search. search.cap ≡ self.now.cap) }
         ensures budget { OnlySpends budget.old.left budget.new.left }
+    {
+        let network = self.network.copy()?;
+        let progress = self.stack.progress.copy()?;
+        LeastSearch::new(alloc, network, turn, progress, budget)
+    }
+
+    /// The same search with what another one for the same has found.
+    pub(crate) fn knowing(self, other: &LeastSearch) -> Result<LeastSearch, Memory>
+        requires network { other.now.network ≡ self.network }
+        requires cap { other.now.cap ≡ self.cap }
+        ensures network { IfOk result (λ search. search.network ≡ self.network) }
+        ensures cap { IfOk result (λ search. search.cap ≡ self.cap) }
     {
         let LeastSearch {
             network,
+            cuts,
+            walks,
             stack,
             turn,
-            ..
         } = self;
-        LeastSearch::new(alloc, network, turn.next(), stack.progress, budget)
+        let stack = stack.knowing(&other.stack.progress)?;
+        Ok(LeastSearch {
+            network,
+            cuts,
+            walks,
+            stack,
+            turn,
+        })
     }
 }

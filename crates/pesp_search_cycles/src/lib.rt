@@ -14,6 +14,7 @@ mod gap;
 mod graph;
 mod held;
 mod least_search;
+mod least_turns;
 mod leaves;
 mod method;
 mod node;

@@ -9,6 +9,7 @@ ghost use Rattle.pesp_search_network.specs.Arcs.{IsCosted};
 use crate::basis::units_of_narrow;
 use crate::first_search::FirstSearch;
 use crate::least_search::LeastSearch;
+use crate::least_turns::LeastTurns;
 use crate::phase::spent_of;
 use crate::residues::residue_ranges;
 use crate::settling::Settling;
@@ -19,8 +20,8 @@ use pesp_search_least::{Budget, Candidate, First, Limits, Outcome};
 use pesp_search_network::{Method, Network};
 use std::alloc::Global;
 
-/// How many phases a search has at most; the last one goes on to the end.
-const MOST_PHASES: usize = 3;
+/// How many turns a search has at most; the last one goes on to the end.
+const MOST_TURNS: usize = 64;
 
 /// How many solved networks are kept: more than a network is cut into.
 const MOST_SOLVED: usize = 128;
@@ -55,11 +56,13 @@ impl Solved {
 #[derive(Drop)]
 pub struct ByCycles {
     // Where the last one stopped.
-    stopped: Option<LeastSearch>,
+    stopped: Option<LeastTurns>,
     // Where the last one for a first map stopped.
     unsettled: Option<FirstSearch>,
     // Networks that were searched to the end within budgets.
     solved: Vec<Solved>,
+    // Whether a search ended by cuts, since the last one for a first map began.
+    by_cuts: bool,
 }
 
 impl ByCycles {
@@ -69,6 +72,7 @@ impl ByCycles {
             stopped: None,
             unsettled: None,
             solved: Vec::new(alloc),
+            by_cuts: false,
         }
     }
 
@@ -105,10 +109,10 @@ impl ByCycles {
     }
 
     /// The search of the network that stopped, if it can be gone on with for this.
-    fn stopped(&mut self, network: &Network, limits: Limits) -> Option<LeastSearch>
+    fn stopped(&mut self, network: &Network, limits: Limits) -> Option<LeastTurns>
         requires { IsLowerBound (IsCosted network.now) limits.floor }
-        ensures network { IfSome result (λ search. search.network ≡ network.now) }
-        ensures cap { IfSome result (λ search. search.cap ≡ limits.cap) }
+        ensures network { IfSome result (λ turns. turns.search.network ≡ network.now) }
+        ensures cap { IfSome result (λ turns. turns.search.cap ≡ limits.cap) }
     {
         let search = self.stopped.take()?;
         if !search.network().is_same(network) {
@@ -123,43 +127,47 @@ impl ByCycles {
         network: &Network,
         limits: Limits,
         budget: &mut Budget,
-    ) -> Result<LeastSearch, Memory>
+    ) -> Result<LeastTurns, Memory>
         requires { IsLowerBound (IsCosted network.now) limits.floor }
-        ensures network { IfOk result (λ search. search.network ≡ network.now) }
-        ensures cap { IfOk result (λ search. search.cap ≡ limits.cap) }
+        ensures network { IfOk result (λ turns. turns.search.network ≡ network.now) }
+        ensures cap { IfOk result (λ turns. turns.search.cap ≡ limits.cap) }
         ensures budget { OnlySpends budget.old.left budget.new.left }
     {
         let residues = residue_ranges(alloc, network)?;
         let narrow = units_of_narrow(alloc, network, &residues)?;
         let turn = Turn::first(narrow, budget);
         let progress = Progress { limits, best: None };
-        LeastSearch::new(alloc, network.copy()?, turn, progress, budget)
+        let search = LeastSearch::new(alloc, network.copy()?, turn, progress, budget)?;
+        Ok(LeastTurns::alone(search))
     }
 
-    /// Goes on with a search, by so many phases that have an end and then to the end, as far as the budget goes.
+    /// Goes on with a search, by so many turns that have an end and then to the end, as far as the budget goes.
     fn go_on(
         &mut self,
         alloc: Global,
-        search: LeastSearch,
-        phases: usize,
+        turns: LeastTurns,
+        left: usize,
         budget: &mut Budget,
     ) -> Result<Outcome, Memory>
-        ensures outcome { IfOk result (IsOutcome (IsCosted search.network)
-            search.cap) }
+        ensures outcome { IfOk result (IsOutcome (IsCosted turns.search.network)
+            turns.search.cap) }
         ensures spent { IfOk result (StopsWhereSpent budget.new.left) }
         ensures budget { OnlySpends budget.old.left budget.new.left }
     {
-        let units = if phases == 0 { None } else { search.units() };
+        let has_cuts = turns.has_cuts();
+        let units = if left == 0 { None } else { turns.units() };
         let Some(units) = units else {
-            let (outcome, rest) = search.advance(alloc, budget)?;
+            let (outcome, rest) = turns.advance(alloc, budget)?;
+            self.by_cuts = self.by_cuts || (has_cuts && rest.is_none());
             self.stopped = rest;
             return Ok(outcome);
         };
         let mut part = budget.part(units);
         let given = part.left;
-        let (outcome, rest) = search.advance(alloc, &mut part)?;
+        let (outcome, rest) = turns.advance(alloc, &mut part)?;
         budget.spend(spent_of(given, part.left));
         let Some(rest) = rest else {
+            self.by_cuts = self.by_cuts || has_cuts;
             return Ok(outcome);
         };
         if budget.is_spent() {
@@ -167,7 +175,7 @@ impl ByCycles {
             return Ok(outcome);
         }
         let next = rest.next(alloc, budget)?;
-        self.go_on(alloc, next, phases - 1, budget)
+        self.go_on(alloc, next, left - 1, budget)
     }
 }
 
@@ -187,6 +195,7 @@ impl ByCycles {
 
     /// The same search at its beginning, from a map of least cost.
     fn begun_from(
+        &mut self,
         alloc: Global,
         network: &Network,
         candidate: Candidate,
@@ -200,17 +209,18 @@ impl ByCycles {
     {
         let residues = residue_ranges(alloc, network)?;
         let narrow = units_of_narrow(alloc, network, &residues)?;
-        let turn = Turn::first(narrow, &Budget::unlimited());
+        let turn = Turn::settling(narrow, self.by_cuts);
+        self.by_cuts = false;
         let settling = Settling::new(candidate);
         FirstSearch::new(alloc, network.copy()?, turn, settling, budget)
     }
 
-    /// Goes on with a search for a first map, by so many phases that have an end and then to the end, as far as the budget goes.
+    /// Goes on with a search for a first map, by so many turns that have an end and then to the end, as far as the budget goes.
     fn settle(
         &mut self,
         alloc: Global,
         search: FirstSearch,
-        phases: usize,
+        turns: usize,
         budget: &mut Budget,
     ) -> Result<First, Memory>
         ensures first { IfOk result (IsFirstOutcome (IsCosted search.network)
@@ -218,7 +228,7 @@ impl ByCycles {
         ensures spent { IfOk result (EndsUnlessSpent budget.new.left) }
         ensures budget { OnlySpends budget.old.left budget.new.left }
     {
-        let units = if phases == 0 { None } else { search.units() };
+        let units = if turns == 0 { None } else { search.units() };
         let Some(units) = units else {
             let (told, rest) = search.advance(alloc, budget)?;
             self.unsettled = rest;
@@ -236,7 +246,7 @@ impl ByCycles {
             return Ok(told);
         }
         let next = rest.next(alloc, budget)?;
-        self.settle(alloc, next, phases - 1, budget)
+        self.settle(alloc, next, turns - 1, budget)
     }
 
     /// From a map of least cost to the first one of that cost.
@@ -264,9 +274,9 @@ impl ByCycles {
         }
         let search = match self.unsettled(network, candidate.cost) {
             Some(search) => search,
-            None => ByCycles::begun_from(alloc, network, candidate, budget)?,
+            None => self.begun_from(alloc, network, candidate, budget)?,
         };
-        self.settle(alloc, search, MOST_PHASES, budget)
+        self.settle(alloc, search, MOST_TURNS, budget)
     }
 }
 
@@ -296,7 +306,7 @@ impl Method for ByCycles {
             None => ByCycles::begun(alloc, network, limits, budget)?,
         };
         let is_kept = budget.left.is_some();
-        let outcome = self.go_on(alloc, search, MOST_PHASES, budget)?;
+        let outcome = self.go_on(alloc, search, MOST_TURNS, budget)?;
         if let Outcome::Found(least) = &outcome {
             if is_kept {
                 self.keep(network, least);

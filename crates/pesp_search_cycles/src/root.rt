@@ -5,7 +5,7 @@ ghost use Rattle.pesp_base.specs.Tensions.{is_met, slack_of};
 ghost use Rattle.pesp_search_network.specs.Arcs.{IsMet};
 ghost use Rattle.pesp_search_cycles.specs.Maps.{AreBoxes, IsInside, numbers_of};
 ghost use Rattle.pesp_search_cycles.specs.Ranges.{AreIn, IsIn, no_range};
-ghost use Rattle.pesp_search_cycles.specs.Walks.{RoundsAreIn, no_path, residue, round, signed, times};
+ghost use Rattle.pesp_search_cycles.specs.Walks.{RoundsAreIn, ends, no_path, residue, round, signed, times};
 
 use crate::boxes::Boxes;
 use crate::{Cycles, Range, Walk};
@@ -52,16 +52,28 @@ pub(crate) fn residue_range(arcs: &[Arc], numbers: &[Range], event: usize) -> Op
     Some(*range)
 }
 
+/// The residue at the first event of a walk less that at its last: 0 where it is closed.
+fn ends_range(arcs: &[Arc], numbers: &[Range], walk: &Walk) -> Option<Range>
+    ensures { IfSome result (λ range. (zs : List ℕ) → AreIn numbers.now zs
+        → IsIn range (ends arcs.now zs walk.now)) }
+{
+    if walk.from == walk.to {
+        return Some(Range { low: 0, high: 0 });
+    }
+    let from = residue_range(arcs, numbers, walk.from)?;
+    let to = residue_range(arcs, numbers, walk.to)?;
+    let back = to.negated()?;
+    let range = from.plus(back)?;
+    Some(range)
+}
+
 /// The times that a walk takes, with the residue at its first event and less that at its last.
 fn walk_range(arcs: &[Arc], numbers: &[Range], walk: &Walk) -> Option<Range>
     ensures { IfSome result (λ range. (zs : List ℕ) → AreIn numbers.now zs
         → IsIn range (round arcs.now zs walk.now)) }
 {
     let steps = time_range(arcs, numbers, &walk.steps)?;
-    let from = residue_range(arcs, numbers, walk.from)?;
-    let to = residue_range(arcs, numbers, walk.to)?;
-    let back = to.negated()?;
-    let ends = from.plus(back)?;
+    let ends = ends_range(arcs, numbers, walk)?;
     let range = steps.plus(ends)?;
     Some(range)
 }

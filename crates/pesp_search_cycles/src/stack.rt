@@ -1,6 +1,7 @@
 //! Searches for a least map that stand still: their open nodes, and what they have found.
 
 ghost use Rattle.std.specs.Prelude.{◌≡◌, ℕ, List, IfOk, IfSome, IsNone, length};
+ghost use Rattle.pesp_search_least.specs.Expansions.{limit_of};
 ghost use Rattle.pesp_search_least.specs.Spending.{OnlySpends};
 ghost use Rattle.pesp_search_least.specs.Sums.{IsLowerBound, IsOutcome, IsStop, StopsWhereSpent};
 ghost use Rattle.pesp_search_network.specs.Arcs.{IsCosted, IsMet};
@@ -32,16 +33,6 @@ pub(crate) struct Stack {
     pub(crate) progress: Progress,
 }
 
-impl Progress {
-    /// Only maps that cost less are of use.
-    pub(crate) fn limit(&self) -> u64 {
-        match &self.best {
-            Some(best) => best.cost,
-            None => self.limits.cap,
-        }
-    }
-}
-
 /// The best once more, if there is one.
 fn copy_of(best: &Option<Candidate>) -> Result<Option<Candidate>, Memory>
     ensures { IfOk result (AreEqualBests best.now) }
@@ -49,6 +40,29 @@ fn copy_of(best: &Option<Candidate>) -> Result<Option<Candidate>, Memory>
     match best {
         Some(best) => Ok(Some(best.copy()?)),
         None => Ok(None),
+    }
+}
+
+impl Progress {
+    /// Only maps that cost less are of use.
+    pub(crate) fn limit(&self) -> u64
+        ensures { result ≡ limit_of self.now.limits.cap self.now.best }
+    {
+        match &self.best {
+            Some(best) => best.cost,
+            None => self.limits.cap,
+        }
+    }
+
+    /// The same once more.
+    pub(crate) fn copy(&self) -> Result<Progress, Memory>
+        ensures limits { IfOk result (λ copy. copy.limits ≡ self.now.limits) }
+        ensures best { IfOk result (λ copy. AreEqualBests self.now.best copy.best) }
+    {
+        Ok(Progress {
+            limits: self.limits,
+            best: copy_of(&self.best)?,
+        })
     }
 }
 
@@ -92,6 +106,28 @@ impl Stack {
         };
         let progress = Progress { limits, best };
         Some(Stack { nodes, progress })
+    }
+
+    /// The same with what another search for the same has found.
+    pub(crate) fn knowing(self, other: &Progress) -> Result<Stack, Memory>
+        requires { other.now.limits.cap ≡ self.progress.limits.cap }
+        ensures stack { (N : Net) → IsStack N self → IsProgress (IsCosted N.network) other.now
+            → IfOk result (IsStack N) }
+        ensures cap { IfOk result (λ stack.
+            stack.progress.limits.cap ≡ self.progress.limits.cap) }
+    {
+        let Stack { nodes, progress } = self;
+        let limits = Limits {
+            floor: progress.limits.floor.max(other.limits.floor),
+            cap: progress.limits.cap,
+        };
+        let best = if other.limit() < progress.limit() {
+            copy_of(&other.best)?
+        } else {
+            progress.best
+        };
+        let progress = Progress { limits, best };
+        Ok(Stack { nodes, progress })
     }
 
     /// Goes on as far as the budget goes: what the search comes to, and where it stops how it stands then.

@@ -1,51 +1,93 @@
 //! Which phase of a search it is, and how much of it is left.
 
-use crate::phase::{Phase, first_phase, phases_of};
+use crate::graph::Basis;
+use crate::phase::Phase;
 use pesp_search_least::Budget;
 
-/// A phase, of which so much is left.
+/// How many times as many units as narrow cycles take to be found the cycles of a tree have before them.
+const TREE_SHARE: u64 = 4;
+
+/// How many units narrow cycles have at first: a third of a second, in which most networks end.
+const FIRST_UNITS: u64 = 20_000;
+
+/// How many units narrow cycles have for a first map before cuts are sought, too: most of a minute, in which most networks end
+/// that end without cuts at all.
+const UNITS_BEFORE_CUTS: u64 = 10_000_000;
+
+/// A phase, of which so much is left. How long it is does not depend on a budget, so that a larger one never does other work as
+/// far as a smaller one goes.
 #[derive(Clone, Copy)]
 pub(crate) struct Turn {
-    // How many units it takes to find narrow cycles; none where there are too many.
-    narrow: Option<u64>,
-    // Which phase it is, from 0 on.
-    phase: usize,
-    // So many units are left of it; none where it goes on to the end.
+    pub(crate) phase: Phase,
+    // So many units it was given; none where it goes on to the end.
+    pub(crate) given: Option<u64>,
+    // So many of them are left.
     pub(crate) units: Option<u64>,
 }
 
 impl Turn {
-    /// The phase by its number.
-    fn at(narrow: Option<u64>, phase: usize) -> Turn {
-        let turn = Turn {
-            narrow,
-            phase,
-            units: None,
-        };
+    fn of(phase: Phase, given: Option<u64>) -> Turn {
         Turn {
-            units: turn.phase().units,
-            ..turn
+            phase,
+            given,
+            units: given,
         }
     }
 
-    /// The first phase of a search with this budget, where it takes so many units to find narrow cycles.
+    /// The first one of a search for a least map with this budget, where it takes so many units to find narrow cycles, or where
+    /// there are too many: narrow cycles at once where units are not counted.
     pub(crate) fn first(narrow: Option<u64>, budget: &Budget) -> Turn {
-        Turn::at(narrow, first_phase(narrow, budget))
-    }
-
-    pub(crate) fn phase(self) -> Phase {
-        match phases_of(self.narrow).get(self.phase) {
-            Some(phase) => *phase,
-            None => Phase::last(),
+        match (narrow, budget.left) {
+            (None, _) => Turn::of(Phase::tree(), None),
+            (Some(_), None) => Turn::of(Phase::plain(), Some(FIRST_UNITS)),
+            (Some(units), Some(_)) => {
+                Turn::of(Phase::tree(), Some(units.saturating_mul(TREE_SHARE)))
+            }
         }
     }
 
-    /// The phase that comes after.
-    pub(crate) fn next(self) -> Turn {
-        Turn::at(self.narrow, self.phase.saturating_add(1))
+    /// The first one of a search for a first map, by cuts where the least one was found by them.
+    pub(crate) fn settling(narrow: Option<u64>, by_cuts: bool) -> Turn {
+        match narrow {
+            None => Turn::of(Phase::tree(), None),
+            Some(_) if by_cuts => Turn::of(Phase::with_cuts(), None),
+            Some(_) => Turn::of(Phase::plain(), Some(UNITS_BEFORE_CUTS)),
+        }
     }
 
-    /// The same phase after so many units more.
+    /// Whether it goes by the cycles of a tree.
+    pub(crate) fn is_by_tree(self) -> bool {
+        match self.phase.basis {
+            Basis::Tree => true,
+            Basis::Narrow => false,
+        }
+    }
+
+    /// The first one by narrow cycles.
+    pub(crate) fn narrow(self) -> Turn {
+        Turn::of(Phase::plain(), Some(FIRST_UNITS))
+    }
+
+    /// The same with cuts, for as many units, or to the end.
+    pub(crate) fn with_cuts(self) -> Turn {
+        Turn::of(Phase::with_cuts(), self.given)
+    }
+
+    /// The same to the end.
+    pub(crate) fn endless(self) -> Turn {
+        Turn::of(self.phase, None)
+    }
+
+    /// The same for so many times as many units.
+    pub(crate) fn longer(self, times: u64) -> Turn {
+        let given = match self.given {
+            Some(given) => Some(given.saturating_mul(times)),
+            None => None,
+        };
+        Turn::of(self.phase, given)
+    }
+
+    /// The same after so many units more.
     pub(crate) fn after(self, units: u64) -> Turn {
         let units = match self.units {
             Some(left) => Some(left.saturating_sub(units)),

@@ -1,4 +1,4 @@
--- What is spent in one phase and in those that come after.
+-- What is spent in one turn and in those that come after.
 use Rattle.pesp_search_least.proofs.Budgets.{spends_on}
 use Rattle.pesp_search_cycles.proofs.method.ByCycles.+settle.Goals as goal
 
