@@ -42,8 +42,8 @@ class Asked(NamedTuple):
     def optima(self, least: Optional[Ran]) -> List[Ran]:
         """What each program takes for the first timetable of least cost; the last one is not asked again where the least cost takes too long."""
         ran = [self.ask(program, "optimum", self.seconds) for program in self.programs[:-1]]
-        is_known = least is not None and least.seconds is None
-        return [*ran, Ran("", None, 0) if is_known else self.ask(self.programs[-1], "optimum", self.seconds)]
+        takes_too_long = least is not None and least.seconds is None
+        return [*ran, Ran("", None, 0) if takes_too_long else self.ask(self.programs[-1], "optimum", self.seconds)]
 
     def stands(self) -> Iterator[Tuple[int, str]]:
         """The best cost and the bound at some moments, which that tells too: what is told last before each."""
@@ -55,10 +55,14 @@ class Asked(NamedTuple):
             yield moment, f"{best}, {bound}"
 
 
-def answer_of(printed: str) -> str:
-    """The least cost, or that there is none."""
-    words = printed.split()
-    return words[1] if words[:1] == ["optimum"] else words[0] if words[:1] == ["infeasible"] else "-"
+def answer_of(*told: Optional[Ran]) -> str:
+    """The least cost that some run tells, or that there is none."""
+    for words in (ran.printed.split() for ran in told if ran):
+        if words[:1] in (["optimum"], ["least"]):
+            return "infeasible" if words[1] == "none" else words[1]
+        if words[:1] == ["infeasible"]:
+            return words[0]
+    return "-"
 
 
 def solver_figures(asked: Asked, formulations: Sequence[str]) -> Figures:
@@ -83,7 +87,7 @@ def print_network(asked: Asked, formulations: Sequence[str]) -> None:
     optima = asked.optima(least) if network.is_searched else []
     tried = asked.tried()
     told = optima[-1] if optima else tried
-    answer = answer_of(told.printed)
+    answer = answer_of(told, least)
     figures = solver_figures(asked, formulations)
     cells = [shown(least.seconds, most) if least else "-", *(shown(ran.seconds, most) for ran in optima)]
     cells += ["-"] * (len(asked.programs) - len(optima)) + [shown(tried.seconds, most)]
@@ -93,7 +97,7 @@ def print_network(asked: Asked, formulations: Sequence[str]) -> None:
     for (solver, formulation), figure in figures.items():
         if figure.answer not in (None, answer):
             print(f"    {solver} {formulation} tells {figure.answer}", flush=True)
-    if told.seconds is None:
+    if least and told.seconds is None:
         print_stands(asked, figures)
 
 
