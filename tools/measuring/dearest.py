@@ -4,7 +4,7 @@ from pathlib import Path
 from typing import Iterator, List, Optional, Sequence, Tuple
 
 from measuring.network import PERIOD, Numbers, activity_rows, text_of
-from measuring.regions import run_limited
+from measuring.limited import run_limited
 from tests.limits import MOST_ACTIVITIES, MOST_EVENTS
 from tests.rules import Row
 

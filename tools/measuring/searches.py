@@ -5,7 +5,7 @@ from pathlib import Path
 from typing import List, Optional, Sequence, Tuple
 
 from measuring.keeper import Network
-from measuring.regions import run_limited, shown
+from measuring.limited import run_limited, shown
 
 EVENTS = [8, 10, 12, 14, 16, 20, 24, 30]
 SEEDS = [1, 2]
@@ -13,6 +13,7 @@ ACTIVITIES_OF_AN_EVENT = 2
 WIDTHS = (2, 4)
 # The least width of a span, and how much wider it may be.
 WIDE = (8, 20)
+SECONDS = 60
 MOST_NODES = 2**17
 COUNTED_NODES = 2_000
 
@@ -59,8 +60,7 @@ def seconds_of_optimum(program: Path, folder: Path, events: int, seed: int) -> s
     rows = events * ACTIVITIES_OF_AN_EVENT
     network = Network(program, folder, rows, events, lambda event: False, seed, WIDE)
     network.lines.write_text("optimum\n")
-    _, seconds, _ = run_limited([*map(str, network.words)], network.lines, network.memory)
-    return shown(seconds)
+    return shown(run_limited(network.words, network.lines, network.memory, SECONDS).seconds, SECONDS)
 
 
 def print_wide(programs: Sequence[Path], folder: Path) -> None:

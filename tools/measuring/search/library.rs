@@ -6,6 +6,10 @@ use std::ops::{Deref, DerefMut};
 #[derive(Clone, Copy)]
 pub struct Global;
 
+/// What is told where there is no memory: never.
+#[derive(Clone, Copy, Debug, PartialEq, Eq)]
+pub struct AllocError;
+
 /// What may be let go: here each type.
 pub trait Drop: Sized {}
 
@@ -14,7 +18,7 @@ impl<T> Drop for T {}
 #[derive(Debug, PartialEq, Eq, PartialOrd, Ord)]
 pub struct Vec<T>(std::vec::Vec<T>);
 
-type Granted<T> = Result<T, ()>;
+type Granted<T> = Result<T, AllocError>;
 
 /// So many of one value.
 pub fn filled<T: Clone>(value: T, length: usize) -> Granted<Vec<T>> {
@@ -35,8 +39,30 @@ impl<T> Vec<T> {
         Ok(())
     }
 
+    pub fn reserve(&mut self, room: usize) -> Granted<()> {
+        self.0.reserve(room);
+        Ok(())
+    }
+
+    pub fn push_reserved(&mut self, value: T) {
+        self.0.push(value);
+    }
+
+    pub fn insert(&mut self, place: usize, value: T) -> Granted<()> {
+        self.0.insert(place, value);
+        Ok(())
+    }
+
+    pub fn remove(&mut self, place: usize) -> T {
+        self.0.remove(place)
+    }
+
     pub fn pop(&mut self) -> Option<T> {
         self.0.pop()
+    }
+
+    pub fn take_last(&mut self) -> T {
+        self.0.pop().unwrap()
     }
 
     pub fn clear(&mut self) {
@@ -132,4 +158,146 @@ impl<T: Ord> BinaryHeap<T> {
     pub fn pop(&mut self) -> Option<T> {
         self.0.pop()
     }
+}
+
+macro_rules! prove {
+    ($($fact:tt)*) => {};
+}
+
+pub(crate) use prove;
+
+pub mod btree_map {
+    pub use std::collections::btree_map::Iter;
+}
+
+pub mod btree_set {
+    pub use std::collections::btree_set::Iter;
+}
+
+/// An ordered map.
+pub struct BTreeMap<K, V>(std::collections::BTreeMap<K, V>);
+
+impl<K: Ord, V> BTreeMap<K, V> {
+    pub fn new(_: Global) -> BTreeMap<K, V> {
+        BTreeMap(std::collections::BTreeMap::new())
+    }
+
+    pub fn insert(&mut self, key: K, value: V) -> Granted<Option<V>> {
+        Ok(self.0.insert(key, value))
+    }
+}
+
+impl<K, V> Deref for BTreeMap<K, V> {
+    type Target = std::collections::BTreeMap<K, V>;
+
+    fn deref(&self) -> &Self::Target {
+        &self.0
+    }
+}
+
+impl<K, V> DerefMut for BTreeMap<K, V> {
+    fn deref_mut(&mut self) -> &mut Self::Target {
+        &mut self.0
+    }
+}
+
+/// An ordered set.
+pub struct BTreeSet<T>(std::collections::BTreeSet<T>);
+
+impl<T: Ord> BTreeSet<T> {
+    pub fn new(_: Global) -> BTreeSet<T> {
+        BTreeSet(std::collections::BTreeSet::new())
+    }
+
+    pub fn insert(&mut self, value: T) -> Granted<bool> {
+        Ok(self.0.insert(value))
+    }
+}
+
+impl<T> Deref for BTreeSet<T> {
+    type Target = std::collections::BTreeSet<T>;
+
+    fn deref(&self) -> &Self::Target {
+        &self.0
+    }
+}
+
+impl<T> DerefMut for BTreeSet<T> {
+    fn deref_mut(&mut self) -> &mut Self::Target {
+        &mut self.0
+    }
+}
+
+/// Values at slots, of which those that are let go are taken again, the last one first.
+pub struct Slab<T> {
+    entries: std::vec::Vec<Option<T>>,
+    vacant: std::vec::Vec<usize>,
+}
+
+impl<T> Slab<T> {
+    pub fn new(_: Global) -> Slab<T> {
+        Slab { entries: std::vec::Vec::new(), vacant: std::vec::Vec::new() }
+    }
+
+    pub fn reserve(&mut self, _: usize) -> Granted<()> {
+        Ok(())
+    }
+
+    pub fn get(&self, key: usize) -> Option<&T> {
+        self.entries.get(key)?.as_ref()
+    }
+
+    pub fn vacant_key(&self) -> usize {
+        self.vacant.last().copied().unwrap_or(self.entries.len())
+    }
+
+    pub fn insert_reserved(&mut self, value: T) -> usize {
+        match self.vacant.pop() {
+            Some(key) => {
+                self.entries[key] = Some(value);
+                key
+            }
+            None => {
+                self.entries.push(Some(value));
+                self.entries.len() - 1
+            }
+        }
+    }
+
+    pub fn remove(&mut self, key: usize) -> T {
+        self.vacant.push(key);
+        self.entries[key].take().unwrap()
+    }
+}
+
+impl<T> std::ops::Index<usize> for Slab<T> {
+    type Output = T;
+
+    fn index(&self, key: usize) -> &T {
+        self.entries[key].as_ref().unwrap()
+    }
+}
+
+impl<T> std::ops::IndexMut<usize> for Slab<T> {
+    fn index_mut(&mut self, key: usize) -> &mut T {
+        self.entries[key].as_mut().unwrap()
+    }
+}
+
+/// Seconds and parts of 10^9 of them, as the system's clocks tell.
+#[repr(C)]
+struct Clock {
+    seconds: i64,
+    parts: i64,
+}
+
+unsafe extern "C" {
+    fn clock_gettime(clock: i32, told: *mut Clock) -> i32;
+}
+
+/// What this process has had of processors.
+pub fn seconds() -> f64 {
+    let mut told = Clock { seconds: 0, parts: 0 };
+    unsafe { clock_gettime(2, &mut told) };
+    told.seconds as f64 + told.parts as f64 / 1e9
 }

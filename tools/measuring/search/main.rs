@@ -4,7 +4,7 @@
 
 #![allow(dead_code, unused_labels)]
 
-use library::Global;
+use library::{Global, seconds};
 use pesp_base::{Period, Span, Weight};
 use pesp_search_cycles::ByCycles;
 use pesp_search_graph::Arc;
@@ -13,24 +13,6 @@ use pesp_search_network::Network;
 
 /// The numbers of a row of the file.
 type Row = Vec<i64>;
-
-/// Seconds and parts of 10^9 of them, as the system's clocks tell.
-#[repr(C)]
-struct Clock {
-    seconds: i64,
-    parts: i64,
-}
-
-unsafe extern "C" {
-    fn clock_gettime(clock: i32, told: *mut Clock) -> i32;
-}
-
-/// What this process has had of processors.
-fn seconds() -> f64 {
-    let mut told = Clock { seconds: 0, parts: 0 };
-    unsafe { clock_gettime(2, &mut told) };
-    told.seconds as f64 + told.parts as f64 / 1e9
-}
 
 fn rows_of(text: &str) -> Option<Vec<Row>> {
     let rows = text.lines().filter(|line| !line.trim().is_empty() && !line.starts_with('#'));
