@@ -15,18 +15,19 @@ export const findMends = (probe, members, shape, nodes, until) => {
   return found.sort((one, other) => RANKS[one.whole] - RANKS[other.whole] || byMinutes(one, other));
 };
 
-// The least widening of a member, later where earlier takes as many minutes; null where none is seen to mend.
+// The least widening of a member, later where earlier takes as many minutes; null where none is seen to mend. The least minutes of
+// an activity stay, but where the probe says that mends may lower them.
 const mendOf = (probe, members, member, shape, nodes) => {
   const { period } = probe.network;
   let best = null;
-  for (const isLater of [true, false]) {
+  for (const isLater of probe.canLower || member.of === 'event' ? [true, false] : [true]) {
     const most = best ? best.minutes - 1 : mostCount(member, period);
     const holds = count => {
       const changed = members.map(each => each === member ? { ...member, bounds: widened(member, count, isLater, period) } : each);
       return bySearch(probe, changed, nodes) === 'possible';
     };
     const minutes = leastNumber(Math.min(most, roomOf(member, isLater)), holds, guessOf(member, shape, isLater));
-    if (minutes !== null) best = { member, minutes, after: widened(member, minutes, isLater, period) };
+    if (minutes !== null) best = { member, minutes, isLess: !isLater && member.of === 'activity', after: widened(member, minutes, isLater, period) };
   }
   return best;
 };
