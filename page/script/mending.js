@@ -34,7 +34,10 @@ const mendOf = (probe, members, member, shape, nodes) => {
 
 const mostCount = ({ of, bounds }, period) => of === 'event' ? period - bounds.length : period - 1 - (bounds.upper - bounds.lower);
 
-const roomOf = ({ of, bounds }, isLater) => of === 'event' ? Infinity : isLater ? GREATEST_BOUND - bounds.upper : GREATEST_BOUND + bounds.lower;
+const roomOf = ({ of, bounds }, isLater) => of === 'event' ? Infinity : isLater ? GREATEST_BOUND - bounds.upper : loweredBy(bounds);
+
+// By how many minutes the least ones can be lowered; those that are not below 0 stay so.
+const loweredBy = ({ lower }) => lower >= 0 ? lower : GREATEST_BOUND + lower;
 
 // The minutes by which a circle or a way misses what it has to take; 1 where it is neither.
 const guessOf = ({ of, number }, shape, isLater) => {

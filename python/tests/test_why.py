@@ -122,7 +122,10 @@ class Small(Case):
         self.assertFalse(mend.is_less and not lower)
         self.assertIsInstance(self.decided(with_members(network, {**conflict.members, mend.member: mend.after})), Optimum)
         for is_later in (True, False) if lower or mend.member.of is Of.EVENT else (True,):
-            less = {**conflict.members, mend.member: mend.before.widened(mend.minutes - 1, is_later)}
+            count = mend.minutes - 1
+            if not is_later and isinstance(mend.before, Span) and mend.before.lower >= 0:
+                count = min(count, mend.before.lower)
+            less = {**conflict.members, mend.member: mend.before.widened(count, is_later)}
             self.assertIsInstance(self.decided(with_members(network, less)), Infeasible)
         every = {member: bounds_in(network, member) for member in all_members(network)}
         found = self.decided(with_members(network, {**every, mend.member: mend.after}))
@@ -170,6 +173,8 @@ class Told(Case):
         self.assertIn("8 minutes more  activity 1 from event 1 to event 2  5 to 13 minutes in place of 5\n", kept)
         self.assertIn("2 minutes less  activity 1 from event 1 to event 2  3 to 5 minutes in place of 5\n", lowered)
         self.assertEqual([kept.count(" less  "), lowered.count(" more  ")], [0, 0])
+        both = self.told(["add event 1", "add event 2", "add activity 1 1 2 1 1 0", "add activity 2 2 1 4 5 0"], 10, lower=True)
+        self.assertIn("4 minutes more  activity 1 from event 1 to event 2  1 to 5 minutes in place of 1\n", both)
 
     def test_way(self) -> None:
         commands = ["add event 1", "add event 2", "add activity 1 1 2 3 4 0", "fix 1 9", "window 2 5 2"]

@@ -53,7 +53,7 @@ class Mending:
         """The least number of minutes, up to a most, that mends; None where the most does not."""
         bounds = self.kept[member]
         if isinstance(bounds, Span):
-            most = min(most, GREATEST_BOUND - bounds.upper if is_later else GREATEST_BOUND + bounds.lower)
+            most = min(most, GREATEST_BOUND - bounds.upper if is_later else lowered_by(bounds.lower))
 
         def is_mended(count: int) -> bool:
             changed: Kept = {**self.kept, member: bounds.widened(count, is_later)}
@@ -71,6 +71,11 @@ class Mending:
         if isinstance(self.kept[member], Held):
             is_longer = is_later == (member.number == self.shape.steps[0].start)
         return above - self.shape.most if is_longer else self.shape.least - below
+
+
+def lowered_by(lower: int) -> int:
+    """By how many minutes the least ones can be lowered; those that are not below 0 stay so."""
+    return lower if lower >= 0 else GREATEST_BOUND + lower
 
 
 def least_number(most: int, holds: Callable[[int], bool], guess: int) -> Optional[int]:
