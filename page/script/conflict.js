@@ -9,9 +9,9 @@ import { shapeOf } from './shapes.js';
 const FIRST_NODES = 500, MORE = 4;
 
 // The answer of a network: `possible`, `undecided` or `conflict`. Of the members in `kept`, by their keys, the conflict has
-// no more than has to be, and no mend changes one.
-export const findWhy = (network, { nodes = 2000, seconds = 10, kept = new Set() } = {}) => {
-  const probe = { ...probeOf(network), kept }, until = performance.now() + 1000 * seconds;
+// no more than has to be, and no mend changes one; no mend lowers the least minutes of an activity but where it `canLower` them.
+export const findWhy = (network, { nodes = 2000, seconds = 10, kept = new Set(), canLower = false } = {}) => {
+  const probe = { ...probeOf(network), kept, canLower }, until = performance.now() + 1000 * seconds;
   if (isSeenByDomains(probe, until)) return conflictOf(probe, leastOf(probe, members => byDomains(probe, members)), nodes, seconds);
   for (let count = FIRST_NODES; ; count *= MORE) {
     const verdict = bySearch(probe, probe.members, count);

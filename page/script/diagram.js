@@ -36,8 +36,8 @@ const drawnOf = (view, line, chosen, waiting) => {
     page.append(...ends(view, frame, line, train));
   }
   const { ways: broken, labels, told } = conflictMarks(view, frame, 'on the line', [...page.querySelectorAll('text.end')]);
-  clip.append(...broken, ...(chosen === null ? [] : chosenMark(view, frame, chosen)), ...reaches);
-  page.append(...labels);
+  clip.append(...broken, ...reaches);
+  page.append(...(chosen === null ? [] : chosenMark(view, frame, chosen)), ...labels);
   return { drawn: page, left: told };
 };
 

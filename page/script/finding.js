@@ -1,10 +1,11 @@
 // Stations, lines, trains and events by what is typed of their names: all words have to stand there, in any order, without accents.
 
-import { find, findAll, say } from './elements.js';
+import { find, say } from './elements.js';
 import { showBar, showRow } from './events.js';
 import { isField } from './fields.js';
 import { fillFinder } from './finder.js';
 import { eventName, labelOf, trainName } from './names.js';
+import { lookAt } from './netgraph.js';
 import { shown } from './shown.js';
 import { showTab } from './tabs.js';
 
@@ -63,10 +64,7 @@ const showLine = name => {
 // On the netgraph too, which may be larger than its view.
 const showStation = station => {
   showRow(firstAt(station));
-  const drawn = findAll('#netgraph [data-station]').find(each => each.dataset.station === station);
-  if (!drawn) return;
-  const panel = find('view-netgraph'), [at, of] = [drawn, panel].map(each => each.getBoundingClientRect());
-  panel.scrollBy(at.left - of.left - of.width / 2, at.top - of.top - of.height / 2);
+  lookAt(station);
 };
 
 const SHOW = { event: event => showRow(event), station: showStation, line: showLine, train: event => showBar(event) };

@@ -6,6 +6,8 @@ import { drawing, elided } from './elements.js';
 import { heightOf, waysOf } from './frames.js';
 
 const MOST_BROKEN = 200, LETTER = 7.4, ROW = 13, TRIES = [0, -1, 1, -2, 2, -3, 3];
+// What is red of a train is seen above its way, and what takes hold of the train there is hit.
+const UNDER = { 'pointer-events': 'none' };
 
 export const marked = (nodes, attributes) => {
   for (const node of nodes) for (const [name, value] of Object.entries(attributes)) node.setAttribute(name, value);
@@ -65,9 +67,9 @@ const pointsOf = (view, frame, conflict) => {
 
 const brokenOf = (view, frame, where, boxes) => {
   const all = conflictsOf(view).all.map(conflict => ({ conflict, points: pointsOf(view, frame, conflict) })).filter(({ points }) => points);
-  const found = all.slice(0, MOST_BROKEN);
-  const ways = found.flatMap(({ conflict, points }) =>
-    marked(waysOf(frame, points, 'var(--alarm)', 4), { class: 'broken', 'data-activity': conflict.number }));
+  const found = all.slice(0, MOST_BROKEN), steps = new Set(frame.line.trains.flatMap(train => train.steps));
+  const ways = found.flatMap(({ conflict: { number }, points }) =>
+    marked(waysOf(frame, points, 'var(--alarm)', 4), { class: 'broken', 'data-activity': number, ...steps.has(number) ? UNDER : {} }));
   const labels = found.map(({ conflict, points: [[start, from], [end, to]] }) => {
     const text = conflict.isRun ? conflict.short : conflict.text, middle = [(start + end) / 2, (from + to) / 2];
     const label = labelOf(frame, boxes, middle, text, { 'data-activity': conflict.number });
@@ -82,7 +84,7 @@ export const conflictMarks = (view, frame, where, texts) => {
   const boxes = texts.map(boxOf), { ways, labels, told } = brokenOf(view, frame, where, boxes);
   for (const event of [...frame.events].filter(each => isOutside(view, each))) {
     const time = view.times.get(event), y = heightOf(frame, event);
-    ways.push(drawing('circle', { class: 'outside', cx: frame.x(time), cy: y, r: 5, 'data-event': event }));
+    ways.push(drawing('circle', { class: 'outside', cx: frame.x(time), cy: y, r: 5, 'data-event': event, ...UNDER }));
     labels.push(labelOf(frame, boxes, [time, y], outsideText(view, event), { 'data-event': event }));
   }
   return { ways, labels, told };

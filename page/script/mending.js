@@ -15,25 +15,29 @@ export const findMends = (probe, members, shape, nodes, until) => {
   return found.sort((one, other) => RANKS[one.whole] - RANKS[other.whole] || byMinutes(one, other));
 };
 
-// The least widening of a member, later where earlier takes as many minutes; null where none is seen to mend.
+// The least widening of a member, later where earlier takes as many minutes; null where none is seen to mend. The least minutes of
+// an activity stay, but where the probe says that mends may lower them.
 const mendOf = (probe, members, member, shape, nodes) => {
   const { period } = probe.network;
   let best = null;
-  for (const isLater of [true, false]) {
+  for (const isLater of probe.canLower || member.of === 'event' ? [true, false] : [true]) {
     const most = best ? best.minutes - 1 : mostCount(member, period);
     const holds = count => {
       const changed = members.map(each => each === member ? { ...member, bounds: widened(member, count, isLater, period) } : each);
       return bySearch(probe, changed, nodes) === 'possible';
     };
     const minutes = leastNumber(Math.min(most, roomOf(member, isLater)), holds, guessOf(member, shape, isLater));
-    if (minutes !== null) best = { member, minutes, after: widened(member, minutes, isLater, period) };
+    if (minutes !== null) best = { member, minutes, isLess: !isLater && member.of === 'activity', after: widened(member, minutes, isLater, period) };
   }
   return best;
 };
 
 const mostCount = ({ of, bounds }, period) => of === 'event' ? period - bounds.length : period - 1 - (bounds.upper - bounds.lower);
 
-const roomOf = ({ of, bounds }, isLater) => of === 'event' ? Infinity : isLater ? GREATEST_BOUND - bounds.upper : GREATEST_BOUND + bounds.lower;
+const roomOf = ({ of, bounds }, isLater) => of === 'event' ? Infinity : isLater ? GREATEST_BOUND - bounds.upper : loweredBy(bounds);
+
+// By how many minutes the least ones can be lowered; those that are not below 0 stay so.
+const loweredBy = ({ lower }) => lower >= 0 ? lower : GREATEST_BOUND + lower;
 
 // The minutes by which a circle or a way misses what it has to take; 1 where it is neither.
 const guessOf = ({ of, number }, shape, isLater) => {

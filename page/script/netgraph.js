@@ -3,7 +3,7 @@
 
 import { drawAlarms, makeAlarm } from './alarms.js';
 import { isAlarming } from './conflicts.js';
-import { drawing, find, setText } from './elements.js';
+import { drawing, find, findAll, setText } from './elements.js';
 import { lengthsOf } from './frames.js';
 import { mostNumbers } from './lanes.js';
 import { labelOf, shortText } from './names.js';
@@ -195,11 +195,22 @@ const update = view => {
   if (!isTab('netgraph')) return;
   find('no-netgraph').hidden = view.lines.length > 0;
   if (!view.lines.length) return;
-  const isBeyond = graph && graph.told && !graph.places.has(labelOf(shown.chosen).station);
-  if (!graph || isBeyond) find('netgraph').replaceChildren(...draw(view));
+  const { station } = labelOf(shown.chosen), isNew = !graph || (graph.told && !graph.places.has(station));
+  if (isNew) find('netgraph').replaceChildren(...draw(view));
   setText(find('netgraph-elided'), graph.told);
   for (const [event, number] of numbers) drawNumber(view, event, number);
   drawAlarms(view, alarms);
+  if (isNew && isWider(find('view-netgraph'))) lookAt(station);
+};
+
+const isWider = panel => panel.scrollWidth > panel.clientWidth;
+
+// Brings a station to the middle of the view, than which the netgraph may be larger.
+export const lookAt = station => {
+  const drawn = findAll('#netgraph [data-station]').find(each => each.dataset.station === station);
+  if (!drawn) return;
+  const panel = find('view-netgraph'), [at, of] = [drawn, panel].map(each => each.getBoundingClientRect());
+  panel.scrollBy(at.left - of.left - of.width / 2, at.top - of.top - of.height / 2);
 };
 
 // The netgraph for paper, with no event chosen, and what it says of what is left out; the one on the screen stays.

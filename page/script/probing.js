@@ -43,7 +43,7 @@ const baseOf = ({ network, preferred }, members) => {
   const windows = new Map(kept.filter(({ of, number }) => of === 'event' && degrees.has(number)).map(({ number, bounds }) => [number, bounds]));
   for (const part of partsOf(degrees.keys(), rows)) {
     if (part.some(event => windows.has(event))) continue;
-    const most = part.reduce((best, event) => degrees.get(event) > degrees.get(best) ? event : best);
+    const [most] = part.sort((one, other) => degrees.get(other) - degrees.get(one) || one - other);
     windows.set(part.includes(preferred) ? preferred : most, { first: 0, length: 1 });
   }
   return {

@@ -84,7 +84,7 @@ const changeOf = ({ member, after }, period) => {
 };
 
 const mendRow = (mend, network) => element('tr', {},
-  element('td', {}, element('button', { class: 'mend', onclick: () => doStep([lineOf(mend)]) }, `${minutesText(mend.minutes)} more`)),
+  element('td', {}, element('button', { class: 'mend', onclick: () => doStep([lineOf(mend)]) }, `${minutesText(mend.minutes)} ${mend.isLess ? 'less' : 'more'}`)),
   element('td', {}, nameOf(mend.member, network)),
   element('td', {}, changeOf(mend, network.period)));
 
@@ -120,7 +120,8 @@ export const tellingPanel = { update };
 
 const ask = () => {
   showTab('why');
-  askFor({ kind: 'why', members: keptMembers() }, { tell: ({ why }) => showWhy(why), end: () => lead(document.querySelector('#reasons .mend')) });
+  const asked = { kind: 'why', members: keptMembers(), canLower: find('can-lower').checked };
+  askFor(asked, { tell: ({ why }) => showWhy(why), end: () => lead(document.querySelector('#reasons .mend')) });
 };
 
 export const startTelling = () => {

@@ -81,8 +81,8 @@ const diagramOf = (view, line) => {
   clip.append(...trains.flatMap(({ train, stops }) => bandsOf(frame, train, stops, free)));
   const drawn = trains.map((each, count) => drawTrain(frame, each, count)), names = drawn.flatMap(each => [...each.querySelectorAll('text.end')]);
   const { ways, labels, told } = conflictMarks(view, frame, 'in the corridor', names);
-  clip.append(...ways, ...drawn, ...trains.flatMap(({ stops }) => chosenMark(view, frame, stops)));
-  page.append(...labels);
+  clip.append(...drawn, ...ways);
+  page.append(...trains.flatMap(({ stops }) => chosenMark(view, frame, stops)), ...labels);
   return { drawn: page, left: told };
 };
 

@@ -75,7 +75,7 @@ const search = async (asked, tell, isLeft) => {
 
 const why = (asked, tell) => {
   const network = readNetwork(sessionOf(asked).ask('dump'));
-  tell({ why: findWhy(network, { kept: new Set(asked.members) }), isDone: true });
+  tell({ why: findWhy(network, { kept: new Set(asked.members), canLower: asked.canLower }), isDone: true });
 };
 
 // What a base makes, as another one that has no lines to play.

@@ -77,8 +77,8 @@ def span_text(lower: int, upper: int) -> str:
 
 
 def is_of_hours(period: int) -> bool:
-    """Whether minutes of a period are told with their hour, as those of a day are."""
-    return period > 60 and period % 60 == 0
+    """Whether minutes of a period are told with their hour, as the page tells them too."""
+    return period > 60
 
 
 def clock(minute: int, period: int) -> str:

@@ -67,7 +67,7 @@ class Day(Case):
 
     def test_words(self) -> None:
         told = [clock(7, 60), clock(7, 10), clock(75, 90), clock(75, 120), clock(0, DAY)]
-        self.assertEqual(told, [":07", ":07", ":75", "1:15", "0:00"])
+        self.assertEqual(told, [":07", ":07", "1:15", "1:15", "0:00"])
         self.assertEqual(window_text(1_430, 20, DAY), "from 23:50 to 0:09")
 
 

@@ -86,14 +86,14 @@ class Small(Case):
             with self.subTest(seed=seed), bench.trial():
                 bench.many(network.script())
                 script = bench.dump()
-                answer = why(bench)
+                answer = why(bench, lower=seed % 2 == 1)
                 self.assertEqual(bench.dump(), script)
                 assert not isinstance(answer, Undecided)
                 told[type(answer)] += 1
                 if isinstance(answer, Possible):
                     self.check_times(network, answer.times)
                 else:
-                    self.check_conflict(network, answer)
+                    self.check_conflict(network, answer, seed % 2 == 1)
         self.assertGreater(min(told.values()), NETWORKS // 5)
 
     def check_times(self, network: Network, times: dict[int, int]) -> None:
@@ -103,7 +103,7 @@ class Small(Case):
         for activity in network.activities.values():
             self.assertLessEqual(activity.slack(network.period, times), activity.upper - activity.lower)
 
-    def check_conflict(self, network: Network, conflict: Conflict) -> None:
+    def check_conflict(self, network: Network, conflict: Conflict, lower: bool) -> None:
         """The program says that the set is infeasible, and that there is a timetable without any one member."""
         for member, bounds in conflict.members.items():
             self.assertEqual(bounds, bounds_in(network, member))
@@ -112,16 +112,20 @@ class Small(Case):
         for member in conflict.members:
             self.assertIsInstance(self.decided(with_members(network, without(conflict.members, member))), Optimum)
         for mend in conflict.mends:
-            self.check_mend(network, conflict, mend)
+            self.check_mend(network, conflict, mend, lower)
         self.assertEqual({mend.member for mend in conflict.mends}, set(conflict.members))
         if isinstance(conflict.shape, Circle):
             self.assertFalse(any(each % network.period == 0 for each in range(conflict.shape.least, conflict.shape.most + 1)))
 
-    def check_mend(self, network: Network, conflict: Conflict, mend: Mend) -> None:
-        """A mend mends, one with a minute less does not, and what is said of the whole network is so."""
+    def check_mend(self, network: Network, conflict: Conflict, mend: Mend, lower: bool) -> None:
+        """A mend mends, one with a minute less does not, what is said of the whole network is so, and least minutes stay."""
+        self.assertFalse(mend.is_less and not lower)
         self.assertIsInstance(self.decided(with_members(network, {**conflict.members, mend.member: mend.after})), Optimum)
-        for is_later in (True, False):
-            less = {**conflict.members, mend.member: mend.before.widened(mend.minutes - 1, is_later)}
+        for is_later in (True, False) if lower or mend.member.of is Of.EVENT else (True,):
+            count = mend.minutes - 1
+            if not is_later and isinstance(mend.before, Span) and mend.before.lower >= 0:
+                count = min(count, mend.before.lower)
+            less = {**conflict.members, mend.member: mend.before.widened(count, is_later)}
             self.assertIsInstance(self.decided(with_members(network, less)), Infeasible)
         every = {member: bounds_in(network, member) for member in all_members(network)}
         found = self.decided(with_members(network, {**every, mend.member: mend.after}))
@@ -147,11 +151,13 @@ def all_members(network: Network) -> list[Member]:
 class Told(Case):
     """Answers in words."""
 
-    def told(self, commands: list[str], period: int, hard: tuple[str, ...] = (), kinds: dict[int, str] | None = None) -> str:
+    def told(
+        self, commands: list[str], period: int, hard: tuple[str, ...] = (), kinds: dict[int, str] | None = None, lower: bool = False
+    ) -> str:
         """What is told of a network with few labels."""
         with Bench.from_script("\n".join(commands), period=period, **self.how) as bench:
             bench.labels.activities.update(kinds or {})
-            return text_of(why(bench, hard), Names(bench.labels, bench.network.activities))
+            return text_of(why(bench, hard, lower=lower), Names(bench.labels, bench.network.activities))
 
     def test_circle(self) -> None:
         commands = ["add event 1", "add event 2", "add activity 1 1 2 3 3 0", "add activity 2 2 1 4 6 0"]
@@ -159,6 +165,16 @@ class Told(Case):
         self.assertIn("they take 7 to 9 minutes, and have to take 0 or 10: a whole number of periods", text)
         self.assertIn("1 minute more  activity 1 from event 1 to event 2  3 to 4 minutes in place of 3\n", text)
         self.assertIn("1 minute more  activity 2 from event 2 to event 1  4 to 7 minutes in place of 4 to 6\n", text)
+
+    def test_lowered(self) -> None:
+        """Least minutes are lowered where that is asked for, and then it is told as less."""
+        commands = ["add event 1", "add event 2", "add activity 1 1 2 5 5 0", "add activity 2 2 1 7 7 0"]
+        kept, lowered = self.told(commands, 10), self.told(commands, 10, lower=True)
+        self.assertIn("8 minutes more  activity 1 from event 1 to event 2  5 to 13 minutes in place of 5\n", kept)
+        self.assertIn("2 minutes less  activity 1 from event 1 to event 2  3 to 5 minutes in place of 5\n", lowered)
+        self.assertEqual([kept.count(" less  "), lowered.count(" more  ")], [0, 0])
+        both = self.told(["add event 1", "add event 2", "add activity 1 1 2 1 1 0", "add activity 2 2 1 4 5 0"], 10, lower=True)
+        self.assertIn("4 minutes more  activity 1 from event 1 to event 2  1 to 5 minutes in place of 1\n", both)
 
     def test_way(self) -> None:
         commands = ["add event 1", "add event 2", "add activity 1 1 2 3 4 0", "fix 1 9", "window 2 5 2"]

@@ -20,6 +20,7 @@ LISTED = [
     "✕ M to Cranley arrives at Cranley — is at :32, held at :30",
 ]
 ITEMS = "[...document.querySelectorAll('#view-violated .violated')].map(each => each.textContent)"
+RUN_BROKEN = "document.querySelector('#corridor path.broken[data-activity=\"1\"]')"
 TEXTS = "[...document.querySelectorAll('SELECTOR')].map(each => each.firstChild ? each.firstChild.data : '').filter(Boolean)"
 
 
@@ -78,6 +79,8 @@ def in_views(suite: Suite, page: Hands) -> None:
     suite.note("its ways", {"they": [1, 2, 4, 6]}, {"they": ways})
     suite.note("their colors", {"they": {RED}}, {"they": colors(page, "#diagram path.broken", "stroke")})
     suite.note("its texts", {"they": {RED}}, {"they": colors(page, "#diagram text.broken", "fill")})
+    rings = page.ask("['#diagram > svg > .mark', '#diagram svg svg .mark'].map(each => document.querySelectorAll(each).length)")
+    suite.note("the chosen event's ring is not cut at the edge", {"rings": [1, 0]}, {"rings": rings})
     # A headway the other way round is drawn between its trains, and not over the rest of the period.
     for time, had, minutes in [(10, 58, 2), (12, 0, 0)]:
         page.ask(f"Page.step(['time 5 {time}', 'time 6 {time + 15}'])")
@@ -89,6 +92,9 @@ def in_views(suite: Suite, page: Hands) -> None:
     page.frame()
     suite.note("the corridor", {"told": wanted}, {"told": sorted(texts(page, "#corridor text.broken"))})
     suite.note("its ways", {"they": {RED}}, {"they": colors(page, "#corridor path.broken", "stroke")})
+    above = page.ask("[...document.querySelectorAll('#corridor path.broken')].every(each => !each.matches(':has(~ .train)'))")
+    hit = page.ask(f"document.elementFromPoint(...{SPOT.format(RUN_BROKEN)}).className.baseVal")
+    suite.note("they are seen above trains, of which one is still taken hold of", {"above": True, "hit": "reach"}, {"above": above, "hit": hit})
     page.ask("Page.chooseCorridor([])")
     page.press("tab-netgraph")
     wanted = [f"✕ {DWELL} dwell +2", f"✕ {RUN}"]

@@ -1,7 +1,7 @@
 """A station, a line or an event is found by what is typed of its name."""
 
 import time
-from typing import Any, Callable, Dict
+from typing import Any, Callable, Dict, Tuple
 
 from page_tests import large
 from page_tests.corridor import TRAINS, texts_of
@@ -119,6 +119,19 @@ def found_names(suite: Suite, page: Hands) -> None:
     page.key("Escape", 27)
 
 
+def met(page: Hands) -> Tuple[Dict[str, str], Dict[str, str]]:
+    """The station of the chosen event, and what is seen where it is on the netgraph."""
+    station = page.ask("Page.labelOf(Page.chosen).station")
+    x, y = page.ask(
+        f"""(() => {{
+        const {{ left, top, width, height }} = document.querySelector('#netgraph [data-station="{station}"] .ring').getBoundingClientRect();
+        return [left + width / 2, top + height / 2];
+    }})()"""
+    )
+    seen = page.ask(f"document.elementFromPoint({x}, {y})?.closest('[data-station]')?.dataset.station")
+    return {"station": station}, {"station": seen}
+
+
 @within(120)
 def found_soon(suite: Suite, page: Hands) -> None:
     """Among 2,048 events each letter is answered soon, and a long list says how many more there are."""
@@ -134,16 +147,9 @@ def found_soon(suite: Suite, page: Hands) -> None:
     suite.holds(told, told.startswith("and ") and told.endswith(" more: type more"))
     page.key("Escape", 27)
     page.press("tab-netgraph")
+    suite.note("the netgraph is larger than its view, and begins where the chosen event is", *met(page))
     page.fill(FIELD, names[-1].split(" station")[0] + "\n")
-    station = page.ask("Page.labelOf(Page.chosen).station")
-    x, y = page.ask(
-        f"""(() => {{
-        const {{ left, top, width, height }} = document.querySelector('#netgraph [data-station="{station}"] .ring').getBoundingClientRect();
-        return [left + width / 2, top + height / 2];
-    }})()"""
-    )
-    met = page.ask(f"document.elementFromPoint({x}, {y}).closest('[data-station]')?.dataset.station")
-    suite.note("on the netgraph, which is larger than its view", {"station": station}, {"station": met})
+    suite.note("and goes to what is found", *met(page))
     size = page.ask("(text => text.getBoundingClientRect().height)(document.querySelector('#netgraph text.place'))")
     suite.holds(f"where names are {size:.1f} points high", size >= 8)
     page.press("tab-diagram")

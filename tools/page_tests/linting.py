@@ -16,6 +16,8 @@ SCRIPTS = TOP / "page/script"
 MODULES = "/usr/share/nodejs"
 CHECKED = ["--noUnusedLocals", "--noUnusedParameters", "--noImplicitReturns", "--noImplicitThis", "--noFallthroughCasesInSwitch"]
 CHECKED += ["--strictBindCallApply", "--strictFunctionTypes"]
+# The modules that lay out what others draw, and the most lines of all of them.
+LAYING_OUT, MOST_DRAWING = ("lanes", "places", "report", "spreading", "stretch", "ways"), 1_700
 # What is given to callers outside, in outside.js: `get name() ..`, `name: ..` and `name`.
 GIVEN = re.compile(r"window\.Page = Object\.freeze\(\{(.*)\}\);", re.S)
 MEMBER = re.compile(r"\bget (\w+)\(\)|(\w+): \w+,|(?<!: )\b(\w+),(?!\})")
@@ -63,6 +65,15 @@ def what_scripts_share(suite: Suite, page: Hands) -> None:
     suite.note("takes what is given outside", {"they": ["outside"]}, {"they": sorted(name for name, text in texts.items() if "window.Page" in text)})
 
 
+def drawn_once(suite: Suite, page: Hands) -> None:
+    """The modules that draw, those that lay out for them, and the package's own for a report, which asks them, have few lines together."""
+    found = scripts(SCRIPTS)
+    drawing = [name for name, script in found.items() if "drawing" in script.imports.get("elements", ()) and name != "outside"]
+    paths = [*(SCRIPTS / f"{name}.js" for name in sorted({*drawing, *LAYING_OUT})), *(TOP / "python/pespbench/report").glob("drawing.*")]
+    count = sum(len(path.read_text().splitlines()) for path in paths)
+    suite.holds(f"{len(drawing)} modules draw, and {len(paths)} files have {count} lines", len(drawing) > 8 and count <= MOST_DRAWING)
+
+
 @within(120)
 def tools_of_page(suite: Suite, page: Hands) -> None:
     """What makes the page passes a type checker, and that with its tests and the report a checker of names."""
@@ -75,4 +86,4 @@ def tools_of_page(suite: Suite, page: Hands) -> None:
         print(f"  nothing was tried of types in tools: mypy is not installed for {sys.executable}")
 
 
-GROUPS = [types_of_scripts, lint_of_scripts, what_scripts_share, tools_of_page]
+GROUPS = [types_of_scripts, lint_of_scripts, what_scripts_share, drawn_once, tools_of_page]

@@ -42,6 +42,10 @@ PALE = """(() => {
 })()"""
 NAMELESS = """[...document.querySelectorAll('svg')].filter(each => !each.parentElement.closest('svg') && !each.closest('[aria-hidden=true]')
     && !(['img', 'group'].includes(each.getAttribute('role')) && each.getAttribute('aria-label'))).length"""
+TOUCHING = """(() => {
+    const seen = [...document.querySelectorAll('#axis span')].map(each => each.getBoundingClientRect()).filter(({ width }) => width);
+    return seen.slice(1).filter((each, place) => each.left < seen[place].right + 1).length;
+})()"""
 LONG = "Llanfairpwllgwyngyllgogerychwyrndrobwllllantysiliogogogoch"
 OLD = "Bad Neustadt an der Saale Hauptbahnhof (tief)"
 WIDE = [("Regionalexpress Oberland–Unterland", LONG, [(OLD, 0), (LONG, 10), (LONG, 12), ("B", 20)]), ("S", OLD, [(LONG, 3), (OLD, 13)])]
@@ -66,6 +70,7 @@ def sizes(suite: Suite, page: Hands) -> None:
             }).map(each => each.className || each.textContent)"""
             )
             suite.note(f"{width} by {scale}, {name}: beyond the screen", {"they": []}, {"they": beyond})
+            suite.note(f"{width} by {scale}, {name}: minutes above the strips that touch", {"they": 0}, {"they": page.ask(TOUCHING)})
             strip, small = page.box('.strip[data-event="1"]')[2], page.box('[data-row="1"] .name small')[2]
             suite.holds(f"{width} by {scale}, {name}: a strip of {strip:.0f} points, and what it is of", strip >= 110 and small > 20)
     page.resize(1440, 900)

@@ -192,6 +192,16 @@ def reasons(suite: Suite, page: Hands) -> None:
     wanted = "On this way from one held event to the other they take 3 to 5 minutes, and have to take 7 to 8."
     suite.holds(wanted, wanted in told)
     suite.holds("a window is widened by the least", "2 minutes more" in told and "from :06 to :08" in told)
+    page.show({"activities": "1; 1; 2; 5; 5; 0\n2; 2; 1; 7; 7; 0\n", "period": "10"})
+    for name, change in [("least minutes stay", "8 minutes more"), ("they are lowered where that is ticked", "2 minutes less")]:
+        page.press("ask-why")
+        page.until(DONE)
+        listed = page.ask("[...document.querySelectorAll('#view-why .mend')].map(each => each.textContent)")
+        suite.note(name, {"mends": [change] * 2}, {"mends": listed})
+        page.press("can-lower")
+    page.click(*page.middle("#view-why .mend"))
+    page.frame()
+    suite.note("and it is done", {"lines": ["span 1 3 5"]}, {"lines": page.lines()})
     page.ask("Page.showTab('diagram')")
 
 

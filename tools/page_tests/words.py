@@ -128,7 +128,7 @@ def hours(suite: Suite, page: Hands) -> None:
     page.press("ask-why")
     page.until("Page.find('stop').hidden")
     told = page.text("#reasons")
-    for words in ("they take 4:30 to 6:50 h, and have to take 0 or 24:00:", "4:30 h more", "-3:20 to 1:20 h in place of 1:10 to 1:20"):
+    for words in ("they take 4:30 to 6:50 h, and have to take 0 or 24:00:", "17:10 h more", "1:10 to 18:30 h in place of 1:10 to 1:20"):
         suite.holds(words, words in told)
     page.show(texts_of([("N", "C", [("A", 1380), ("B", 20), ("B", 30), ("C", 400)])], [], 1440))
     for tab in ("diagram", "corridor", "netgraph", "tables"):

@@ -5,7 +5,7 @@ from __future__ import annotations
 from dataclasses import dataclass
 from typing import Optional, Union
 
-from pespbench.why.members import Bounds, Member, Verdict
+from pespbench.why.members import Bounds, Member, Span, Verdict
 from pespbench.why.shapes import Shape
 
 
@@ -25,7 +25,7 @@ class Undecided:
 
 @dataclass(frozen=True)
 class Mend:
-    """The least widening of one member with which the conflict is none any more.
+    """The least widening of one member with which the conflict is none any more, by minutes more, or less where `is_less`.
 
     `whole` says whether the whole network has a timetable then, and is None where that was not asked.
     """
@@ -35,6 +35,11 @@ class Mend:
     after: Bounds
     minutes: int
     whole: Optional[Verdict] = None
+
+    @property
+    def is_less(self) -> bool:
+        """Whether it lowers the least minutes of an activity."""
+        return isinstance(self.before, Span) and isinstance(self.after, Span) and self.after.lower < self.before.lower
 
 
 @dataclass(frozen=True)

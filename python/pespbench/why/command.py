@@ -16,6 +16,7 @@ def add_parser(subparsers: argparse._SubParsersAction[argparse.ArgumentParser]) 
     parser = subparsers.add_parser("why", help="why no timetable meets everything, and what mends it")
     add_network(parser)
     parser.add_argument("--hard", metavar="KINDS", default="", help="kinds that are not to be changed, as run,dwell,headway")
+    parser.add_argument("--lower", action="store_true", help="let mends lower the least minutes of activities too")
     parser.add_argument("--nodes", type=whole, default=2_000, help="the nodes of each search of a part [default: 2000]")
     parser.add_argument("--seconds", type=some_seconds, default=10.0, help="about how long the whole is searched [default: 10]")
     parser.set_defaults(run=run)
@@ -32,6 +33,7 @@ def some_seconds(text: str) -> float:
 def run(words: argparse.Namespace) -> int:
     """Tells why, on standard output."""
     with open_network(words) as bench:
-        answer = why(bench, [kind for kind in map(str.strip, words.hard.split(",")) if kind], words.nodes, words.seconds)
+        hard = [kind for kind in map(str.strip, words.hard.split(",")) if kind]
+        answer = why(bench, hard, words.nodes, words.seconds, words.lower)
         tell(text_of(answer, Names(bench.labels, bench.network.activities)))
     return 0

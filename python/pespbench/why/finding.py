@@ -22,7 +22,7 @@ FIRST_NODES, MORE = 500, 4
 FIXED = "fixed"
 
 
-def why(bench: Bench, hard: Collection[str] = (), nodes: int = 2_000, seconds: float = 10.0) -> Why:
+def why(bench: Bench, hard: Collection[str] = (), nodes: int = 2_000, seconds: float = 10.0, lower: bool = False) -> Why:
     """A least set of activities, fixed times and windows of a network that cannot be met together.
 
     There is none where the working timetable meets everything, which is looked at first. The bench is not changed, for a
@@ -34,6 +34,7 @@ def why(bench: Bench, hard: Collection[str] = (), nodes: int = 2_000, seconds: f
             They may be in the conflict, which has as few others as can be, and no mend changes them.
         nodes: the nodes of each search of a part.
         seconds: about the longest that is looked whether the whole network has a timetable, and as long again for mends.
+        lower: whether a mend may lower the least minutes of an activity too; else all keep them.
 
     Raises:
         Ended: the program ended.
@@ -45,7 +46,7 @@ def why(bench: Bench, hard: Collection[str] = (), nodes: int = 2_000, seconds: f
     if (standing := bench.standing()).cost is not None:
         return Possible(dict(standing.times))
     with Bench.from_script(bench.dump(), period=bench.period, engine=bench.engine) as copy:
-        return Finding(Probe(copy), held, nodes, seconds).answer()
+        return Finding(Probe(copy), held, nodes, seconds, lower).answer()
 
 
 def hard_members(bench: Bench, kinds: Collection[str]) -> frozenset[Member]:
@@ -63,8 +64,8 @@ def hard_members(bench: Bench, kinds: Collection[str]) -> frozenset[Member]:
 class Finding:
     """The way to a conflict, over one probe."""
 
-    def __init__(self, probe: Probe, hard: frozenset[Member], nodes: int, seconds: float) -> None:
-        self.probe, self.hard, self.nodes, self.seconds = probe, hard, nodes, seconds
+    def __init__(self, probe: Probe, hard: frozenset[Member], nodes: int, seconds: float, lower: bool) -> None:
+        self.probe, self.hard, self.nodes, self.seconds, self.lower = probe, hard, nodes, seconds, lower
 
     def answer(self) -> Why:
         """A timetable, a conflict, or neither where none was found in time."""
@@ -118,7 +119,7 @@ class Finding:
         kept = {member: self.probe.members[member] for member in sorted(members, key=by_kind)}
         without = {member: self._without(members, member) for member in kept}
         shape = shape_of(kept, self.probe.activities, self.probe.period)
-        mending = Mending(self.probe, kept, shape, self.nodes)
+        mending = Mending(self.probe, kept, shape, self.nodes, self.lower)
         mends = mending.mends([member for member in kept if member not in self.hard], time.monotonic() + self.seconds)
         return Conflict(kept, self.hard & set(kept), self.nodes, without, shape, mends)
 

@@ -8,7 +8,7 @@ from typing import Callable, Optional
 
 from pespbench.commands import GREATEST_BOUND
 from pespbench.why.answers import Mend
-from pespbench.why.members import Bounds, Held, Kept, Member, Span, Verdict
+from pespbench.why.members import Bounds, Held, Kept, Member, Of, Span, Verdict
 from pespbench.why.probe import Probe
 from pespbench.why.shapes import Shape
 
@@ -16,10 +16,10 @@ RANKS = {Verdict.POSSIBLE: 0, None: 1, Verdict.UNDECIDED: 2, Verdict.INFEASIBLE:
 
 
 class Mending:
-    """The widenings of a conflict's members, tried on a probe by searches of so many nodes."""
+    """The widenings of a conflict's members, tried on a probe by searches of so many nodes; least minutes stay but for `lower`."""
 
-    def __init__(self, probe: Probe, kept: dict[Member, Bounds], shape: Optional[Shape], nodes: int) -> None:
-        self.probe, self.kept, self.shape, self.nodes = probe, kept, shape, nodes
+    def __init__(self, probe: Probe, kept: dict[Member, Bounds], shape: Optional[Shape], nodes: int, lower: bool) -> None:
+        self.probe, self.kept, self.shape, self.nodes, self.lower = probe, kept, shape, nodes, lower
 
     def mends(self, members: list[Member], until: float) -> list[Mend]:
         """The mends of some members, best first; whether each mends the whole network is asked until a time."""
@@ -31,7 +31,7 @@ class Mending:
     def mend(self, member: Member) -> Optional[Mend]:
         """The least widening of a member, later where earlier takes as many minutes; None where none is seen to mend."""
         best: Optional[Mend] = None
-        for is_later in (True, False):
+        for is_later in (True, False) if self.lower or member.of is Of.EVENT else (True,):
             count = self._least_count(member, is_later, best.minutes - 1 if best else self._most_count(member))
             if count is not None:
                 before = self.kept[member]
@@ -53,7 +53,7 @@ class Mending:
         """The least number of minutes, up to a most, that mends; None where the most does not."""
         bounds = self.kept[member]
         if isinstance(bounds, Span):
-            most = min(most, GREATEST_BOUND - bounds.upper if is_later else GREATEST_BOUND + bounds.lower)
+            most = min(most, GREATEST_BOUND - bounds.upper if is_later else lowered_by(bounds.lower))
 
         def is_mended(count: int) -> bool:
             changed: Kept = {**self.kept, member: bounds.widened(count, is_later)}
@@ -71,6 +71,11 @@ class Mending:
         if isinstance(self.kept[member], Held):
             is_longer = is_later == (member.number == self.shape.steps[0].start)
         return above - self.shape.most if is_longer else self.shape.least - below
+
+
+def lowered_by(lower: int) -> int:
+    """By how many minutes the least ones can be lowered; those that are not below 0 stay so."""
+    return lower if lower >= 0 else GREATEST_BOUND + lower
 
 
 def least_number(most: int, holds: Callable[[int], bool], guess: int) -> Optional[int]:

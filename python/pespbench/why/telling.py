@@ -111,4 +111,5 @@ def mends_text(conflict: Conflict, names: Names) -> str:
 def mend_line(mend: Mend, names: Names, width: int) -> str:
     """One mend in a line."""
     change = f"{bounds_text(mend.after)} in place of {bounds_text(mend.before).removesuffix(' minutes')}"
-    return f"  {minutes(mend.minutes):>10} more  {member_name(mend.member, names):<{width}}  {change}"
+    more = "less" if mend.is_less else "more"
+    return f"  {minutes(mend.minutes):>10} {more}  {member_name(mend.member, names):<{width}}  {change}"
