@@ -1,6 +1,7 @@
 //! Two searches for the same map of least cost, without cuts and with them, that take turns.
 
-ghost use Rattle.std.specs.Prelude.{◌≡◌, ForSome, IfOk, IfSome, IsNone};
+ghost use Rattle.std.specs.Prelude.{◌≡◌, IfOk, IfSome, IsNone};
+ghost use Rattle.std.specs.Option.{ForSome};
 ghost use Rattle.pesp_search_least.specs.Spending.{OnlySpends};
 ghost use Rattle.pesp_search_least.specs.Sums.{IsLowerBound, IsOutcome, IsStop, StopsWhereSpent};
 ghost use Rattle.pesp_search_network.specs.Arcs.{IsCosted};
@@ -27,8 +28,8 @@ pub(crate) struct LeastTurns {
     pub(crate) search: LeastSearch,
     // Of the same network, below the same cap.
     resting: Option<LeastSearch>,
-    ghost network: { ForSome resting (λ other. other.network ≡ search.network) },
-    ghost cap: { ForSome resting (λ other. other.cap ≡ search.cap) },
+    ghost same_network: { ForSome resting (λ other. other.network ≡ search.network) },
+    ghost same_cap: { ForSome resting (λ other. other.cap ≡ search.cap) },
 }
 
 impl LeastTurns {

@@ -9,10 +9,14 @@ ghost use Rattle.pesp_search_cycles.specs.Starts.{AreStarts, IsFound, IsInBoxes,
 use crate::boxes::Boxes;
 use crate::leaves::{leaves_of_part, whole};
 use crate::parts::{Part, Parts};
+use crate::phase::spent_of;
 use crate::{Cycles, Range};
 use pesp_base::Memory;
 use pesp_search_least::{Budget, Candidate};
 use std::alloc::Global;
+
+/// How many units the search of a part may take: where that is not enough, all parts are searched together.
+const UNITS_OF_PART: u64 = 20_000;
 
 /// How many boxes there are at most.
 const MOST_STARTS: usize = 64;
@@ -137,7 +141,10 @@ fn found_in(
         return Ok(None);
     }
     let cycles = site.cycles.over(alloc, &network)?;
-    let leaves = leaves_of_part(alloc, &cycles, site.residues, part, cost, budget)?;
+    let mut own = budget.part(UNITS_OF_PART);
+    let given = own.left;
+    let leaves = leaves_of_part(alloc, &cycles, site.residues, part, cost, &mut own)?;
+    budget.spend(spent_of(given, own.left));
     if leaves.least < cost {
         return Ok(None);
     }

@@ -6,5 +6,5 @@ use Rattle.pesp_search_cycles.proofs.method.ByCycles.stopped.Goals as goal
 
 pub within-requires : goal.within-requires
 within-requires c =
-    let same : c.args.network.now ≡ c.in_ok-search.search.network = search rules in
+    let same : c.args.network.now ≡ c.in_ok-search.search.search.network = search rules in
     subst (λ (A : Arcs). IsLowerBound (IsCosted A) c.args.limits.floor) same c.requires

@@ -13,6 +13,15 @@ returns-clause-budget c =
     ] in
     spends_on _ _ _ c.spend.ensures.spends (spends_on _ _ _ mid c.go_on.ensures.budget)
 
+pub returns-in_err-outcome-2-clause-budget : goal.returns-in_err-outcome-2-clause-budget
+returns-in_err-outcome-2-clause-budget c =
+    let mid : OnlySpends c.spend.new.self.left c.match-stopped.budget.left =
+    elim c.match-stopped.branch [
+      | in-Some-stopped w ↦ rw w.budget-is (spends_none c.spend.new.self.left)
+      | in-None+in_ok-search-in-None w ↦ rw w.budget-is w.in_ok-search-in-None.ensures.budget
+    ] in
+    spends_on _ _ _ c.spend.ensures.spends (spends_on _ _ _ mid c.go_on.ensures.budget)
+
 pub returns-clause-spends : goal.returns-clause-spends
 returns-clause-spends c = λ less some.
     let mid : OnlySpends c.spend.new.self.left c.match-stopped.budget.left =
