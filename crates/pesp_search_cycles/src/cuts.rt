@@ -36,7 +36,7 @@ const LEAST_WALKS: usize = 12;
 /// The last round is one that gains less than so many hundredths of what lies between the bound and a map.
 const LEAST_GAIN: u64 = 100;
 
-/// A round is in vain where all rounds that are left do not bring the bound to so many hundredths of the best map's cost.
+/// Rounds are in vain that do not bring the bound to so many hundredths of what the best map costs.
 const LEAST_BOUND: u64 = 66;
 
 /// Where the map costs less than a sixty-fourth more than the bound, no cuts are sought.
@@ -73,23 +73,23 @@ fn cuts_of(
     Ok(cuts)
 }
 
-/// What is known of the least cost at the first node.
+/// Where the least cost is, as far as is known.
 #[derive(Clone, Copy)]
-struct Known {
+struct Estimate {
     // No map costs less.
     bound: u64,
     // What is of use costs no more, or an eighth more than the bound where nothing is known.
     top: u64,
 }
 
-impl Known {
+impl Estimate {
     /// A bound, the cost of a map, if one is at hand, and the cap.
-    fn of(bound: u64, cost: Option<u64>, cap: u64) -> Known {
+    fn of(bound: u64, cost: Option<u64>, cap: u64) -> Estimate {
         let top = match cost {
             Some(cost) => cost.min(cap),
             None => cap.min(bound.saturating_add(bound / 8)),
         };
-        Known { bound, top }
+        Estimate { bound, top }
     }
 
     /// Whether more cuts are of use before the first ones.
@@ -101,7 +101,8 @@ impl Known {
     /// Whether more cuts are of use after a round that gained so much, where so many rounds are left.
     fn wants_more(self, gain: u64, rounds: u64) -> bool {
         let gap = self.top.saturating_sub(self.bound);
-        0 < gap && gap <= gain.saturating_mul(LEAST_GAIN) && self.is_near(gain.saturating_mul(rounds))
+        let gains = gain.saturating_mul(rounds);
+        0 < gap && gap <= gain.saturating_mul(LEAST_GAIN) && self.is_near(gains)
     }
 
     /// Whether the bound with so much more is near the cost of the best map.
@@ -214,7 +215,7 @@ struct Stage {
     // Of cuts that are tight, and new ones.
     flips: Vec<Flip>,
     // What is known by the cuts before; nothing before the first round.
-    known: Option<Known>,
+    known: Option<Estimate>,
     // Whether another one is of use.
     goes_on: bool,
     // So many rounds are left.
@@ -269,7 +270,7 @@ fn round(
         return Err(Memory);
     };
     let (bound, cost) = measured(alloc, &mut node, site.aim.cap, budget)?;
-    let known = Known::of(bound, cost, site.aim.cap);
+    let known = Estimate::of(bound, cost, site.aim.cap);
     let rounds = before.rounds.saturating_sub(1);
     let is_worth = match before.known {
         Some(last) => known.wants_more(bound.saturating_sub(last.bound), rounds),

@@ -25,6 +25,7 @@ const CUTS_SHARE: u64 = 2;
 /// A search for a map of least cost, and another one for the same that rests meanwhile.
 #[derive(Drop)]
 pub(crate) struct LeastTurns {
+    // Whose turn it is.
     pub(crate) search: LeastSearch,
     // Of the same network, below the same cap.
     resting: Option<LeastSearch>,
@@ -81,9 +82,12 @@ impl LeastTurns {
         alloc: Global,
         budget: &mut Budget,
     ) -> Result<(Outcome, Option<LeastTurns>), Memory>
-        ensures outcome { IfOk result (λ r. IsOutcome (IsCosted self.search.network) self.search.cap r.0) }
-        ensures network { IfOk result (λ r. IfSome r.1 (λ turns. turns.search.network ≡ self.search.network)) }
-        ensures cap { IfOk result (λ r. IfSome r.1 (λ turns. turns.search.cap ≡ self.search.cap)) }
+        ensures outcome { IfOk result (λ r. IsOutcome (IsCosted self.search.network)
+            self.search.cap r.0) }
+        ensures network { IfOk result (λ r. IfSome r.1 (λ turns.
+            turns.search.network ≡ self.search.network)) }
+        ensures cap { IfOk result (λ r. IfSome r.1 (λ turns.
+            turns.search.cap ≡ self.search.cap)) }
         ensures ends { IfOk result (λ r. IsNone r.1 → IsStop r.0 → ⊥) }
         ensures spent { IfOk result (λ r. StopsWhereSpent budget.new.left r.0) }
         ensures budget { OnlySpends budget.old.left budget.new.left }

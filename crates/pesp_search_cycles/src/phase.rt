@@ -5,6 +5,7 @@ use crate::graph::Basis;
 /// By which cycles a search goes, and whether by cuts, too.
 #[derive(Clone, Copy)]
 pub(crate) struct Phase {
+    // By which cycles.
     pub(crate) basis: Basis,
     // Not beside the cycles of a tree.
     pub(crate) with_cuts: bool,

@@ -18,6 +18,7 @@ const UNITS_BEFORE_CUTS: u64 = 10_000_000;
 /// far as a smaller one goes.
 #[derive(Clone, Copy)]
 pub(crate) struct Turn {
+    // What is searched in it.
     pub(crate) phase: Phase,
     // So many units it was given; none where it goes on to the end.
     pub(crate) given: Option<u64>,

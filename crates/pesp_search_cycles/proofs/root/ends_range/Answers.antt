@@ -1,8 +1,8 @@
 -- One end, and then the other.
-use Rattle.std.proofs.Common.{◌≡◌, ◌+ℤ◌, ◌-ℤ◌, ℤ, neg_ℤ, subst, ap, arith}
-use Rattle.std.proofs.lemmas.Int.{ints}
+use Rattle.std.proofs.Common.{neg_ℤ, subst, ap}
 use Rattle.pesp_search_cycles.specs.Ranges.{IsIn}
 use Rattle.pesp_search_cycles.specs.Walks.{Path, residue}
+use Rattle.pesp_search_cycles.proofs.Flipped.{plus_neg}
 use Rattle.pesp_search_cycles.proofs.root.ends_range.Goals as goal
 
 pub returns : goal.returns
@@ -14,8 +14,5 @@ returns c zs inside =
     let to : IsIn c.in_ok-to.to (residue arcs zs walk.to) =
     subst (λ v. IsIn c.in_ok-to.to (residue arcs zs v)) (ap (λ (p : Path). p.to) c.walk.view_is) (c.in_ok-to.ensures zs inside) in
     let back : IsIn c.in_ok-back.back (neg_ℤ (residue arcs zs walk.to)) = c.in_ok-back.ensures (residue arcs zs walk.to) to in
-    subst (λ z. IsIn c.in_ok-range.range z) (both (residue arcs zs walk.from) (residue arcs zs walk.to))
+    subst (λ z. IsIn c.in_ok-range.range z) (plus_neg (residue arcs zs walk.from) (residue arcs zs walk.to))
     (c.in_ok-range.ensures (residue arcs zs walk.from) (neg_ℤ (residue arcs zs walk.to)) from back)
-  where
-    both : (x y : ℤ) → x +ℤ neg_ℤ y ≡ x -ℤ y
-    both x y = omega (arith, ints)
