@@ -36,8 +36,8 @@ const LEAST_WALKS: usize = 12;
 /// The last round is one that gains less than so many hundredths of what lies between the bound and a map.
 const LEAST_GAIN: u64 = 100;
 
-/// Rounds are in vain that do not bring the bound to so many hundredths of what the best map costs.
-const LEAST_BOUND: u64 = 66;
+/// Cuts are in vain that do not take so many hundredths of what lies between the bound without them and the best map.
+const LEAST_SHARE: u64 = 60;
 
 /// Where the map costs less than a sixty-fourth more than the bound, no cuts are sought.
 const LEAST_GAP: u64 = 64;
@@ -80,16 +80,22 @@ struct Estimate {
     bound: u64,
     // What is of use costs no more, or an eighth more than the bound where nothing is known.
     top: u64,
+    // What was known without cuts to be no more than any cost.
+    floor: u64,
 }
 
 impl Estimate {
-    /// A bound, the cost of a map, if one is at hand, and the cap.
-    fn of(bound: u64, cost: Option<u64>, cap: u64) -> Estimate {
+    /// A bound, and the cost of a map, if one is at hand.
+    fn of(bound: u64, cost: Option<u64>, aim: Aim) -> Estimate {
         let top = match cost {
-            Some(cost) => cost.min(cap),
-            None => cap.min(bound.saturating_add(bound / 8)),
+            Some(cost) => cost.min(aim.cap),
+            None => aim.cap.min(bound.saturating_add(bound / 8)),
         };
-        Estimate { bound, top }
+        Estimate {
+            bound,
+            top,
+            floor: aim.floor,
+        }
     }
 
     /// Whether more cuts are of use before the first ones.
@@ -107,8 +113,9 @@ impl Estimate {
 
     /// Whether the bound with so much more is near the cost of the best map.
     fn is_near(self, more: u64) -> bool {
-        let bound = self.bound.saturating_add(more);
-        self.top.saturating_mul(LEAST_BOUND) <= bound.saturating_mul(100)
+        let gain = self.bound.saturating_add(more).saturating_sub(self.floor);
+        let gap = self.top.saturating_sub(self.floor);
+        gap.saturating_mul(LEAST_SHARE) <= gain.saturating_mul(100)
     }
 }
 
@@ -192,6 +199,8 @@ pub(crate) struct Aim {
     pub(crate) with_cuts: bool,
     // Maps that cost as much are of no use.
     pub(crate) cap: u64,
+    // No map costs less, as far as is known without cuts.
+    pub(crate) floor: u64,
 }
 
 /// Where cuts are sought: at the first node of a network.
@@ -270,7 +279,7 @@ fn round(
         return Err(Memory);
     };
     let (bound, cost) = measured(alloc, &mut node, site.aim.cap, budget)?;
-    let known = Estimate::of(bound, cost, site.aim.cap);
+    let known = Estimate::of(bound, cost, site.aim);
     let rounds = before.rounds.saturating_sub(1);
     let is_worth = match before.known {
         Some(last) => known.wants_more(bound.saturating_sub(last.bound), rounds),

@@ -80,6 +80,7 @@ impl FirstSearch {
         let aim = Aim {
             with_cuts: turn.phase.with_cuts && is_narrow(basis),
             cap: settling.best.cost,
+            floor: 0,
         };
         let cuts = cuts_beside(alloc, &network, &walks, aim, budget)?;
         let walks = Cycles::new(alloc, &network, walks, &cuts)?.into_walks();

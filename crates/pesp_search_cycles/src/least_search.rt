@@ -69,6 +69,7 @@ impl LeastSearch {
         let aim = Aim {
             with_cuts: phase.with_cuts,
             cap: progress.limit(),
+            floor: progress.limits.floor,
         };
         let cuts = cuts_beside(alloc, &network, &walks, aim, budget)?;
         let cycles = Cycles::new(alloc, &network, walks, &cuts)?;

@@ -13,14 +13,11 @@ use pesp_search_least::{Budget, Limits, Outcome};
 use pesp_search_network::Network;
 use std::alloc::Global;
 
-/// How many times as long each turn is as the last one where two searches take turns, so that each has half of all units,
+/// How many times as long each turn of a search is as its last one where two take turns,
 const LONGER: u64 = 2;
 
-/// and where cuts were sought in vain, until they are sought again;
+/// and where cuts were sought in vain, until they are sought again.
 const LONGER_ALONE: u64 = 8;
-
-/// and how many times as many units as the search had its cuts may take to be found.
-const CUTS_SHARE: u64 = 2;
 
 /// A search for a map of least cost, and another one for the same that rests meanwhile.
 #[derive(Drop)]
@@ -134,7 +131,7 @@ impl LeastTurns {
     }
 }
 
-/// Another search for the same with cuts.
+/// Another search for the same with cuts, which may take all of its first turn to be found.
 fn with_cuts(
     alloc: Global,
     search: &LeastSearch,
@@ -146,7 +143,7 @@ fn with_cuts(
 {
     let turn = search.turn().with_cuts();
     let mut part = match turn.given {
-        Some(units) => budget.part(units.saturating_mul(CUTS_SHARE)),
+        Some(units) => budget.part(units),
         None => Budget { left: budget.left },
     };
     let given = part.left;

@@ -69,9 +69,10 @@ impl Turn {
         Turn::of(Phase::plain(), Some(FIRST_UNITS))
     }
 
-    /// The same with cuts, for as many units, or to the end.
+    /// The same with cuts, for twice as many units, or to the end.
     pub(crate) fn with_cuts(self) -> Turn {
-        Turn::of(Phase::with_cuts(), self.given)
+        let turn = self.longer(2);
+        Turn::of(Phase::with_cuts(), turn.given)
     }
 
     /// The same to the end.
