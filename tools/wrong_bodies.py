@@ -4,6 +4,7 @@ The gate tries `must-fail/` itself. Those of `wrong-bodies/` are tried in its pl
 own `rt ci NAME`, which keeps on the machine what it has proved and tried.
 """
 
+import contextlib
 import pathlib
 import re
 import shutil
@@ -159,11 +160,11 @@ def refusals(top: pathlib.Path, lines: Sequence[str]) -> List[Refusal]:
         match = TOLD.fullmatch(line)
         if match:
             crate, name, told = match.groups()
-            found[crate, name] = Refusal(crate, name, *sorted_out(top / "crates" / crate, told))
+            found[crate, name] = Refusal(crate, name, *sorted_out(top / "crates" / crate, name, told))
     return list(found.values())
 
 
-def sorted_out(crate: pathlib.Path, told: str) -> Tuple[str, str]:
+def sorted_out(crate: pathlib.Path, name: str, told: str) -> Tuple[str, str]:
     """The kind of what is told of an edit of the crate, and the words that tell it."""
     if not is_refused(told):
         return THROUGH, told
@@ -178,14 +179,24 @@ def sorted_out(crate: pathlib.Path, told: str) -> Tuple[str, str]:
     proof = IN_A_PROOF.match(where)
     if not proof:
         return OTHER, where
-    answer = answer_of(crate / proof["path"], proof["goal"])
+    answer = answer_of(text_with(crate, name, proof["path"]), proof["goal"])
     fails = UNPROVED_STEP.search(proof["said"]) or TACTIC.match(answer)
     return (kind_of_goal(proof["goal"]) if fails else PROOF), where
 
 
-def answer_of(path: pathlib.Path, goal: str) -> str:
-    """What stands after the equation's sign in the answer to a goal, or nothing where there is none."""
-    text = path.read_text() if path.is_file() else ""
+def text_with(crate: pathlib.Path, name: str, path: str) -> str:
+    """The text of a file of the crate, with the edit where that changes it, or nothing where there is none."""
+    for edit in [crate / shelf / name for shelf in (FIRST, SECOND)]:
+        if edit.is_file():
+            with contextlib.suppress(Unread):
+                texts = applied(edit)
+                if crate / path in texts:
+                    return texts[crate / path]
+    return (crate / path).read_text() if (crate / path).is_file() else ""
+
+
+def answer_of(text: str, goal: str) -> str:
+    """What stands after the equation's sign in the answer to a goal of a proof, or nothing where there is none."""
     found = re.search(rf"^{re.escape(goal)}(?: [^=\n]*)? =\s*(.*)", text, flags=re.M)
     return found[1] if found else ""
 
