@@ -8,7 +8,7 @@ from typing import List, Sequence
 
 from tests.harness import TOP, Suite, run
 from tests.start_tree import SYSTEM
-from wrong_bodies import FIRST, KINDS, SECOND, Unread, applied, breaks_of, edits, refusals
+from wrong_bodies import FIRST, KINDS, PROOF, SECOND, UNSORTED, Unread, applied, breaks_of, edits, refusals
 
 # The gate tries each edit of the first shelf in each run, and a change at the bottom pays for all of them.
 MOST_ON_THE_FIRST = 240
@@ -141,10 +141,32 @@ def kinds(suite: Suite) -> None:
     found = refusals(top, ["rt: a line of the toolchain", *lines, f"low/0.edit: {REFUSALS[0][1]}"])
     suite.note("kinds of refusals", {"kinds": [kind for kind, _ in REFUSALS]}, {"kinds": [it.kind for it in found]})
     suite.holds("each kind has a refusal", set(KINDS) == {kind for kind, _ in REFUSALS})
+    shelf = top / "crates/low" / FIRST
+    shelf.mkdir()
+    (shelf / "by_hand.edit").write_text("file: proofs/f/Answers.antt\nold: g c = c.put.ensures\nnew: g c = search rules\n")
+    told = f"rt: must-fail low/by_hand.edit: {REFUSALS[5][1]}"
+    suite.note("the answer that an edit wrote", {"kinds": ["clause"]}, {"kinds": [it.kind for it in refusals(top, [told])]})
+
+
+def gate(suite: Suite) -> None:
+    """What ends the gate: a refusal at a proof, but in a crate that may have one."""
+    top = suite.folder / "gate"
+    (top / "tools").mkdir(parents=True)
+    for name in ["sort_refusals", "wrong_bodies.py"]:
+        shutil.copy(TOP / "tools" / name, top / "tools" / name)
+    told = dict(reversed(REFUSALS))
+    for crate, kinds_told in [("low", KINDS), *((crate, KINDS) for crate in sorted(UNSORTED)[:1]), ("low", ("clause", "through"))]:
+        lines = [f"rt: must-fail {crate}/{kind}.edit: {told[kind]}" for kind in kinds_told]
+        (top / "log").write_text("\n".join(["rt: a line of the toolchain", *lines, ""]))
+        come = run([sys.executable, top / "tools/sort_refusals", "--gate", top / "log"])
+        shown = [line.split(": ")[1] for line in come["standard output"].decode().splitlines()[:-1]]
+        fails = PROOF in kinds_told and crate not in UNSORTED
+        wanted = {"status": int(fails), "shown": [PROOF] if PROOF in kinds_told else []}
+        suite.note(f"tools/sort_refusals --gate: {len(kinds_told)} kinds of {crate}", wanted, {"status": come["status"], "shown": shown})
 
 
 def files_of(top: Path) -> List[str]:
     return sorted(str(path.relative_to(top)) for path in (top / "crates").rglob("*"))
 
 
-GROUPS = [shelves, second_shelf, kinds]
+GROUPS = [shelves, second_shelf, kinds, gate]
