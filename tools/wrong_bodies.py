@@ -142,6 +142,8 @@ NO_LOAN = re.compile(r"no `follows`|it has an `ensures\*`")
 IN_A_PROOF = re.compile(r"(?:note: )?(?:\./)?(?P<path>proofs/\S+\.antt):\d+:\d+: error: `(?P<goal>[^`]+)`: (?P<said>.*)")
 # What is said where a tactic was asked for a step that it does not prove, so that the text fits and the step fails.
 UNPROVED_STEP = re.compile(r"give the call less to do|`?(search|grind|omega|cc|simp)`?:")
+# The name of a goal, in an error in a proof or after what is not proved of the code.
+GOAL = re.compile(r"error: `([^`]+)`|\(`([^`]+)`\)")
 # An answer that is a tactic and nothing else.
 TACTIC = re.compile(r"(search|grind|omega|simp|cc)\b")
 
@@ -153,6 +155,11 @@ class Refusal(NamedTuple):
     name: str
     kind: str
     where: str
+
+    def goal(self) -> str:
+        """The goal that is not proved, as the prover names it, or nothing where the words do not tell it."""
+        found = GOAL.search(self.where)
+        return found[1] or found[2] if found else ""
 
     def shows_nothing(self) -> bool:
         """Whether it comes from a proof that no longer fits, in a crate where each tells of a clause or of a call."""
@@ -209,4 +216,4 @@ def answer_of(text: str, goal: str) -> str:
 
 def kind_of_goal(goal: str) -> str:
     """Whether a goal, as the prover names it, is of the body's own contract or of a call in it."""
-    return CLAUSE if re.match(r"returns|.*-(preserved|holds|smaller|starts)$", goal) else CALL
+    return CLAUSE if re.match(r"returns|invariant_of-|.*-(init|preserved|holds|smaller|starts)$", goal) else CALL

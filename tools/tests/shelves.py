@@ -121,6 +121,8 @@ REFUSALS = [
     ("clause", "refused, as it must be: note: src/lib.rt:3:1: it is not proved that what the function ensures holds when it returns"),
     ("clause", "refused, as it must be: ./proofs/f/Answers.antt:9:5: error: `returns`: `search`: no proof of `a ≡ b` was found"),
     ("clause", "refused, as it must be: ./proofs/f/Answers.antt:3:5: error: `returns-clause-ok`: the two types differ"),
+    ("clause", "refused, as it must be: ./proofs/f/Answers.antt:9:5: error: `invariant_of-self`: `omega`: the goal does not follow"),
+    ("call", "refused, as it must be: ./proofs/f/Answers.antt:9:5: error: `put-requires`: `search`: no proof of `a ≡ b` was found"),
     ("call", "refused, as it must be: note: src/lib.rt:3:1: it is not proved that what `put` requires holds at this call"),
     ("call", "refused, as it must be: note: src/lib.rt:3:1: it is not proved that the sum fits its type"),
     ("proof", "refused, as it must be: ./proofs/f/Answers.antt:6:5: error: `returns-by-hand`: the two types differ"),
@@ -144,7 +146,7 @@ def kinds(suite: Suite) -> None:
     shelf = top / "crates/low" / FIRST
     shelf.mkdir()
     (shelf / "by_hand.edit").write_text("file: proofs/f/Answers.antt\nold: g c = c.put.ensures\nnew: g c = search rules\n")
-    told = f"rt: must-fail low/by_hand.edit: {REFUSALS[5][1]}"
+    told = f"rt: must-fail low/by_hand.edit: {next(said for kind, said in REFUSALS if kind == PROOF)}"
     suite.note("the answer that an edit wrote", {"kinds": ["clause"]}, {"kinds": [it.kind for it in refusals(top, [told])]})
 
 
