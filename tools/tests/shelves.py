@@ -4,7 +4,7 @@ import re
 import shutil
 import sys
 from pathlib import Path
-from typing import List, Sequence
+from typing import List, Sequence, Tuple
 
 from tests.harness import TOP, Suite, run
 from tests.start_tree import SYSTEM
@@ -151,20 +151,25 @@ def kinds(suite: Suite) -> None:
 
 
 def gate(suite: Suite) -> None:
-    """What ends the gate: a refusal at a proof, but in a crate that may have one."""
+    """What ends the gate: a refusal at a proof, but where it is known that this may be."""
     top = suite.folder / "gate"
     (top / "tools").mkdir(parents=True)
     for name in ["sort_refusals", "wrong_bodies.py"]:
         shutil.copy(TOP / "tools" / name, top / "tools" / name)
     told = dict(reversed(REFUSALS))
-    for crate, kinds_told in [("low", KINDS), *((crate, KINDS) for crate in sorted(UNSORTED)[:1]), ("low", ("clause", "through"))]:
-        lines = [f"rt: must-fail {crate}/{kind}.edit: {told[kind]}" for kind in kinds_told]
+    known = [it if it.endswith(".edit") else f"{it}/any.edit" for it in sorted(UNSORTED)]
+    tries: List[Tuple[str, List[str]]] = [("none", []), ("those that are known", known), ("one more", [*known, "low/proof.edit"])]
+    for title, proofs in tries:
+        lines = [f"rt: must-fail low/{kind}.edit: {told[kind]}" for kind in KINDS if kind != PROOF]
+        lines += [f"rt: must-fail {name}: {told[PROOF]}" for name in proofs]
         (top / "log").write_text("\n".join(["rt: a line of the toolchain", *lines, ""]))
         come = run([sys.executable, top / "tools/sort_refusals", "--gate", top / "log"])
-        shown = [line.split(": ")[1] for line in come["standard output"].decode().splitlines()[:-1]]
-        fails = PROOF in kinds_told and crate not in UNSORTED
-        wanted = {"status": int(fails), "shown": [PROOF] if PROOF in kinds_told else []}
-        suite.note(f"tools/sort_refusals --gate: {len(kinds_told)} kinds of {crate}", wanted, {"status": come["status"], "shown": shown})
+        shown = [line.split(": ")[0] for line in come["standard output"].decode().splitlines()[:-1]]
+        wanted = {"status": int("low/proof.edit" in proofs), "shown": proofs}
+        suite.note(f"tools/sort_refusals --gate: {title} at a proof", wanted, {"status": come["status"], "shown": shown})
+    single = [it.split("/") for it in UNSORTED if it.endswith(".edit")]
+    there = all((TOP / "crates" / crate / FIRST / name).is_file() for crate, name in single)
+    suite.holds("each edit that is known stands there", there)
 
 
 def files_of(top: Path) -> List[str]:
