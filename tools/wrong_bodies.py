@@ -152,7 +152,7 @@ NO_LOAN = re.compile(r"no `follows`|it has an `ensures\*`")
 # An error in a proof, with the goal that it answers and what is said of it.
 IN_A_PROOF = re.compile(r"(?:note: )?(?:\./)?(?P<path>proofs/\S+\.antt):\d+:\d+: error: `(?P<goal>[^`]+)`: (?P<said>.*)")
 # What is said where a tactic was asked for a step that it does not prove, so that the text fits and the step fails.
-UNPROVED_STEP = re.compile(r"give the call less to do|`?(search|grind|omega|cc|simp)`?:")
+UNPROVED_STEP = re.compile(r"give the call less to do|list the missing equation|`?(search|grind|omega|cc|simp)`?:")
 # The name of a goal, in an error in a proof or after what is not proved of the code.
 GOAL = re.compile(r"error: `([^`]+)`|\(`([^`]+)`\)")
 # An answer that is a tactic and nothing else.

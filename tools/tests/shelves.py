@@ -122,6 +122,7 @@ REFUSALS = [
     ("clause", "refused, as it must be: ./proofs/f/Answers.antt:9:5: error: `returns`: `search`: no proof of `a ≡ b` was found"),
     ("clause", "refused, as it must be: ./proofs/f/Answers.antt:3:5: error: `returns-clause-ok`: the two types differ"),
     ("clause", "refused, as it must be: ./proofs/f/Answers.antt:9:5: error: `invariant_of-self`: `omega`: the goal does not follow"),
+    ("clause", "refused, as it must be: ./proofs/f/Answers.antt:9:5: error: `returns-clause-still`: list the missing equation with its arguments"),
     ("call", "refused, as it must be: ./proofs/f/Answers.antt:9:5: error: `put-requires`: `search`: no proof of `a ≡ b` was found"),
     ("call", "refused, as it must be: note: src/lib.rt:3:1: it is not proved that what `put` requires holds at this call"),
     ("call", "refused, as it must be: note: src/lib.rt:3:1: it is not proved that the sum fits its type"),
