@@ -131,7 +131,9 @@ def is_plain(told: str) -> bool:
 # Where a refusal comes from; what is through is not refused, or not tried.
 KINDS = CLAUSE, CALL, PROOF, OTHER, THROUGH = "clause", "call", "proof", "other", "through"
 # Crates of which a wrong body of the first shelf may still be refused at a proof, or single edits as `CRATE/NAME.edit`.
-UNSORTED = frozenset({"pesp_bench", "pesp_embedded", "pesp_search", "pesp_search_cycles", "pesp_shell", "pesp_shell_main"})
+UNSORTED = frozenset(
+    {"pesp_bench", "pesp_embedded", "pesp_search", "pesp_search_cycles", "pesp_shell", "pesp_shell_main", "pesp_shell_replies"}
+)
 # A line on an edit, as the toolchain or tools/try_wrong_bodies prints it.
 TOLD = re.compile(r"(?:(?:rt: )?must-fail )?(?P<crate>\w+)/(?P<name>[\w.-]+\.edit): (?P<told>.*)")
 # What the prover says of a goal that its search does not prove, and which of these goals are of the body's own contract.
