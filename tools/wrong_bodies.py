@@ -4,6 +4,7 @@ The gate tries `must-fail/` itself. Those of `wrong-bodies/` are tried in its pl
 own `rt ci NAME`, which keeps on the machine what it has proved and tried.
 """
 
+import contextlib
 import pathlib
 import re
 import shutil
@@ -129,6 +130,10 @@ def is_plain(told: str) -> bool:
 
 # Where a refusal comes from; what is through is not refused, or not tried.
 KINDS = CLAUSE, CALL, PROOF, OTHER, THROUGH = "clause", "call", "proof", "other", "through"
+# Crates of which a wrong body of the first shelf may still be refused at a proof, or single edits as `CRATE/NAME.edit`.
+UNSORTED = frozenset(
+    {"pesp_bench", "pesp_embedded", "pesp_search", "pesp_search_cycles", "pesp_shell", "pesp_shell_main", "pesp_shell_replies"}
+)
 # A line on an edit, as the toolchain or tools/try_wrong_bodies prints it.
 TOLD = re.compile(r"(?:(?:rt: )?must-fail )?(?P<crate>\w+)/(?P<name>[\w.-]+\.edit): (?P<told>.*)")
 # What the prover says of a goal that its search does not prove, and which of these goals are of the body's own contract.
@@ -138,7 +143,9 @@ NO_LOAN = re.compile(r"no `follows`|it has an `ensures\*`")
 # An error in a proof, with the goal that it answers and what is said of it.
 IN_A_PROOF = re.compile(r"(?:note: )?(?:\./)?(?P<path>proofs/\S+\.antt):\d+:\d+: error: `(?P<goal>[^`]+)`: (?P<said>.*)")
 # What is said where a tactic was asked for a step that it does not prove, so that the text fits and the step fails.
-UNPROVED_STEP = re.compile(r"give the call less to do|`?(search|grind|omega|cc|simp)`?:")
+UNPROVED_STEP = re.compile(r"give the call less to do|list the missing equation|`?(search|grind|omega|cc|simp)`?:")
+# The name of a goal, in an error in a proof or after what is not proved of the code.
+GOAL = re.compile(r"error: `([^`]+)`|\(`([^`]+)`\)")
 # An answer that is a tactic and nothing else.
 TACTIC = re.compile(r"(search|grind|omega|simp|cc)\b")
 
@@ -151,6 +158,15 @@ class Refusal(NamedTuple):
     kind: str
     where: str
 
+    def goal(self) -> str:
+        """The goal that is not proved, as the prover names it, or nothing where the words do not tell it."""
+        found = GOAL.search(self.where)
+        return found[1] or found[2] if found else ""
+
+    def shows_nothing(self) -> bool:
+        """Whether it comes from a proof that no longer fits, where it is not known that this may be."""
+        return self.kind == PROOF and not {self.crate, f"{self.crate}/{self.name}"} & UNSORTED
+
 
 def refusals(top: pathlib.Path, lines: Sequence[str]) -> List[Refusal]:
     """What the lines of a log say of edits, each once, by its last line, in the order of the log."""
@@ -159,11 +175,11 @@ def refusals(top: pathlib.Path, lines: Sequence[str]) -> List[Refusal]:
         match = TOLD.fullmatch(line)
         if match:
             crate, name, told = match.groups()
-            found[crate, name] = Refusal(crate, name, *sorted_out(top / "crates" / crate, told))
+            found[crate, name] = Refusal(crate, name, *sorted_out(top / "crates" / crate, name, told))
     return list(found.values())
 
 
-def sorted_out(crate: pathlib.Path, told: str) -> Tuple[str, str]:
+def sorted_out(crate: pathlib.Path, name: str, told: str) -> Tuple[str, str]:
     """The kind of what is told of an edit of the crate, and the words that tell it."""
     if not is_refused(told):
         return THROUGH, told
@@ -178,18 +194,28 @@ def sorted_out(crate: pathlib.Path, told: str) -> Tuple[str, str]:
     proof = IN_A_PROOF.match(where)
     if not proof:
         return OTHER, where
-    answer = answer_of(crate / proof["path"], proof["goal"])
+    answer = answer_of(text_with(crate, name, proof["path"]), proof["goal"])
     fails = UNPROVED_STEP.search(proof["said"]) or TACTIC.match(answer)
     return (kind_of_goal(proof["goal"]) if fails else PROOF), where
 
 
-def answer_of(path: pathlib.Path, goal: str) -> str:
-    """What stands after the equation's sign in the answer to a goal, or nothing where there is none."""
-    text = path.read_text() if path.is_file() else ""
+def text_with(crate: pathlib.Path, name: str, path: str) -> str:
+    """The text of a file of the crate, with the edit where that changes it, or nothing where there is none."""
+    for edit in [crate / shelf / name for shelf in (FIRST, SECOND)]:
+        if edit.is_file():
+            with contextlib.suppress(Unread):
+                texts = applied(edit)
+                if crate / path in texts:
+                    return texts[crate / path]
+    return (crate / path).read_text() if (crate / path).is_file() else ""
+
+
+def answer_of(text: str, goal: str) -> str:
+    """What stands after the equation's sign in the answer to a goal of a proof, or nothing where there is none."""
     found = re.search(rf"^{re.escape(goal)}(?: [^=\n]*)? =\s*(.*)", text, flags=re.M)
     return found[1] if found else ""
 
 
 def kind_of_goal(goal: str) -> str:
     """Whether a goal, as the prover names it, is of the body's own contract or of a call in it."""
-    return CLAUSE if re.match(r"returns|.*-(preserved|holds|smaller|starts)$", goal) else CALL
+    return CLAUSE if re.match(r"returns|invariant_of-|.*-(init|preserved|holds|smaller|starts)$", goal) else CALL

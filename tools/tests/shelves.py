@@ -4,11 +4,11 @@ import re
 import shutil
 import sys
 from pathlib import Path
-from typing import List, Sequence
+from typing import List, Sequence, Tuple
 
 from tests.harness import TOP, Suite, run
 from tests.start_tree import SYSTEM
-from wrong_bodies import FIRST, KINDS, SECOND, Unread, applied, breaks_of, edits, refusals
+from wrong_bodies import FIRST, KINDS, PROOF, SECOND, UNSORTED, Unread, applied, breaks_of, edits, refusals
 
 # The gate tries each edit of the first shelf in each run, and a change at the bottom pays for all of them.
 MOST_ON_THE_FIRST = 240
@@ -121,6 +121,9 @@ REFUSALS = [
     ("clause", "refused, as it must be: note: src/lib.rt:3:1: it is not proved that what the function ensures holds when it returns"),
     ("clause", "refused, as it must be: ./proofs/f/Answers.antt:9:5: error: `returns`: `search`: no proof of `a ≡ b` was found"),
     ("clause", "refused, as it must be: ./proofs/f/Answers.antt:3:5: error: `returns-clause-ok`: the two types differ"),
+    ("clause", "refused, as it must be: ./proofs/f/Answers.antt:9:5: error: `invariant_of-self`: `omega`: the goal does not follow"),
+    ("clause", "refused, as it must be: ./proofs/f/Answers.antt:9:5: error: `returns-clause-still`: list the missing equation with its arguments"),
+    ("call", "refused, as it must be: ./proofs/f/Answers.antt:9:5: error: `put-requires`: `search`: no proof of `a ≡ b` was found"),
     ("call", "refused, as it must be: note: src/lib.rt:3:1: it is not proved that what `put` requires holds at this call"),
     ("call", "refused, as it must be: note: src/lib.rt:3:1: it is not proved that the sum fits its type"),
     ("proof", "refused, as it must be: ./proofs/f/Answers.antt:6:5: error: `returns-by-hand`: the two types differ"),
@@ -141,10 +144,37 @@ def kinds(suite: Suite) -> None:
     found = refusals(top, ["rt: a line of the toolchain", *lines, f"low/0.edit: {REFUSALS[0][1]}"])
     suite.note("kinds of refusals", {"kinds": [kind for kind, _ in REFUSALS]}, {"kinds": [it.kind for it in found]})
     suite.holds("each kind has a refusal", set(KINDS) == {kind for kind, _ in REFUSALS})
+    shelf = top / "crates/low" / FIRST
+    shelf.mkdir()
+    (shelf / "by_hand.edit").write_text("file: proofs/f/Answers.antt\nold: g c = c.put.ensures\nnew: g c = search rules\n")
+    told = f"rt: must-fail low/by_hand.edit: {next(said for kind, said in REFUSALS if kind == PROOF)}"
+    suite.note("the answer that an edit wrote", {"kinds": ["clause"]}, {"kinds": [it.kind for it in refusals(top, [told])]})
+
+
+def gate(suite: Suite) -> None:
+    """What ends the gate: a refusal at a proof, but where it is known that this may be."""
+    top = suite.folder / "gate"
+    (top / "tools").mkdir(parents=True)
+    for name in ["sort_refusals", "wrong_bodies.py"]:
+        shutil.copy(TOP / "tools" / name, top / "tools" / name)
+    told = dict(reversed(REFUSALS))
+    known = [it if it.endswith(".edit") else f"{it}/any.edit" for it in sorted(UNSORTED)]
+    tries: List[Tuple[str, List[str]]] = [("none", []), ("those that are known", known), ("one more", [*known, "low/proof.edit"])]
+    for title, proofs in tries:
+        lines = [f"rt: must-fail low/{kind}.edit: {told[kind]}" for kind in KINDS if kind != PROOF]
+        lines += [f"rt: must-fail {name}: {told[PROOF]}" for name in proofs]
+        (top / "log").write_text("\n".join(["rt: a line of the toolchain", *lines, ""]))
+        come = run([sys.executable, top / "tools/sort_refusals", "--gate", top / "log"])
+        shown = [line.split(": ")[0] for line in come["standard output"].decode().splitlines()[:-1]]
+        wanted = {"status": int("low/proof.edit" in proofs), "shown": proofs}
+        suite.note(f"tools/sort_refusals --gate: {title} at a proof", wanted, {"status": come["status"], "shown": shown})
+    single = [it.split("/") for it in UNSORTED if it.endswith(".edit")]
+    there = all((TOP / "crates" / crate / FIRST / name).is_file() for crate, name in single)
+    suite.holds("each edit that is known stands there", there)
 
 
 def files_of(top: Path) -> List[str]:
     return sorted(str(path.relative_to(top)) for path in (top / "crates").rglob("*"))
 
 
-GROUPS = [shelves, second_shelf, kinds]
+GROUPS = [shelves, second_shelf, kinds, gate]
