@@ -36,8 +36,11 @@ const LEAST_WALKS: usize = 12;
 /// The last round is one that gains less than so many hundredths of what lies between the bound and a map.
 const LEAST_GAIN: u64 = 100;
 
-/// Cuts are in vain that do not take so many hundredths of what lies between the bound without them and the best map.
-const LEAST_SHARE: u64 = 60;
+/// Cuts are of use that take so many hundredths of what lies between the bound without them and the best map,
+const LEAST_SHARE: u64 = 50;
+
+/// or that leave no more than so many hundredths of what that costs.
+const MOST_LEFT: u64 = 10;
 
 /// Where the map costs less than a sixty-fourth more than the bound, no cuts are sought.
 const LEAST_GAP: u64 = 64;
@@ -113,9 +116,12 @@ impl Estimate {
 
     /// Whether the bound with so much more is near the cost of the best map.
     fn is_near(self, more: u64) -> bool {
-        let gain = self.bound.saturating_add(more).saturating_sub(self.floor);
+        let bound = self.bound.saturating_add(more);
+        let gain = bound.saturating_sub(self.floor);
         let gap = self.top.saturating_sub(self.floor);
+        let left = self.top.saturating_sub(bound);
         gap.saturating_mul(LEAST_SHARE) <= gain.saturating_mul(100)
+            || left.saturating_mul(100) <= self.top.saturating_mul(MOST_LEFT)
     }
 }
 

@@ -17,7 +17,7 @@ use std::alloc::Global;
 const LONGER: u64 = 2;
 
 /// and where cuts were sought in vain, until they are sought again.
-const LONGER_ALONE: u64 = 8;
+const LONGER_ALONE: u64 = 4;
 
 /// A search for a map of least cost, and another one for the same that rests meanwhile.
 #[derive(Drop)]

@@ -16,7 +16,7 @@ use pesp_search_least::{Budget, Candidate};
 use std::alloc::Global;
 
 /// How many units the search of a part may take: where that is not enough, all parts are searched together.
-const UNITS_OF_PART: u64 = 20_000;
+const UNITS_OF_PART: u64 = 200_000;
 
 /// How many boxes there are at most.
 const MOST_STARTS: usize = 64;
