@@ -130,12 +130,9 @@ def is_plain(told: str) -> bool:
 
 # Where a refusal comes from; what is through is not refused, or not tried.
 KINDS = CLAUSE, CALL, PROOF, OTHER, THROUGH = "clause", "call", "proof", "other", "through"
-# Crates of which a wrong body of the first shelf may still be refused at a proof, or single edits as `CRATE/NAME.edit`: of those
-# below pesp_search_cycles none is known, but a whole gate has yet to say so.
+# Crates of which a wrong body of the first shelf may still be refused at a proof, or single edits as `CRATE/NAME.edit`.
 UNSORTED = frozenset(
-    "pesp_base pesp_instance pesp_tension pesp_domains pesp_counts_arcs pesp_counts_supports pesp_counts pesp_search_network "
-    "pesp_search_cycles pesp_search pesp_bench pesplib_reader pesplib_writer pesp_shell_io pesp_shell_commands pesp_shell_replies "
-    "pesp_shell pesp_shell_main pesp_embedded".split()
+    {"pesp_bench", "pesp_embedded", "pesp_search", "pesp_search_cycles", "pesp_shell", "pesp_shell_main", "pesp_shell_replies"}
 )
 # A line on an edit, as the toolchain or tools/try_wrong_bodies prints it.
 TOLD = re.compile(r"(?:(?:rt: )?must-fail )?(?P<crate>\w+)/(?P<name>[\w.-]+\.edit): (?P<told>.*)")
