@@ -43,7 +43,13 @@ impl<K: Keeper> Model for Bench<K> {
 
     ghost Value = { State };
 
-    ghost view = { λ b. record { instance = K.network b.keeper; times = b.times; known = b.known; nodes = b.nodes } };
+    ghost view = { λ b. record {
+      instance = K.network b.keeper;
+      times = b.times;
+      known = b.known;
+      nodes = b.nodes;
+      push_count = K.push_count b.keeper;
+    } };
 
     ghost invariant = { λ b. IsState (K.network b.keeper) (K.pushes b.keeper) b.times b.known
         × IsCosted (K.network b.keeper) b.times b.kept.cost b.kept.missing };
@@ -58,6 +64,7 @@ impl<K: Keeper> Bench<K> {
           times = no_times (K.network keeper).period;
           known = None;
           nodes = 0;
+          push_count = K.push_count keeper;
         } }
     {
         let times = Timetable::new(alloc, keeper.instance().period());
@@ -92,6 +99,7 @@ impl<K: Keeper> Bench<K> {
     pub fn keeper(&self) -> &K
         ensures network { K.network result.now ≡ self.now.instance }
         ensures pushes { K.pushes result.now ≡ [] }
+        ensures count { K.push_count result.now ≡ self.now.push_count }
     {
         &self.keeper
     }

@@ -12,10 +12,11 @@ use Rattle.pesp_counts_arcs.specs.Links.{Links}
 use Rattle.pesp_counts_arcs.specs.Places.{number_at}
 use Rattle.pesp_counts.specs.Reached.{Reached}
 
--- an instance, the pushed pairs, the last one at the end, the pairs that the last accepted edit put back, and its work
+-- an instance, the pushed pairs, the last one at the end, how many were pushed so far, the pairs that the last accepted edit put back, and its work
 pub record Seen : Type 0 where
   pub network : Network
   pub pushes : List Pair
+  pub push_count : ℕ
   pub restored : List Pair
   pub work : Work
 

@@ -1,6 +1,6 @@
 //! The keeper that counts partners.
 
-ghost use Rattle.std.specs.Prelude.{◌≡◌, ◌<◌, ℕ, IsTrue, [], ◌∷◌, ◌++◌, length, Ok, IfOk, IfErr, OnOk, OnErr};
+ghost use Rattle.std.specs.Prelude.{◌≡◌, ◌<◌, ◌+◌, ◌-◌, ◌^◌, min, ℕ, IsTrue, [], ◌∷◌, ◌++◌, length, Ok, IfOk, IfErr, OnOk, OnErr};
 ghost use Rattle.pesp_instance.specs.Edited.{IsRefusal, edited};
 ghost use Rattle.pesp_instance.specs.Network.{has_event};
 ghost use Rattle.pesp_domains.specs.declared.pair.Pair.{Pair};
@@ -53,6 +53,8 @@ pub struct CountKeeper {
     counted: Counted,
     // That of the last edit that was accepted.
     work: Work,
+    // How many pairs were pushed, those that were popped included.
+    push_count: u64,
     // Where an edit takes its memory from.
     alloc: Global,
 }
@@ -67,6 +69,7 @@ impl Model for CountKeeper {
     ghost view = { λ k. record {
       network = k.instance;
       pushes = pairs_of k.pushed.items;
+      push_count = k.push_count;
       restored = k.counted.restored.items;
       work = k.work;
     } };
@@ -100,9 +103,12 @@ impl Keeper for CountKeeper {
 
     ghost pushes = { λ keeper. keeper.pushes };
 
+    ghost push_count = { λ keeper. keeper.push_count };
+
     fn from_instance(alloc: Global, instance: Instance) -> Result<CountKeeper, NoRoom>
         ensures network { IfOk result (λ keeper. keeper.network ≡ instance) }
         ensures pushes { IfOk result (λ keeper. keeper.pushes ≡ []) }
+        ensures count { IfOk result (λ keeper. keeper.push_count ≡ 0) }
         ensures restored { IfOk result (λ keeper. keeper.restored ≡ []) }
         ensures work { IfOk result (λ keeper.
             keeper.work ≡ record { restored = 0; removed = 0; probes = 0 }) }
@@ -124,6 +130,7 @@ impl Keeper for CountKeeper {
             pushed,
             counted,
             work: Work::none(),
+            push_count: 0,
             alloc,
         })
     }
@@ -158,6 +165,7 @@ impl Keeper for CountKeeper {
         ensures still { OnErr result (((self.new).restored ≡ (self.old).restored)
             × ((self.new).work ≡ (self.old).work)) }
         ensures pushes { (self.new).pushes ≡ [] }
+        ensures count { (self.new).push_count ≡ (self.old).push_count }
     {
         let change = Change::of(&self.instance, &self.counted.links, edit);
         self.instance.apply(edit)?;
@@ -195,6 +203,7 @@ impl Keeper for CountKeeper {
         ensures network { (self.new).network ≡ (self.old).network }
         ensures pushes { (self.new).pushes
             ≡ (self.old).pushes ++ record { event = event; residue = residue } ∷ [] }
+        ensures count { (self.new).push_count ≡ min (2 ^ 64 - 1) ((self.old).push_count + 1) }
         ensures restored { (self.new).restored ≡ (self.old).restored }
         ensures work { (self.new).work ≡ (self.old).work }
     {
@@ -205,12 +214,14 @@ impl Keeper for CountKeeper {
         });
         let counted = &mut self.counted;
         limit_event(&counted.links, &mut counted.supports, event, residue);
+        self.push_count = self.push_count.saturating_add(1);
     }
 
     fn pop_fix(&mut self)
         requires { 0 < length (self.old).pushes }
         ensures network { (self.new).network ≡ (self.old).network }
         ensures pushes { (last : Pair) × ((self.old).pushes ≡ (self.new).pushes ++ last ∷ []) }
+        ensures count { (self.new).push_count ≡ (self.old).push_count }
         ensures restored { (self.new).restored ≡ (self.old).restored }
         ensures work { (self.new).work ≡ (self.old).work }
     {

@@ -5,10 +5,11 @@ use Rattle.pesp_domains.specs.declared.pair.Pair.{Pair}
 use Rattle.pesp_domains.specs.Rows.{Rows, AreRowsOf, has}
 use Rattle.pesp_domains.specs.Sweeps.{AreDomains}
 
--- an instance, and the pushed pairs, the last one at the end
+-- an instance, the pushed pairs, the last one at the end, and how many were pushed so far
 pub record Kept : Type 0 where
   pub network : Network
   pub pushes : List Pair
+  pub push_count : ℕ
 
 -- the pushed pairs are of different events of the instance
 pub record ArePushed (I : Network) (pushes : List Pair) : Type 0 where

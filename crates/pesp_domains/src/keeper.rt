@@ -17,7 +17,7 @@ pub struct NoRoom {
 /// pushed residue of its event and has a partner along each activity at its event. A keeper may find
 /// and keep them as it likes: what its calls answer depends on the instance and the pushed pairs alone.
 pub trait Keeper: Drop {
-    ghost use Rattle.std.specs.Prelude.{◌≡◌, ℕ, ◌<◌, ◌↔◌, [], ◌∷◌, ◌++◌, List, length, Ok, IsTrue, IfOk, IfErr, IfSome, OnOk, OnErr, is_some};
+    ghost use Rattle.std.specs.Prelude.{◌≡◌, ℕ, ◌+◌, ◌-◌, ◌^◌, min, ◌<◌, ◌↔◌, [], ◌∷◌, ◌++◌, List, length, Ok, IsTrue, IfOk, IfErr, IfSome, OnOk, OnErr, is_some};
     ghost use Rattle.pesp_instance.specs.Network.{Network, has_event};
     ghost use Rattle.pesp_instance.specs.Edited.{edited, IsRefusal};
     ghost use Rattle.pesp_domains.specs.declared.pair.Pair.{Pair};
@@ -29,10 +29,14 @@ pub trait Keeper: Drop {
     /// The pushed pairs, the last one at the end.
     ghost pushes: { Self → List Pair };
 
+    /// How many pairs were pushed since it was made, those that were popped included; it stays at the greatest number.
+    ghost push_count: { Self → ℕ };
+
     /// Keeps the instance, with nothing pushed, or hands it back where there is no memory.
     fn from_instance(alloc: Global, instance: Instance) -> Result<Self, NoRoom>
         ensures network { IfOk result (λ keeper. network keeper ≡ instance) }
         ensures pushes { IfOk result (λ keeper. pushes keeper ≡ []) }
+        ensures count { IfOk result (λ keeper. push_count keeper ≡ 0) }
         ensures back { IfErr result (λ no_room. no_room.instance ≡ instance) };
 
     fn instance(&self) -> &Instance
@@ -56,7 +60,8 @@ pub trait Keeper: Drop {
         ensures ok { OnOk result (edited (network self.old) edit.now ≡ Ok (network self.new)) }
         ensures err { IfErr result (IsRefusal (network self.old) edit.now) }
         ensures unchanged { OnErr result (network self.new ≡ network self.old) }
-        ensures pushes { pushes self.new ≡ [] };
+        ensures pushes { pushes self.new ≡ [] }
+        ensures count { push_count self.new ≡ push_count self.old };
 
     /// Pushes one pair more. This takes no memory.
     fn push_fix(&mut self, event: EventId, residue: u16)
@@ -65,11 +70,13 @@ pub trait Keeper: Drop {
         requires residue { residue < (network self.old).period }
         ensures network { network self.new ≡ network self.old }
         ensures pushes { pushes self.new
-            ≡ pushes self.old ++ record { event = event; residue = residue } ∷ [] };
+            ≡ pushes self.old ++ record { event = event; residue = residue } ∷ [] }
+        ensures count { push_count self.new ≡ min (2 ^ 64 - 1) (push_count self.old + 1) };
 
     /// Takes the pair away that was pushed last. This takes no memory.
     fn pop_fix(&mut self)
         requires { 0 < length (pushes self.old) }
         ensures network { network self.new ≡ network self.old }
-        ensures pushes { (last : Pair) × (pushes self.old ≡ pushes self.new ++ last ∷ []) };
+        ensures pushes { (last : Pair) × (pushes self.old ≡ pushes self.new ++ last ∷ []) }
+        ensures count { push_count self.new ≡ push_count self.old };
 }

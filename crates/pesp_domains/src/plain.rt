@@ -23,6 +23,8 @@ pub struct PlainKeeper {
     pushed: Vec<Pair>,
     // The domains under the pushed pairs.
     rows: Rows,
+    // How many pairs were pushed, those that were popped included.
+    push_count: u64,
 }
 
 impl Model for PlainKeeper {
@@ -31,7 +33,11 @@ impl Model for PlainKeeper {
 
     ghost Value = { Kept };
 
-    ghost view = { λ k. record { network = k.instance; pushes = k.pushed.items } };
+    ghost view = { λ k. record {
+      network = k.instance;
+      pushes = k.pushed.items;
+      push_count = k.push_count;
+    } };
 
     ghost invariant = { λ k. IsKept k.instance k.pushed.items k.rows (vec_capacity k.pushed) };
 }
@@ -72,6 +78,8 @@ impl Keeper for PlainKeeper {
 
     ghost pushes = { λ keeper. keeper.pushes };
 
+    ghost push_count = { λ keeper. keeper.push_count };
+
     fn from_instance(alloc: Global, instance: Instance) -> Result<PlainKeeper, NoRoom> {
         let Ok(pushed) = Vec::with_capacity(alloc, instance.event_count()) else {
             return Err(NoRoom { instance });
@@ -84,6 +92,7 @@ impl Keeper for PlainKeeper {
             instance,
             pushed,
             rows,
+            push_count: 0,
         })
     }
 
@@ -120,6 +129,7 @@ impl Keeper for PlainKeeper {
         self.pushed.push_reserved(Pair { event, residue });
         self.rows.keep_only(event, residue);
         settle(&self.instance, &mut self.rows);
+        self.push_count = self.push_count.saturating_add(1);
     }
 
     fn pop_fix(&mut self) {

@@ -1,12 +1,12 @@
 //! The search.
 
-ghost use Rattle.std.specs.Prelude.{◌≡◌, [], false, IfOk, IfSome, None, Some};
+ghost use Rattle.std.specs.Prelude.{◌≡◌, [], false, IfOk, OnErr, IfSome, None, Some};
 ghost use Rattle.pesp_instance.specs.Network.{IsNetwork, event_ids};
 ghost use Rattle.pesp_search.specs.declared.answer.Answer.TheVariants as answers;
 ghost use Rattle.pesp_search.specs.declared.answer.Tried.TheVariants as attempts;
 ghost use Rattle.pesp_search.specs.Optima.{IsAnswer, IsBound};
 ghost use Rattle.pesp_search.specs.Paths.{IsDeadEnd};
-ghost use Rattle.pesp_search.specs.Tree.{AreNodes};
+ghost use Rattle.pesp_search.specs.Tree.{AreNodes, WerePushed};
 ghost use Rattle.pesp_search.specs.Known.{IsFloor, IsKnown};
 ghost use Rattle.pesp_search.specs.Tried.{IsFound, MayTry};
 
@@ -56,6 +56,9 @@ fn search_tree<K: Keeper>(
     ensures nodes { IfOk result (λ r. AreNodes (K.network keeper.old) r.1) }
     ensures network { K.network keeper.new ≡ K.network keeper.old }
     ensures pushes { K.pushes keeper.new ≡ [] }
+    ensures counted { IfOk result (λ r. WerePushed (K.push_count keeper.old) r.1
+        (K.push_count keeper.new)) }
+    ensures unpushed { OnErr result (K.push_count keeper.new ≡ K.push_count keeper.old) }
 {
     let lowest = lowest(ask.bound, &sought.best);
     // All memory is taken here, before the first node: `run` has no allocator.
@@ -82,6 +85,9 @@ fn search_in_turn<K: Keeper>(
     ensures nodes { IfOk result (λ r. AreNodes (K.network keeper.old) r.1) }
     ensures network { K.network keeper.new ≡ K.network keeper.old }
     ensures pushes { K.pushes keeper.new ≡ [] }
+    ensures counted { IfOk result (λ r. WerePushed (K.push_count keeper.old) r.1
+        (K.push_count keeper.new)) }
+    ensures unpushed { OnErr result (K.push_count keeper.new ≡ K.push_count keeper.old) }
 {
     let sought = seek(alloc, keeper, events, before, ask)?;
     if sought.is_end {
@@ -104,6 +110,9 @@ fn search<K: Keeper>(
     ensures is_network { IsNetwork (K.network keeper.old) }
     ensures network { K.network keeper.new ≡ K.network keeper.old }
     ensures pushes { K.pushes keeper.new ≡ [] }
+    ensures counted { IfOk result (λ r. WerePushed (K.push_count keeper.old) r.1
+        (K.push_count keeper.new)) }
+    ensures unpushed { OnErr result (K.push_count keeper.new ≡ K.push_count keeper.old) }
 {
     // The order in which the tree gives them their times.
     let events = events_of(alloc, keeper.instance())?;
@@ -132,6 +141,9 @@ pub fn best<K: Keeper>(
     ensures nodes { IfOk result (λ r. AreNodes (K.network keeper.old) r.1) }
     ensures network { K.network keeper.new ≡ K.network keeper.old }
     ensures pushes { K.pushes keeper.new ≡ [] }
+    ensures counted { IfOk result (λ r. WerePushed (K.push_count keeper.old) r.1
+        (K.push_count keeper.new)) }
+    ensures unpushed { OnErr result (K.push_count keeper.new ≡ K.push_count keeper.old) }
 {
     let ask = Ask { bound, limit: None };
     let (known, nodes) = search(alloc, keeper, &mut Searches::new(alloc), ask)?;
@@ -157,6 +169,9 @@ pub fn known_after<K: Keeper>(
     ensures nodes { IfOk result (λ r. AreNodes (K.network keeper.old) r.1) }
     ensures network { K.network keeper.new ≡ K.network keeper.old }
     ensures pushes { K.pushes keeper.new ≡ [] }
+    ensures counted { IfOk result (λ r. WerePushed (K.push_count keeper.old) r.1
+        (K.push_count keeper.new)) }
+    ensures unpushed { OnErr result (K.push_count keeper.new ≡ K.push_count keeper.old) }
 {
     search(alloc, keeper, before, Ask { bound, limit })
 }
@@ -180,6 +195,9 @@ pub fn known_within<K: Keeper>(
     ensures nodes { IfOk result (λ r. AreNodes (K.network keeper.old) r.1) }
     ensures network { K.network keeper.new ≡ K.network keeper.old }
     ensures pushes { K.pushes keeper.new ≡ [] }
+    ensures counted { IfOk result (λ r. WerePushed (K.push_count keeper.old) r.1
+        (K.push_count keeper.new)) }
+    ensures unpushed { OnErr result (K.push_count keeper.new ≡ K.push_count keeper.old) }
 {
     known_after(alloc, keeper, &mut Searches::new(alloc), bound, Some(limit))
 }
@@ -201,6 +219,9 @@ pub fn best_within<K: Keeper>(
     ensures nodes { IfOk result (λ r. AreNodes (K.network keeper.old) r.1) }
     ensures network { K.network keeper.new ≡ K.network keeper.old }
     ensures pushes { K.pushes keeper.new ≡ [] }
+    ensures counted { IfOk result (λ r. WerePushed (K.push_count keeper.old) r.1
+        (K.push_count keeper.new)) }
+    ensures unpushed { OnErr result (K.push_count keeper.new ≡ K.push_count keeper.old) }
 {
     let ask = Ask {
         bound,

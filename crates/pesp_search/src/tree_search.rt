@@ -7,7 +7,7 @@ ghost use Rattle.pesp_search.specs.Found.{IsNextOfUse, limit_of};
 ghost use Rattle.pesp_search.specs.Nodes.{IsNext, Nothing};
 ghost use Rattle.pesp_search.specs.Optima.{IsBound};
 ghost use Rattle.pesp_search.specs.Searching.{GoesOn, IsOver, IsSameNode, IsSearching, IsStepAt, IsStepDown, IsStepUp, MayEnd};
-ghost use Rattle.pesp_search.specs.Tree.{AreNodes};
+ghost use Rattle.pesp_search.specs.Tree.{AreNodes, WerePushed};
 ghost use Rattle.pesp_search.specs.Tried.{IsOutcome};
 ghost use Rattle.pesp_search.specs.declared.steps.Step.TheVariants as steps;
 
@@ -57,6 +57,7 @@ fn unwind<K: Keeper>(keeper: &mut K, depth: usize)
     requires { length (K.pushes keeper.old) ≡ depth }
     ensures network { K.network keeper.new ≡ K.network keeper.old }
     ensures pushes { K.pushes keeper.new ≡ [] }
+    ensures count { K.push_count keeper.new ≡ K.push_count keeper.old }
 {
     for _pair in 0..depth {
         keeper.pop_fix();
@@ -78,6 +79,7 @@ impl<'a> TreeSearch<'a> {
         ensures searching { IfOk result (IsSearching (K.network keeper.now) []) }
         ensures bound { IfOk result (λ search. search.incumbent.bound ≡ bound) }
         ensures limit { IfOk result (λ search. search.limit ≡ limit) }
+        ensures nodes { IfOk result (λ search. search.nodes ≡ 0) }
     {
         let instance = keeper.instance();
         let least = least_of_parts(alloc, instance, events)?;
@@ -162,6 +164,7 @@ impl TreeSearch<'_> {
         ensures network { K.network keeper.new ≡ K.network keeper.old }
         ensures searching { GoesOn (K.network keeper.old) (K.pushes keeper.new) self.old self.new }
         ensures counted { self.new.nodes ≡ min (2 ^ 64 - 1) (self.old.nodes + 1) }
+        ensures count { K.push_count keeper.new ≡ min (2 ^ 64 - 1) (K.push_count keeper.old + 1) }
         ensures below { IsStepDown self.old self.new residue }
     {
         let event = self.events[self.branch.times.len()];
@@ -179,6 +182,8 @@ impl TreeSearch<'_> {
         ensures searching { GoesOn (K.network keeper.old) (K.pushes keeper.new) self.old self.new }
         ensures above { result ≡ true → IsStepUp self.old self.new }
         ensures end { result ≡ false → MayEnd (K.network keeper.old) self.new false }
+        ensures nodes { self.new.nodes ≡ self.old.nodes }
+        ensures count { K.push_count keeper.new ≡ K.push_count keeper.old }
     {
         match self.branch.pop(keeper.instance(), self.events) {
             Some(residue) => {
@@ -198,6 +203,8 @@ impl TreeSearch<'_> {
         ensures searching { GoesOn (K.network keeper.old) (K.pushes keeper.new) self.old self.new }
         ensures above { result ≡ true → IsStepUp self.old self.new }
         ensures end { result ≡ false → MayEnd (K.network keeper.old) self.new false }
+        ensures nodes { self.new.nodes ≡ self.old.nodes }
+        ensures count { K.push_count keeper.new ≡ K.push_count keeper.old }
     {
         self.incumbent.keep(&self.branch.times, self.branch.cost);
         self.backtrack(keeper)
@@ -211,8 +218,10 @@ impl TreeSearch<'_> {
             → IsOutcome (K.network keeper.old) self.entry.incumbent.bound self.entry.limit
             result.is_stopped result.best result.nodes }
         ensures nodes { AreNodes (K.network keeper.old) result.nodes }
+        ensures told { result.nodes ≡ self.entry.nodes }
         ensures network { K.network keeper.new ≡ K.network keeper.old }
         ensures pushes { K.pushes keeper.new ≡ [] }
+        ensures count { K.push_count keeper.new ≡ K.push_count keeper.old }
     {
         let TreeSearch {
             events,
@@ -233,12 +242,15 @@ impl TreeSearch<'_> {
     /// Goes through the tree from the node on.
     pub(crate) fn run<K: Keeper>(mut self, keeper: &mut K) -> Outcome
         requires searching { IsSearching (K.network keeper.old) (K.pushes keeper.old) self }
+        requires start { self.nodes ≡ 0 }
         ensures outcome { IsBound (K.network keeper.old) self.entry.incumbent.bound
             → IsOutcome (K.network keeper.old) self.entry.incumbent.bound self.entry.limit
             result.is_stopped result.best result.nodes }
         ensures nodes { AreNodes (K.network keeper.old) result.nodes }
         ensures network { K.network keeper.new ≡ K.network keeper.old }
         ensures pushes { K.pushes keeper.new ≡ [] }
+        ensures counted { WerePushed (K.push_count keeper.old) result.nodes
+            (K.push_count keeper.new) }
     {
         'nodes: loop {
             match self.step(keeper) {

@@ -15,7 +15,7 @@ pub new-requires-clause-pushes : goal.new-requires-clause-pushes
 new-requires-clause-pushes g c = c.requires.pushes
 
 pub run-outcome-requires : goal.run-outcome-requires
-run-outcome-requires g c = record { searching = rw c.requires.pushes c.in_ok-search.ensures.searching }
+run-outcome-requires g c = record { searching = rw c.requires.pushes c.in_ok-search.ensures.searching; start = c.in_ok-search.ensures.nodes }
 
 pub returns-clause-known : goal.returns-clause-known
 returns-clause-known g c =
