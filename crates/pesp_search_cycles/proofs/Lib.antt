@@ -22,3 +22,4 @@ pub mod Stood
 pub mod Taken
 pub mod Tested
 pub mod Totals
+pub mod Widths

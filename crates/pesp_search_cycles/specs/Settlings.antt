@@ -17,13 +17,13 @@ abbrev pub AreLeaves : Net → ℕ → Leaves → Type 0
 AreLeaves N cost leaves = All (AreBoxes N) leaves.boxes.items × IsCut (cost + 1) (IsCosted N.network) (InSome (IsSummed N) leaves.boxes.items)
 
 abbrev pub IsKnown : Net → ℕ → Known → Type 0
-IsKnown N cost (Nothing units) = ⊤
+IsKnown N cost Nothing = ⊤
 IsKnown N cost (Open leaves) = AreLeaves N cost leaves
 IsKnown N cost (Closed leaves) = AreLeaves N cost leaves
 
 -- there are no leaves that are gone on with no more
 abbrev pub IsUnclosed : Known → Type 0
-IsUnclosed (Nothing units) = ⊤
+IsUnclosed Nothing = ⊤
 IsUnclosed (Open leaves) = ⊤
 IsUnclosed (Closed leaves) = ⊥
 

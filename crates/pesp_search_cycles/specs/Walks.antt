@@ -1,9 +1,9 @@
 -- Walks along and against arcs, and the times that they take.
-use Rattle.std.specs.Prelude.{ℕ, ℤ, pos, ◌+◌, ◌+ℤ◌, ◌-ℤ◌, neg_ℤ, Bool, ◌==◌, ◌&&◌, nat_lt, List, [], ◌∷◌, length, slice_index, slice_index_or, if◌then◌else◌}
+use Rattle.std.specs.Prelude.{ℕ, ℤ, pos, ◌+◌, ◌+ℤ◌, ◌-ℤ◌, neg_ℤ, Bool, ◌==◌, ◌&&◌, nat_lt, List, [], ◌∷◌, length, slice_index, slice_index_or, sum_by, if◌then◌else◌}
 use Rattle.pesp_search_graph.specs.declared.arc.Arc.{Arc}
 use Rattle.pesp_search_graph.specs.declared.step.Step.{Step}
 use Rattle.pesp_search_cycles.specs.declared.range.Range.{Range}
-use Rattle.pesp_search_cycles.specs.Ranges.{AllIn}
+use Rattle.pesp_search_cycles.specs.Ranges.{AllIn, no_range, width}
 
 -- steps from one event to another
 pub record Path : Type 0 where
@@ -51,6 +51,10 @@ time_of arcs zs s = signed s.along ((arc_at arcs s.arc).span.lower +ℤ pos (sli
 abbrev pub times : List Arc → List ℕ → List Step → ℤ
 times arcs zs [] = pos 0
 times arcs zs (s ∷ ss) = time_of arcs zs s +ℤ times arcs zs ss
+
+-- how far apart the ends of the slacks' ranges are, of all steps together
+abbrev pub widths : List Range → List Step → ℕ
+widths ranges steps = sum_by (λ s. width (slice_index_or ranges s.arc no_range)) steps
 
 -- the residue of an event at these numbers, of which the residues come after the slacks
 abbrev pub residue : List Arc → List ℕ → ℕ → ℤ

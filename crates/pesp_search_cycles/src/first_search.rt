@@ -11,7 +11,6 @@ ghost use Rattle.pesp_search_cycles.specs.Settlings.{IsSettling, IsUnsettled};
 use crate::basis::{basis_within, walks_of};
 use crate::cuts::{Aim, cuts_beside};
 use crate::flip::FlipCut;
-use crate::graph::Basis;
 use crate::phase::spent_of;
 use crate::residues::residue_ranges;
 use crate::settling::Settling;
@@ -52,13 +51,6 @@ impl Model for FirstSearch {
         × IsSettling (net_of a.network a.walks.items a.cuts.items) a.settling };
 }
 
-fn is_narrow(basis: Basis) -> bool {
-    match basis {
-        Basis::Narrow => true,
-        Basis::Tree => false,
-    }
-}
-
 impl FirstSearch {
     /// A phase at its beginning.
     pub(crate) fn new(
@@ -78,7 +70,7 @@ impl FirstSearch {
         let basis = basis_within(alloc, &network, &residues, budget)?;
         let walks = walks_of(alloc, &network, &residues, basis, budget)?;
         let aim = Aim {
-            with_cuts: turn.phase.with_cuts && is_narrow(basis),
+            with_cuts: turn.phase.with_cuts && basis.is_narrow(),
             cap: settling.best.cost,
             floor: 0,
         };

@@ -75,6 +75,15 @@ pub(crate) enum Basis {
     Narrow,
 }
 
+impl Basis {
+    pub(crate) fn is_narrow(self) -> bool {
+        match self {
+            Basis::Narrow => true,
+            Basis::Tree => false,
+        }
+    }
+}
+
 /// So many numbers in units.
 pub(crate) fn units_of(numbers: u64) -> u64 {
     numbers / NUMBERS_OF_UNIT

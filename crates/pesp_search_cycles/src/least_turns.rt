@@ -8,6 +8,7 @@ ghost use Rattle.pesp_search_network.specs.Arcs.{IsCosted};
 
 use crate::least_search::LeastSearch;
 use crate::phase::spent_of;
+use crate::turn::Turn;
 use pesp_base::Memory;
 use pesp_search_least::{Budget, Limits, Outcome};
 use pesp_search_network::Network;
@@ -114,7 +115,7 @@ impl LeastTurns {
         }
         let turn = search.turn();
         if turn.is_by_tree() {
-            let search = search.beside(alloc, turn.narrow(), budget)?;
+            let search = search.beside(alloc, Turn::narrow(), budget)?;
             return Ok(LeastTurns::alone(search));
         }
         if search.has_cuts() {

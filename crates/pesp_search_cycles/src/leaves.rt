@@ -12,6 +12,7 @@ ghost use Rattle.pesp_search_cycles.specs.Starts.{IsInBoxes};
 use crate::boxes::Boxes;
 use crate::node::Node;
 use crate::parts::Part;
+use crate::phase::spent_of;
 use crate::proposer::Proposer;
 use crate::starts::Starts;
 use crate::waiting::Waiting;
@@ -26,6 +27,10 @@ const MOST_LEAVES: usize = 64;
 
 /// How many entries their tableaus have together at most: 16 MB.
 const MOST_ENTRIES: usize = 2_097_152;
+
+/// How many units the leaves of all maps may take at once, before they are sought part by part: a region of six lines takes 70 to
+/// 230 where eight times are fixed, of eight lines up to 500.
+const UNITS_AT_ONCE: u64 = 1_000;
 
 /// Boxes, and what is proposed in each.
 #[derive(Drop)]
@@ -95,6 +100,14 @@ impl Leaves {
             return Err(Memory);
         }
         Ok(())
+    }
+
+    /// Whether their tableaus have few enough entries together.
+    fn are_few(&self) -> bool {
+        match self.proposers.first() {
+            Some(proposer) => self.boxes.len() <= most_of(proposer.size()),
+            None => true,
+        }
     }
 
     /// The same leaves once more.
@@ -247,12 +260,12 @@ pub(crate) fn whole<'a>(
 }
 
 /// Boxes that have each map with these residues of this cost, where none costs less, or others too: what maps in them cost at
-/// least is told. The walks of one part are looked at.
+/// least is told. The walks of one part are looked at, if there is one.
 pub(crate) fn leaves_of_part<'a>(
     alloc: Global,
     cycles: &'a Cycles<'a>,
     residues: &[Range],
-    part: Part,
+    part: Option<Part>,
     cost: u64,
     budget: &mut Budget,
 ) -> Result<Leaves, Memory>
@@ -264,7 +277,7 @@ pub(crate) fn leaves_of_part<'a>(
     ensures least { IfOk result (λ leaves. IsLowerBound (IsAmong cycles.now.network residues.now) leaves.least) }
     ensures budget { OnlySpends budget.old.left budget.new.left }
 {
-    let root = whole(alloc, cycles, residues, Some(part))?;
+    let root = whole(alloc, cycles, residues, part)?;
     let most = most_of(root.entries());
     let limits = Limits {
         floor: cost,
@@ -277,6 +290,31 @@ pub(crate) fn leaves_of_part<'a>(
     let stack = Open { cycles, nodes };
     let leaves = leaves_below(alloc, stack, limits, most, budget)?;
     Ok(leaves)
+}
+
+/// Few boxes that have each map with these residues of this cost, where none costs less; none where they are not found soon.
+pub(crate) fn leaves_at_once<'a>(
+    alloc: Global,
+    cycles: &'a Cycles<'a>,
+    residues: &[Range],
+    cost: u64,
+    budget: &mut Budget,
+) -> Result<Option<Leaves>, Memory>
+    requires long { length residues.now ≡ cycles.now.network.events }
+    requires room { cost + 1 < 2 ^ 64 }
+    ensures cut { IfOk result (λ found. IfSome found (λ leaves. IsCut (cost + 1)
+        (IsAmong cycles.now.network residues.now) (InSome (IsSummed cycles.now) leaves.boxes.items))) }
+    ensures fit { IfOk result (λ found. IfSome found (λ leaves. All (AreBoxes cycles.now) leaves.boxes.items)) }
+    ensures budget { OnlySpends budget.old.left budget.new.left }
+{
+    let mut own = budget.part(UNITS_AT_ONCE);
+    let given = own.left;
+    let leaves = leaves_of_part(alloc, cycles, residues, None, cost, &mut own)?;
+    budget.spend(spent_of(given, own.left));
+    if own.is_spent() || leaves.least < cost || !leaves.are_few() {
+        return Ok(None);
+    }
+    Ok(Some(leaves))
 }
 
 impl<'a> Open<'a> {

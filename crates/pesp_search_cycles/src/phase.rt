@@ -1,5 +1,7 @@
 //! The phases of a search by cycles.
 
+ghost use Rattle.std.specs.Prelude.{◌≡◌, ℕ, Some};
+
 use crate::graph::Basis;
 
 /// By which cycles a search goes, and whether by cuts, too.
@@ -38,7 +40,9 @@ impl Phase {
 }
 
 /// What was spent of what was left.
-pub(crate) fn spent_of(before: Option<u64>, after: Option<u64>) -> u64 {
+pub(crate) fn spent_of(before: Option<u64>, after: Option<u64>) -> u64
+    ensures all { (left : ℕ) → before ≡ Some left → after ≡ Some 0 → result ≡ left }
+{
     match (before, after) {
         (Some(before), Some(after)) => before.saturating_sub(after),
         _ => 0,

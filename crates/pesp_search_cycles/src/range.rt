@@ -1,7 +1,7 @@
 //! Ranges of whole numbers.
 
-ghost use Rattle.std.specs.Prelude.{◌≡◌, ℕ, ℤ, ◌<◌, ◌↔◌, pos, neg_ℤ, ◌+ℤ◌, ◌≤ℤ◌, ◌<ℤ◌, IfNone, IfSome, MatchBool};
-ghost use Rattle.pesp_search_cycles.specs.Ranges.{IsHalved, IsIn, IsMultiple, least_product};
+ghost use Rattle.std.specs.Prelude.{◌≡◌, ℕ, ℤ, ◌+◌, ◌<◌, ◌≤◌, ◌↔◌, pos, neg_ℤ, ◌+ℤ◌, ◌≤ℤ◌, ◌<ℤ◌, IfNone, IfSome, MatchBool};
+ghost use Rattle.pesp_search_cycles.specs.Ranges.{IsHalved, IsIn, IsMultiple, least_product, width};
 
 use pesp_base::Period;
 
@@ -110,7 +110,8 @@ impl Range {
     /// Without the ends that are no whole number of steps.
     pub(crate) fn rounded(self, step: u16) -> Option<Range>
         requires { 0 < step }
-        ensures { IfSome result (λ range. (z : ℤ) → IsMultiple step z → IsIn self z → IsIn range z) }
+        ensures inside { IfSome result (λ range. (z : ℤ) → IsMultiple step z → IsIn self z → IsIn range z) }
+        ensures narrow { IfSome result (λ range. width range ≤ width self) }
     {
         let low = whole_below(self.low.checked_add(i64::from(step) - 1)?, step)?;
         let high = whole_below(self.high, step)?;
@@ -119,7 +120,8 @@ impl Range {
 
     /// The sums of a number of the one and one of the other.
     pub(crate) fn plus(self, other: Range) -> Option<Range>
-        ensures { IfSome result (λ sum. (y z : ℤ) → IsIn self y → IsIn other z → IsIn sum (y +ℤ z)) }
+        ensures inside { IfSome result (λ sum. (y z : ℤ) → IsIn self y → IsIn other z → IsIn sum (y +ℤ z)) }
+        ensures narrow { IfSome result (λ sum. width sum ≤ width self + width other) }
     {
         let low = self.low.checked_add(other.low)?;
         let high = self.high.checked_add(other.high)?;
@@ -128,7 +130,8 @@ impl Range {
 
     /// The numbers less than 0 by as much as those of the range are more.
     pub(crate) fn negated(self) -> Option<Range>
-        ensures { IfSome result (λ range. (z : ℤ) → IsIn self z → IsIn range (neg_ℤ z)) }
+        ensures inside { IfSome result (λ range. (z : ℤ) → IsIn self z → IsIn range (neg_ℤ z)) }
+        ensures narrow { IfSome result (λ range. width range ≤ width self) }
     {
         let low = self.high.checked_neg()?;
         let high = self.low.checked_neg()?;

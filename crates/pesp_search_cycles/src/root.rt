@@ -4,8 +4,8 @@ ghost use Rattle.std.specs.Prelude.{◌≡◌, ℕ, List, ◌+◌, ◌<◌, ◌�
 ghost use Rattle.pesp_base.specs.Tensions.{is_met, slack_of};
 ghost use Rattle.pesp_search_network.specs.Arcs.{IsMet};
 ghost use Rattle.pesp_search_cycles.specs.Maps.{AreBoxes, IsInside, numbers_of};
-ghost use Rattle.pesp_search_cycles.specs.Ranges.{AreIn, IsIn, no_range};
-ghost use Rattle.pesp_search_cycles.specs.Walks.{RoundsAreIn, ends, no_path, residue, round, signed, times};
+ghost use Rattle.pesp_search_cycles.specs.Ranges.{AreIn, IsIn, no_range, width};
+ghost use Rattle.pesp_search_cycles.specs.Walks.{Path, RoundsAreIn, ends, no_path, residue, round, signed, times, widths};
 
 use crate::boxes::Boxes;
 use crate::{Cycles, Range, Walk};
@@ -16,8 +16,9 @@ use std::alloc::Global;
 
 /// The times that a step along or against the arc takes at these slacks.
 pub(crate) fn step_range(arc: &Arc, along: bool, slacks: Range) -> Option<Range>
-    ensures { IfSome result (λ range. (y : ℕ) → IsIn slacks (pos y)
+    ensures inside { IfSome result (λ range. (y : ℕ) → IsIn slacks (pos y)
         → IsIn range (signed along (arc.now.span.lower +ℤ pos y))) }
+    ensures narrow { IfSome result (λ range. width range ≤ width slacks) }
 {
     let lower = i64::from(arc.span.lower());
     let fixed = Range {
@@ -30,8 +31,9 @@ pub(crate) fn step_range(arc: &Arc, along: bool, slacks: Range) -> Option<Range>
 
 /// The times that the steps take together where the numbers are in these ranges.
 fn time_range(arcs: &[Arc], numbers: &[Range], steps: &[Step]) -> Option<Range>
-    ensures { IfSome result (λ range. (zs : List ℕ) → AreIn numbers.now zs
+    ensures inside { IfSome result (λ range. (zs : List ℕ) → AreIn numbers.now zs
         → IsIn range (times arcs.now zs steps.now)) }
+    ensures narrow { IfSome result (λ range. width range ≤ widths numbers.now steps.now) }
 {
     let mut range = Range { low: 0, high: 0 };
     for step in steps {
@@ -54,8 +56,9 @@ pub(crate) fn residue_range(arcs: &[Arc], numbers: &[Range], event: usize) -> Op
 
 /// The residue at the first event of a walk less that at its last: 0 where it is closed.
 fn ends_range(arcs: &[Arc], numbers: &[Range], walk: &Walk) -> Option<Range>
-    ensures { IfSome result (λ range. (zs : List ℕ) → AreIn numbers.now zs
+    ensures inside { IfSome result (λ range. (zs : List ℕ) → AreIn numbers.now zs
         → IsIn range (ends arcs.now zs walk.now)) }
+    ensures closed { walk.now.from ≡ walk.now.to → IfSome result (λ range. width range ≡ 0) }
 {
     if walk.from == walk.to {
         return Some(Range { low: 0, high: 0 });
@@ -69,8 +72,10 @@ fn ends_range(arcs: &[Arc], numbers: &[Range], walk: &Walk) -> Option<Range>
 
 /// The times that a walk takes, with the residue at its first event and less that at its last.
 fn walk_range(arcs: &[Arc], numbers: &[Range], walk: &Walk) -> Option<Range>
-    ensures { IfSome result (λ range. (zs : List ℕ) → AreIn numbers.now zs
+    ensures inside { IfSome result (λ range. (zs : List ℕ) → AreIn numbers.now zs
         → IsIn range (round arcs.now zs walk.now)) }
+    ensures closed { walk.now.from ≡ walk.now.to
+        → IfSome result (λ range. width range ≤ widths numbers.now walk.now.steps) }
 {
     let steps = time_range(arcs, numbers, &walk.steps)?;
     let ends = ends_range(arcs, numbers, walk)?;
@@ -81,10 +86,13 @@ fn walk_range(arcs: &[Arc], numbers: &[Range], walk: &Walk) -> Option<Range>
 /// The same of a walk by index, in whole periods.
 fn round_range(cycles: &Cycles, numbers: &[Range], index: usize) -> Option<Range>
     requires { index < length cycles.now.walks }
-    ensures { IfSome result (λ range. (xs : List ℕ)
+    ensures inside { IfSome result (λ range. (xs : List ℕ)
         → AreIn numbers.now (numbers_of cycles.now.network xs)
         → IsIn range (round cycles.now.network.arcs (numbers_of cycles.now.network xs)
         (slice_index_or cycles.now.walks index no_path))) }
+    ensures closed { (walk : Path) → walk ≡ slice_index_or cycles.now.walks index no_path
+        → walk.from ≡ walk.to
+        → IfSome result (λ range. width range ≤ widths numbers.now walk.steps) }
 {
     let walk = &cycles.walks()[index];
     let times = walk_range(cycles.network().arcs(), numbers, walk)?;

@@ -10,10 +10,11 @@ ghost use Rattle.pesp_search_cycles.specs.Settlings.{AreLeaves, IsKnown, IsSettl
 ghost use Rattle.pesp_search_cycles.specs.Maps.{Net};
 
 use crate::held::Held;
-use crate::leaves::{Leaves, Open, leaves_of};
+use crate::leaves::{Leaves, Open, leaves_at_once, leaves_of};
+use crate::parts::Parts;
 use crate::phase::spent_of;
 use crate::residues::residue_ranges;
-use crate::starts::starts_of;
+use crate::starts::{Site, starts_of};
 use crate::{Cycles, Range};
 use pesp_base::Memory;
 use pesp_search_least::{Budget, Candidate, First, first};
@@ -22,8 +23,8 @@ use std::alloc::Global;
 /// What is known of where the maps of least cost are.
 #[derive(Drop)]
 pub(crate) enum Known {
-    /// Nothing: parts were searched with so many units in vain.
-    Nothing(u64),
+    /// Nothing.
+    Nothing,
     /// In leaves that are to be gone on with.
     Open(Leaves),
     /// In leaves that are gone on with no more.
@@ -38,10 +39,14 @@ pub(crate) struct Settling {
     // A map of least cost; none precedes it at one of so many events in front.
     pub(crate) best: Candidate,
     settled: usize,
+    // So many units the last step spent, and settled no event.
+    in_vain: u64,
 }
 
-/// What parts may be searched with: what is left, and twice as much as they were searched with in vain.
-fn allowance(budget: &Budget, in_vain: u64) -> Budget {
+/// What a step may spend: what is left, and twice as much as the last one spent in vain.
+fn allowance(budget: &Budget, in_vain: u64) -> Budget
+    ensures { OnlySpends result.left budget.now.left }
+{
     match budget.left {
         Some(left) => Budget::of(left.max(in_vain.saturating_mul(2))),
         None => Budget::unlimited(),
@@ -63,7 +68,18 @@ fn leaves_by_parts<'a>(
     ensures leaves { IfOk result (λ r. AreLeaves cycles.now best.now.cost r.0) }
     ensures budget { OnlySpends budget.old.left budget.new.left }
 {
-    let starts = starts_of(alloc, cycles, residues, best, budget)?;
+    let parts = Parts::of(alloc, cycles, residues)?;
+    if 1 < parts.count() {
+        if let Some(leaves) = leaves_at_once(alloc, cycles, residues, best.cost, budget)? {
+            return Ok((leaves, true));
+        }
+    }
+    let site = Site {
+        cycles,
+        residues,
+        map: &best.map,
+    };
+    let starts = starts_of(alloc, &site, &parts, best.cost, budget)?;
     let are_all = !budget.is_spent();
     let stack = Open::at(alloc, &starts, residues)?;
     let leaves = leaves_of(alloc, stack, residues, best.cost, budget)?;
@@ -115,22 +131,18 @@ impl Known {
         ensures spent { IfOk result (λ known. IsUnclosed known → budget.new.left ≡ Some 0) }
         ensures budget { OnlySpends budget.old.left budget.new.left }
     {
-        let in_vain = match self {
+        match self {
             Known::Closed(leaves) => return Ok(Known::Closed(leaves)),
             Known::Open(leaves) => {
                 let leaves = leaves_again(alloc, cycles, leaves, best.cost, budget)?;
                 return Ok(Known::of(leaves, budget));
             }
-            Known::Nothing(in_vain) => in_vain,
-        };
+            Known::Nothing => {}
+        }
         let residues = residue_ranges(alloc, cycles.network())?;
-        let mut own = allowance(budget, in_vain);
-        let given = own.left;
-        let (leaves, are_all) = leaves_by_parts(alloc, cycles, &residues, best, &mut own)?;
-        let units = spent_of(given, own.left);
-        budget.spend(units);
+        let (leaves, are_all) = leaves_by_parts(alloc, cycles, &residues, best, budget)?;
         if !are_all && budget.is_spent() {
-            return Ok(Known::Nothing(units));
+            return Ok(Known::Nothing);
         }
         Ok(Known::of(leaves, budget))
     }
@@ -144,9 +156,10 @@ impl Settling {
         ensures best { result.best ≡ best }
     {
         Settling {
-            known: Known::Nothing(0),
+            known: Known::Nothing,
             best,
             settled: 0,
+            in_vain: 0,
         }
     }
 
@@ -156,9 +169,10 @@ impl Settling {
         ensures best { result.best ≡ self.best }
     {
         Settling {
-            known: Known::Nothing(0),
+            known: Known::Nothing,
             best: self.best,
             settled: self.settled,
+            in_vain: 0,
         }
     }
 
@@ -174,8 +188,49 @@ impl Settling {
         Ok((told, Some(self)))
     }
 
-    /// Goes on as far as the budget goes: what the search comes to, and where it stops how it stands then.
+    /// The same after a step of so many units, all in vain where no more events are settled than before it.
+    fn after(self, units: u64, settled_before: usize) -> Settling
+        ensures settling { (N : Net) → IsSettling N self → IsSettling N result }
+        ensures best { result.best ≡ self.best }
+    {
+        let in_vain = if settled_before < self.settled {
+            0
+        } else {
+            units
+        };
+        Settling { in_vain, ..self }
+    }
+
+    /// Goes on as far as the budget goes: what the search comes to, and where it stops how it stands then. A step of which the last
+    /// one was in vain goes further, so that steps of any size come to the end.
     pub(crate) fn advance<'a>(
+        self,
+        alloc: Global,
+        cycles: &'a Cycles<'a>,
+        budget: &mut Budget,
+    ) -> Result<(First, Option<Settling>), Memory>
+        requires { IsSettling cycles.now self }
+        ensures first { IfOk result (λ r. IsFirstOutcome (IsCosted cycles.now.network) self.best.cost r.0) }
+        ensures settling { IfOk result (λ r. IfSome r.1 (IsSettling cycles.now)) }
+        ensures cost { IfOk result (λ r. IfSome r.1 (λ settling. settling.best.cost ≡ self.best.cost)) }
+        ensures ends { IfOk result (λ r. IsNone r.1 → IsUnsettled r.0 → ⊥) }
+        ensures spent { IfOk result (λ r. EndsUnlessSpent budget.new.left r.0) }
+        ensures budget { OnlySpends budget.old.left budget.new.left }
+    {
+        let before = self.settled;
+        let mut own = allowance(budget, self.in_vain);
+        let given = own.left;
+        let (told, rest) = self.go_on(alloc, cycles, &mut own)?;
+        let units = spent_of(given, own.left);
+        budget.spend(units);
+        match rest {
+            Some(settling) => Ok((told, Some(settling.after(units, before)))),
+            None => Ok((told, None)),
+        }
+    }
+
+    /// The same with this budget alone.
+    fn go_on<'a>(
         self,
         alloc: Global,
         cycles: &'a Cycles<'a>,
@@ -193,6 +248,7 @@ impl Settling {
             known,
             best,
             settled,
+            in_vain,
         } = self;
         let leaves = match known.advance(alloc, cycles, &best, budget)? {
             Known::Closed(leaves) => leaves,
@@ -201,6 +257,7 @@ impl Settling {
                     known,
                     best,
                     settled,
+                    in_vain,
                 };
                 return settling.stopped();
             }
@@ -215,6 +272,7 @@ impl Settling {
                     known,
                     best,
                     settled,
+                    in_vain,
                 };
                 settling.stopped()
             }

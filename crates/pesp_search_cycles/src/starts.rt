@@ -12,7 +12,7 @@ use crate::parts::{Part, Parts};
 use crate::phase::spent_of;
 use crate::{Cycles, Range};
 use pesp_base::Memory;
-use pesp_search_least::{Budget, Candidate};
+use pesp_search_least::Budget;
 use std::alloc::Global;
 
 /// How many units the search of a part may take: where that is not enough, all parts are searched together.
@@ -36,13 +36,13 @@ pub(crate) struct Starts<'a> {
 
 /// A network, and a map of which it is thought that it costs least.
 #[derive(Drop)]
-struct Site<'a> {
+pub(crate) struct Site<'a> {
     // Those of the network.
-    cycles: &'a Cycles<'a>,
+    pub(crate) cycles: &'a Cycles<'a>,
     // One for each event.
-    residues: &'a [Range],
+    pub(crate) residues: &'a [Range],
     // Any.
-    map: &'a [u16],
+    pub(crate) map: &'a [u16],
     ghost long: { length residues.now ≡ cycles.now.network.events },
 }
 
@@ -143,7 +143,7 @@ fn found_in(
     let cycles = site.cycles.over(alloc, &network)?;
     let mut own = budget.part(UNITS_OF_PART);
     let given = own.left;
-    let leaves = leaves_of_part(alloc, &cycles, site.residues, part, cost, &mut own)?;
+    let leaves = leaves_of_part(alloc, &cycles, site.residues, Some(part), cost, &mut own)?;
     budget.spend(spent_of(given, own.left));
     if leaves.least < cost {
         return Ok(None);
@@ -189,33 +189,27 @@ fn found_in_all(
     }))
 }
 
-/// Boxes that have each map with these residues that costs as much as the candidate, where none costs less.
+/// Boxes that have each map with these residues that costs so much, where none costs less.
 pub(crate) fn starts_of<'a>(
     alloc: Global,
-    cycles: &'a Cycles<'a>,
-    residues: &'a [Range],
-    candidate: &'a Candidate,
+    site: &Site<'a>,
+    parts: &Parts,
+    cost: u64,
     budget: &mut Budget,
 ) -> Result<Starts<'a>, Memory>
-    requires { length residues.now ≡ cycles.now.network.events }
-    ensures cycles { IfOk result (λ starts. starts.cycles.now ≡ cycles.now) }
-    ensures starts { IfOk result (λ starts. AreStarts cycles.now.network cycles.now residues.now
-        candidate.now.cost starts.boxes.items) }
+    ensures cycles { IfOk result (λ starts. starts.cycles.now ≡ site.now.cycles.now) }
+    ensures starts { IfOk result (λ starts. AreStarts site.now.cycles.now.network site.now.cycles.now
+        site.now.residues.now cost starts.boxes.items) }
     ensures budget { OnlySpends budget.old.left budget.new.left }
 {
-    let (root, _) = whole(alloc, cycles, residues, None)?.into_parts();
+    let cycles = site.cycles;
+    let (root, _) = whole(alloc, cycles, site.residues, None)?.into_parts();
     let all = Starts::alone(alloc, cycles, &root)?;
-    let parts = Parts::of(alloc, cycles, residues)?;
     if parts.count() < 2 || MOST_PARTS < parts.count() {
         return Ok(all);
     }
-    let site = Site {
-        cycles,
-        residues,
-        map: &candidate.map,
-    };
-    match found_in_all(alloc, &site, &parts, &root, budget)? {
-        Some(found) if candidate.cost <= found.cost => Ok(Starts {
+    match found_in_all(alloc, site, parts, &root, budget)? {
+        Some(found) if cost <= found.cost => Ok(Starts {
             cycles,
             boxes: found.boxes,
         }),

@@ -1,6 +1,5 @@
 //! Which phase of a search it is, and how much of it is left.
 
-use crate::graph::Basis;
 use crate::phase::Phase;
 use pesp_search_least::Budget;
 
@@ -58,14 +57,11 @@ impl Turn {
 
     /// Whether it goes by the cycles of a tree.
     pub(crate) fn is_by_tree(self) -> bool {
-        match self.phase.basis {
-            Basis::Tree => true,
-            Basis::Narrow => false,
-        }
+        !self.phase.basis.is_narrow()
     }
 
     /// The first one by narrow cycles.
-    pub(crate) fn narrow(self) -> Turn {
+    pub(crate) fn narrow() -> Turn {
         Turn::of(Phase::plain(), Some(FIRST_UNITS))
     }
 

@@ -19,7 +19,7 @@ returns-then-step c zs inside =
     let slack : IsIn c.in_ok-slacks.slacks.now (pos y) =
     subst (λ r. IsIn r (pos y)) (sym (m.3.1 no_range)) (AreIn-at c.args.numbers.now zs s.arc no_range inside m.3.0) in
     let here : IsIn c.in_ok-range.range (time_of arcs zs s) =
-    subst (λ (a : Arc). IsIn c.in_ok-range.range (signed s.along (a.span.lower +ℤ pos y))) same (c.in_ok-range.ensures y slack) in
+    subst (λ (a : Arc). IsIn c.in_ok-range.range (signed s.along (a.span.lower +ℤ pos y))) same (c.in_ok-range.ensures.inside y slack) in
     let low_fits : FitsSigned w32 c.lower.result = search rules in
     let low : to_z w64 (of_z w64 c.from-lower.result) ≡ c.lower.result = omega (arith, ints, c.from-lower.ensures, low_fits) in
     let lower : to_z w64 (of_z w64 c.from-lower.result) ≡ (arc_at arcs s.arc).span.lower = low ∙ c.lower.ensures.value ∙ ap (λ (a : Arc). a.span.lower) same in
@@ -36,7 +36,7 @@ returns-else-step c zs inside =
     let slack : IsIn c.in_ok-slacks.slacks.now (pos y) =
     subst (λ r. IsIn r (pos y)) (sym (m.3.1 no_range)) (AreIn-at c.args.numbers.now zs s.arc no_range inside m.3.0) in
     let here : IsIn c.in_ok-range.range (time_of arcs zs s) =
-    subst (λ (a : Arc). IsIn c.in_ok-range.range (signed s.along (a.span.lower +ℤ pos y))) same (c.in_ok-range.ensures y slack) in
+    subst (λ (a : Arc). IsIn c.in_ok-range.range (signed s.along (a.span.lower +ℤ pos y))) same (c.in_ok-range.ensures.inside y slack) in
     let low_fits : FitsSigned w32 c.lower.result = search rules in
     let low : to_z w64 (of_z w64 (pos 0 -ℤ to_z w64 (of_z w64 c.from-lower.result))) ≡ neg_ℤ c.lower.result = omega (arith, ints, c.from-lower.ensures, low_fits) in
     let lower : to_z w64 (of_z w64 (pos 0 -ℤ to_z w64 (of_z w64 c.from-lower.result))) ≡ neg_ℤ (arc_at arcs s.arc).span.lower = low ∙ ap neg_ℤ (c.lower.ensures.value ∙ ap (λ (a : Arc). a.span.lower) same) in

@@ -15,5 +15,5 @@ loop-index-preserved c =
     let pushed : c.push.new.self.items ≡ c.loop-index.ranges.items ++ c.in-Some.range ∷ [] = grind (arith, common_steps, c.push.ensures.items, c.if-is_err.ensures.value) in
     record {
       long = pushed_long c.loop-index.ranges.items c.push.new.self.items i c.in-Some.range c.loop-index.invariant.long pushed;
-      each = pushed_each (λ k (r : Range). (xs : List ℕ) → AreIn c.args.numbers.now (numbers_of N.network xs) → IsIn r (round N.network.arcs (numbers_of N.network xs) (get_or N.walks k no_path))) c.loop-index.ranges.items c.push.new.self.items i c.in-Some.range c.loop-index.invariant.long pushed c.loop-index.invariant.each c.in-Some.ensures;
+      each = pushed_each (λ k (r : Range). (xs : List ℕ) → AreIn c.args.numbers.now (numbers_of N.network xs) → IsIn r (round N.network.arcs (numbers_of N.network xs) (get_or N.walks k no_path))) c.loop-index.ranges.items c.push.new.self.items i c.in-Some.range c.loop-index.invariant.long pushed c.loop-index.invariant.each c.in-Some.ensures.inside;
     }

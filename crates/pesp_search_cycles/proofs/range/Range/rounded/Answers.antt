@@ -4,10 +4,11 @@ use Rattle.std.proofs.lemmas.Int.{ints}
 use Rattle.pesp_search_cycles.specs.Ranges.{IsMultiple}
 use Rattle.pesp_search_cycles.proofs.Halved.{rounded_in}
 use Rattle.pesp_search_cycles.proofs.Numbers.{back}
+use Rattle.pesp_search_cycles.proofs.Widths.{width_within}
 use Rattle.pesp_search_cycles.proofs.range.Range.rounded.Goals as goal
 
-pub returns : goal.returns
-returns c z m i =
+pub returns-clause-inside : goal.returns-clause-inside
+returns-clause-inside c z m i =
     let low : FitsSigned w64 c.in_ok-low.low = search rules in
     let high : FitsSigned w64 c.in_ok-high.high = search rules in
     let self_low : FitsSigned w64 c.args.self.low = search rules in
@@ -17,3 +18,13 @@ returns c z m i =
     (subst (IsMultiple c.args.step) (sym (back _ high)) c.in_ok-high.ensures.whole)
     (omega (arith, ints, low, self_low, c.in_ok-low.ensures.below, c.in_ok-checked_add.ensures, c.from.ensures, c.ranges.step))
     (omega (arith, ints, high, self_high, c.in_ok-high.ensures.near)) m i
+
+pub returns-clause-narrow : goal.returns-clause-narrow
+returns-clause-narrow c =
+    let low : FitsSigned w64 c.in_ok-low.low = search rules in
+    let high : FitsSigned w64 c.in_ok-high.high = search rules in
+    let self_low : FitsSigned w64 c.args.self.low = search rules in
+    let self_high : FitsSigned w64 c.args.self.high = search rules in
+    width_within c.args.self (to_z w64 (of_z w64 c.in_ok-low.low)) (to_z w64 (of_z w64 c.in_ok-high.high))
+    (omega (arith, ints, low, self_low, c.in_ok-low.ensures.near, c.in_ok-checked_add.ensures, c.from.ensures, c.ranges.step))
+    (omega (arith, ints, high, self_high, c.in_ok-high.ensures.below))

@@ -12,7 +12,7 @@ use Rattle.pesp_search_cycles.specs.declared.settling.Known.TheVariants.{Closed}
 use Rattle.pesp_search_cycles.specs.declared.settling.Settling.{Settling}
 use Rattle.pesp_search_cycles.proofs.Firsts.{first_of, least_of_few, region_cut, settled_of_few, told_first}
 use Rattle.pesp_search_cycles.proofs.Leaved.{copies_back, copies_fit, copies_there, cut_alike, cut_of_among}
-use Rattle.pesp_search_cycles.proofs.settling.Settling.advance.Goals as goal
+use Rattle.pesp_search_cycles.proofs.settling.Settling.go_on.Goals as goal
 
 pub first-requires : goal.first-requires
 first-requires c =
@@ -67,7 +67,7 @@ returns-in-Spent-clause-first c =
     let told : IsFirstOutcome (IsCosted A) best.cost c.in_ok-best.field-0 =
     first_of (IsCosted A) (IsLeft region.cycles.now region.residues.items region.leaves.boxes.items) best.cost cut best c.in_ok-best.field-0 c.requires.least refl c.in_ok-best.ensures.first in
     let stop : IsFirstOutcome (IsCosted A) best.cost (Spent c.in-Spent.best c.in-Spent.settled) = rw c.in-Spent.is at told in
-    let standing : Settling = record { known = Closed c.in_ok-copy.field-0; best = c.in-Spent.best; settled = c.in-Spent.settled } in
+    let standing : Settling = record { known = Closed c.in_ok-copy.field-0; best = c.in-Spent.best; settled = c.in-Spent.settled; in_vain = c.args.self.in_vain } in
     IfOk-weaker c.stopped-in-Spent.result _ _ (λ r is. told_first A best.cost standing r.0 is stop.0 stop.1 stop.2) c.stopped-in-Spent.ensures.first
 
 pub returns-in-Spent-clause-settling : goal.returns-in-Spent-clause-settling
@@ -86,7 +86,7 @@ returns-in-Spent-clause-settling c =
     let told : IsFirstOutcome (IsCosted A) best.cost c.in_ok-best.field-0 =
     first_of (IsCosted A) (IsLeft region.cycles.now region.residues.items region.leaves.boxes.items) best.cost cut best c.in_ok-best.field-0 c.requires.least refl c.in_ok-best.ensures.first in
     let stop : IsFirstOutcome (IsCosted A) best.cost (Spent c.in-Spent.best c.in-Spent.settled) = rw c.in-Spent.is at told in
-    let standing : Settling = record { known = Closed c.in_ok-copy.field-0; best = c.in-Spent.best; settled = c.in-Spent.settled } in
+    let standing : Settling = record { known = Closed c.in_ok-copy.field-0; best = c.in-Spent.best; settled = c.in-Spent.settled; in_vain = c.args.self.in_vain } in
     let copy = c.in_ok-copy.field-0.boxes.items in
     let within : c.in-Spent.settled ≤ region.cycles.now.network.events = rw c.in-Spent.is at c.in_ok-best.ensures.events in
     let is : IsSettling N standing = record {
