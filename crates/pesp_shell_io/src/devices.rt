@@ -3,7 +3,7 @@
 //! std's readers and writers keep no record of a failure, of an end or of a flush, so a contract over them could
 //! not say that one came. [`Noted`] keeps the first two, and [`Flush`] tells the third.
 
-ghost use Rattle.std.specs.Prelude.{◌≡◌, ℕ, ◌<◌, ⊤, Bool, true, false, List, Option, length, IfOk, IsTrue, OnOk};
+ghost use Rattle.std.specs.Prelude.{◌≡◌, ℕ, ◌<◌, ⊤, Bool, true, false, List, Option, length, IfOk, IsTrue, OnOk, OnErr};
 ghost use Rattle.std.specs.Io.KnownBytes.{Keeps, ReadConsumes, WriteAppends};
 ghost use Rattle.std.specs.Io.{ReadsAtMost, WritesAtMost};
 ghost use Rattle.pesp_shell_io.specs.Devices.{MarksEnd, MarksFailure, MarksHeldBack};
@@ -67,6 +67,7 @@ pub trait ByteSink {
         requires { failed self.old ≡ false }
         ensures bytes { Keeps (written self.old) (written self.new) }
         ensures passed { OnOk result (IsTrue (passed_on self.new)) }
+        ensures held { OnErr result (passed_on self.new ≡ passed_on self.old) }
         ensures flushed { OnOk result (is_flushed self.new) }
         ensures failure { MarksFailure result (failed self.old) (failed self.new) };
 }

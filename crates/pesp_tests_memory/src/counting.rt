@@ -20,6 +20,8 @@ impl Keeper for Counting {
 
     ghost pushes = { λ counting. counting.keeper.pushes };
 
+    ghost push_count = { λ counting. counting.keeper.push_count };
+
     fn from_instance(alloc: Global, instance: Instance) -> Result<Counting, NoRoom> {
         let keeper = CountKeeper::from_instance(alloc, instance)?;
         Ok(Counting { keeper, pushed: 0 })
