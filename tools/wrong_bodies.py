@@ -130,10 +130,6 @@ def is_plain(told: str) -> bool:
 
 # Where a refusal comes from; what is through is not refused, or not tried.
 KINDS = CLAUSE, CALL, PROOF, OTHER, THROUGH = "clause", "call", "proof", "other", "through"
-# Crates of which a wrong body of the first shelf may still be refused at a proof, or single edits as `CRATE/NAME.edit`.
-UNSORTED = frozenset(
-    {"pesp_bench", "pesp_embedded", "pesp_search", "pesp_search_cycles", "pesp_shell", "pesp_shell_main", "pesp_shell_replies"}
-)
 # A line on an edit, as the toolchain or tools/try_wrong_bodies prints it.
 TOLD = re.compile(r"(?:(?:rt: )?must-fail )?(?P<crate>\w+)/(?P<name>[\w.-]+\.edit): (?P<told>.*)")
 # What the prover says of a goal that its search does not prove, and which of these goals are of the body's own contract.
@@ -164,8 +160,8 @@ class Refusal(NamedTuple):
         return found[1] or found[2] if found else ""
 
     def shows_nothing(self) -> bool:
-        """Whether it comes from a proof that no longer fits, where it is not known that this may be."""
-        return self.kind == PROOF and not {self.crate, f"{self.crate}/{self.name}"} & UNSORTED
+        """Whether it comes from a proof that no longer fits."""
+        return self.kind == PROOF
 
 
 def refusals(top: pathlib.Path, lines: Sequence[str]) -> List[Refusal]:

@@ -8,7 +8,7 @@ from typing import List, Sequence, Tuple
 
 from tests.harness import TOP, Suite, run
 from tests.start_tree import SYSTEM
-from wrong_bodies import FIRST, KINDS, PROOF, SECOND, UNSORTED, Unread, applied, breaks_of, edits, refusals
+from wrong_bodies import FIRST, KINDS, PROOF, SECOND, Unread, applied, breaks_of, edits, refusals
 
 # The gate tries each edit of the first shelf in each run, and a change at the bottom pays for all of them.
 MOST_ON_THE_FIRST = 240
@@ -152,25 +152,21 @@ def kinds(suite: Suite) -> None:
 
 
 def gate(suite: Suite) -> None:
-    """What ends the gate: a refusal at a proof, but where it is known that this may be."""
+    """What ends the gate: a refusal at a proof."""
     top = suite.folder / "gate"
     (top / "tools").mkdir(parents=True)
     for name in ["sort_refusals", "wrong_bodies.py"]:
         shutil.copy(TOP / "tools" / name, top / "tools" / name)
     told = dict(reversed(REFUSALS))
-    known = [it if it.endswith(".edit") else f"{it}/any.edit" for it in sorted(UNSORTED)]
-    tries: List[Tuple[str, List[str]]] = [("none", []), ("those that are known", known), ("one more", [*known, "low/proof.edit"])]
+    tries: List[Tuple[str, List[str]]] = [("none", []), ("one", ["low/proof.edit"])]
     for title, proofs in tries:
         lines = [f"rt: must-fail low/{kind}.edit: {told[kind]}" for kind in KINDS if kind != PROOF]
         lines += [f"rt: must-fail {name}: {told[PROOF]}" for name in proofs]
         (top / "log").write_text("\n".join(["rt: a line of the toolchain", *lines, ""]))
         come = run([sys.executable, top / "tools/sort_refusals", "--gate", top / "log"])
         shown = [line.split(": ")[0] for line in come["standard output"].decode().splitlines()[:-1]]
-        wanted = {"status": int("low/proof.edit" in proofs), "shown": proofs}
+        wanted = {"status": len(proofs), "shown": proofs}
         suite.note(f"tools/sort_refusals --gate: {title} at a proof", wanted, {"status": come["status"], "shown": shown})
-    single = [it.split("/") for it in UNSORTED if it.endswith(".edit")]
-    there = all((TOP / "crates" / crate / FIRST / name).is_file() for crate, name in single)
-    suite.holds("each edit that is known stands there", there)
 
 
 def files_of(top: Path) -> List[str]:

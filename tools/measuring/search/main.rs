@@ -36,14 +36,14 @@ fn network_of(period: u16, rows: &[Row]) -> Option<Network> {
     Some(network)
 }
 
-/// What the first map is found to be, from a map of least cost.
-fn first_after(cycles: &mut ByCycles, network: &Network, candidate: Candidate, budget: &mut Budget) -> Option<String> {
+/// What the first map is found to be, from a map of least cost, and whether it is found.
+fn first_after(cycles: &mut ByCycles, network: &Network, candidate: Candidate, budget: &mut Budget) -> Option<(String, bool)> {
     let (cost, begun) = (candidate.cost, seconds());
-    let is_first = match cycles.first(Global, network, candidate, budget).ok()? {
-        First::Done(best) => format!("the first ({})", sum_of(&best.map)),
-        First::Spent { .. } => "not the first".into(),
+    let (is_first, is_done) = match cycles.first(Global, network, candidate, budget).ok()? {
+        First::Done(best) => (format!("the first ({})", sum_of(&best.map)), true),
+        First::Spent { .. } => ("not the first".into(), false),
     };
-    Some(format!("optimum {cost}; {is_first} after {:.3} s more", seconds() - begun))
+    Some((format!("optimum {cost}; {is_first} after {:.3} s more", seconds() - begun), is_done))
 }
 
 /// A number by which two maps are told apart.
@@ -51,20 +51,21 @@ fn sum_of(map: &[u16]) -> u64 {
     map.iter().fold(0, |sum: u64, residue| sum.wrapping_mul(31).wrapping_add(u64::from(*residue))) % 1_000_000
 }
 
-fn searched(cycles: &mut ByCycles, network: &Network, budget: &mut Budget) -> Option<String> {
+/// What the search has come to, and whether that is its end.
+fn searched(cycles: &mut ByCycles, network: &Network, budget: &mut Budget) -> Option<(String, bool)> {
     let limits = Limits { floor: 0, cap: u64::MAX };
     let begun = seconds();
     let outcome = network.least(Global, cycles, limits, budget).ok()?;
     let taken = seconds() - begun;
-    let told = match outcome {
+    let (told, is_done) = match outcome {
         Outcome::Found(candidate) => first_after(cycles, network, candidate, budget)?,
-        Outcome::NoneBelow => "infeasible".into(),
+        Outcome::NoneBelow => ("infeasible".into(), true),
         Outcome::Spent { best, lower_bound } => {
             let best = best.map_or("none".into(), |best| best.cost.to_string());
-            format!("stopped: best {best}, lower bound {lower_bound}")
+            (format!("stopped: best {best}, lower bound {lower_bound}"), false)
         }
     };
-    Some(format!("{taken:.3} s: {told}"))
+    Some((format!("{taken:.3} s: {told}"), is_done))
 }
 
 /// One search after another of so many units, each from where the one before it stopped, to the end.
@@ -72,9 +73,9 @@ fn in_steps(network: &Network, units: u64) -> Option<String> {
     let (mut cycles, begun) = (ByCycles::new(Global), seconds());
     for step in 1.. {
         let mut budget = Budget::of(units);
-        let told = searched(&mut cycles, network, &mut budget)?;
+        let (told, is_done) = searched(&mut cycles, network, &mut budget)?;
         let line = format!("step {step}, {:.3} s in all: {told}", seconds() - begun);
-        if !budget.is_spent() {
+        if is_done {
             return Some(line);
         }
         if step % 50 == 0 {
@@ -92,7 +93,7 @@ fn run(words: &[String]) -> Option<String> {
         return in_steps(&network, units?);
     }
     let mut budget = units.map_or_else(Budget::unlimited, Budget::of);
-    searched(&mut ByCycles::new(Global), &network, &mut budget)
+    Some(searched(&mut ByCycles::new(Global), &network, &mut budget)?.0)
 }
 
 fn main() {
