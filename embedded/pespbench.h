@@ -152,13 +152,14 @@ struct pesp_found {
  * it has come to, what that costs, and what none can undercut. Instance and working timetable stay.
  *
  * Calls one after the other are one search: each goes on where the one before it stopped, so call with as many nodes as take as
- * long as you can wait, again and again, until the state is PESP_OPTIMUM or PESP_NO_TIMETABLE. Double them after a call that
- * tells nothing new: a question after the first of the timetables of least cost is asked anew where it was cut off, and a network
- * of too many cycles is searched anew. No later call of a search tells a dearer timetable, or a lower bound that is less.
- * Where lines have changed the network in between (an event, a window, a
- * fixed time, an activity, its ends, span or weight), the next call begins anew, with the best timetable so far where that
- * still meets everything. Lines that change times alone leave it as it is, and so do questions: `try` is a search of its own,
- * and `optimum` and `adopt` go on with this one to its end.
+ * long as you can wait, again and again, until the state is PESP_OPTIMUM or PESP_NO_TIMETABLE. Once the least cost is known, a
+ * call after one that came no nearer to the first timetable of that cost takes up to twice as long as that one. Double the nodes
+ * after a call that tells nothing new: a network of too many cycles is searched anew each time. No later call of a search tells
+ * a dearer timetable, or a lower bound that is less.
+ * Where lines have changed the network in between (an event, a window, a fixed time, an activity, its ends, span or weight),
+ * the next call begins anew, with the best timetable so far where that still meets everything. Lines that change times alone
+ * leave it as it is, and so do questions: `try` is a search of its own, and `optimum` and `adopt` go on with this one to its
+ * end.
  *
  * nodes: any number. With 0 nothing is searched but what needs no node, as an event whose domain is empty: what is known is
  *     told again, or the best timetable so far, as long as it meets everything; the bound of that is 0.
