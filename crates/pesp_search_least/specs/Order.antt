@@ -41,10 +41,10 @@ abbrev pub IsFirstOutcome : Sums → ℕ → First → Type 0
 IsFirstOutcome sums cost (Done candidate) = IsFirst sums candidate × (candidate.cost ≡ cost)
 IsFirstOutcome sums cost (Spent candidate settled) = IsLeast sums candidate × (candidate.cost ≡ cost) × IsSettled sums settled candidate
 
--- no more events are settled than there are
-abbrev pub IsSettledWithin : ℕ → First → Type 0
-IsSettledWithin events (Done candidate) = ⊤
-IsSettledWithin events (Spent candidate settled) = settled ≤ events
+-- no fewer events are settled than before, and no more than there are
+abbrev pub IsSettledWithin : ℕ → ℕ → First → Type 0
+IsSettledWithin before events (Done candidate) = ⊤
+IsSettledWithin before events (Spent candidate settled) = (before ≤ settled) × (settled ≤ events)
 
 -- it stops only where nothing is left of the budget
 abbrev pub EndsUnlessSpent : Option ℕ → First → Type 0

@@ -55,7 +55,7 @@ pub fn first<R: Region>(
     requires events { settled ≤ R.events region }
     requires settled { IsSettled (R.sums region) settled candidate }
     ensures first { IfOk result (IsFirstOutcome (R.sums region) candidate.cost) }
-    ensures events { IfOk result (IsSettledWithin (R.events region)) }
+    ensures events { IfOk result (IsSettledWithin settled (R.events region)) }
     ensures spent { IfOk result (EndsUnlessSpent budget.new.left) }
     ensures budget { OnlySpends budget.old.left budget.new.left }
 {

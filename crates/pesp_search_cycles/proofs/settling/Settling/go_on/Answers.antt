@@ -88,7 +88,7 @@ returns-in-Spent-clause-settling c =
     let stop : IsFirstOutcome (IsCosted A) best.cost (Spent c.in-Spent.best c.in-Spent.settled) = rw c.in-Spent.is at told in
     let standing : Settling = record { known = Closed c.in_ok-copy.field-0; best = c.in-Spent.best; settled = c.in-Spent.settled; in_vain = c.args.self.in_vain } in
     let copy = c.in_ok-copy.field-0.boxes.items in
-    let within : c.in-Spent.settled ≤ region.cycles.now.network.events = rw c.in-Spent.is at c.in_ok-best.ensures.events in
+    let within : c.in-Spent.settled ≤ region.cycles.now.network.events = (rw c.in-Spent.is at c.in_ok-best.ensures.events).1 in
     let is : IsSettling N standing = record {
       least = stop.0;
       settled = stop.2;
