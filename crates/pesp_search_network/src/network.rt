@@ -22,6 +22,8 @@ pub struct Network {
     arcs: Vec<Arc>,
     // For each event, for each residue, whether the event may stand there.
     rows: Vec<bool>,
+    // For each event whether `imply` was told of it. Nothing is relied upon.
+    implied: Vec<bool>,
 }
 
 impl Model for Network {
@@ -82,11 +84,15 @@ impl Network {
         let Ok(rows) = vec![in alloc; true; events * usize::from(period.get())] else {
             return Err(Memory);
         };
+        let Ok(implied) = vec![in alloc; false; events] else {
+            return Err(Memory);
+        };
         Ok(Network {
             period,
             events,
             arcs: Vec::new(alloc),
             rows,
+            implied,
         })
     }
 
@@ -116,6 +122,31 @@ impl Network {
         self.rows[index] = false;
     }
 
+    /// Tells of an event that arcs and other rows imply its row: a method may leave it aside.
+    pub fn imply(&mut self, event: usize)
+        ensures { self.new ≡ self.old }
+    {
+        if let Some(is_implied) = self.implied.get_mut(event) {
+            *is_implied = true;
+        }
+    }
+
+    /// Whether that was told of the event.
+    pub fn is_implied(&self, event: usize) -> bool {
+        match self.implied.get(event) {
+            Some(is_implied) => *is_implied,
+            None => false,
+        }
+    }
+
+    /// What was told, once more.
+    fn implied(&self) -> Result<Vec<bool>, Memory> {
+        match self.implied.clone() {
+            Ok(implied) => Ok(implied),
+            Err(_) => Err(Memory),
+        }
+    }
+
     /// The same network once more.
     pub fn copy(&self) -> Result<Network, Memory>
         ensures { IfOk result (λ network. network ≡ self.now) }
@@ -131,6 +162,7 @@ impl Network {
             events: self.events,
             arcs,
             rows,
+            implied: self.implied()?,
         })
     }
 
@@ -169,6 +201,7 @@ impl Network {
             events: self.events,
             arcs,
             rows,
+            implied: self.implied()?,
         })
     }
 
@@ -187,6 +220,7 @@ impl Network {
             events: self.events,
             arcs,
             rows,
+            implied: self.implied()?,
         })
     }
 
