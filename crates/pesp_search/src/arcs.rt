@@ -95,6 +95,17 @@ fn keep_domains<K: Keeper>(network: &mut Network, keeper: &K, events: &[EventId]
     }
 }
 
+/// Tells of the domains of events without a window that arcs and other domains imply them.
+fn imply_domains(network: &mut Network, instance: &Instance, events: &[EventId])
+    ensures { network.new ≡ network.old }
+{
+    for (index, event) in events.iter().enumerate() {
+        if instance.window(*event).is_none() {
+            network.imply(index);
+        }
+    }
+}
+
 /// The network of a keeper's instance, in which each event has its domain.
 pub(crate) fn network_of<K: Keeper>(
     alloc: Global,
@@ -109,5 +120,6 @@ pub(crate) fn network_of<K: Keeper>(
     let mut network = Network::new(alloc, keeper.instance().period(), events.len())?;
     keep_domains(&mut network, keeper, events);
     add_arcs(&mut network, keeper.instance(), events)?;
+    imply_domains(&mut network, keeper.instance(), events);
     Ok(network)
 }
