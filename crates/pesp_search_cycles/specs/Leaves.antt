@@ -1,8 +1,8 @@
 -- What becomes of a node where all maps below a cap are to be kept.
 use Rattle.std.specs.Prelude.{◌≡◌, ℕ, ◌<◌}
 use Rattle.pesp_search_least.specs.Sums.{AreHalves, IsLowerBound, Sums}
-use Rattle.pesp_search_cycles.specs.declared.leaves.Next.{Next}
-use Rattle.pesp_search_cycles.specs.declared.leaves.Next.TheVariants.{Nothing, Leaf, Halves}
+use Rattle.pesp_search_cycles.specs.declared.open.Next.{Next}
+use Rattle.pesp_search_cycles.specs.declared.open.Next.TheVariants.{Nothing, Leaf, Halves}
 use Rattle.pesp_search_cycles.specs.declared.node.Node.{Node}
 use Rattle.pesp_search_cycles.specs.Maps.{IsSummed}
 use Rattle.pesp_search_cycles.specs.Splits.{size}

@@ -1,5 +1,5 @@
 -- Walks along and against arcs, and the times that they take.
-use Rattle.std.specs.Prelude.{ℕ, ℤ, pos, ◌+◌, ◌+ℤ◌, ◌-ℤ◌, neg_ℤ, Bool, ◌==◌, ◌&&◌, nat_lt, List, [], ◌∷◌, length, slice_index, slice_index_or, sum_by, if◌then◌else◌}
+use Rattle.std.specs.Prelude.{◌≡◌, ◌<◌, ◌≤◌, ℕ, ℤ, pos, ◌+◌, ◌+ℤ◌, ◌-ℤ◌, neg_ℤ, Bool, ◌==◌, ◌&&◌, nat_lt, List, [], ◌∷◌, length, slice_index, slice_index_or, sum_by, if◌then◌else◌}
 use Rattle.pesp_search_graph.specs.declared.arc.Arc.{Arc}
 use Rattle.pesp_search_graph.specs.declared.step.Step.{Step}
 use Rattle.pesp_search_cycles.specs.declared.range.Range.{Range}
@@ -71,3 +71,7 @@ round arcs zs p = times arcs zs p.steps +ℤ (residue arcs zs p.from -ℤ residu
 -- each range has the time of the walk at its place, and there are as many
 abbrev pub RoundsAreIn : List Range → List Arc → List ℕ → List Path → Type 0
 RoundsAreIn ranges arcs zs walks = AllIn ranges (length walks) (λ k. round arcs zs (slice_index_or walks k no_path))
+
+-- the range of each closed walk is no wider than the slacks of its steps
+abbrev pub AreNarrow : List Range → List Range → List Path → Type 0
+AreNarrow rounds numbers walks = (k : ℕ) → k < length walks → (walk : Path) → walk ≡ slice_index_or walks k no_path → walk.from ≡ walk.to → width (slice_index_or rounds k no_range) ≤ widths numbers walk.steps

@@ -1,10 +1,12 @@
 //! The arcs of a network, and one more node: the origin, which stands at 0.
 //!
-//! An arc leads from it to each event whose residue is in a narrower range than all. Nothing that is made of these is
-//! relied upon: walks are tested, and maps are costed.
+//! An arc leads from it to each event whose residue is in a narrower range than all, unless arcs and other rows imply that:
+//! where some times are fixed domains are narrow all around, and with an arc to each event there would be a cycle more for each.
+//! Nothing that is made of these is relied upon: walks are tested, and maps are costed.
 
 ghost use Rattle.std.specs.Prelude.{◌<◌};
 
+use crate::residues::row_range;
 use crate::{Range, Walk};
 use pesp_base::{Memory, Period, Span, Weight};
 use pesp_search_basis::{candidate_cycles, cycle_count, narrow_cycles, tree_cycles, way};
@@ -48,11 +50,26 @@ fn weight_of(range: Range, row: &[bool], period: Period) -> Option<u32> {
     if has_gap(row) { Some(1) } else { None }
 }
 
+/// Whether a range of more than one residue says no more than a row that is implied.
+fn is_implied(network: &Network, event: usize, range: Range) -> bool
+    requires { event < network.now.events }
+{
+    if !network.is_implied(event) || range.high <= range.low {
+        return false;
+    }
+    network.sound();
+    let all = row_range(network.row(event));
+    range.low <= all.low && all.high <= range.high
+}
+
 /// The arc from the origin to an event whose residue is in this range, if it is a narrower one than all, or its row has a
-/// gap.
+/// gap, and it is not implied.
 fn origin_arc(network: &Network, event: usize, range: Range) -> Option<Arc>
     requires { event < network.now.events }
 {
+    if is_implied(network, event, range) {
+        return None;
+    }
     let weight = weight_of(range, network.row(event), network.period())?;
     let low = i32::try_from(range.low).ok()?;
     let high = i32::try_from(range.high).ok()?;

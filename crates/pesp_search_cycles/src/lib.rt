@@ -18,6 +18,7 @@ mod least_turns;
 mod leaves;
 mod method;
 mod node;
+mod open;
 mod parts;
 mod phase;
 mod proposer;

@@ -10,7 +10,7 @@ use pesp_search_network::Network;
 use std::alloc::Global;
 
 /// From the least residue of a row to its greatest.
-fn row_range(row: &[bool]) -> Range
+pub(crate) fn row_range(row: &[bool]) -> Range
     requires { length row.now ≤ 1440 }
     ensures { (r : ℕ) → r < length row.now → IsTrue (slice_index_or row.now r false)
         → IsIn result (pos r) }

@@ -5,7 +5,7 @@ ghost use Rattle.pesp_base.specs.Tensions.{is_met, slack_of};
 ghost use Rattle.pesp_search_network.specs.Arcs.{IsMet};
 ghost use Rattle.pesp_search_cycles.specs.Maps.{AreBoxes, IsInside, numbers_of};
 ghost use Rattle.pesp_search_cycles.specs.Ranges.{AreIn, IsIn, no_range, width};
-ghost use Rattle.pesp_search_cycles.specs.Walks.{Path, RoundsAreIn, ends, no_path, residue, round, signed, times, widths};
+ghost use Rattle.pesp_search_cycles.specs.Walks.{AreNarrow, Path, RoundsAreIn, ends, no_path, residue, round, signed, times, widths};
 
 use crate::boxes::Boxes;
 use crate::{Cycles, Range, Walk};
@@ -203,6 +203,8 @@ fn round_ranges(
         → AreIn numbers.now (numbers_of cycles.now.network xs)
         → RoundsAreIn ranges.items cycles.now.network.arcs
         (numbers_of cycles.now.network xs) cycles.now.walks)) }
+    ensures narrow { IfOk result (λ found. IfSome found (λ ranges.
+        AreNarrow ranges.items numbers.now cycles.now.walks)) }
 {
     let count = cycles.walks().len();
     let mut ranges = Vec::new(alloc);
@@ -231,6 +233,8 @@ pub(crate) fn root(
     ensures within { IfOk result (λ found. IfSome found (λ boxes. (xs : List ℕ)
         → length xs ≡ cycles.now.network.events → IsInside cycles.now boxes xs
         → AreIn residues.now xs)) }
+    ensures narrow { IfOk result (λ found. IfSome found (λ boxes.
+        AreNarrow boxes.rounds.items boxes.numbers.items cycles.now.walks)) }
 {
     let numbers = number_ranges(alloc, cycles.network(), residues)?;
     let Some(rounds) = round_ranges(alloc, cycles, &numbers)? else {

@@ -10,7 +10,8 @@ ghost use Rattle.pesp_search_cycles.specs.Settlings.{AreLeaves, IsKnown, IsSettl
 ghost use Rattle.pesp_search_cycles.specs.Maps.{Net};
 
 use crate::held::Held;
-use crate::leaves::{Leaves, Open, leaves_at_once, leaves_of};
+use crate::leaves::Leaves;
+use crate::open::{Open, leaves_at_once, leaves_of};
 use crate::parts::Parts;
 use crate::phase::spent_of;
 use crate::residues::residue_ranges;

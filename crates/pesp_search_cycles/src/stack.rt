@@ -9,7 +9,7 @@ ghost use Rattle.pesp_search_cycles.specs.Maps.{Net};
 ghost use Rattle.pesp_search_cycles.specs.Ranges.{AreIn};
 ghost use Rattle.pesp_search_cycles.specs.Stacks.{AreEqualBests, IsProgress, IsStack};
 
-use crate::leaves::whole;
+use crate::open::whole;
 use crate::waiting::{Waiting, asleep, awake};
 use crate::{Cycles, Range};
 use pesp_base::Memory;

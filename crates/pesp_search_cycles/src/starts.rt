@@ -7,7 +7,7 @@ ghost use Rattle.pesp_search_cycles.specs.Maps.{AreBoxes, IsAmong, IsInside};
 ghost use Rattle.pesp_search_cycles.specs.Starts.{AreStarts, IsFound, IsInBoxes, part_of, parts_before};
 
 use crate::boxes::Boxes;
-use crate::leaves::{leaves_of_part, whole};
+use crate::open::{leaves_of_part, whole};
 use crate::parts::{Part, Parts};
 use crate::phase::spent_of;
 use crate::{Cycles, Range};

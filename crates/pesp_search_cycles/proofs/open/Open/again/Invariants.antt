@@ -5,7 +5,7 @@ use Rattle.pesp_search_cycles.specs.declared.node.Node.{Node}
 use Rattle.pesp_search_cycles.specs.Leaves.{sums_of}
 use Rattle.pesp_search_cycles.specs.Maps.{AreBoxes, IsSummed}
 use Rattle.pesp_search_cycles.proofs.Asleep.{AreMoved}
-use Rattle.pesp_search_cycles.proofs.leaves.Open.again.Given as goal
+use Rattle.pesp_search_cycles.proofs.open.Open.again.Given as goal
 
 abbrev pub invariant-leaves : goal.invariant-leaves
 invariant-leaves l =

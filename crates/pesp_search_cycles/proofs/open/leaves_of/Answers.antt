@@ -6,7 +6,7 @@ use Rattle.pesp_search_cycles.specs.Leaves.{sums_of}
 use Rattle.pesp_search_cycles.specs.Maps.{IsAmong, IsSummed}
 use Rattle.pesp_search_cycles.proofs.Covered.{cut_alone}
 use Rattle.pesp_search_cycles.proofs.Leaved.{cut_on}
-use Rattle.pesp_search_cycles.proofs.leaves.leaves_of.Goals as goal
+use Rattle.pesp_search_cycles.proofs.open.leaves_of.Goals as goal
 
 pub returns-then-is_few-clause-cut : goal.returns-then-is_few-clause-cut
 returns-then-is_few-clause-cut c =

@@ -3,7 +3,7 @@ use Rattle.std.proofs.Common.{◌≡◌, ◌+◌, ◌<◌, ◌++◌, ◌∷◌, 
 use Rattle.std.proofs.lemmas.List.{take_more}
 use Rattle.pesp_search_cycles.specs.declared.boxes.Boxes.{Boxes}
 use Rattle.pesp_search_cycles.proofs.Opened.{opened_more}
-use Rattle.pesp_search_cycles.proofs.leaves.Open.at.Goals as goal
+use Rattle.pesp_search_cycles.proofs.open.Open.at.Goals as goal
 
 pub loop-index-preserved : goal.loop-index-preserved
 loop-index-preserved c =

@@ -6,7 +6,7 @@ use Rattle.pesp_search_cycles.specs.declared.node.Node.{Node}
 use Rattle.pesp_search_cycles.specs.Leaves.{sums_of}
 use Rattle.pesp_search_cycles.specs.Maps.{AreBoxes, IsSummed}
 use Rattle.pesp_search_cycles.proofs.Asleep.{AreMoved, moved_first, moved_is, moved_more, node_back, node_there, new_waits}
-use Rattle.pesp_search_cycles.proofs.leaves.Open.again.Goals as goal
+use Rattle.pesp_search_cycles.proofs.open.Open.again.Goals as goal
 
 pub leaves-init : goal.leaves-init
 leaves-init c =

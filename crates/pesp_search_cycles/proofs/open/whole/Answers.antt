@@ -2,7 +2,7 @@
 use Rattle.std.proofs.Common.{subst}
 use Rattle.pesp_search_least.specs.Sums.{IsWithin}
 use Rattle.pesp_search_cycles.specs.Maps.{IsAmong, IsSummed, Net}
-use Rattle.pesp_search_cycles.proofs.leaves.whole.Goals as goal
+use Rattle.pesp_search_cycles.proofs.open.whole.Goals as goal
 
 pub returns-in-Some-clause-cycles : goal.returns-in-Some-clause-cycles
 returns-in-Some-clause-cycles c = rw c.in-Some.is at c.in_ok-node.ensures.cycles

@@ -7,7 +7,7 @@ use Rattle.pesp_search_cycles.specs.Leaves.{sums_of}
 use Rattle.pesp_search_cycles.specs.Splits.{size}
 use Rattle.pesp_search_cycles.specs.declared.node.Node.{Node}
 use Rattle.pesp_search_cycles.proofs.Covered.{AreCovered, covered_last, kept_more, least_of_kept, covered_halves, covered_nothing, covered_push, covered_same}
-use Rattle.pesp_search_cycles.proofs.leaves.leaves_below.Goals as goal
+use Rattle.pesp_search_cycles.proofs.open.leaves_below.Goals as goal
 
 pub nodes-smaller-in-Nothing-1 : goal.nodes-smaller-in-Nothing-1
 nodes-smaller-in-Nothing-1 c =

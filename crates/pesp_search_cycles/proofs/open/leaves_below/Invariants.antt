@@ -6,7 +6,7 @@ use Rattle.pesp_search_cycles.specs.Leaves.{sums_of}
 use Rattle.pesp_search_cycles.specs.Splits.{size}
 use Rattle.pesp_search_cycles.specs.declared.node.Node.{Node}
 use Rattle.pesp_search_cycles.proofs.Covered.{AreCovered, AreKept}
-use Rattle.pesp_search_cycles.proofs.leaves.leaves_below.Given as goal
+use Rattle.pesp_search_cycles.proofs.open.leaves_below.Given as goal
 
 abbrev pub invariant-nodes : goal.invariant-nodes
 invariant-nodes l =

@@ -5,7 +5,7 @@ use Rattle.pesp_search_cycles.specs.Leaves.{sums_of}
 use Rattle.pesp_search_cycles.specs.Maps.{IsAmong, IsSummed}
 use Rattle.pesp_search_cycles.proofs.Covered.{cut_along}
 use Rattle.pesp_search_cycles.proofs.Opened.{alone_back, alone_there}
-use Rattle.pesp_search_cycles.proofs.leaves.leaves_of_part.Goals as goal
+use Rattle.pesp_search_cycles.proofs.open.leaves_of_part.Goals as goal
 
 pub returns-clause-cut : goal.returns-clause-cut
 returns-clause-cut c =

@@ -3,7 +3,7 @@ use Rattle.std.proofs.Common.{◌≡◌, ℕ, Option, Some, None, MatchOption, r
 use Rattle.pesp_search_least.specs.Sums.{IsEmpty, IsLowerBound}
 use Rattle.pesp_search_cycles.specs.Leaves.{sums_of}
 use Rattle.pesp_search_cycles.proofs.Covered.{bound_before}
-use Rattle.pesp_search_cycles.proofs.leaves.go_on.Goals as goal
+use Rattle.pesp_search_cycles.proofs.open.go_on.Goals as goal
 
 pub returns-in_default-clause-next : goal.returns-in_default-clause-next
 returns-in_default-clause-next c =
