@@ -9,9 +9,9 @@ ghost use Rattle.pesp_tension.specs.Answers.{IsTimed, cost_in, meets};
 ghost use Rattle.pesp_tension.specs.Timetables.{time_of};
 ghost use Rattle.pesp_bench.specs.Kept.{Keeps, TellsStay, cheapens, opens};
 
-use crate::loosening::{is_lighter, is_looser, is_moved};
+use crate::loosening::{is_lighter, is_moved};
 use pesp_base::{Activity, EventId, Window};
-use pesp_domains::{is_limited, window_admits_anew};
+use pesp_domains::{is_limited, is_looser, window_admits_anew};
 use pesp_instance::{Edit, Instance};
 use pesp_search::Answer;
 use pesp_tension::{Timetable, cost_of_activity, is_met};

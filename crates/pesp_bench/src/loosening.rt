@@ -1,22 +1,10 @@
 //! Whether a change of a span or of a weight lets in what was not let in before, or may make it cheaper.
 
 ghost use Rattle.std.specs.Prelude.{◌≡◌};
-ghost use Rattle.pesp_domains.specs.Loosening.{is_looser};
 ghost use Rattle.pesp_bench.specs.Loosening.{is_lighter, is_moved};
 
 use pesp_base::{ActivityId, Span, Weight};
-use pesp_domains::span_admits_more;
 use pesp_instance::Instance;
-
-/// Whether the activity has another span, which admits more.
-pub(crate) fn is_looser(instance: &Instance, id: ActivityId, span: Span) -> bool
-    ensures { result ≡ is_looser instance.now id span }
-{
-    match instance.activity(id) {
-        Some(activity) => span_admits_more(instance.period(), activity.span, span),
-        None => false,
-    }
-}
 
 /// Whether the span has another lower bound than the activity's, or a larger upper one.
 pub(crate) fn is_moved(instance: &Instance, id: ActivityId, span: Span) -> bool

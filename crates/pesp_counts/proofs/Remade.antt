@@ -24,7 +24,7 @@ use Rattle.pesp_counts.proofs.Keeping.{for_same, narrowed_numbered}
 use Rattle.pesp_counts_supports.proofs.Marks.{keeps_like, out_more, pending_rest}
 use Rattle.pesp_counts_supports.proofs.Supporters.{supporters_from}
 use Rattle.pesp_counts_supports.proofs.Taken.{kept_shape, shape_then, taken_fewer, taken_then}
-use Rattle.pesp_counts_arcs.proofs.EndRanges.{mod_above}
+use Rattle.pesp_domains.proofs.Around.{mod_above}
 
 -- ---- full rows
 

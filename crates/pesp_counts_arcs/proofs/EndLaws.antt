@@ -7,15 +7,10 @@ use Rattle.pesp_base.specs.Bounds.{Bounds}
 use Rattle.pesp_base.specs.Residues.{reach}
 use Rattle.pesp_base.specs.Tensions.{IsMet, residue, slack_of}
 use Rattle.pesp_base.proofs.Laws.{against, quotient, residue_below, residue_is, spread}
-use Rattle.pesp_base.proofs.ResidueLaws.{met_within_reach, residue-below_first, residue-residue_add, residue-whole_periods, residue_unique}
+use Rattle.pesp_base.proofs.ResidueLaws.{met_within_reach, residue-below_first, residue-residue_add, residue_unique}
+use Rattle.pesp_domains.proofs.Around.{residue_from}
 use Rattle.pesp_counts_arcs.specs.declared.end.End.{End}
 use Rattle.pesp_counts_arcs.specs.Ends.{passes}
-
--- in a difference the second number may be taken for its residue
-residue_from : (period : ℕ) (y z : ℤ) → 0 < period → residue period (y -ℤ pos (residue period z)) ≡ residue period (y -ℤ z)
-residue_from period y z some =
-    let parts : y -ℤ pos (residue period z) ≡ (y -ℤ z) +ℤ pos period *ℤ quotient period z = omega (arith, ints, residue_is period z some) in
-    ap (residue period) parts ∙ residue-whole_periods period (y -ℤ z) (quotient period z) some
 
 -- how far a residue is above another one and an offset, around the period
 far_is : (period r s first : ℕ) (z : ℤ) → 0 < period → first ≡ residue period z → (s + (period - (r + first) % period)) % period ≡ residue period (pos s -ℤ (pos r +ℤ z))

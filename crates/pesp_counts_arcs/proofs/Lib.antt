@@ -11,5 +11,3 @@ pub mod StandMembers
 pub mod StandMore
 pub mod StandMoved
 pub mod StandPairs
-pub mod Wider
-pub mod EndRanges

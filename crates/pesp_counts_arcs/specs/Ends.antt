@@ -1,15 +1,11 @@
 -- Ends of activities: which residues of the event at the other end go with a residue at this one.
-use Rattle.std.specs.Prelude.{◌≡◌, ◌≢◌, ℕ, ◌+◌, ◌-◌, ◌%◌, ◌<◌, ◌≤◌, Bool, ◌&&◌, not, nat_le, nat_lt, List, [], length, slice_index_or, AllPairs}
-use Rattle.std.specs.List.{Contains, list_any, range_with_len}
+use Rattle.std.specs.Prelude.{◌≡◌, ◌≢◌, ℕ, ◌+◌, ◌-◌, ◌%◌, ◌<◌, ◌≤◌, Bool, ◌&&◌, nat_le, nat_lt, List, [], length, slice_index_or, AllPairs}
+use Rattle.std.specs.List.{Contains}
 use Rattle.pesp_counts_arcs.specs.declared.end.End.{End}
 
 -- whether residue s of the other event goes with residue r of this one
 abbrev pub passes : ℕ → End → ℕ → ℕ → Bool
 passes period end r s = nat_lt ((s + (period - (r + end.first) % period)) % period) end.width
-
--- whether a residue goes with residue 0 at the first end and not at the second one
-abbrev pub passes_more : ℕ → End → End → Bool
-passes_more period new old = list_any (λ s. passes period new 0 s && not (passes period old 0 s)) (range_with_len 0 period)
 
 -- whether the residue is in the range
 abbrev pub is_from_to : ℕ → ℕ → ℕ → Bool

@@ -1,11 +1,11 @@
 //! The ends of activities, as the counts see them.
 
-ghost use Rattle.std.specs.Prelude.{◌≡◌, ℕ, ◌+◌, ◌<◌, ◌≤◌, ◌*◌, ◌↔◌, ◌||◌, IsTrue};
-ghost use Rattle.pesp_base.specs.Residues.{reach};
-ghost use Rattle.pesp_base.specs.Tensions.{IsMet, residue};
-ghost use Rattle.pesp_counts_arcs.specs.Ends.{is_from_to, passes, passes_more};
+ghost use Rattle.std.specs.Prelude.{◌≡◌, ℕ, ◌<◌, ◌≤◌, ◌*◌, ◌↔◌, ◌||◌, IsTrue};
+ghost use Rattle.pesp_base.specs.Tensions.{IsMet};
+ghost use Rattle.pesp_counts_arcs.specs.Ends.{is_from_to, passes};
 
 use pesp_base::{Period, Span};
+use pesp_domains::{remainder, width_of};
 
 /// An end of an activity. With a residue of its own event go those residues of the other event that
 /// stand from `first` above it on, `width` of them, around the period.
@@ -25,23 +25,6 @@ pub struct Ranges {
     pub start: u16,
     pub end: u16,
     pub wrapped: u16,
-}
-
-/// The remainder of a whole number, from 0 to the period less 1.
-fn remainder(number: i32, period: Period) -> u16
-    ensures value { result ≡ residue period number }
-    ensures below { result < period }
-{
-    number.rem_euclid(period.get() as i32) as u16
-}
-
-/// How many residues at one end of an activity go with one at the other.
-fn width_of(period: Period, span: Span) -> u16
-    ensures value { result ≡ reach period span + 1 }
-    ensures within { result ≤ period }
-{
-    let width = span.upper().abs_diff(span.lower());
-    width.min(u32::from(period.get()) - 1) as u16 + 1
 }
 
 impl End {
@@ -81,18 +64,6 @@ impl End {
             first,
             width,
         }
-    }
-
-    /// Whether a residue goes with residue 0 at this end that does not at the other one.
-    pub fn passes_more(self, period: u16, other: End) -> bool
-        requires period { 2 * period < 65536 }
-        requires first { (self.first < period) × (other.first < period) }
-        requires some { 0 < self.width }
-        requires width { (self.width ≤ period) × (other.width ≤ period) }
-        ensures { result ≡ passes_more period self other }
-    {
-        let ahead = (self.first + (period - other.first)) % period;
-        other.width < period && other.width < ahead + self.width
     }
 
     /// The residues of the other event that go with one of this one.

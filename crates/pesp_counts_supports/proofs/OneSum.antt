@@ -6,7 +6,7 @@ use Rattle.std.proofs.Math.Nat.{add-mod_left, mod-add-div}
 use Rattle.std.proofs.lemmas.Bool.{cases_lt, lt-ltb}
 use Rattle.std.proofs.lemmas.Grind.{common_steps}
 use Rattle.std.proofs.lemmas.Int.{ints}
-use Rattle.pesp_counts_arcs.proofs.EndRanges.{far_above, far_below, mod_below}
+use Rattle.pesp_domains.proofs.Around.{far_above, far_below, mod_below}
 use Rattle.pesp_base.specs.Tensions.{residue}
 use Rattle.pesp_base.specs.Windows.{Interval, is_held}
 use Rattle.pesp_base.proofs.Laws.{residue_below}

@@ -11,7 +11,7 @@ use Rattle.pesp_counts_supports.specs.Counts.{IsExactAt, supporters}
 use Rattle.pesp_counts_supports.specs.Supports.{IsWide, around}
 use Rattle.pesp_counts_supports.proofs.Raised.{block_out}
 use Rattle.pesp_counts_supports.proofs.Supporters.{one, supporters_same}
-use Rattle.pesp_counts_arcs.proofs.EndRanges.{mod_above, mod_below}
+use Rattle.pesp_domains.proofs.Around.{mod_above, mod_below}
 
 -- ---- what a window has
 

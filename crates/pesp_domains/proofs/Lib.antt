@@ -1,4 +1,6 @@
 pub mod Anew
+pub mod Apart
+pub mod Around
 mod Cases
 pub mod Edits
 pub mod Families

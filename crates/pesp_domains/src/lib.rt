@@ -7,6 +7,7 @@ mod keeper;
 mod loosening;
 mod pair;
 mod plain;
+mod reach;
 pub mod removal;
 mod row;
 mod rows;
@@ -14,8 +15,9 @@ mod side;
 mod sweep;
 
 pub use keeper::{Keeper, NoRoom};
-pub use loosening::{is_limited, law_of_wider_spans, span_admits_more, window_admits_anew};
+pub use loosening::{is_limited, is_looser, law_of_wider_spans, window_admits_anew};
 pub use pair::Pair;
 pub use plain::PlainKeeper;
+pub use reach::{remainder, width_of};
 pub use row::Row;
 pub use side::Side;

@@ -4,9 +4,10 @@ ghost use Rattle.std.specs.Prelude.{◌≡◌, ℕ, ◌+◌, ◌%◌, ◌<◌, �
 ghost use Rattle.pesp_base.specs.Bounds.{Bounds};
 ghost use Rattle.pesp_instance.specs.Edited.{rewindowed};
 ghost use Rattle.pesp_instance.specs.Network.{IsNetwork, window_of};
-ghost use Rattle.pesp_domains.specs.Loosening.{AdmitsNewPair, admits_anew, admits_more};
+ghost use Rattle.pesp_domains.specs.Loosening.{AdmitsNewPair, admits_anew, admits_more, is_looser};
 
-use pesp_base::{EventId, Period, Span, allows};
+use crate::reach::{remainder, width_of};
+use pesp_base::{ActivityId, EventId, Period, Span};
 use pesp_instance::{Event, Instance};
 
 /// The residue that is so many steps up from this time.
@@ -50,11 +51,25 @@ pub fn is_limited(instance: &Instance, event: EventId) -> bool
     (0..period.get()).any(|residue| !old.admits(period, residue))
 }
 
-/// Whether the second span admits a pair of residues that the first one does not.
-pub fn span_admits_more(period: Period, old: Span, new: Span) -> bool
+/// Whether the second span admits a pair of residues that the first one does not: what a span admits with
+/// one residue is a window around the period.
+fn span_admits_more(period: Period, old: Span, new: Span) -> bool
     ensures { result ≡ admits_more period old new }
 {
-    (0..period.get()).any(|ahead| allows(period, new, 0, ahead) && !allows(period, old, 0, ahead))
+    let ahead = remainder(new.lower() - old.lower(), period);
+    let old_width = width_of(period, old);
+    let new_width = width_of(period, new);
+    old_width < period.get() && old_width < ahead + new_width
+}
+
+/// Whether the activity has another span, which admits more.
+pub fn is_looser(instance: &Instance, id: ActivityId, span: Span) -> bool
+    ensures { result ≡ is_looser instance.now id span }
+{
+    match instance.activity(id) {
+        Some(activity) => span_admits_more(instance.period(), activity.span, span),
+        None => false,
+    }
 }
 
 /// A span admits more than another exactly where some residues of the two events are admitted by it, and not by the other one.

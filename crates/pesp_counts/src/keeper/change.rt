@@ -3,16 +3,15 @@
 ghost use Rattle.std.specs.Prelude.{◌≡◌, ◌+◌, ◌*◌, ◌<◌, if◌then◌else◌, ℕ, [], ◌∷◌, None, Some, Ok, length};
 ghost use Rattle.pesp_instance.specs.Edited.{edited};
 ghost use Rattle.pesp_instance.specs.Network.{Network};
-ghost use Rattle.pesp_domains.specs.Loosening.{is_looser};
 ghost use Rattle.pesp_counts_arcs.specs.Ends.{end_at};
 ghost use Rattle.pesp_counts_arcs.specs.Links.{StandFor};
 ghost use Rattle.pesp_counts_arcs.specs.Places.{place_of};
 ghost use Rattle.pesp_counts.specs.Changes.{IsChange, event_at, places};
 ghost use Rattle.pesp_counts.specs.declared.keeper.change.Starts.TheVariants as starts;
 
-use pesp_base::{ActivityId, EventId, Span};
-use pesp_counts_arcs::{End, Links};
-use pesp_domains::{is_limited, window_admits_anew};
+use pesp_base::{ActivityId, EventId};
+use pesp_counts_arcs::Links;
+use pesp_domains::{is_limited, is_looser, window_admits_anew};
 use pesp_instance::{Edit, Instance};
 
 /// The places of the events at which pairs may begin to come back.
@@ -141,20 +140,5 @@ impl Change {
             },
             None => Change::none(),
         }
-    }
-}
-
-/// Whether the span admits a pair of residues that the activity's own does not.
-fn is_looser(instance: &Instance, id: ActivityId, span: Span) -> bool
-    ensures { result ≡ is_looser instance.now id span }
-{
-    match instance.activity(id) {
-        Some(activity) => {
-            let period = instance.period();
-            let old = End::tail(period, activity.span, 0, 0);
-            let new = End::tail(period, span, 0, 0);
-            new.passes_more(period.get(), old)
-        }
-        None => false,
     }
 }

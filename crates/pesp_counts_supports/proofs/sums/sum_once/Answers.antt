@@ -1,7 +1,7 @@
 -- One residue more.
 use Rattle.std.proofs.Common.{◌≡◌, ◌%◌, ◌<◌, ◌≤◌, length, option_map, ap, ◌∙◌, arith}
 use Rattle.std.proofs.lemmas.List.{length-set}
-use Rattle.pesp_counts_arcs.proofs.EndRanges.{mod_below}
+use Rattle.pesp_domains.proofs.Around.{mod_below}
 use Rattle.pesp_counts_supports.specs.Blocks.{is_beyond, sum_below}
 use Rattle.pesp_counts_supports.proofs.Supporters.{one, one_le}
 use Rattle.pesp_counts_supports.proofs.Partners.{byte_is}

@@ -1,7 +1,7 @@
 -- The first residue is the sum less a period where that is reached, and the others follow it around the period.
 use Rattle.std.proofs.Common.{◌+◌, inl, inr, arith}
 use Rattle.pesp_counts_arcs.specs.Ends.{passes}
-use Rattle.pesp_counts_arcs.proofs.EndRanges.{far_either, lowered}
+use Rattle.pesp_domains.proofs.Around.{far_either, lowered}
 use Rattle.pesp_counts_arcs.proofs.end.End.ranges.Goals as goal
 use Rattle.pesp_counts_arcs.proofs.end.End.ranges.Goals.{then-sum-period, else-sum-period}
 

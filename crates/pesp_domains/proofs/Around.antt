@@ -1,7 +1,11 @@
--- The residues that go with one stand in two ranges.
-use Rattle.std.proofs.Common.{◌≡◌, ℕ, ◌+◌, ◌-◌, ◌*◌, ◌%◌, ◌<◌, ◌≤◌, ◌⊎◌, ◌∙◌, inl, inr, sym, arith}
+-- How far one number is above another one, around the period.
+use Rattle.std.proofs.Common.{◌≡◌, ℕ, ◌+◌, ◌-◌, ◌*◌, ◌%◌, ◌<◌, ◌≤◌, ◌⊎◌, ℤ, pos, ◌+ℤ◌, ◌-ℤ◌, ◌*ℤ◌, ◌∙◌, ap, inl, inr, sym, arith}
 use Rattle.std.proofs.Math.Nat.{mod-eq_of_lt, mod-eq-sub-mod}
 use Rattle.std.proofs.lemmas.Bool.{cases_lt}
+use Rattle.std.proofs.lemmas.Int.{ints}
+use Rattle.pesp_base.specs.Tensions.{residue}
+use Rattle.pesp_base.proofs.Laws.{quotient, residue_is}
+use Rattle.pesp_base.proofs.ResidueLaws.{residue-whole_periods}
 
 -- a number below two periods
 pub mod_below : (T n : ℕ) → n < T → n % T ≡ n
@@ -29,3 +33,9 @@ far_either T a s al sl =
 pub lowered : (T n a : ℕ) → (n < T × (a ≡ n)) ⊎ (T ≤ n × (a ≡ n - T)) → n < 2 * T → (n % T ≡ a) × (a < T)
 lowered T n a (inl is) high = (mod_below T n is.0 ∙ sym is.1, omega (arith, is.0, is.1))
 lowered T n a (inr is) high = (mod_above T n is.0 high ∙ sym is.1, omega (arith, is.0, is.1, high))
+
+-- in a difference the second number may be taken for its residue
+pub residue_from : (period : ℕ) (y z : ℤ) → 0 < period → residue period (y -ℤ pos (residue period z)) ≡ residue period (y -ℤ z)
+residue_from period y z some =
+    let parts : y -ℤ pos (residue period z) ≡ (y -ℤ z) +ℤ pos period *ℤ quotient period z = omega (arith, ints, residue_is period z some) in
+    ap (residue period) parts ∙ residue-whole_periods period (y -ℤ z) (quotient period z) some
