@@ -1,5 +1,5 @@
 -- What a search tells in numbers.
-use Rattle.std.specs.Prelude.{◌≡◌, ℕ, List, [], map, Option, Some, None, option_map}
+use Rattle.std.specs.Prelude.{◌≡◌, ℕ, Bool, if◌then◌else◌, List, [], map, Option, Some, None, option_map}
 use Rattle.pesp_instance.specs.Network.{Network, event_ids}
 use Rattle.pesp_tension.specs.Timetables.{Times}
 use Rattle.pesp_search.specs.declared.answer.Answer.{Answer}
@@ -21,13 +21,13 @@ known_in None = None
 
 -- how good an optimum is, or that there is none
 abbrev pub found_answer : Answer → Found
-found_answer (Optimal cost times) = record { cost = cost; lower_bound = cost; state = 2 }
-found_answer Infeasible = record { cost = 0; lower_bound = 0; state = 3 }
+found_answer (Optimal cost times) = record { cost = cost; lower_bound = cost; state = 2; goes_on = 0 }
+found_answer Infeasible = record { cost = 0; lower_bound = 0; state = 3; goes_on = 0 }
 
--- how good that is what a search stopped with
-abbrev pub found_stop : Option Best → ℕ → Found
-found_stop (Some best) bound = record { cost = best.cost; lower_bound = bound; state = 1 }
-found_stop None bound = record { cost = 0; lower_bound = bound; state = 0 }
+-- how good that is what a search stopped with, which goes on or not
+abbrev pub found_stop : Option Best → ℕ → Bool → Found
+found_stop (Some best) bound on = record { cost = best.cost; lower_bound = bound; state = 1; goes_on = if on then 1 else 0 }
+found_stop None bound on = record { cost = 0; lower_bound = bound; state = 0; goes_on = if on then 1 else 0 }
 
 -- the timetable of an answer
 abbrev pub timetable_in : Answer → Option Times
@@ -45,12 +45,13 @@ pub record IsAnswerTold (I : Network) (answer : Answer) (room room' : List ℕ) 
   pub good : found ≡ found_answer answer
   pub times : AreShown (times_told I (timetable_in answer)) room room' told
 
--- what a search may stop with after so many nodes is told with its times, and that no member costs less than the lower bound
+-- what a search may stop with after so many nodes is told with its times, that no member costs less than the lower bound, and whether it goes on
 pub record IsStopTold (I : Network) (nodes : ℕ) (room room' : List ℕ) (found : Found) (told : Told) : Type 0 where
   pub best : Option Best
+  pub on : Bool
   pub stops : MayStop I None nodes best
   pub floor : IsFloor I found.lower_bound
-  pub good : found ≡ found_stop best found.lower_bound
+  pub good : found ≡ found_stop best found.lower_bound on
   pub times : AreShown (times_told I (option_map (λ b. b.times) best)) room room' told
 
 -- what a search within so many nodes tells, by what is known after it

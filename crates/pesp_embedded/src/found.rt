@@ -15,6 +15,8 @@ pub struct Found {
     pub lower_bound: u64,
     /// 0 and 1 at a stop without and with a timetable; 2 and 3 where the optimum is known, or that there is none.
     pub state: u32,
+    /// 1 where the next call goes on where this one stopped; 0 where it begins anew, or the search has ended.
+    pub goes_on: u32,
 }
 
 impl Found {
@@ -30,12 +32,13 @@ impl Found {
             cost,
             lower_bound: cost,
             state,
+            goes_on: 0,
         }
     }
 
-    /// A search stopped with this.
-    pub(crate) fn of_stop(best: &Option<Best>, lower_bound: u64) -> Found
-        ensures { result ≡ found_stop best.now lower_bound }
+    /// A search stopped with this, and goes on or not.
+    pub(crate) fn of_stop(best: &Option<Best>, lower_bound: u64, goes_on: bool) -> Found
+        ensures { result ≡ found_stop best.now lower_bound goes_on }
     {
         let (cost, state) = match best {
             Some(best) => (best.cost, 1),
@@ -45,6 +48,7 @@ impl Found {
             cost,
             lower_bound,
             state,
+            goes_on: u32::from(goes_on),
         }
     }
 }

@@ -64,7 +64,8 @@ fn search(
         }
         Attempt::Stopped(best) => {
             let told = show_stop(room, instance, best);
-            Ok((Found::of_stop(best, sought.lower_bound), told))
+            let goes_on = bench.goes_on();
+            Ok((Found::of_stop(best, sought.lower_bound, goes_on), told))
         }
     }
 }

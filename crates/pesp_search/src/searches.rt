@@ -8,6 +8,8 @@ use std::alloc::Global;
 pub struct Searches {
     // Of any networks: one is compared with that of an instance before it is gone on with.
     pub(crate) cycles: ByCycles,
+    // Whether the last search was one by cycles.
+    pub(crate) by_cycles: bool,
 }
 
 impl Searches {
@@ -15,7 +17,13 @@ impl Searches {
     pub fn new(alloc: Global) -> Searches {
         Searches {
             cycles: ByCycles::new(alloc),
+            by_cycles: false,
         }
+    }
+
+    /// Whether the last search, if it stopped, is gone on with: one through the tree begins anew.
+    pub fn goes_on(&self) -> bool {
+        self.by_cycles
     }
 }
 

@@ -200,7 +200,8 @@ pub(crate) fn seek<K: Keeper>(
         return Ok(nothing);
     }
     let network = network_of(alloc, keeper, events)?;
-    if !is_of_use(alloc, &network)? {
+    before.by_cycles = is_of_use(alloc, &network)?;
+    if !before.by_cycles {
         return Ok(nothing);
     }
     let cycles = &mut before.cycles;

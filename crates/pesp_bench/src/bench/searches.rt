@@ -157,6 +157,11 @@ impl<K: Keeper> Bench<K> {
         Ok(sought)
     }
 
+    /// Whether the next call of [`Bench::seek_optimum`] goes on with the last one, where that stopped, or begins anew.
+    pub fn goes_on(&self) -> bool {
+        self.searches.goes_on()
+    }
+
     /// What [`Bench::seek_optimum`] comes to that begins anew, without the bound: how far other searches have come does not matter.
     pub fn try_optimum(&mut self, alloc: Global, limit: u64) -> Result<Attempt, Refusal>
         ensures ok { IfOk result (IsAttempt self.new limit) }
