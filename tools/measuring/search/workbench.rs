@@ -95,6 +95,9 @@ fn network_of(bench: &Workbench) -> Option<Network> {
                 network.forbid(index, residue);
             }
         }
+        if instance.window(*event).is_none() {
+            network.imply(index);
+        }
     }
     for activity in instance.activities() {
         let from = events.binary_search(&activity.from).ok()?;
