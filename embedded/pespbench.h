@@ -146,6 +146,7 @@ struct pesp_found {
     uint64_t cost;        /* of that timetable; 0 where none is told */
     uint64_t lower_bound; /* what each that meets everything costs at least; for PESP_OPTIMUM `cost`; 0 where there is none */
     uint32_t state;       /* of pesp_search_state */
+    uint32_t goes_on;     /* 1 where the next call goes on where this one stopped, 0 where it begins anew, or the search has ended */
 };
 
 /* Looks for the optimum by as much work as so many nodes stand for (docs/FORMATS.md, `try`), and tells the best timetable that
@@ -154,8 +155,8 @@ struct pesp_found {
  * Calls one after the other are one search: each goes on where the one before it stopped, so call with as many nodes as take as
  * long as you can wait, again and again, until the state is PESP_OPTIMUM or PESP_NO_TIMETABLE. Once the least cost is known, a
  * call after one that came no nearer to the first timetable of that cost takes up to twice as long as that one. Double the nodes
- * after a call that tells nothing new: a network of too many cycles is searched anew each time. No later call of a search tells
- * a dearer timetable, or a lower bound that is less.
+ * after a call with `goes_on` 0: a network of too many cycles is searched anew each time. No later call of a search tells a
+ * dearer timetable, or a lower bound that is less.
  * Where lines have changed the network in between (an event, a window, a fixed time, an activity, its ends, span or weight),
  * the next call begins anew, with the best timetable so far where that still meets everything. Lines that change times alone
  * leave it as it is, and so do questions: `try` is a search of its own, and `optimum` and `adopt` go on with this one to its

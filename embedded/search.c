@@ -23,17 +23,16 @@ int main(int count, char **words) {
     size_t length = fread(file, 1, sizeof file, activities);
     fclose(activities);
     struct pesp_session session = {0};
-    struct pesp_found found = {0, 0, PESP_NOTHING_YET};
+    struct pesp_found found = {0, 0, PESP_NOTHING_YET, 0};
     struct pesp_told told;
     pesp_open((uint16_t)strtoul(words[1], NULL, 10), file, length, NULL, 0, NULL, 0, &session, &told);
 
     static uint16_t times[20000];
     clock_t begun = clock();
-    /* Each call goes on where the one before it stopped; after one that told nothing new the next has twice the nodes. */
+    /* A call goes on where the one before it stopped; one that begins anew has twice the nodes. */
     for (uint64_t nodes = NODES; told.status == PESP_DONE && found.state < PESP_OPTIMUM && clock() - begun < CLOCKS_PER_SEC;) {
-        struct pesp_found before = found;
         pesp_search(&session, nodes, times, sizeof times / sizeof *times, &found, &told);
-        if (found.cost == before.cost && found.lower_bound == before.lower_bound) nodes *= 2;
+        if (!found.goes_on) nodes *= 2;
     }
     pesp_close(&session);
     if (told.status != PESP_DONE) {

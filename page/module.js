@@ -9,7 +9,7 @@
 //   const { output, ending, fault } = PespModule.ask(module, session, 'fix 1 0');
 //   const { cost, ending, fault } = PespModule.cost(module, session);
 //   const { bits, ending, fault } = PespModule.domains(module, session, [1, 2], 10);
-//   const { state, cost, lowerBound, times, ending, fault } = PespModule.search(module, session, 1000);
+//   const { state, cost, lowerBound, goesOn, times, ending, fault } = PespModule.search(module, session, 1000);
 //   PespModule.close(module, session);
 //
 // `program` is what PespModule.compile made, or the bytes of the module. Files, commands and a line are bytes or text, and
@@ -18,9 +18,10 @@
 // '', and else the program's own text for it, without its name, in which the one line of `ask` is line 1. `session` is null
 // where the files have a fault. `cost` is a BigInt; null where an event has no time. `bits` are the domains of events at a period,
 // one after another, each in as many whole bytes as hold a bit for each time. A search goes on by so many nodes at each call:
-// `state` is of enum pesp_search_state, `cost` and `lowerBound` are BigInts, and `times` a Uint16Array, a time for each event,
-// ascending; none where it came to no timetable. After an instance that was trapped, as by a stack that is too short, a call
-// throws; its sessions are lost, and `start` makes a new one, or `startNow`.
+// `state` is of enum pesp_search_state, `cost` and `lowerBound` are BigInts, `goesOn` says whether the next call goes on where
+// this one stopped, and `times` is a Uint16Array, a time for each event, ascending; none where it came to no timetable. After
+// an instance that was trapped, as by a stack that is too short, a call throws; its sessions are lost, and `start` makes a new
+// one, or `startNow`.
 const makePespModule = () => {
   const FILES = ['activities', 'fixed', 'times'];
   const ENDINGS = {
@@ -241,7 +242,8 @@ const makePespModule = () => {
 
   const foundAt = (module, block) => {
     const view = new DataView(module.calls.memory.buffer, Number(block), FOUND);
-    return { state: view.getUint32(16, true), cost: view.getBigUint64(0, true), lowerBound: view.getBigUint64(8, true) };
+    const goesOn = view.getUint32(20, true) === 1;
+    return { state: view.getUint32(16, true), cost: view.getBigUint64(0, true), lowerBound: view.getBigUint64(8, true), goesOn };
   };
 
   // Looks for the optimum in so many nodes; null for all of it where that is not answered.
@@ -249,7 +251,7 @@ const makePespModule = () => {
     const { at, told, number, out } = session;
     module.calls.pesp_search(at, BigInt(nodes), out.block, BigInt(out.length >> 1), number, told);
     const { length, ending } = toldAt(module, told);
-    if (ending.status) return { state: null, cost: null, lowerBound: null, times: null, ending, fault: faultOf(ending) };
+    if (ending.status) return { state: null, cost: null, lowerBound: null, goesOn: null, times: null, ending, fault: faultOf(ending) };
     const times = new Uint16Array(module.calls.memory.buffer, Number(out.block), length).slice();
     return { ...foundAt(module, number), times, ending, fault: '' };
   };

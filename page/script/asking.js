@@ -100,7 +100,9 @@ export const play = played => new Promise((done, fail) => {
   askFor({ kind: 'play', played }, { tell: ({ base }) => done(base), fail: fault => fail(new Error(fault)), end: () => done(null) });
 });
 
+// What has ended meanwhile has nothing to stop.
 export const startAsking = () => find('stop').addEventListener('click', () => {
+  if (!asked) return;
   const { stopped } = WORDS[asked.kind];
   stopAsking();
   say(stopped);

@@ -87,12 +87,12 @@ export const readFound = reply => {
 // The same by the number of its state, as embedded/pespbench.h has them.
 const STATES = ['none', 'stopped', 'optimum', 'infeasible'];
 
-// The same of a search that is told in numbers, with a bound below which no timetable costs.
-export const foundIn = ({ state, cost, lowerBound, times }, events) => {
+// The same of a search that is told in numbers, with a bound below which no timetable costs, and whether the next call goes on with it.
+export const foundIn = ({ state, cost, lowerBound, goesOn, times }, events) => {
   const kind = STATES[state], bound = exactly(String(lowerBound));
   if (kind === 'infeasible') return { kind };
-  if (kind === 'none') return { kind, bound };
-  return { kind, bound, cost: exactly(String(cost)), times: new Map(events.map((event, place) => [event, times[place]])) };
+  if (kind === 'none') return { kind, bound, goesOn };
+  return { kind, bound, goesOn, cost: exactly(String(cost)), times: new Map(events.map((event, place) => [event, times[place]])) };
 };
 
 // Whether a search has come to its end.

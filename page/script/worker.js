@@ -7,8 +7,8 @@ import { startProgram } from './program.js';
 import { isSure, readFound } from './replies.js';
 import { openFirst, openSession } from './running.js';
 
-// A search is asked for in steps, each of which goes on where the one before it stopped, takes about so many milliseconds, and tells
-// what the search has come to. Between two of them it is heard what is asked next.
+// A search is asked for in steps, each of which tells what the search has come to. One that goes on where the one before it stopped
+// takes about so many milliseconds. Between two of them it is heard what is asked next.
 const STEP = 250, FIRST_NODES = 1000;
 
 // The session of the network that was asked about last, by its mark; whether its search has begun, and has not come to its end; and the
@@ -42,19 +42,17 @@ const searchedFor = asked => {
   return kept.session;
 };
 
-// Doubled where it was much quicker than a step is to be, and where it told nothing new, since not all of a search is gone on with;
-// halved where it was much slower.
-const paced = (nodes, took, isNew) => {
-  if (took < STEP / 2 || !isNew) return 2 * nodes;
+// Doubled where it was much quicker than a step is to be, and where the next one begins anew; halved where it was much slower.
+const paced = (nodes, took, goesOn) => {
+  if (took < STEP / 2 || !goesOn) return 2 * nodes;
   return took > 2 * STEP ? Math.max(1, Math.floor(nodes / 2)) : nodes;
 };
 
 // What a step of at most so many nodes has come to, and how many it had.
 const stepOf = (session, most, events) => {
   const nodes = Math.min(kept.step, most), from = performance.now(), found = session.search(nodes, events);
-  const { cost, bound } = found, isNew = cost !== kept.cost || bound !== kept.bound;
-  const step = nodes === kept.step ? paced(nodes, performance.now() - from, isNew) : kept.step;
-  kept = { ...kept, step, cost, bound, isOpen: !isSure(found) };
+  const step = nodes === kept.step ? paced(nodes, performance.now() - from, found.goesOn) : kept.step;
+  kept = { ...kept, step, isOpen: !isSure(found) };
   return { found, nodes };
 };
 

@@ -26,7 +26,7 @@ SEARCHES = ("optimum", "try", "adopt")
 ROOM = 1 << 19
 # Seconds: so soon Ctrl-C is heard at the latest.
 LITTLE = 0.1
-# Seconds after its deadline at which a search that would go on is given up, and lost with its session.
+# Seconds after its deadline at which a search by the call for it is given up, and lost with its session.
 PATIENCE = 1.0
 OK = b"ok\n"
 
@@ -154,7 +154,7 @@ class InProcess(Transport):
         return self._cost.value if self._told.status == DONE else None
 
     def searched(self, nodes: int, events: Sequence[int], deadline: Optional[float] = None) -> Optional[Reached]:
-        """What a search comes to, by the call for it, where the library has one: it goes on from one call to the next."""
+        """What a search comes to, by the call for it, where the library has one, which says whether the next call goes on."""
         call = self._calls.search
         if call is None:
             return None
@@ -167,7 +167,7 @@ class InProcess(Transport):
             raise ended_by(self._told)
         if self._told.length != (len(events) if came.state in (BEST_SO_FAR, OPTIMUM) else 0):
             raise BadReply(f"{self._told.length} times of {len(events)} events in state {came.state}")
-        return Reached(found_by(came.state, came.cost, dict(zip(events, times))), came.lower_bound, goes_on=True)
+        return Reached(found_by(came.state, came.cost, dict(zip(events, times))), came.lower_bound, goes_on=came.goes_on == 1)
 
     def kill(self) -> None:
         """Gives the session's memory back, or leaves that to the search that is under way."""

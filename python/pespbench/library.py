@@ -69,7 +69,12 @@ class Told(ctypes.Structure):
 class ToldFound(ctypes.Structure):
     """What a search tells of what it came to."""
 
-    _fields_ = [("cost", ctypes.c_uint64), ("lower_bound", ctypes.c_uint64), ("state", ctypes.c_uint32)]
+    _fields_ = [
+        ("cost", ctypes.c_uint64),
+        ("lower_bound", ctypes.c_uint64),
+        ("state", ctypes.c_uint32),
+        ("goes_on", ctypes.c_uint32),
+    ]
 
 
 class Handle(ctypes.Structure):

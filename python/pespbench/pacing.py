@@ -9,8 +9,8 @@ STEP = 0.25
 
 
 class Pace:
-    """The nodes of the next step, by how long the one before it took, and whether steps are even: whether each goes on from
-    the one before it, and tells something new."""
+    """The nodes of the next step, by how long the one before it took: even steps where the next goes on from it, and twice as
+    many nodes where that begins anew."""
 
     def __init__(self, nodes: int) -> None:
         """So many nodes at first."""
@@ -22,15 +22,16 @@ class Pace:
         """Whether a step is begun where so many seconds are left."""
         return self.nodes <= MOST_NODES and left > self._wanted
 
-    def follow(self, took: float, is_even: bool) -> None:
-        """After a step that took so many seconds."""
-        if is_even:
+    def follow(self, took: float, goes_on: bool) -> None:
+        """After a step that took so many seconds, where the next one goes on from it, or begins anew."""
+        if goes_on:
             self._keep_even(took)
         else:
             # With twice the nodes it is likely to take twice as long.
             self.nodes, self._wanted = 2 * self.nodes, took
 
     def _keep_even(self, took: float) -> None:
+        self._wanted = 0.0
         if took < STEP / 2:
             self.nodes = min(2 * self.nodes, MOST_NODES)
         elif took > 2 * STEP:

@@ -32,11 +32,11 @@ class Search:
     The time is looked at between steps, and goes on there. Over a library that has the call for searches a step goes on where
     the one before it stopped, whichever search of the same session that was, as long as the engine was not opened anew and the
     network is as it was, whatever times it was given. Such a step takes about a quarter of a second, and is let come to its end
-    where the time is over in it. After one that tells nothing new the next has twice the nodes, since not all of a search is gone
-    on with.
+    where the time is over in it.
 
-    Over the program a step begins anew, with twice as many nodes as the one before: so what is gone through again is at most as
-    much as all before it. One is begun where more time is left than the last one took, and given up where the time is over.
+    Over the program, and where the library says that it does not go on, as with too many cycles, a step begins anew, with twice
+    as many nodes as the one before: so what is gone through again is at most as much as all before it. One is begun where more
+    time is left than the last one took, and given up where the time is over, by the library a second later.
     """
 
     def __init__(self, session: Session, standing: Stopped, seconds: float, nodes: int, watch: Optional[Watcher]) -> None:
@@ -67,7 +67,7 @@ class Search:
         while not self.progress.is_ended and self._has_room():
             began = clock.monotonic()
             reached = self._step()
-            self._pace.follow(clock.monotonic() - began, reached.goes_on and self._is_new(reached))
+            self._pace.follow(clock.monotonic() - began, reached.goes_on)
             yield self._told(reached)
         if not self.progress.is_ended:
             yield self._told(Reached(Stopped()))
@@ -82,12 +82,6 @@ class Search:
             return self._session.searched(self._pace.nodes, self._until)
         except OutOfTime:
             return Reached(Stopped())
-
-    def _is_new(self, reached: Reached) -> bool:
-        """Whether cost or bound are better than what is known."""
-        found, before = reached.found, self.progress
-        is_below = isinstance(found, Stopped) and found.is_below(before.cost)
-        return is_below or (reached.lower_bound or 0) > (before.lower_bound or 0)
 
     def _told(self, reached: Reached) -> Progress:
         """Tells what is known with what was reached: neither is its cost above that of before, nor its bound below."""

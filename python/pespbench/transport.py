@@ -57,7 +57,7 @@ class Transport:
     def searched(self, nodes: int, events: Sequence[int], deadline: Optional[float] = None) -> Optional[Reached]:
         """What a search of so many nodes comes to, where it tells more than a reply; `events` are all, ascending.
 
-        One that goes on may come to its end after the deadline. Raises what `replies` raises.
+        It may come to its end after the deadline. Raises what `replies` raises.
         """
         return None
 

@@ -79,6 +79,7 @@ class StandIn:
         found.state = STATES[b" ".join(words) if words[-1] == b"none" else words[0]]
         found.cost = int(words[1]) if found.state in (1, 2) else 0
         found.lower_bound = self.bound(self.nodes) if self.bound else 0
+        found.goes_on = found.state < 2
 
     def _close(self, handle: int) -> None:
         self.closed += Handle.from_address(handle).is_open

@@ -8,6 +8,7 @@ import shutil
 import signal
 import subprocess
 import sys
+import time
 import unittest
 from pathlib import Path
 from typing import Any, Dict, List, Tuple, Union
@@ -109,7 +110,7 @@ STAND_IN = """
 #include <string.h>
 
 struct told { uint64_t length, place; uint32_t status, reason, field; };
-struct found { uint64_t cost, lower_bound; uint32_t state; };
+struct found { uint64_t cost, lower_bound; uint32_t state, goes_on; };
 struct session { void *at; bool is_open; };
 static const char dump[] = "# period 10 lines 2\\nadd event 3\\nadd event 5\\n", stopped[] = "stopped 9 2\\n3 1\\n5 4\\n";
 
@@ -129,6 +130,7 @@ void pesp_search(struct session *session, uint64_t nodes, uint16_t *out, size_t 
     found->cost = nodes + 1;
     found->lower_bound = nodes;
     found->state = nodes > UINT32_MAX ? 2 : 1;
+    found->goes_on = nodes == 1;
     told->status = 0;
     told->length = length;
 }
@@ -148,11 +150,13 @@ class Compiled(Case):
         return library
 
     def test_with_the_call_for_searches(self) -> None:
-        """Numbers of 64 bits go in and come out; a search tells cost, bound and times."""
+        """Numbers of 64 bits go in and come out; a search tells cost, bound and times, and whether the next one goes on."""
         with Bench.open(None, period=10, engine="library", library=self.library("-DNEWER")) as bench:
             first, *_, last = bench.search(60, nodes=2**31)
+            going = [bench._session.searched(nodes, time.monotonic() + LONG).goes_on for nodes in (1, 2, 2**32)]
         self.assertEqual((first.found, first.lower_bound), (Stopped(2**31 + 1, {3: 7, 5: 8}), 2**31))
         self.assertEqual((last.found, last.is_ended, last.lower_bound), (Optimum(2**32 + 1, {3: 7, 5: 8}), True, 2**32 + 1))
+        self.assertEqual(going, [True, False, False])
 
     def test_without_it(self) -> None:
         """An older library opens, and a search goes by lines."""

@@ -79,9 +79,21 @@ class Steps(unittest.TestCase):
         script = self.over((0.01, stopped(None, 1, True)), (1, stopped(None, 2, True)))
         self.told(script.search(1, nodes=10**12))
         self.assertEqual(script.asked, [10**12, 10**12])
-        script = self.over(*((took, stopped(9, 1, True)) for took in [0.25, 0.25, 0.5, 1]))
-        self.assertEqual(self.told(script.search(2)), [(9, 1, False)] * 3 + [(9, 1, True)])
-        self.assertEqual(script.asked, [1_000, 1_000, 2_000, 4_000])
+
+    def test_even_with_nothing_new(self) -> None:
+        """It stays so long where it tells nothing new, as on a network that is hard."""
+        script = self.over(*((0.25, stopped(9, 1, True)) for _ in range(40)))
+        self.assertEqual(self.told(script.search(10)), [(9, 1, False)] * 39 + [(9, 1, True)])
+        self.assertEqual(script.asked, [1_000] * 40)
+
+    def test_anew(self) -> None:
+        """One that begins anew is doubled however slow it was, and whatever is new; one that goes on after it is begun as ever."""
+        script = self.over((0.01, stopped(9, 1)), (0.3, stopped(8, 2)), (0.6, stopped(8, 2)), (1.2, stopped(8, 2)))
+        self.assertEqual(self.told(script.search(3)), [(9, 1, False), (8, 2, False), (8, 2, False), (8, 2, True)])
+        self.assertEqual(script.asked, [1_000, 2_000, 4_000, 8_000])
+        script = self.over((1, stopped(None, 1)), (0.25, stopped(None, 1, True)), (1, stopped(None, 1, True)))
+        self.assertEqual(self.told(script.search(2.2)), [(None, 1, False)] * 2 + [(None, 1, True)])
+        self.assertEqual(script.asked, [1_000, 2_000, 2_000])
 
     def test_even_to_the_end(self) -> None:
         """A step that goes on is begun where any time is left, and is let come to its end."""
@@ -261,6 +273,14 @@ class OverCalls(Case):
     # Of quick calls one after the other.
     SIZES = (1_000, 2_000, 4_000, 8_000)
 
+    def setUp(self) -> None:
+        """By a clock that stands still each call is quick."""
+        super().setUp()
+        now = time.monotonic()
+        clock = mock.patch("pespbench.searching.clock", mock.Mock(monotonic=lambda: now))
+        clock.start()
+        self.addCleanup(clock.stop)
+
     def opened(self, library: StandIn) -> Bench:
         """A bench with two events over a stand-in."""
         bench = over(self, library)
@@ -308,7 +328,8 @@ class OverCalls(Case):
         self.assertEqual((next(bench.search(60)).cost, library.nodes, library.opened), (None, 1_000, 1))
 
     def test_sizes(self) -> None:
-        """A call takes about a quarter of a second, however many nodes a second a library goes through, and it is asked often."""
+        """A call takes about a quarter of a second, however many nodes a second a library goes through, and it is asked often,
+        also where none tells anything new."""
         for rate, nodes, least, most, last in [(4_000, 1, 1, 512, 512), (4_000, 10**6, 1_953, 10**6, 1_953), (10, 1_000, 3, 1_000, 3)]:
             now = [time.monotonic()]
             slow = Slow(now, rate)
@@ -317,6 +338,14 @@ class OverCalls(Case):
                 sizes = asked(slow)
                 self.assertEqual((min(sizes), max(sizes), sizes[-1]), (least, most, last))
                 self.assertGreater(sizes.count(last), 100)
+
+    def test_sizes_anew(self) -> None:
+        """Where the library says that it does not go on, each call has twice the nodes of the one before."""
+        now = [time.monotonic()]
+        slow = Slow(now, 4_000, goes_on=False)
+        with mock.patch("pespbench.searching.clock", mock.Mock(monotonic=lambda: now[0])):
+            over(self, slow).search(100).found()
+        self.assertEqual(asked(slow), [1_000 << place for place in range(9)])
 
     def test_none(self) -> None:
         library = self.library({b"try 3000": lambda: b"infeasible\n"}, lambda nodes: 0)
@@ -353,17 +382,17 @@ def asked(library: StandIn) -> List[int]:
 
 
 class Slow(StandIn):
-    """Goes through so many nodes in a second of a clock, and finds nothing but bounds."""
+    """Goes through so many nodes in a second of a clock, and finds nothing."""
 
-    def __init__(self, clock: List[float], rate: int) -> None:
+    def __init__(self, clock: List[float], rate: int, goes_on: bool = True) -> None:
         super().__init__(lambda line: usual(line, {b"violations": lambda: b"violations 1\nactivity 1\n"}), bound=lambda nodes: 0)
-        self.clock, self.rate = clock, rate
+        self.clock, self.rate, self.goes_on = clock, rate, goes_on
 
     def _search(self, _: int, nodes: int, room: int, room_length: int, found: int, told: int) -> None:
         self.lines.append(b"pesp_search %d" % nodes)
         self.clock[0] += nodes / self.rate
         ToldFound.from_address(found).state = 0
-        ToldFound.from_address(found).lower_bound = len(self.lines)
+        ToldFound.from_address(found).goes_on = self.goes_on
         Told.from_address(told).length = Told.from_address(told).status = 0
 
 

@@ -21,13 +21,13 @@ def network(events: int, count: int) -> Dict[str, str]:
 
 
 def long_search() -> Dict[str, str]:
-    """Files of a network of 60 events and 180 activities: no search of it ends soon."""
-    return network(60, 180)
+    """Files of a network of 200 events and 600 activities: no search of it ends, however quick the machine is."""
+    return network(200, 600)
 
 
 def soon_found() -> Dict[str, str]:
-    """Files of another one, whose search soon has a timetable, and does not end soon either."""
-    return network(100, 150)
+    """Files of another one, whose search soon has a timetable, and does not end either."""
+    return network(200, 300)
 
 
 def optima(suite: Suite, page: Hands) -> None:

@@ -1,5 +1,7 @@
 """A search goes on step by step in one session of the Worker, which hears between two steps that it is to rest."""
 
+from typing import List
+
 from page_tests.hands import TWO_TRAINS, Hands
 from page_tests.searching import DONE, long_search, soon_found
 from page_tests.stopping import begun
@@ -25,15 +27,14 @@ TELLS = """for (const call of ['start', 'open', 'search']) {
     };
 }"""
 
-# By its clock, searches go through so many nodes in a millisecond, and find nothing.
+# By its clock, searches go through so many nodes in a millisecond, and tell nothing new; each goes on, or begins anew.
 SLOW = """const { performance } = self, now = performance.now.bind(performance);
-let later = 0, told = 0n;
+let later = 0;
 performance.now = () => now() + later;
 PespModule.search = (module, session, nodes) => {
     later += nodes / RATE;
     self.postMessage({ call: 'search', nodes, at: Number(session.at) });
-    told += 1n;
-    return { state: 0, cost: 0n, lowerBound: told, times: null, ending: { status: 0 }, fault: '' };
+    return { state: 0, cost: 0n, lowerBound: 0n, goesOn: GOES_ON, times: null, ending: { status: 0 }, fault: '' };
 };"""
 
 # It tells in which session a line is asked.
@@ -42,6 +43,11 @@ PespModule.ask = (module, session, line) => {
     self.postMessage({ call: 'ask', line, at: Number(session.at) });
     return ask(module, session, line);
 };"""
+
+
+def slow(rate: float, goes_on: bool = True) -> str:
+    """The same at so many nodes in a millisecond."""
+    return SLOW.replace("RATE", str(rate)).replace("GOES_ON", str(goes_on).lower())
 
 
 def count(page: Hands, call: str) -> int:
@@ -90,7 +96,7 @@ def one_session(suite: Suite, page: Hands) -> None:
 def beside_gains(suite: Suite, page: Hands) -> None:
     """What a minute more would save is asked in another session than that of a search that can be gone on with."""
     page.again()
-    page.ask(BESIDE.replace("FIRST", SLOW.replace("RATE", "4") + ASKS))
+    page.ask(BESIDE.replace("FIRST", slow(4) + ASKS))
     page.show({**TWO_TRAINS, "times": ""})
     gone_on(page)
     page.press("tab-gains")
@@ -129,12 +135,22 @@ def at_once(suite: Suite, page: Hands) -> None:
     suite.note("by another Worker", {"start": 2}, {"start": count(page, "start")})
 
 
+def tried(suite: Suite, page: Hands, name: str, most: int, sizes: List[int], told: int) -> None:
+    """Searches on by so many nodes at most: the steps so far, and the nodes that are told."""
+    page.ask(f"Page.find('nodes').value = '{most}'")
+    page.press("try")
+    page.until(DONE)
+    suite.note(name, {"nodes": sizes}, {"nodes": page.ask("window.calls.map(({ nodes }) => nodes)")})
+    suite.holds(f"{name}: after so many", page.text("#clock").startswith(f"after {told:,} cases"))
+
+
 @within(120)
 def even_steps(suite: Suite, page: Hands) -> None:
-    """A step takes about a quarter of a second, however many nodes a second the module goes through; a last one has what is left."""
+    """A step that goes on takes about a quarter of a second, however many nodes a second the module goes through, though it tells
+    nothing new; one that begins anew has twice the nodes; a last one has what is left."""
     for rate, sizes in [(4, [1000] * 5), (40, [1000, 2000, 4000, 8000, 8000]), (0.4, [1000, 500, 250, 125, 125])]:
         page.again()
-        page.ask(BESIDE.replace("FIRST", SLOW.replace("RATE", str(rate))))
+        page.ask(BESIDE.replace("FIRST", slow(rate)))
         page.show({**TWO_TRAINS, "times": ""})
         page.press("optimum")
         page.until("window.calls.length > 9")
@@ -142,14 +158,14 @@ def even_steps(suite: Suite, page: Hands) -> None:
         came = page.ask("window.calls.map(({ nodes }) => nodes)")
         suite.note(f"{rate} nodes in a millisecond", {"first": sizes, "last": sizes[-1]}, {"first": came[:5], "last": came[-1]})
     page.again()
-    page.ask(BESIDE.replace("FIRST", SLOW.replace("RATE", "40")))
+    page.ask(BESIDE.replace("FIRST", slow(40)))
     page.show({**TWO_TRAINS, "times": ""})
-    for name, sizes, told in [("tried", [1000, 1500], 2500), ("tried on", [1000, 1500, 2000, 500], 5000)]:
-        page.ask("Page.find('nodes').value = '2500'")
-        page.press("try")
-        page.until(DONE)
-        suite.note(name, {"nodes": sizes}, {"nodes": page.ask("window.calls.map(({ nodes }) => nodes)")})
-        suite.holds(f"{name}: after so many", page.text("#clock").startswith(f"after {told:,} cases"))
+    tried(suite, page, "tried", 2500, [1000, 1500], 2500)
+    tried(suite, page, "tried on", 2500, [1000, 1500, 2000, 500], 5000)
+    page.again()
+    page.ask(BESIDE.replace("FIRST", slow(0.4, goes_on=False)))
+    page.show({**TWO_TRAINS, "times": ""})
+    tried(suite, page, "begun anew", 20_000, [1000, 2000, 4000, 8000, 5000], 20_000)
     page.again()
 
 

@@ -28,11 +28,13 @@ const isSameCost = (module, session) => {
 
 // Whether a search tells in numbers what the line `try 0` tells after it, where there is memory for both.
 const isSameSearch = (module, session) => {
-  const { state, cost, lowerBound, times, ending } = PespModule.search(module, session, NODES), { output, ending: after } = PespModule.ask(module, session, 'try 0');
+  const { state, cost, lowerBound, goesOn, times, ending } = PespModule.search(module, session, NODES);
+  const { output, ending: after } = PespModule.ask(module, session, 'try 0');
   if (ending.status > 0 || after.status > 0) return true;
   const [head, ...rows] = Buffer.from(output).toString().trimEnd().split('\n'), told = `${cost} ${times.length}`;
   const isBound = state === 0 || lowerBound <= cost, areTimes = rows.every((row, place) => Number(row.split(' ')[1]) === times[place]);
-  return head === ['stopped none', `stopped ${told}`, `optimum ${told}`, 'infeasible'][state] && isBound && areTimes;
+  const isStill = state < 2 || !goesOn;
+  return head === ['stopped none', `stopped ${told}`, `optimum ${told}`, 'infeasible'][state] && isBound && areTimes && isStill;
 };
 
 // What a session answers up to the first line that it does not.

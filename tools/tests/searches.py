@@ -18,6 +18,8 @@ DRAWN = 60
 SEARCHES = {b"try %d" % limit: limit for limit in [0, 1, 2, 5, 20, 100, 1000]}
 NOTHING_YET, BEST_SO_FAR, OPTIMUM, NO_TIMETABLE = range(4)
 WORDS = {"stopped": BEST_SO_FAR, "optimum": OPTIMUM}
+# More activities between two events than the search by cycles takes.
+TOO_MANY: List[Row] = [(number, 30, 31, 0, 0, 0) for number in range(1000, 2002)]
 # What is known before a search.
 NOTHING: Searched = (NOTHING_YET, 0, 0, [])
 
@@ -147,6 +149,20 @@ def searches_in_steps(suite: Suite, library: Library) -> None:
     suite.holds(f"a stop tells a bound above 0: {bounds}", any(bounds))
 
 
+def going_on(suite: Suite, library: Library) -> None:
+    """A search that stops says that the next one goes on, but with too many cycles, and where it has ended."""
+    rows = drawn_activities(random.Random(83))
+    for name, activities, wanted in [("few cycles", rows, {1}), ("too many cycles", [*rows, *TOO_MANY], {0})]:
+        library.open(60, rows_of(activities), b"", b"")
+        came = [(library.search(1)[0], library.goes_on) for _ in range(20)]
+        stops = {goes_on for state, goes_on in came if state < OPTIMUM}
+        suite.holds(f"{name}: some stops say {wanted}, of {stops}", wanted <= stops and stops <= wanted | {0})
+        library.close()
+    library.open(60, rows_of(rows), b"", b"")
+    suite.note("a search that has ended", {"state": OPTIMUM, "goes on": 0}, {"state": steps_of(library, 50)[-1][0], "goes on": library.goes_on})
+    library.close()
+
+
 def edited_between(suite: Suite, library: Library, apart: Library) -> None:
     """An edit ends a search: what is told after it is of the network as it is then. Times do not."""
     draw = random.Random(79)
@@ -250,4 +266,5 @@ def searches(suite: Suite, module: ModuleType, path: Path) -> None:
     uses(suite, libraries[0])
     drawn_searches(suite, *libraries)
     searches_in_steps(suite, libraries[0])
+    going_on(suite, libraries[0])
     edited_between(suite, *libraries[:2])

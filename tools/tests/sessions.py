@@ -32,7 +32,9 @@ class Session(ctypes.Structure):
 class Found(ctypes.Structure):
     """How good the timetable is that a search tells."""
 
-    _fields_ = [("cost", ctypes.c_uint64), ("lower_bound", ctypes.c_uint64), ("state", ctypes.c_uint32)]
+    _fields_ = [
+        ("cost", ctypes.c_uint64), ("lower_bound", ctypes.c_uint64), ("state", ctypes.c_uint32), ("goes_on", ctypes.c_uint32),
+    ]
 
 
 class Library:
@@ -40,6 +42,8 @@ class Library:
 
     def __init__(self, module: ModuleType, path: Path) -> None:
         self.told, self.session, self.module = module.Told(), Session(), module
+        # Of the last search.
+        self.goes_on = 7
         self.loaded = library = ctypes.CDLL(str(path))
         of_told, of_session = ctypes.POINTER(module.Told), ctypes.POINTER(Session)
         part = [ctypes.c_char_p, ctypes.c_size_t]
@@ -112,8 +116,9 @@ class Library:
 
     def search(self, nodes: int, room: int = 100) -> Searched:
         """State, cost, lower bound and times, or what was there and the refusal."""
-        found = Found(7, 7, 7)
+        found = Found(7, 7, 7, 7)
         times = self.shown("pesp_search", ctypes.c_uint16, [nodes], room, also=[found])
+        self.goes_on = found.goes_on
         return (found.state, found.cost, found.lower_bound, times)
 
 
@@ -156,7 +161,7 @@ def uses(suite: Suite, library: Library) -> None:
         ("the events of a closed session", library.events, (CLOSED, 0, 0)),
         ("the times of a closed session", library.times, (CLOSED, 0, 0)),
         ("a domain of a closed session", lambda: library.domain(1), (CLOSED, 0, 0)),
-        ("a search in a closed session", lambda: library.search(9), (7, 7, 7, (CLOSED, 0, 0))),
+        ("a search in a closed session", lambda: (library.search(9), library.goes_on), ((7, 7, 7, (CLOSED, 0, 0)), 7)),
         ("close a closed session", library.close, None),
         ("open with a fault", lambda: library.open(10, b"1; 1; 2; 5; 3; 2\n", b"", b""), 1),
         ("ask after that", lambda: ask(b"cost"), (b"", CLOSED)),
@@ -305,7 +310,7 @@ static void one(void) {
     if (told.status != PESP_DONE || cost != 2) abort();
     pesp_search(&session, 1000, best, 2, &found, &told);
     pesp_search(&session, 0, NULL, 0, &found, &told);
-    if (told.length != 2 || found.state != PESP_OPTIMUM || found.cost != 2 || found.lower_bound != 2) abort();
+    if (told.length != 2 || found.state != PESP_OPTIMUM || found.cost != 2 || found.lower_bound != 2 || found.goes_on != 0) abort();
     pesp_close(&session);
 }
 

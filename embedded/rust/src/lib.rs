@@ -31,8 +31,9 @@ pub struct Files<'a> {
 /// What a search has come to. Times are in the order of [`Session::events`].
 #[derive(Clone, Debug, PartialEq, Eq)]
 pub enum Search {
-    /// It stopped: the best timetable so far, if there is one, and what every timetable that meets everything costs at least.
-    Stopped { best: Option<Best>, lower_bound: u64 },
+    /// It stopped: the best timetable so far, if there is one, what every timetable that meets everything costs at least, and
+    /// whether the next call goes on where this one stopped. Else that begins anew.
+    Stopped { best: Option<Best>, lower_bound: u64, goes_on: bool },
     /// The optimum is known.
     Optimum(Best),
     /// No timetable meets everything.
@@ -191,14 +192,15 @@ impl Session {
     ///
     /// Calls one after the other are one search: each goes on where the one before it stopped, and tells no dearer timetable and
     /// no lesser bound. A line that changes the network begins anew; lines that change times alone, and questions, do not. Double the
-    /// nodes after a call that tells nothing new.
+    /// nodes after a call that does not go on: a network of too many cycles is searched anew each time.
     pub fn search(&mut self, nodes: u64) -> Result<Search, Fault> {
         let mut times = vec![0; self.events()?.len()];
-        let (Found { cost, lower_bound, state }, length) = self.sought(nodes, &mut times)?;
+        let (Found { cost, lower_bound, state, goes_on }, length) = self.sought(nodes, &mut times)?;
+        let goes_on = goes_on == 1;
         times.truncate(length);
         Ok(match state {
-            NOTHING_YET => Search::Stopped { best: None, lower_bound },
-            BEST_SO_FAR => Search::Stopped { best: Some(Best { cost, times }), lower_bound },
+            NOTHING_YET => Search::Stopped { best: None, lower_bound, goes_on },
+            BEST_SO_FAR => Search::Stopped { best: Some(Best { cost, times }), lower_bound, goes_on },
             OPTIMUM => Search::Optimum(Best { cost, times }),
             _ => Search::NoTimetable,
         })
@@ -262,12 +264,12 @@ mod tests {
     #[test]
     fn a_search_tells_how_good_its_timetable_is() -> Result<(), Fault> {
         let mut session = Session::open(10, TWO)?;
-        assert_eq!(session.search(0)?, Search::Stopped { best: None, lower_bound: 0 });
+        assert!(matches!(session.search(0)?, Search::Stopped { best: None, lower_bound: 0, .. }));
         let best = |cost| Best { cost, times: vec![0, 4] };
         assert_eq!(session.search(1_000)?, Search::Optimum(best(4)));
         assert_eq!(session.times()?, [Some(0), None]);
         session.ask("weight 1 3")?;
-        assert_eq!(session.search(0)?, Search::Stopped { best: Some(best(5)), lower_bound: 0 });
+        assert!(matches!(session.search(0)?, Search::Stopped { best: Some(kept), lower_bound: 0, .. } if kept == best(5)));
         assert_eq!(session.search(u64::MAX)?, Search::Optimum(best(5)));
         session.ask("span 1 3 3")?;
         assert_eq!(session.search(1_000)?, Search::NoTimetable);
@@ -293,6 +295,28 @@ mod tests {
             session.ask("time 2 5")?;
         }
         panic!("a thousand nodes do not settle two trains");
+    }
+
+    /// Activities between each two of eight events, and so many more beside the first.
+    fn each_with_each(more: usize) -> Vec<u8> {
+        let pairs = (1..=8).flat_map(|to| (1..to).map(move |from| (from, to))).chain(std::iter::repeat_n((1, 2), more));
+        let row = |((from, to), number): ((i32, i32), i32)| {
+            let lower = from * to % 10;
+            format!("{number}; {from}; {to}; {lower}; {}; {}\n", lower + 8, 1 + number % 3)
+        };
+        pairs.zip(1..).map(row).collect::<String>().into_bytes()
+    }
+
+    #[test]
+    fn a_stop_tells_whether_the_search_goes_on() -> Result<(), Fault> {
+        // With more than a thousand cycles each call begins anew.
+        for (more, wanted) in [(0, true), (1_001, false)] {
+            let activities = each_with_each(more);
+            let mut session = Session::open(10, Files { activities: &activities, ..Files::default() })?;
+            let found = session.search(1)?;
+            assert!(matches!(found, Search::Stopped { goes_on, .. } if goes_on == wanted), "{more} more: {found:?}");
+        }
+        Ok(())
     }
 
     #[test]

@@ -20,6 +20,7 @@ pub struct Found {
     pub cost: u64,
     pub lower_bound: u64,
     pub state: u32,
+    pub goes_on: u32,
 }
 
 /// A session, of which only the library reads or writes what is in it. One that is not open is closed.
