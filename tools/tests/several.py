@@ -3,6 +3,8 @@
 import sys
 from typing import Dict, List, Sequence, Tuple
 
+from measuring.drawn import draw, piece_of, some_fixed
+from measuring.network import text_of
 from tests.harness import TOP, Suite, run, within
 
 NARROW, WIDE = (10, 35), (30, 55)
@@ -69,4 +71,19 @@ def a_region_let_go(suite: Suite) -> None:
     suite.note("one region of two is held", {"cost": held[0] + other[0], "times": held[1] + other[1]}, {"cost": told[0], "times": told[1]})
 
 
-GROUPS = [several_regions, a_region_let_go]
+@within(60)
+def a_region_held_all_over(suite: Suite) -> None:
+    """A region of 380 events with eight fixed times ends in seconds, and in minutes where their domains make cycles: no clause says
+    that they do not. Its cost is what other solvers tell."""
+    lines = 22
+    rows, times = piece_of(draw(1, True, NARROW, lines), lines)
+    fixed = some_fixed(times)
+    words = [suite.program, "--period", str(PERIOD), suite.file("large", text_of(rows).encode())]
+    words += ["--fixed", suite.file("large-fixed", text_of(fixed).encode())]
+    reply = run(words, given=b"optimum")["standard output"].decode().splitlines()
+    told = {int(event): int(time) for event, time in map(str.split, reply[1:])}
+    wanted = {"reply": f"optimum 53114 {len(times)}", "fixed": fixed}
+    suite.note("380 events, eight fixed", wanted, {"reply": reply[0], "fixed": [(event, told[event]) for event, _ in fixed]})
+
+
+GROUPS = [several_regions, a_region_let_go, a_region_held_all_over]
