@@ -21,8 +21,11 @@ const conflictOf = (view, number) => {
 
 // The violated activities of what is shown: all of them, and by each event at which one begins or ends.
 export const conflictsOf = view => {
-  if (!known.has(view)) known.set(view, found(view));
-  return known.get(view);
+  const before = known.get(view);
+  if (before) return before;
+  const made = found(view);
+  known.set(view, made);
+  return made;
 };
 
 const found = view => {

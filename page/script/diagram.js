@@ -1,11 +1,12 @@
 // The distance-time diagram of a line: minutes across, stations down, as far apart as trains need at least. The marks along
 // a station are the minutes at which its events can still be.
 
-import { drawing, element, elided, find, renew, setText } from './elements.js';
-import { frameOf, heightOf, sheetOf, TURN, waysOf } from './frames.js';
+import { drawing, element, elided, find, renew, setAttribute, setText } from './elements.js';
+import { frameOf, gridOf, heightOf, looksOf, TURN, waysOf } from './frames.js';
 import { conflictMarks, marked, reachesOf, ringAt } from './marking.js';
 import { shiftText } from './moving.js';
 import { bareClock, labelOf, runsOf } from './names.js';
+import { drawPart, isSame, makePart } from './parts.js';
 import { chooseLine } from './session.js';
 import { shown } from './shown.js';
 import { stretchOf } from './stretch.js';
@@ -14,31 +15,65 @@ import { isForward, minutesOf } from './trains.js';
 import { minutesHad } from './viewing.js';
 
 const TURNS = ['', 'turn', 'turnaround'], MOST_TURNS = 200;
+// What is drawn among the stations, from below upwards.
+const AMONG = ['possible', 'others', 'turns', 'ways', 'broken', 'reaches'];
+
+// The drawing on the screen.
+let kept = null;
+
+// A drawing with nothing in it yet. Its `scene` is what steps leave as it is, for the most part.
+const emptySheet = () => {
+  const parts = Object.fromEntries(['grid', ...AMONG, 'ends'].map(name => [name, makePart()]));
+  const clip = drawing('svg', {}, ...AMONG.map(name => parts[name].node)), page = drawing('svg', {}, parts.grid.node, clip, parts.ends.node);
+  return { page, clip, parts, scene: null, fixed: page.childNodes.length };
+};
+
+// Where the minutes and stations of a line lie, its trains that wait there, and those of other lines.
+const sceneOf = (view, line, before) => {
+  const of = [line, view.lines, shown.labels, view.network.activities, view.network.period];
+  if (before && isSame(before.of, of)) return before;
+  return { of, line, frame: frameOf(line, view.network), turns: turnsOf(view, line), others: othersOf(view, line) };
+};
 
 // The diagram of a line, and what it says of what is left out. Where times are missing, trains are not drawn, and what is still
 // possible is.
-export const diagramOf = (view, whole, chosen = null) => {
-  const { line, told } = stretchOf(whole, chosen), waiting = turnsOf(view, line);
-  const { drawn, left } = drawnOf(view, line, chosen, waiting);
-  return { drawn, told: [told, left, elided(waiting.length, MOST_TURNS, 'turns')].filter(Boolean).join(' ') };
+export const diagramOf = (view, whole, chosen = null, sheet = emptySheet()) => {
+  const { line, told } = stretchOf(whole, chosen), before = sheet.scene, scene = sceneOf(view, line, before), { page, clip } = sheet;
+  sheet.scene = scene;
+  if (scene !== before) {
+    const looks = looksOf(scene.frame, `Distance-time diagram of ${line.name}`);
+    for (const [name, value] of Object.entries(looks.page)) setAttribute(page, name, value);
+    for (const [name, value] of Object.entries(looks.clip)) setAttribute(clip, name, value);
+  }
+  const left = drawSheet(view, sheet, chosen), waiting = view.tensions ? scene.turns.length : 0;
+  return { drawn: page, told: [told, left, elided(waiting, MOST_TURNS, 'turns')].filter(Boolean).join(' ') };
 };
 
-const drawnOf = (view, line, chosen, waiting) => {
-  const frame = frameOf(line, view.network), { page, clip } = sheetOf(frame, `Distance-time diagram of ${line.name}`);
-  clip.append(...possible(view, frame, line, chosen));
-  clip.append(...view.lines.filter(each => each.name !== line.name).flatMap(each => others(view, frame, line, each)));
-  clip.append(...waiting.slice(0, MOST_TURNS).flatMap(each => turn(view, frame, line, each)));
-  const reaches = [];
-  for (const train of line.trains) {
-    const minutes = minutesOf(view, train);
-    if (minutes) clip.append(...waysOf(frame, minutes.map((minute, place) => [minute, heightOf(frame, train.events[place])]), line.color, 2.6));
-    if (minutes) reaches.push(...reachesOf(frame, train, minutes, 14));
-    page.append(...ends(view, frame, line, train));
-  }
-  const { ways: broken, labels, told } = conflictMarks(view, frame, 'on the line', [...page.querySelectorAll('text.end')]);
-  clip.append(...broken, ...reaches);
-  page.append(...(chosen === null ? [] : chosenMark(view, frame, chosen)), ...labels);
-  return { drawn: page, left: told };
+// Draws what is new in a drawing, and gives what it says of what is left out.
+const drawSheet = (view, { page, parts, scene, fixed }, chosen) => {
+  const { line, frame, turns } = scene, { times, tensions } = view;
+  drawPart(parts.grid, [frame], () => gridOf(frame));
+  drawPart(parts.possible, [scene, view.domains, chosen], () => possible(view, frame, line, chosen));
+  drawPart(parts.turns, [scene, times, tensions], () => tensions ? turns.slice(0, MOST_TURNS).flatMap(each => turn(view, frame, line, each)) : []);
+  drawTrains(view, parts, scene);
+  const endTimes = line.trains.map(train => endsOf(train).map(event => times.get(event)));
+  drawPart(parts.ends, [scene, endTimes.join()], () => line.trains.flatMap(train => ends(view, frame, line, train)));
+  const { ways, labels, told } = conflictMarks(view, frame, 'on the line', [...parts.ends.node.children]);
+  renew(parts.broken.node, ways);
+  renew(page, [...(chosen === null ? [] : chosenMark(view, frame, chosen)), ...labels], fixed);
+  return told;
+};
+
+// The trains of the line and of others, by their minutes.
+const drawTrains = (view, parts, scene) => {
+  const { line, frame } = scene, isDragged = document.body.classList.contains('dragging');
+  const timed = trains => trains.map(each => ({ ...each, minutes: minutesOf(view, each.train) })).filter(({ minutes }) => minutes);
+  const own = timed(line.trains.map(train => ({ train }))), beside = timed(scene.others);
+  const [ownMinutes, minutesBeside] = [own, beside].map(trains => trains.map(({ train, minutes }) => [train.events[0], ...minutes]).join(';'));
+  drawPart(parts.others, [scene, minutesBeside, isDragged], () => beside.flatMap(each => other(frame, each)));
+  drawPart(parts.ways, [scene, ownMinutes], () => own.flatMap(({ train, minutes }) =>
+    waysOf(frame, minutes.map((minute, place) => [minute, heightOf(frame, train.events[place])]), line.color, 2.6)));
+  drawPart(parts.reaches, [scene, ownMinutes, isDragged], () => own.flatMap(({ train, minutes }) => reachesOf(frame, train, minutes, 14)));
 };
 
 // The minutes at which the events of a line can still be, where not all are possible: those of trains that go down the
@@ -54,20 +89,25 @@ const possible = (view, frame, line, chosen) => line.trains.flatMap(train => {
   }).filter(Boolean);
 });
 
-// The parts of another line's trains that lie on tracks of this one.
-const others = (view, frame, line, other) => other.trains.flatMap(train => {
-  const minutes = minutesOf(view, train), places = train.events.map(event => line.stations.indexOf(labelOf(event).station));
-  if (!minutes) return [];
-  return places.slice(1).flatMap((to, place) => {
-    const from = places[place];
-    if (from < 0 || to < 0 || Math.abs(from - to) !== 1) return [];
-    const way = waysOf(frame, [place, place + 1].map(each => [minutes[each], heightOf(frame, train.events[each])]), 'var(--others)', 1.4);
-    return [...way, ...reachesOf(frame, train, minutes, 8, [place])];
-  });
+// The trains of other lines that lie on tracks of this one, and where.
+const othersOf = (view, line) => {
+  const order = new Map(line.stations.map((station, place) => [station, place]));
+  const trains = view.lines.filter(({ name }) => name !== line.name).flatMap(each => each.trains);
+  return trains.map(train => ({ train, places: placesOn(order, train) })).filter(({ places }) => places.length);
+};
+
+const placesOn = (order, train) => {
+  const at = train.events.map(event => order.get(labelOf(event).station));
+  return [...train.steps.keys()].filter(place => Math.abs(at[place] - at[place + 1]) === 1);
+};
+
+const other = (frame, { train, places, minutes }) => places.flatMap(place => {
+  const way = waysOf(frame, [place, place + 1].map(each => [minutes[each], heightOf(frame, train.events[each])]), 'var(--others)', 1.4);
+  return [...way, ...reachesOf(frame, train, minutes, 8, [place])];
 });
 
-// Trains that wait between two ways, as dashes beyond the station.
-const turnsOf = (view, line) => !view.tensions ? [] : [...view.network.activities.values()].filter(each => {
+// Trains that wait between two ways, which are drawn as dashes beyond the station.
+const turnsOf = (view, line) => [...view.network.activities.values()].filter(each => {
   const [from, to] = [labelOf(each.first), labelOf(each.last)];
   const isTurn = from.line === line.name && to.line === line.name && from.station === to.station && from.to !== to.to;
   return isTurn && line.stations.includes(from.station) && TURNS.includes(shown.labels.kinds.get(each.number) || '');
@@ -81,8 +121,10 @@ const turn = (view, frame, line, each) => {
 };
 
 // The minutes at which a train begins and ends, beside the ends of its way.
-const ends = (view, frame, line, train) => [[train.events[0], true], [train.events[train.events.length - 1], false]].map(([event, isFirst]) => {
-  const time = view.times.get(event);
+const endsOf = ({ events }) => [events[0], events[events.length - 1]];
+
+const ends = (view, frame, line, train) => endsOf(train).map((event, end) => {
+  const time = view.times.get(event), isFirst = end === 0;
   if (time === undefined) return null;
   const y = heightOf(frame, event), isAbove = isForward(line, train) !== isFirst, edge = 0.04 * frame.period;
   const isLeft = isFirst ? time >= edge : time > frame.period - edge;
@@ -109,9 +151,10 @@ const update = view => {
   }
   const select = find('line-of-diagram');
   if (select.value !== line.name) select.value = line.name;
-  const { drawn, told } = diagramOf(view, line, shown.chosen), missing = view.tensions ? '' : `No train is drawn, since ${view.missing}.`;
+  kept = kept || emptySheet();
+  const { drawn, told } = diagramOf(view, line, shown.chosen, kept), missing = view.tensions ? '' : `No train is drawn, since ${view.missing}.`;
   setText(find('diagram-note'), [told, NOTE, missing].filter(Boolean).join(' '));
-  renew(holder, [drawn]);
+  if (holder.firstChild !== drawn) holder.replaceChildren(drawn);
 };
 
 const build = view => {

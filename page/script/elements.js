@@ -22,9 +22,13 @@ export const find = id => document.getElementById(id);
 /** @returns {any[]} */
 export const findAll = selector => [...document.querySelectorAll(selector)];
 
-// Sets a text where it is another one, since setting costs a layout.
+// Sets a text where it is another one, since setting costs a layout. What has a text already keeps it and gets other letters, so that
+// a browser makes nothing anew.
 export const setText = (node, text) => {
-  if (node.textContent !== text) node.textContent = text;
+  const { firstChild } = node, isOne = firstChild && firstChild === node.lastChild && firstChild.nodeType === Node.TEXT_NODE;
+  if (node.textContent === text) return;
+  if (isOne && text) firstChild.data = text;
+  else node.textContent = text;
 };
 
 // What a list says that shows just the first of many; '' where it shows all.
@@ -50,9 +54,9 @@ const renewNode = (node, wanted) => {
   renew(node, wanted.childNodes);
 };
 
-// The same for the children of a node.
-export const renew = (holder, wanted) => {
-  const before = [...holder.childNodes], after = [...wanted];
+// The same for the children of a node, or those after its first ones.
+export const renew = (holder, wanted, first = 0) => {
+  const before = [...holder.childNodes].slice(first), after = [...wanted];
   after.forEach((node, place) => place < before.length ? renewNode(before[place], node) : holder.append(node));
   before.slice(after.length).forEach(node => node.remove());
 };

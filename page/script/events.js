@@ -1,6 +1,7 @@
 // The events by train: the list of their rows, with a bar above those of each train.
 
 import { drawBar, makeBar } from './bars.js';
+import { conflictsOf } from './conflicts.js';
 import { element, find } from './elements.js';
 import { clock, stepOf } from './names.js';
 import { drawRow, makeRow } from './rows.js';
@@ -60,7 +61,8 @@ const axis = period => {
 };
 
 const update = view => {
-  rows.forEach(row => drawRow(row, view));
+  const { at } = conflictsOf(view);
+  rows.forEach((row, event) => drawRow(row, view, at.get(event)));
   bars.forEach(bar => drawBar(bar, view));
 };
 

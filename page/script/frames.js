@@ -45,16 +45,22 @@ export const frameOf = (line, network) => {
 
 export const heightOf = (frame, event) => frame.heights.get(labelOf(event).station);
 
+// The attributes of a drawing with a name, and of the part of it in which trains are.
+export const looksOf = (frame, name) => {
+  const place = { x: LEFT, y: TOP - TURN - 4, width: WIDTH - LEFT - RIGHT, height: frame.bottom - TOP + 2 * TURN + 8 };
+  return {
+    page: { viewBox: `0 0 ${WIDTH} ${frame.bottom + BOTTOM}`, role: 'img', 'aria-label': name },
+    clip: { ...place, viewBox: Object.values(place).join(' ') },
+  };
+};
+
 // A drawing with its grid and its name, and the part of it in which trains are.
 export const sheetOf = (frame, name) => {
-  const place = { x: LEFT, y: TOP - TURN - 4, width: WIDTH - LEFT - RIGHT, height: frame.bottom - TOP + 2 * TURN + 8 };
-  const clip = drawing('svg', { ...place, viewBox: Object.values(place).join(' ') });
-  const page = drawing('svg', { viewBox: `0 0 ${WIDTH} ${frame.bottom + BOTTOM}`, role: 'img', 'aria-label': name });
-  page.append(...grid(frame), clip);
+  const looks = looksOf(frame, name), clip = drawing('svg', looks.clip), page = drawing('svg', looks.page, ...gridOf(frame), clip);
   return { page, clip };
 };
 
-const grid = frame => {
+export const gridOf = frame => {
   const made = [], step = stepOf(frame.period);
   for (let minute = 0; minute <= frame.period; minute += step) {
     made.push(drawing('path', { class: 'minute', d: `M${frame.x(minute)} ${TOP - 4}V${frame.bottom + 4}` }));

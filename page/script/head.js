@@ -6,12 +6,13 @@ import { lengthText } from './names.js';
 import { showOpening } from './opening.js';
 import { showSaving } from './saving.js';
 import { redo, session, undo } from './session.js';
-import { countViolated, isInfeasible } from './viewing.js';
+import { countNarrowed, countViolated, isInfeasible } from './viewing.js';
 
 const update = view => {
   const { network } = view;
   setText(find('title'), session.opened.title);
-  document.title = [session.opened.title, 'pespbench'].filter(Boolean).join(' – ');
+  const title = [session.opened.title, 'pespbench'].filter(Boolean).join(' – ');
+  if (document.title !== title) document.title = title;
   setText(find('size'),
     `${network.events.length} events, ${network.activities.size} activities, period ${lengthText(network.period)}`);
   if (view.cost === null) tell('cost', '–', view.missing, false);
@@ -28,9 +29,8 @@ const tellViolated = (view, count) => {
 };
 
 const tellNarrowed = view => {
-  const { events, period } = view.network, narrowed = events.filter(event => view.domains.get(event).length < period).length;
   if (isInfeasible(view)) tell('narrowed', '✕', 'no timetable meets this', true);
-  else tell('narrowed', String(narrowed), `of ${events.length} events`, false);
+  else tell('narrowed', String(countNarrowed(view)), `of ${view.network.events.length} events`, false);
 };
 
 const tell = (name, value, note, isAlarm) => {

@@ -228,7 +228,7 @@ const drawNumber = (view, event, number, chosen = shown.chosen) => {
   const look = [isAlarming(view, event) ? 'alarm' : '', isChosen ? 'chosen' : ''].join(' ').trim(), drawn = `${text} ${look}`;
   if (number.drawn === drawn) return;
   number.drawn = drawn;
-  number.node.textContent = text;
+  setText(number.node, text);
   number.node.setAttribute('class', look);
 };
 

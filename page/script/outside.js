@@ -4,6 +4,7 @@ import { addLabels } from './adding.js';
 import { zipOf } from './archive.js';
 import { keptFree } from './bands.js';
 import { chooseCorridor, corridor } from './corridor.js';
+import { diagramOf } from './diagram.js';
 import { costsBeside, differences } from './differing.js';
 import { drawing, find, readyAfter, say } from './elements.js';
 import { showBar, showRow } from './events.js';
@@ -43,7 +44,7 @@ window.Page = Object.freeze({
   get program() { return programNow(); },
   get readyAfter() { return readyAfter(); },
   ask: askSession, step: doStep,
-  addLabels, bareClock, choose, chooseCorridor, corridor, costsBeside, countViolated, differences, domainText, drawing,
+  addLabels, bareClock, choose, chooseCorridor, corridor, costsBeside, countViolated, diagramOf, differences, domainText, drawing,
   eventName, filesOf, filesToSave, find, folderName, goTo, isForward, isInfeasible, isRefused, isSaved, journal, keptFree,
   kindOf, labelOf, layOut, moveTrain, netgraphOf, openStory, openTexts, placesText, present, preview, rangeShown, readCost,
   readDomains, readNetwork, readPlaces, readTensions, readViolations, redo, refresh, reportOf, run, say, session, showBar,

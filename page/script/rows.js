@@ -1,6 +1,6 @@
 // The row of an event: its name, its time, the strip of its domain with what holds it, and a word on that.
 
-import { conflictsAt, conflictsOfRow, isOutside, shortConflicts, toldConflicts } from './conflicts.js';
+import { conflictsOfRow, isOutside, shortConflicts, toldConflicts } from './conflicts.js';
 import { drawing, element, setText } from './elements.js';
 import { makeHandle, tellHandle } from './handles.js';
 import { clock, domainText, eventName, eventShort, runsOf, windowText } from './names.js';
@@ -102,10 +102,7 @@ const noteOf = (window, isViolated, period) => {
   return (isViolated ? '✕ not ' : '') + windowText(window, period);
 };
 
-const toldAt = (view, event) => {
-  const conflicts = conflictsAt(view, event);
-  return conflicts.length ? `${conflicts[0].number} ${conflicts[0].short} ${conflicts.length}` : '';
-};
+const toldOf = conflicts => conflicts ? `${conflicts[0].number} ${conflicts[0].short} ${conflicts.length}` : '';
 
 // The violated activities at the event; one that is too long for its place is whole in its title.
 const drawBroken = (row, isBroken, conflicts) => {
@@ -118,12 +115,17 @@ const drawBroken = (row, isBroken, conflicts) => {
   }, shortConflicts(conflicts)));
 };
 
-// Draws what is new about an event.
-export const drawRow = (row, view) => {
+const isSeen = (seen, before) => {
+  for (let place = 0; place < seen.length; place += 1) if (seen[place] !== before[place]) return false;
+  return true;
+};
+
+// Draws what is new about an event, of which `conflicts` are what is violated there, if anything.
+export const drawRow = (row, view, conflicts) => {
   const { event } = row, period = view.network.period, minutes = view.domains.get(event), window = view.network.windows.get(event);
-  const isViolated = isOutside(view, event), isChosen = shown.chosen === event, broken = toldAt(view, event);
+  const isViolated = isOutside(view, event), isChosen = shown.chosen === event, broken = toldOf(conflicts);
   const seen = [minutes, period, window && window.first, window && window.length, view.times.get(event), isViolated, isChosen, broken];
-  if (row.seen && seen.every((value, place) => value === row.seen[place])) return;
+  if (row.seen && isSeen(seen, row.seen)) return;
   row.seen = seen;
   once(row, 'period', period, () => row.svg.setAttribute('viewBox', `0 0 ${period} 1`));
   once(row, 'possible', pathOf(minutes), path => row.possible.setAttribute('d', path));

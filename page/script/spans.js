@@ -18,8 +18,16 @@ const build = () => {
   listed = [];
 };
 
+// The activities at an event, which are looked for where it or one of them is another.
+let found = { activities: null, event: null, all: [] };
+const activitiesAt = ({ activities }, event) => {
+  if (found.activities === activities && found.event === event) return found.all;
+  found = { activities, event, all: [...activities.values()].filter(each => each.first === event || each.last === event) };
+  return found.all;
+};
+
 const update = view => {
-  const all = [...view.network.activities.values()].filter(each => each.first === shown.chosen || each.last === shown.chosen);
+  const all = activitiesAt(view.network, shown.chosen);
   const some = all.slice(0, MOST_CARDS), wanted = [all.length, ...some.map(each => each.number)];
   if (wanted.join() !== listed.join() || !all.length) {
     listed = wanted;

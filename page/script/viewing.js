@@ -1,7 +1,17 @@
 // What a view tells at one glance of its replies.
 
+// Of domains the numbers of their minutes; they stay the same value where a step leaves them as they are.
+const known = new WeakMap();
+const lengthsOf = ({ domains }) => {
+  if (!known.has(domains)) known.set(domains, [...domains.values()].map(minutes => minutes.length));
+  return known.get(domains);
+};
+
 // Whether some event can be at no minute.
-export const isInfeasible = view => view.network.events.some(event => !view.domains.get(event).length);
+export const isInfeasible = view => lengthsOf(view).includes(0);
+
+// How many events can be at fewer minutes than all.
+export const countNarrowed = view => lengthsOf(view).filter(length => length < view.network.period).length;
 
 // How many activities and events are violated; null where the working timetable lacks a time.
 export const countViolated = ({ violations }) => violations && violations.activities.size + violations.events.size;

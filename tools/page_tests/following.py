@@ -85,6 +85,46 @@ def drawn_steps(suite: Suite, page: Hands) -> None:
         suite.holds(f"seed {seed}: {json.dumps(came)}", set(came) == {"refused"} and 20 < came["refused"] < ACTIONS / 2)
 
 
+# The same of the diagram, of which a step draws those parts alone that it changes: the first act after which it is not what is drawn of
+# nothing is given, and else how many diagrams were other ones than before.
+PARTS = """(() => {
+    let seed = SEED, changes = 0, before = '';
+    const below = most => (seed = (seed * 48271) % 2147483647) % most, one = of => of[below(of.length)];
+    const { network } = Page.view, event = () => one(network.events), activity = () => one([...network.activities.values()]);
+    const span = ({ number, lower, upper }) => `span ${number} ${lower + below(3)} ${upper + 2 + below(3)}`;
+    const KINDS = [
+        () => `fix ${event()} ${below(60)}`, () => `window ${event()} ${below(60)} ${1 + below(60)}`, () => `unfix ${event()}`,
+        () => `time ${event()} ${below(60)}`, () => `untime ${event()}`, () => span(activity()), () => `weight ${activity().number} ${below(9)}`,
+    ];
+    const ACTS = {
+        does: () => Page.step([one(KINDS)()]), tries: () => Page.preview([one(KINDS)()]), leaves: () => Page.refresh(), undoes: () => Page.undo(),
+        redoes: () => Page.redo(), chooses: () => Page.choose(event()), sets: () => Page.step(Array.from(Page.session.opened.times, each => `time ${each.join(' ')}`)),
+        hides: () => { Page.showTab('lines'); Page.step([one(KINDS)()]); Page.showTab('diagram'); },
+        drags: () => { document.body.classList.toggle('dragging'); Page.refresh(); },
+    };
+    for (let count = 0; count < ACTIONS; count += 1) {
+        const name = one(Object.keys(ACTS));
+        ACTS[name]();
+        const line = Page.view.lines.find(each => each.name === Page.chosenLine) || Page.view.lines[0], { drawn } = Page.diagramOf(Page.view, line, Page.chosen);
+        const [came, wanted] = [Page.find('diagram').firstElementChild, drawn].map(each => each.outerHTML);
+        if (!drawn.isEqualNode(Page.find('diagram').firstElementChild)) return { name, count, lines: Page.journal(), came, wanted };
+        changes += before !== came;
+        before = came;
+    }
+    document.body.classList.remove('dragging');
+    return { changes };
+})()"""
+
+
+@within(120)
+def drawn_in_parts(suite: Suite, page: Hands) -> None:
+    """Whatever is done, the diagram is what is drawn of nothing."""
+    for seed in (21, 22, 23):
+        page.again()
+        came = page.ask(PARTS.replace("SEED", str(seed)).replace("ACTIONS", str(ACTIONS)))
+        suite.holds(f"seed {seed}: {json.dumps(came)[:3000]}", set(came) == {"changes"} and came["changes"] > ACTIONS / 5)
+
+
 # The next calls of a session want memory, or are trapped.
 FAILING = """(() => {
     const { ask, domains } = PespModule;
@@ -120,4 +160,4 @@ def failing(suite: Suite, page: Hands) -> None:
         suite.holds(f"{name}: nothing is lost", page.state() == before)
 
 
-GROUPS = [drawn_steps, failing]
+GROUPS = [drawn_steps, drawn_in_parts, failing]
