@@ -48,10 +48,12 @@ class Element {
     return { baseVal: { x, y, width, height } };
   }
 
+  get children() { return this.childNodes.filter(node => node instanceof Element); }
+
   // The elements within that have a tag and a class, as `text.end`.
   querySelectorAll(selector) {
-    const [tag, name] = selector.split('.'), below = this.childNodes.filter(node => node instanceof Element);
-    return below.flatMap(node => [...node.tagName === tag && (node.getAttribute('class') || '').split(' ').includes(name) ? [node] : [], ...node.querySelectorAll(selector)]);
+    const [tag, name] = selector.split('.');
+    return this.children.flatMap(node => [...node.tagName === tag && (node.getAttribute('class') || '').split(' ').includes(name) ? [node] : [], ...node.querySelectorAll(selector)]);
   }
 
   toString() {
