@@ -163,7 +163,8 @@ struct pesp_found {
  * end.
  *
  * nodes: any number. With 0 nothing is searched but what needs no node, as an event whose domain is empty: what is known is
- *     told again, or the best timetable so far, as long as it meets everything; the bound of that is 0.
+ *     told again, or the best timetable so far, as long as it meets everything; the bound of that is 0, and `goes_on` as the
+ *     last search with more nodes had it, of whatever network.
  * out: the time of each event in that timetable, as in pesp_times; for PESP_OPTIMUM those that `optimum` tells. Where no
  *     timetable is told, `told->length` is 0, and `out` as it was. Where it has less room, ask once more with 0 nodes.
  * found: is filled in whole where `told->status` is PESP_DONE, and else as it was. PESP_CLOSED; PESP_MEMORY.
