@@ -7,6 +7,7 @@ pub mod Coming
 pub mod Grown
 pub mod Parted
 pub mod Known
+pub mod Lone
 pub mod Marks
 pub mod OneSum
 pub mod Meeting

@@ -58,3 +58,7 @@ module _ (place : ℕ) (f : ℕ → Bool) (low : ℕ) (before : List (List Bool)
   -- one that does not pass, or is not in the row, changes nothing
   pub clears_passed : (n : ℕ) (now : List (List Bool)) → (has_at now place n && f n) ≡ false → Clears place f low n before now → Clears place f low (n + 1) before now
   clears_passed n now stays clears p r = grind (arith, nat_tests, clears p r)
+
+  -- and so do residues one after another of which none passes or is in the row
+  pub clears_skipped : (from n : ℕ) (now : List (List Bool)) → from ≤ n → ((r : ℕ) → from ≤ r → r < n → (has_at now place r && f r) ≡ false) → Clears place f low from before now → Clears place f low n before now
+  clears_skipped from n now le none clears p r = grind (arith, nat_tests, clears p r, none r)

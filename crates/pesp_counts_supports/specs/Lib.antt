@@ -1,6 +1,7 @@
 pub mod Blocks
 pub mod Counted
 pub mod Counts
+pub mod Lone
 pub mod Moves
 pub mod Resting
 pub mod Restored

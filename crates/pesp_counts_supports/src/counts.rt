@@ -2,8 +2,9 @@
 
 ghost use Rattle.std.specs.Prelude.{◌≡◌, ◌+◌, ◌*◌, ◌<◌, ◌≤◌, ◌⊎◌, ℕ, [], length, slice_index_or, OnOk, OnErr};
 ghost use Rattle.pesp_counts_supports.specs.Counted.{AreShifted, CanShift};
+ghost use Rattle.pesp_counts_supports.specs.Lone.{IsFirst, is_lone};
 
-use crate::widths::{shift_bytes, shift_words};
+use crate::widths::{first_lone_byte, first_lone_word, shift_bytes, shift_words};
 use pesp_base::Period;
 use std::alloc::{AllocError, Global};
 use std::marker::Model;
@@ -70,6 +71,17 @@ impl Counts {
         // That this is a number is known by the invariant: there are so many counts.
         let _values = &self.values;
         end * period as usize
+    }
+
+    /// The first residue that is held and has no partner, by the counts from one on, one for each.
+    pub(crate) fn first_lone(&self, held: &[bool], from: usize) -> Option<usize>
+        requires { from + length held.now ≤ length (self.now).values }
+        ensures { IsFirst (is_lone held.now (self.now).values from) 0 (length held.now) result }
+    {
+        match &self.values {
+            Values::Narrow(bytes) => first_lone_byte(held, &bytes[from..from + held.len()]),
+            Values::Wide(words) => first_lone_word(held, &words[from..from + held.len()]),
+        }
     }
 
     /// Moves each count from one on by the difference of two sums: down by the one, and up by the other.

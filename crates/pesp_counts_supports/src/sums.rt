@@ -1,6 +1,6 @@
 //! Sums of the residues that move: how many of them a window holds is the difference of two.
 
-ghost use Rattle.std.specs.Prelude.{◌≡◌, ◌<◌, ◌≤◌, ◌*◌, ◌+◌, ◌==◌, ◌⊎◌, ℕ, length, option_map, slice_index_or};
+ghost use Rattle.std.specs.Prelude.{◌≡◌, ◌<◌, ◌≤◌, ◌*◌, ◌+◌, ◌==◌, ◌⊎◌, ℕ, IfSome, None, Some, length, option_map, slice_index_or};
 ghost use Rattle.pesp_base.specs.Limits.{greatest_period};
 ghost use Rattle.pesp_counts_supports.specs.Blocks.{AreSums, is_beyond, sum_below};
 ghost use Rattle.pesp_counts_supports.specs.Moves.{waiting_at};
@@ -9,19 +9,49 @@ use crate::moving::Way;
 use crate::supports::Supports;
 use pesp_domains::Row;
 
-/// Whether the one row holds the residue and the other, where there is one, lacks it.
-fn holds_beyond(row: &Row, other: Option<&Row>, residue: u16) -> bool
-    ensures { result ≡ is_beyond row.now (option_map (λ o. o.now) other.entry) residue }
+/// Makes the sum below each residue of those that are held, and tells how many they are.
+fn sum_held(held: &[bool], sums: &mut [u16]) -> u16
+    requires few { length held.now ≤ greatest_period }
+    requires even { length sums.old ≡ length held.now }
+    ensures long { length sums.new ≡ length sums.old }
+    ensures sums { (i : ℕ) → i < length held.now → slice_index_or sums.new i 0
+        ≡ sum_below (length held.now) (is_beyond held.now None) i }
+    ensures many { result ≡ sum_below (length held.now) (is_beyond held.now None) (length held.now) }
+    ensures few { result ≤ length held.now }
 {
-    match other {
-        Some(other) => row.holds(residue) && !other.holds(residue),
-        None => row.holds(residue),
+    let mut many = 0;
+    for at in 0..held.len() {
+        sums[at] = many;
+        many += u16::from(held[at]);
     }
+    many
+}
+
+/// The same of those that the one row holds and the other lacks.
+fn sum_lacked(held: &[bool], others: &[bool], sums: &mut [u16]) -> u16
+    requires few { length held.now ≤ greatest_period }
+    requires even { length sums.old ≡ length held.now }
+    requires others { length others.now ≡ length held.now }
+    ensures long { length sums.new ≡ length sums.old }
+    ensures sums { (i : ℕ) → i < length held.now → slice_index_or sums.new i 0
+        ≡ sum_below (length held.now) (is_beyond held.now (Some others.now)) i }
+    ensures many { result
+        ≡ sum_below (length held.now) (is_beyond held.now (Some others.now)) (length held.now) }
+    ensures few { result ≤ length held.now }
+{
+    let mut many = 0;
+    for at in 0..held.len() {
+        sums[at] = many;
+        many += u16::from(held[at] & !others[at]);
+    }
+    many
 }
 
 /// Makes the sums of one period, and tells how many residues they are of.
 fn sum_once(row: &Row, other: Option<&Row>, period: u16, sums: &mut [u16]) -> u16
     requires period { period ≤ greatest_period }
+    requires row { length row.now ≡ period }
+    requires other { IfSome other (λ o. length o.now ≡ period) }
     requires long { 3 * period < length sums.old }
     ensures long { length sums.new ≡ length sums.old }
     ensures sums { (i : ℕ) → i < period
@@ -29,12 +59,12 @@ fn sum_once(row: &Row, other: Option<&Row>, period: u16, sums: &mut [u16]) -> u1
     ensures many { result ≡ sum_below period (is_beyond row.now (option_map (λ o. o.now) other.entry)) period }
     ensures few { result ≤ period }
 {
-    let mut many = 0;
-    for residue in 0..period {
-        sums[residue as usize] = many;
-        many += u16::from(holds_beyond(row, other, residue));
+    let held = row.tests();
+    let sums = &mut sums[..held.len()];
+    match other {
+        Some(other) => sum_lacked(held, &other.tests()[..held.len()], sums),
+        None => sum_held(held, sums),
     }
-    many
 }
 
 /// Makes each sum of a range this one.
@@ -72,6 +102,8 @@ fn sum_on(sums: &mut [u16], period: u16, many: u16)
 pub(crate) fn sum_beyond(row: &Row, other: Option<&Row>, period: u16, sums: &mut [u16]) -> u16
     requires period { period ≤ greatest_period }
     requires some { 0 < period }
+    requires row { length row.now ≡ period }
+    requires other { IfSome other (λ o. length o.now ≡ period) }
     requires long { 3 * period < length sums.old }
     ensures long { length sums.new ≡ length sums.old }
     ensures sums { AreSums period (is_beyond row.now (option_map (λ o. o.now) other.entry)) sums.new }

@@ -7,6 +7,7 @@ ghost use Rattle.pesp_domains.specs.Sweeps.{Of, limited, narrowed_to};
 ghost use Rattle.pesp_domains.specs.Removals.{without};
 ghost use Rattle.pesp_counts_arcs.specs.Ends.{end_at, ends_of, is_from_to};
 ghost use Rattle.pesp_counts_supports.specs.Counts.{count_at, has_at};
+ghost use Rattle.pesp_counts_supports.specs.Lone.{IsFirst};
 ghost use Rattle.pesp_counts_supports.specs.Moves.{IsOne, is_touched, owed};
 ghost use Rattle.pesp_counts_supports.specs.Resting.{AreAtRest, AreLive, AreLiveBut, ArePendingBut, AreWaiting, KeepsAllClosed};
 ghost use Rattle.pesp_counts_supports.specs.Supports.{AreExact, Fit, HaveSameShape, IsTaken, Keeps, is_in, lacks_partner};
@@ -130,11 +131,26 @@ impl Supports {
         ensures keeps { Keeps self.old self.new }
         ensures probes { (self.new).probes ≡ (self.old).probes }
     {
-        for residue in residues {
-            if self.row(place).holds(residue) && self.count(end, residue) == 0 {
-                self.take_out(place, residue);
-            }
+        let mut from = residues.start;
+        'lone: while let Some(residue) = self.first_lone(place, end, from, residues.end) {
+            self.take_out(place, residue);
+            from = residue + 1;
         }
+    }
+
+    /// The first residue of a range at a place that has no partner at an end.
+    fn first_lone(&self, place: usize, end: usize, from: u16, to: u16) -> Option<u16>
+        requires place { place < length (self.now).rows }
+        requires end { end * (self.now).period + (self.now).period ≤ length (self.now).counts }
+        requires order { from ≤ to }
+        requires high { to ≤ (self.now).period }
+        ensures { IsFirst (λ r. has_at (self.now).rows place r
+            && (count_at (self.now).period (self.now).counts end r == 0)) from to result }
+    {
+        let base = self.counts.base(end, self.period.get());
+        let held = &self.rows[place].tests()[usize::from(from)..usize::from(to)];
+        let ahead = self.counts.first_lone(held, base + usize::from(from))?;
+        Some(from + ahead as u16)
     }
 
     /// Takes all residues at a place but one out.
@@ -258,7 +274,7 @@ impl Supports {
     }
 
     /// Takes a pair out of the rows. It then stands at the end of the trail.
-    // Few of the counts that are looked at take a pair out. In line in the loop of `sift_range`, packing the pair costs each of them an instruction.
+    // Few of the counts that are looked at take a pair out.
     #[cold]
     #[inline(never)]
     fn take_out(&mut self, place: usize, residue: u16)

@@ -52,6 +52,13 @@ impl Row {
         self.tests.len() as u16
     }
 
+    /// The test of each residue below the period, ascending.
+    pub fn tests(&self) -> &[bool]
+        ensures { result.now ≡ self.now }
+    {
+        &self.tests
+    }
+
     /// Whether the residue is in the set.
     pub fn holds(&self, residue: u16) -> bool
         ensures { result ≡ holds self.now residue }

@@ -1,6 +1,7 @@
 -- The counts of the end come anew from 0, each by those of its window.
 use Rattle.std.proofs.Common.{◌≡◌, ◌+◌, ◌*◌, ◌<◌, ◌≤◌, ◌++◌, drop, take, None, length, [], refl, subst, sym, ap, ◌∙◌, arith}
 use Rattle.std.proofs.lemmas.List.{get_or_read}
+use Rattle.std.proofs.lemmas.List.Elements.{All-get_or}
 use Rattle.pesp_domains.specs.Domains.{holds}
 use Rattle.pesp_counts_arcs.specs.Ends.{passes}
 use Rattle.pesp_counts_supports.specs.Blocks.{AreSums}
@@ -15,6 +16,12 @@ sum_beyond-requires-clause-long c =
     let here = subst (λ (s : Supports). c.args.end.looks_at < length s.counted) (sym c.self.view_is) c.requires.looks in
     let long = c.self.invariant.sums (omega (arith, here, c.self.invariant.even)) in
     omega (arith, long, c.get-period.ensures.value)
+
+pub sum_beyond-requires-clause-row : goal.sum_beyond-requires-clause-row
+sum_beyond-requires-clause-row c =
+    let here = subst (λ (s : Supports). c.args.end.looks_at < length s.counted) (sym c.self.view_is) c.requires.looks in
+    let long = All-get_or (λ row. length row ≡ c.self.inside.period) c.self.inside.counted.items c.args.end.looks_at [] here c.self.invariant.counted in
+    ap length (get_or_read c.self.inside.counted.items c.args.end.looks_at c.index.result.now here c.index.ensures []) ∙ long ∙ sym c.get-period.ensures.value
 
 -- the sums are those of the row that was read
 sums_are : (c : After-sum_beyond) → AreSums c.self.inside.period (holds c.index.result.now) (take c.self.inside.sums.len (c.sum_beyond.new.sums ++ drop (length c.sum_beyond.new.sums) c.self.inside.sums.items))
