@@ -1,6 +1,7 @@
 mod Cases
 pub mod DomainLemmas
 pub mod Refused
+pub mod SpacedLemmas
 pub mod TranscriptLemmas
 pub mod UniqueLemmas
 pub mod Written

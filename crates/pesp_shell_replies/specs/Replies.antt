@@ -11,7 +11,6 @@ use Rattle.pesp_tension.specs.Timetables.{Times}
 use Rattle.pesp_search.specs.declared.answer.Answer.{Answer}
 use Rattle.pesp_search.specs.declared.answer.Answer.TheVariants.{Optimal, Infeasible}
 use Rattle.pesp_search.specs.declared.answer.Best.{Best}
-use Rattle.pesp_bench.specs.declared.lists.EventDomain.{EventDomain}
 use Rattle.pesp_shell_commands.specs.declared.parsing.ParseFault.{ParseFault}
 use Rattle.pesp_shell_commands.specs.declared.parsing.ParseFault.TheVariants as fault
 
@@ -73,10 +72,6 @@ domain_line e residues = words_line ((decimal e ++ codes ":") ∷ map decimal re
 
 abbrev pub domain_text : ℕ → List ℕ → List ℕ
 domain_text e residues = domain_line e residues ++ codes "\n"
-
--- an event beside the residues of its domain
-abbrev pub event_residues : EventDomain → ℕ × List ℕ
-event_residues d = (d.event, d.residues.items)
 
 -- events beside the residues of their domains
 abbrev pub domains_text : List (ℕ × List ℕ) → List ℕ

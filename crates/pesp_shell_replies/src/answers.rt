@@ -1,16 +1,19 @@
 //! Replies to questions, which leave the work as it is.
 
-ghost use Rattle.std.specs.Prelude.{◌≡◌, ◌++◌, IfOk, IsSome};
+ghost use Rattle.std.specs.Prelude.{◌≡◌, [], ◌∷◌, IfOk, IsSome, IsTrue, OnOk};
 ghost use Rattle.pesp_shell_commands.specs.declared.command.Command.TheVariants as command;
+ghost use Rattle.pesp_instance.specs.Network.{event_ids, has_event};
 ghost use Rattle.pesp_shell_replies.specs.Legal.{LegalCommand, work_of};
+ghost use Rattle.pesp_shell_replies.specs.Spaced.{AddsLines};
 
 use crate::changes::refusal_reply;
-use crate::rows::{put_domains, put_optimum, put_row, put_stopped};
+use crate::residue_texts::ResidueTexts;
+use crate::rows::{put_line, put_optimum, put_row, put_stopped};
 use crate::texts::{put_cost, put_tensions, put_violations};
 use pesp_base::EventId;
 use pesp_bench::{Attempt, Bench};
 use pesp_domains::Keeper;
-use pesplib_writer::dump;
+use pesplib_writer::{dump, put_between};
 use std::alloc::{AllocError, Global};
 
 pub(crate) fn domain<K: Keeper>(
@@ -31,18 +34,48 @@ pub(crate) fn domain<K: Keeper>(
     }
 }
 
+/// The line of an event of the instance.
+fn put_domain<K: Keeper>(
+    text: &mut Vec<u8>,
+    bench: &Bench<K>,
+    event: EventId,
+    texts: &ResidueTexts,
+) -> Result<(), AllocError>
+    requires event { IsTrue (has_event bench.now.instance event) }
+    requires period { texts.now ≡ bench.now.instance.period }
+    ensures { OnOk result
+        (AddsLines bench.now.instance (event ∷ []) text.old.items text.new.items) }
+{
+    let row = bench.domain(event).unwrap();
+    put_line(text, event, row, texts)
+}
+
+/// A line for each event.
+fn put_domains<K: Keeper>(
+    text: &mut Vec<u8>,
+    bench: &Bench<K>,
+    texts: &ResidueTexts,
+) -> Result<(), AllocError>
+    requires { texts.now ≡ bench.now.instance.period }
+    ensures { OnOk result (AddsLines bench.now.instance (event_ids bench.now.instance)
+        text.old.items text.new.items) }
+{
+    for event in bench.instance().events() {
+        put_domain(text, bench, event.id, texts)?;
+    }
+    Ok(())
+}
+
 pub(crate) fn domains<K: Keeper>(alloc: Global, bench: &Bench<K>) -> Result<Vec<u8>, AllocError>
     ensures { IfOk result (λ text.
         LegalCommand (work_of bench.now) command.Domains text.items (work_of bench.now)) }
 {
-    match bench.domains(alloc) {
-        Ok(list) => {
-            let mut text = Vec::new(alloc);
-            put_domains(&mut text, list.as_slice())?;
-            Ok(text)
-        }
-        Err(refusal) => refusal_reply(alloc, refusal),
-    }
+    let texts = ResidueTexts::new(alloc, bench.instance().period())?;
+    let count = bench.instance().event_count();
+    let mut text = Vec::new(alloc);
+    put_between(&mut text, b"domains ", count as u64, b"\n")?;
+    put_domains(&mut text, bench, &texts)?;
+    Ok(text)
 }
 
 pub(crate) fn tensions<K: Keeper>(alloc: Global, bench: &Bench<K>) -> Result<Vec<u8>, AllocError>

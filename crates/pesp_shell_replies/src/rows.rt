@@ -2,13 +2,13 @@
 //!
 //! Each function puts its text after what is written already.
 
-ghost use Rattle.std.specs.Prelude.{◌≡◌, ◌++◌, [], ◌∷◌, OnOk, codes, decimal, length, map};
+ghost use Rattle.std.specs.Prelude.{◌≡◌, ◌++◌, [], ◌∷◌, OnOk, length, map};
 ghost use Rattle.pesp_base.specs.Texts.{as_lines};
 ghost use Rattle.pesp_domains.specs.Domains.{residues};
-ghost use Rattle.pesp_shell_replies.specs.Replies.{costed, costed_line, domain_line, domain_text, domains_text, event_residues, optimum_text, stopped_text, time_line};
+ghost use Rattle.pesp_shell_replies.specs.Replies.{costed, costed_line, domain_line, domain_text, optimum_text, stopped_text, time_line};
 
+use crate::residue_texts::{ResidueTexts, put_residue};
 use pesp_base::{EventId, Period};
-use pesp_bench::EventDomain;
 use pesp_domains::Row;
 use pesp_search::{Answer, Best};
 use pesp_tension::{EventTime, Timetable};
@@ -21,14 +21,6 @@ fn put_event(text: &mut Vec<u8>, event: EventId) -> Result<(), AllocError>
 {
     put_number(text, u64::from(event.get()))?;
     put(text, b":")
-}
-
-/// One residue more.
-fn put_residue(text: &mut Vec<u8>, residue: u16) -> Result<(), AllocError>
-    ensures { OnOk result (text.new.items ≡ text.old.items ++ 32 ∷ decimal residue) }
-{
-    put(text, b" ")?;
-    put_number(text, u64::from(residue))
 }
 
 /// The reply to `domain`, from a row of this period.
@@ -51,27 +43,30 @@ pub(crate) fn put_row(
     put(text, b"\n")
 }
 
-fn put_domain(text: &mut Vec<u8>, domain: &EventDomain) -> Result<(), AllocError>
+/// A line of the reply to `domains`, from a row of the period of the texts.
+///
+/// Each run of residues is put as one slice.
+pub(crate) fn put_line(
+    text: &mut Vec<u8>,
+    event: EventId,
+    row: &Row,
+    texts: &ResidueTexts,
+) -> Result<(), AllocError>
+    requires { length row.now ≡ texts.now }
     ensures { OnOk result (text.new.items
-        ≡ text.old.items ++ (domain_line domain.now.event domain.now.residues.items ++ 10 ∷ [])) }
+        ≡ text.old.items ++ domain_text event (residues row.now)) }
 {
-    put_event(text, domain.event)?;
-    for residue in &domain.residues {
-        put_residue(text, *residue)?;
+    put_event(text, event)?;
+    // Where the present run begins, which may be empty.
+    let mut first = 0;
+    for residue in 0..texts.period().get() {
+        if !row.holds(residue) {
+            texts.put_run(text, first, residue)?;
+            first = residue + 1;
+        }
     }
+    texts.put_run(text, first, texts.period().get())?;
     put(text, b"\n")
-}
-
-/// The reply to `domains`.
-pub(crate) fn put_domains(text: &mut Vec<u8>, list: &[EventDomain]) -> Result<(), AllocError>
-    ensures { OnOk result (text.new.items
-        ≡ text.old.items ++ domains_text (map event_residues list.now)) }
-{
-    put_between(text, b"domains ", list.len() as u64, b"\n")?;
-    for domain in list {
-        put_domain(text, domain)?;
-    }
-    Ok(())
 }
 
 fn put_time(text: &mut Vec<u8>, timed: EventTime) -> Result<(), AllocError>

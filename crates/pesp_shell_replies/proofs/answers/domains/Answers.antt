@@ -1,8 +1,9 @@
--- The list has the residues of each event's domain.
+-- The first line has the number of the events, and a line for each of them follows.
 use Rattle.pesp_shell_replies.specs.Legal.{work_of}
 use Rattle.pesp_shell_replies.proofs.DomainLemmas.{domains_told}
 use Rattle.pesp_shell_replies.proofs.answers.domains.Goals as goal
 
-pub returns-in_ok-put_domains-in-Ok : goal.returns-in_ok-put_domains-in-Ok
-returns-in_ok-put_domains-in-Ok g c =
-    domains_told (work_of c.args.bench.now) c.in-Ok.list.items c.put_domains.new.text.items c.in-Ok.ensures.ok (rw (c.new-text.ensures.items, c.as_slice.ensures.value) at c.in_ok-put_domains-in-Ok.ensures)
+pub returns : goal.returns
+returns g c =
+    domains_told (work_of c.args.bench.now) c.put_domains.new.text.items
+    (rw (c.in_ok-put_between.ensures.text, c.new-text.ensures.items, c.event_count-count.ensures.value, c.instance-2.ensures) at c.in_ok-put_domains.ensures)
