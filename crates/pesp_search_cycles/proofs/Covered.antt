@@ -66,13 +66,6 @@ least_of_kept N cap all leaves least kept cut map sum s =
       | inr high ↦ omega (arith, high, kept.low)
     ]
 
-pub covered_first : (N : Net) (cap : ℕ) (nodes : List Node) → All (λ n. n.cycles.now ≡ N) nodes → AreCovered N cap (InSome sums_of nodes) [] nodes
-covered_first N cap nodes same = record {
-  same = same;
-  fit = All-nil (AreBoxes N);
-  cut = record { keeps = λ map sum less has. inr has; within = λ map sum has. elim has [ inl none ↦ absurd none | inr node ↦ node ] };
-}
-
 pub covered_last : (N : Net) (cap : ℕ) (all : Sums) (leaves : List Boxes) → AreCovered N cap all leaves [] → IsCut cap all (InSome (IsSummed N) leaves)
 covered_last N cap all leaves is = record {
   keeps = λ map sum less has. elim (is.cut.keeps map sum less has) [ inl leaf ↦ leaf | inr none ↦ absurd none ];

@@ -103,20 +103,6 @@ back_again t r s e = omega (arith, ints, e)
 pub with_ends : (t x y r s : ℤ) → x ≡ r → y ≡ neg_ℤ s → (t +ℤ x) +ℤ y ≡ t +ℤ (r -ℤ s)
 with_ends t x y r s e f = omega (arith, ints, e, f)
 
--- nothing is made of no step
-pub none_made : (T : ℕ) (a : ℤ) (made : Making) (zs : List ℕ) → made.terms.items ≡ [] → made.base ≡ pos 0 → made.least ≡ pos 0 → IsMade T a made zs (pos 0)
-none_made T a made zs e f g =
-    let none : left made.terms.items zs ≡ pos 0 = ap (λ (l : List Part). left l zs) e in
-    let over : pos T *ℤ (pos 0 -ℤ made.base) ≡ pos 0 = ap (λ k. pos T *ℤ (pos 0 -ℤ k)) f ∙ *ℤ-zero (pos T) in
-    let nothing : a *ℤ pos 0 ≡ pos 0 = *ℤ-zero a in
-    record { some = at_most made.least (left made.terms.items zs) (a *ℤ pos 0) g none nothing; above = and_over made.least (left made.terms.items zs) (a *ℤ pos 0) (pos T *ℤ (pos 0 -ℤ made.base)) g none nothing over }
-  where
-    at_most : (k l z : ℤ) → k ≡ pos 0 → l ≡ pos 0 → z ≡ pos 0 → k ≤ℤ (l +ℤ z)
-    at_most k l z e f g = omega (arith, ints, e, f, g)
-
-    and_over : (k l z o : ℤ) → k ≡ pos 0 → l ≡ pos 0 → z ≡ pos 0 → o ≡ pos 0 → (k +ℤ o) ≤ℤ (l +ℤ z)
-    and_over k l z o e f g h = omega (arith, ints, e, f, g, h)
-
 -- at most 0 periods
 few : (T n : ℕ) → (pos T *ℤ negsuc n +ℤ pos T) ≤ℤ pos 0
 few T n = at (T * suc n) T (pos T *ℤ negsuc n) (pos-*ℤ-negsuc T n) (let enough : T ≤ T * suc n = omega arith in enough)

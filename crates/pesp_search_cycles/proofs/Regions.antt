@@ -10,16 +10,6 @@ use Rattle.pesp_search_cycles.specs.Maps.{IsAmong}
 use Rattle.pesp_search_cycles.specs.Ranges.{AllIn, AreIn, IsIn, no_range}
 use Rattle.pesp_search_cycles.proofs.Split.{put_back, put_in}
 
-pub among_costed : (A : Arcs) (R : List Range) → IsWithin (IsAmong A R) (IsCosted A)
-among_costed A R xs cost s = s.costed
-
-pub costed_among : (A : Arcs) (R : List Range) → ((xs : List ℕ) → IsMet A xs → AreIn R xs) → IsWithin (IsCosted A) (IsAmong A R)
-costed_among A R all xs cost s = record { costed = s; inside = all xs s.met }
-
--- sums that are within others, of which each is within third ones
-pub within_on : (r s t : Sums) → IsWithin r s → IsWithin s t → IsWithin r t
-within_on r s t f g xs cost h = g xs cost (f xs cost h)
-
 pub put_has : (ranges : List Range) (n : ℕ) (z : ℕ → ℤ) (k : ℕ) (q : Range) → k < length ranges → k < n → AllIn (set ranges k q) n z → IsIn q (z k)
 put_has ranges n z k q h m a = subst (λ r. IsIn r (z k)) (get_or-set_same ranges k q no_range h) (a.each k m)
 

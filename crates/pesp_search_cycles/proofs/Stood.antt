@@ -83,27 +83,6 @@ found_copied sums cap None (Some c) same is = absurd same
 found_copied sums cap (Some b) None same is = absurd same
 found_copied sums cap (Some b) (Some c) same is = below_equal sums cap b c same is
 
-pub limit_copied : (cap : ℕ) (best copy : Option Candidate) → AreEqualBests best copy → limit_of cap copy ≡ limit_of cap best
-limit_copied cap None None same = refl
-limit_copied cap None (Some c) same = absurd same
-limit_copied cap (Some b) None same = absurd same
-limit_copied cap (Some b) (Some c) same = same.cost
-
--- a lesser limit wants less of the nodes
-pub underway_less : {R : Type 0} (sums : R → Sums) (root : Sums) (nodes : List R) (cap : ℕ) (best less : Option Candidate) → limit_of cap less ≤ limit_of cap best → IfSome less (IsBelow root cap)
-    → IsUnderway sums root nodes cap best → IsUnderway sums root nodes cap less
-underway_less {R} sums root nodes cap best less limit found is = record {
-  within = is.within;
-  left = λ map sum has below. is.left map sum has (omega (arith, below, limit));
-  found = found;
-}
-
--- the best of another search, where it costs less
-pub underway_copied : {R : Type 0} (sums : R → Sums) (root : Sums) (nodes : List R) (cap : ℕ) (best other copy : Option Candidate) → AreEqualBests other copy → limit_of cap other < limit_of cap best
-    → IfSome other (IsBelow root cap) → IsUnderway sums root nodes cap best → IsUnderway sums root nodes cap copy
-underway_copied {R} sums root nodes cap best other copy same less found is =
-    underway_less sums root nodes cap best copy (let limit = limit_copied cap other copy same in omega (arith, limit, less)) (found_copied root cap other copy same found) is
-
 pub progress_copied : (sums : Sums) (p q : Progress) → q.limits ≡ p.limits → AreEqualBests p.best q.best → IsProgress sums p → IsProgress sums q
 progress_copied sums p q limits same is = record {
   floor = subst (λ (l : Limits). IsLowerBound sums l.floor) (sym limits) is.floor;

@@ -57,13 +57,6 @@ along_start root best is =
       keeps = λ map sum has same. has;
     }
 
--- what is found of least sum among the maps that are left is settled up to the event
-pub along_settled : (root rest : Sums) (event : ℕ) (old best : Candidate) → IsFirstAlong root rest event old → IsLeast rest best → best.cost ≡ old.cost → IsLeast root best × IsSettled root event best
-along_settled root rest event old best is least costs = (
-  record { has = is.along.within best.map.items best.cost least.has; least = λ map sum has. omega (arith, is.along.bound map sum has, costs) },
-  λ map sum has before. omega (arith, is.first map sum has (rw (is.along.agrees best.map.items best.cost least.has) at before), costs),
-)
-
 -- an event more, at which the best has this residue
 pub along_held : (root rest new : Sums) (event events : ℕ) (best : Candidate) → AreLong root events → event < events → IsAlong root rest event best → IsHeld event (get_or best.map.items event 0) rest new → IsAlong root new (event + 1) best
 along_held root rest new event events best long inside along cut =
@@ -137,14 +130,3 @@ along_more root rest new event events old best long inside is at costs cut =
 
     level : (map : List ℕ) → event < length map → length (take event map) ≡ length (take event m)
     level map less = length-take-le event map (omega (arith, less)) ∙ sym (length-take-le event m (omega (arith, mine)))
-
--- at the end
-pub along_end : (root rest : Sums) (event : ℕ) (best : Candidate) → AreLong root event → IsFirstAlong root rest event best → IsFirst root best
-along_end root rest event best long is =
-    record {
-      least = record { has = is.along.within best.map.items best.cost is.along.least.has; least = is.along.bound };
-      first = λ map sum has before. is.first map sum has (rw (all map sum has, all best.map.items best.cost (is.along.within best.map.items best.cost is.along.least.has)) before);
-    }
-  where
-    all : (map : List ℕ) (sum : ℕ) → root map sum → take event map ≡ map
-    all map sum has = take_all event map (omega (arith, long map sum has))

@@ -14,10 +14,6 @@ best_has : (root : Sums) (cap : ℕ) (best : Option Candidate) (map : List ℕ) 
 best_has root cap None map sum found is = absurd is
 best_has root cap (Some c) map sum found is = subst (λ m. root m sum) (sym is.0) (subst (λ s. root c.map.items s) (sym is.1) found.0)
 
-pub below_cap : (root : Sums) (cap : ℕ) (best : Option Candidate) → IfSome best (IsBelow root cap) → IfSome best (λ c. c.cost < cap)
-below_cap root cap None found = tt
-below_cap root cap (Some c) found = found.1
-
 module _ {R : Type 0} (sums : R → Sums) (root : Sums) (nodes : List R) (cap : ℕ) (best : Option Candidate) (is : IsUnderway sums root nodes cap best) where
   -- what is reached is of the root,
   pub reached_within : IsWithin (IsReached sums nodes best) root

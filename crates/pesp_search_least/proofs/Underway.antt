@@ -11,24 +11,6 @@ use Rattle.pesp_search_least.proofs.Budgets.{spends_none, unit_after, unit_none,
 use Rattle.pesp_search_least.proofs.Stack.{in_some_pop, in_some_push}
 use Rattle.pesp_search_least.proofs.Expanded.{better_limit}
 
--- what is told of the best
-reached_best : {R : Type 0} (sums : R → Sums) (nodes : List R) (cap : ℕ) (best : Option Candidate) → IfSome best (λ c. c.cost < cap) → IfSome best (IsBelow (IsReached sums nodes best) cap)
-reached_best {R} sums nodes cap None below = tt
-reached_best {R} sums nodes cap (Some c) below = (inr (refl, refl), below)
-
--- at first
-pub underway_start : {R : Type 0} (sums : R → Sums) (nodes : List R) (cap : ℕ) (best : Option Candidate) → IfSome best (λ c. c.cost < cap) → IsUnderway sums (IsReached sums nodes best) nodes cap best
-underway_start {R} sums nodes cap best below =
-    record {
-      within = λ map sum has. inl has;
-      left = λ map sum has less. elim has [ inl here ↦ here | inr is ↦ absurd (not_less cap best sum map is less) ];
-      found = reached_best sums nodes cap best below;
-    }
-  where
-    not_less : (cap : ℕ) (best : Option Candidate) (sum : ℕ) (map : List ℕ) → IsSomeAnd best (λ c. (map ≡ c.map.items) × (sum ≡ c.cost)) → sum < limit_of cap best → ⊥
-    not_less cap None sum map is less = is
-    not_less cap (Some c) sum map is less = omega (arith, is.1, less)
-
 -- one node, and nothing found: its sums, and no others
 pub reached_alone : {R : Type 0} (sums : R → Sums) (root : R) → IsWithin (IsReached sums (root ∷ []) None) (sums root)
 reached_alone {R} sums root map sum has = elim has [ inl (inl here) ↦ here | inl (inr none) ↦ absurd none | inr none ↦ absurd none ]
@@ -84,35 +66,6 @@ underway_halves {R} sums root ns n a b cap old new is better halves =
           ]);
       found = found_on (sums n) root cap old new (top_within sums root ns n is.within) is.found better;
     }
-
--- at a stop, with a bound on the open nodes and on the root
-pub underway_stop : {R : Type 0} (sums : R → Sums) (root : Sums) (nodes : List R) (cap lower_bound floor : ℕ) (best : Option Candidate) → IsUnderway sums root nodes cap best → IsLowerBound (InSome sums nodes) lower_bound → lower_bound ≤ limit_of cap best → IsLowerBound root floor → IsOutcome root cap (Spent best (max lower_bound floor))
-underway_stop {R} sums root nodes cap lower_bound floor best is there small under = (is.found, bounded)
-  where
-    lower_bound_holds : (map : List ℕ) (sum : ℕ) → root map sum → lower_bound ≤ sum
-    lower_bound_holds map sum has =
-        elim (cases_lt sum (limit_of cap best)) [
-          | inl below ↦ there map sum (is.left map sum has below)
-          | inr over ↦ omega (arith, over, small)
-        ]
-
-    bounded : (map : List ℕ) (sum : ℕ) → root map sum → sum < cap → max lower_bound floor ≤ sum
-    bounded map sum has below = omega (arith, lower_bound_holds map sum has, under map sum has)
-
--- where no sum is below the limit, what was found is the outcome
-found_is_outcome : (root : Sums) (cap : ℕ) (best : Option Candidate) → IfSome best (IsBelow root cap) → IsLowerBound root (limit_of cap best) → IsOutcome root cap (outcome_of best)
-found_is_outcome root cap None is bound = bound
-found_is_outcome root cap (Some c) is bound = (record { has = is.0; least = bound }, is.1)
-
--- where no node is open
-pub underway_end : {R : Type 0} (sums : R → Sums) (root : Sums) (cap : ℕ) (best : Option Candidate) → IsUnderway sums root [] cap best → IsOutcome root cap (outcome_of best)
-underway_end {R} sums root cap best is =
-    found_is_outcome root cap best is.found (λ map sum has. elim (cases_lt sum (limit_of cap best)) [ inl under ↦ absurd (is.left map sum has under) | inr over ↦ over ])
-
--- where the limit is at most the floor
-pub underway_floor : {R : Type 0} (sums : R → Sums) (root : Sums) (nodes : List R) (cap floor : ℕ) (best : Option Candidate) → IsUnderway sums root nodes cap best → IsLowerBound root floor → limit_of cap best ≤ floor → IsOutcome root cap (outcome_of best)
-underway_floor {R} sums root nodes cap floor best is bound low =
-    found_is_outcome root cap best is.found (λ map sum has. omega (arith, bound map sum has, low))
 
 -- a bound on one node more
 pub lowest_step : {R : Type 0} (sums : R → Sums) (ns : List R) (n : R) (lower_bound new : ℕ) → IsLowerBound (InSome sums ns) lower_bound → IsLowerBound (sums n) new → new ≤ lower_bound → IsLowerBound (InSome sums (ns ++ n ∷ [])) new

@@ -32,16 +32,6 @@ one_index T v w q r h below e =
     let starts = ap (λ n. n * T) row in
     (row, omega (arith, e, starts))
 
--- nothing is forbidden yet
-pub narrowed_none : (event low : ℕ) (N : Arcs) → IsNarrowed event low low N N
-narrowed_none event low N = record {
-  period = refl;
-  events = refl;
-  arcs = refl;
-  gone = λ r h below. absurd (omega (arith, h, below));
-  stay = λ v r h out. refl;
-}
-
 -- one residue more is forbidden
 pub narrowed_more : (event low r : ℕ) (N M : Arcs) → low ≤ r → r < N.period → IsNarrowed event low r N M
     → IsNarrowed event low (r + 1) N (record M { rows = slice_set M.rows (event * M.period + r) false })
