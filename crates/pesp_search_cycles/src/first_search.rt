@@ -11,10 +11,8 @@ ghost use Rattle.pesp_search_cycles.specs.Settlings.{IsSettling, IsUnsettled};
 use crate::basis::{basis_within, walks_of};
 use crate::cuts::{Aim, cuts_beside};
 use crate::flip::FlipCut;
-use crate::phase::spent_of;
 use crate::residues::residue_ranges;
 use crate::settling::Settling;
-use crate::turn::Turn;
 use crate::{Cycles, Walk};
 use pesp_base::Memory;
 use pesp_search_least::{Budget, First};
@@ -33,8 +31,6 @@ pub(crate) struct FirstSearch {
     walks: Vec<Walk>,
     // Of the cycles that these make.
     settling: Settling,
-    // The phase in which it is.
-    turn: Turn,
 }
 
 impl Model for FirstSearch {
@@ -52,11 +48,11 @@ impl Model for FirstSearch {
 }
 
 impl FirstSearch {
-    /// A phase at its beginning.
+    /// A search at its beginning, with cuts or without.
     pub(crate) fn new(
         alloc: Global,
         network: Network,
-        turn: Turn,
+        with_cuts: bool,
         settling: Settling,
         budget: &mut Budget,
     ) -> Result<FirstSearch, Memory>
@@ -65,12 +61,11 @@ impl FirstSearch {
         ensures cost { IfOk result (λ search. search.cost ≡ settling.best.cost) }
         ensures budget { OnlySpends budget.old.left budget.new.left }
     {
-        let before = budget.left;
         let residues = residue_ranges(alloc, &network)?;
         let basis = basis_within(alloc, &network, &residues, budget)?;
         let walks = walks_of(alloc, &network, &residues, basis, budget)?;
         let aim = Aim {
-            with_cuts: turn.phase.with_cuts && basis.is_narrow(),
+            with_cuts: with_cuts && basis.is_narrow(),
             cap: settling.best.cost,
             floor: 0,
         };
@@ -81,7 +76,6 @@ impl FirstSearch {
             cuts,
             walks,
             settling,
-            turn: turn.after(spent_of(before, budget.left)),
         })
     }
 
@@ -99,11 +93,6 @@ impl FirstSearch {
         self.settling.best.cost
     }
 
-    /// How many units its phase has left; none where it goes on to the end.
-    pub(crate) fn units(&self) -> Option<u64> {
-        self.turn.units
-    }
-
     /// Goes on as far as the budget goes: what the search comes to, and where it stops how it can be gone on with.
     pub(crate) fn advance(
         self,
@@ -119,13 +108,11 @@ impl FirstSearch {
         ensures spent { IfOk result (λ r. EndsUnlessSpent budget.new.left r.0) }
         ensures budget { OnlySpends budget.old.left budget.new.left }
     {
-        let before = budget.left;
         let FirstSearch {
             network,
             cuts,
             walks,
             settling,
-            turn,
         } = self;
         let cycles = Cycles::joined(&network, walks, &cuts);
         let (told, rest) = settling.advance(alloc, &cycles, budget)?;
@@ -138,25 +125,7 @@ impl FirstSearch {
             cuts,
             walks,
             settling,
-            turn: turn.after(spent_of(before, budget.left)),
         };
         Ok((told, Some(search)))
-    }
-
-    /// The phase that comes after.
-    pub(crate) fn next(self, alloc: Global, budget: &mut Budget) -> Result<FirstSearch, Memory>
-        ensures network { IfOk result (λ search. search.network ≡ self.network) }
-        ensures cost { IfOk result (λ search.
-            search.cost ≡ self.cost) }
-        ensures budget { OnlySpends budget.old.left budget.new.left }
-    {
-        let FirstSearch {
-            network,
-            settling,
-            turn,
-            ..
-        } = self;
-        let turn = turn.with_cuts().endless();
-        FirstSearch::new(alloc, network, turn, settling.anew(), budget)
     }
 }

@@ -207,46 +207,10 @@ impl ByCycles {
         ensures cost { IfOk result (λ search. search.cost ≡ candidate.cost) }
         ensures budget { OnlySpends budget.old.left budget.new.left }
     {
-        let residues = residue_ranges(alloc, network)?;
-        let narrow = units_of_narrow(alloc, network, &residues)?;
-        let turn = Turn::settling(narrow, self.by_cuts);
+        let with_cuts = self.by_cuts;
         self.by_cuts = false;
         let settling = Settling::new(candidate);
-        FirstSearch::new(alloc, network.copy()?, turn, settling, budget)
-    }
-
-    /// Goes on with a search for a first map, by so many turns that have an end and then to the end, as far as the budget goes.
-    fn settle(
-        &mut self,
-        alloc: Global,
-        search: FirstSearch,
-        turns: usize,
-        budget: &mut Budget,
-    ) -> Result<First, Memory>
-        ensures first { IfOk result (IsFirstOutcome (IsCosted search.network)
-            search.cost) }
-        ensures spent { IfOk result (EndsUnlessSpent budget.new.left) }
-        ensures budget { OnlySpends budget.old.left budget.new.left }
-    {
-        let units = if turns == 0 { None } else { search.units() };
-        let Some(units) = units else {
-            let (told, rest) = search.advance(alloc, budget)?;
-            self.unsettled = rest;
-            return Ok(told);
-        };
-        let mut part = budget.part(units);
-        let given = part.left;
-        let (told, rest) = search.advance(alloc, &mut part)?;
-        budget.spend(spent_of(given, part.left));
-        let Some(rest) = rest else {
-            return Ok(told);
-        };
-        if budget.is_spent() {
-            self.unsettled = Some(rest);
-            return Ok(told);
-        }
-        let next = rest.next(alloc, budget)?;
-        self.settle(alloc, next, turns - 1, budget)
+        FirstSearch::new(alloc, network.copy()?, with_cuts, settling, budget)
     }
 
     /// From a map of least cost to the first one of that cost.
@@ -276,7 +240,9 @@ impl ByCycles {
             Some(search) => search,
             None => self.begun_from(alloc, network, candidate, budget)?,
         };
-        self.settle(alloc, search, MOST_TURNS, budget)
+        let (told, rest) = search.advance(alloc, budget)?;
+        self.unsettled = rest;
+        Ok(told)
     }
 }
 

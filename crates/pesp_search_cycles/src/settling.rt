@@ -164,19 +164,6 @@ impl Settling {
         }
     }
 
-    /// The same search by other cycles of the same network: what is settled stays.
-    pub(crate) fn anew(self) -> Settling
-        ensures settling { (N M : Net) → IsSettling N self → M.network ≡ N.network → IsSettling M result }
-        ensures best { result.best ≡ self.best }
-    {
-        Settling {
-            known: Known::Nothing,
-            best: self.best,
-            settled: self.settled,
-            in_vain: 0,
-        }
-    }
-
     /// What it tells where it stops, and how it stands then.
     fn stopped(self) -> Result<(First, Option<Settling>), Memory>
         ensures first { IfOk result (λ r. IsTold self r.0) }

@@ -9,10 +9,6 @@ const TREE_SHARE: u64 = 4;
 /// How many units narrow cycles have at first: a third of a second, in which most networks end.
 const FIRST_UNITS: u64 = 20_000;
 
-/// How many units narrow cycles have for a first map before cuts are sought, too: most of a minute, in which most networks end
-/// that end without cuts at all.
-const UNITS_BEFORE_CUTS: u64 = 10_000_000;
-
 /// A phase, of which so much is left. How long it is does not depend on a budget, so that a larger one never does other work as
 /// far as a smaller one goes.
 #[derive(Clone, Copy)]
@@ -43,15 +39,6 @@ impl Turn {
             (Some(units), Some(_)) => {
                 Turn::of(Phase::tree(), Some(units.saturating_mul(TREE_SHARE)))
             }
-        }
-    }
-
-    /// The first one of a search for a first map, by cuts where the least one was found by them.
-    pub(crate) fn settling(narrow: Option<u64>, by_cuts: bool) -> Turn {
-        match narrow {
-            None => Turn::of(Phase::tree(), None),
-            Some(_) if by_cuts => Turn::of(Phase::with_cuts(), None),
-            Some(_) => Turn::of(Phase::plain(), Some(UNITS_BEFORE_CUTS)),
         }
     }
 

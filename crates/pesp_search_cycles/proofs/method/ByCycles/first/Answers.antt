@@ -11,4 +11,13 @@ returns-clause-budget c =
       | in-Some w ↦ rw w.budget-is (spends_none c.args.budget.now.left)
       | in-None+in_ok-search-in-None w ↦ rw w.budget-is w.in_ok-search-in-None.ensures.budget
     ] in
-    spends_on _ _ _ mid c.settle.ensures.budget
+    spends_on _ _ _ mid c.advance.ensures.budget
+
+pub returns-in_err-told-clause-budget : goal.returns-in_err-told-clause-budget
+returns-in_err-told-clause-budget c =
+    let mid : OnlySpends c.args.budget.now.left c.match-unsettled.budget.left =
+    elim c.match-unsettled.branch [
+      | in-Some w ↦ rw w.budget-is (spends_none c.args.budget.now.left)
+      | in-None+in_ok-search-in-None w ↦ rw w.budget-is w.in_ok-search-in-None.ensures.budget
+    ] in
+    spends_on _ _ _ mid c.advance.ensures.budget
