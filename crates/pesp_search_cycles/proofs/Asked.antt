@@ -1,7 +1,7 @@
 -- A question to a leaf: the maps of its node, and what the leaves tell together.
 use Rattle.std.proofs.Common.{◌≡◌, ℕ, zero, suc, ◌+◌, ◌<◌, ◌≤◌, ◌↔◌, ◌++◌, ◌∷◌, [], inl, inr, pos, List, Option, Some, None, take, length, get_or, sym, ap, subst, ◌∙◌, arith}
 use Rattle.std.proofs.Math.ListN.{set}
-use Rattle.std.proofs.lemmas.List.{take_all, take_more}
+use Rattle.std.proofs.lemmas.List.{get_or_read, take_all, take_more}
 use Rattle.pesp_search_least.specs.declared.outcome.Candidate.{Candidate}
 use Rattle.pesp_search_least.specs.declared.outcome.Outcome.TheVariants.{Found, Spent}
 use Rattle.pesp_search_least.specs.Order.{BelowResidue}
@@ -88,7 +88,10 @@ spent_left few many cost bound (Some best) within floor h = ((within best.map.it
 
 -- ---- all leaves, for a lesser residue at an event
 
-module _ (N : Net) (R S : List Range) (leaves : List Boxes) (event residue : ℕ) (q : Range) (cost : ℕ) (here : event < length R) (e : S ≡ set R event q) (is : (x : ℕ) → IsIn q (pos x) ↔ (IsIn (get_or R event no_range) (pos x) × (x < residue))) (floor : IsLowerBound (IsLeft N R leaves) cost) where
+module _ (N : Net) (R S : List Range) (leaves : List Boxes) (event residue : ℕ) (r q : Range) (cost : ℕ) (here : event < length R) (at : r ≡ get_or R event r) (e : S ≡ set R event q) (below : (x : ℕ) → IsIn q (pos x) ↔ (IsIn r (pos x) × (x < residue))) (floor : IsLowerBound (IsLeft N R leaves) cost) where
+  is : (x : ℕ) → IsIn q (pos x) ↔ (IsIn (get_or R event no_range) (pos x) × (x < residue))
+  is x = subst (λ (p : Range). IsIn q (pos x) ↔ (IsIn p (pos x) × (x < residue))) (get_or_read R event r here at no_range) (below x)
+
   lesser : IsWithin (IsLeft N S leaves) (BelowResidue (IsLeft N R leaves) event residue)
   lesser = below_within (InSome (IsSummed N) leaves) R S event residue q here e is
 

@@ -13,7 +13,7 @@ use Rattle.pesp_search_cycles.specs.declared.boxes.Boxes.{Boxes}
 use Rattle.pesp_search_cycles.specs.declared.range.Range.{Range}
 use Rattle.pesp_search_cycles.specs.declared.settling.Settling.{Settling}
 use Rattle.pesp_search_cycles.specs.Settlings.{IsTold}
-use Rattle.pesp_search_cycles.specs.Maps.{IsAmong, IsLeft, IsSummed, Net}
+use Rattle.pesp_search_cycles.specs.Maps.{IsLeft, IsSummed, Net}
 use Rattle.pesp_search_cycles.specs.Ranges.{AreIn}
 
 module _ (all few : Sums) (cost : ℕ) (cut : IsCut (cost + 1) all few) where
@@ -54,22 +54,17 @@ module _ (all few : Sums) (cost : ℕ) (cut : IsCut (cost + 1) all few) where
   first_of least (Done candidate) l e h = (first_of_all least candidate l e h.1 h.0, h.1)
   first_of least (Spent candidate settled) l e h = (least_of_all least candidate l e h.1 h.0, h.1, settled_of_all least candidate settled h.1 h.2)
 
--- where the ranges have the residues of all maps, the maps of the leaves are those below the cap
-pub left_cut : (A : Arcs) (N : Net) (R : List Range) (leaves : List Boxes) (cap : ℕ) → N.network ≡ A → ((xs : List ℕ) → IsMet A xs → AreIn R xs) → IsCut cap (IsAmong A R) (InSome (IsSummed N) leaves) → IsCut cap (IsCosted A) (IsLeft N R leaves)
-left_cut A N R leaves cap e all cut = record {
-  keeps = λ xs cost less s. let r = all xs s.met in (cut.keeps xs cost less (record { costed = s; inside = r }), r);
-  within = λ xs cost s. (cut.within xs cost s.0).costed;
-}
-
--- the same of a region that was made of them
-pub region_cut : (A : Arcs) (V N : Net) (R S Q : List Range) (leaves kept : List Boxes) (cap : ℕ) → V.network ≡ A → N ≡ V → S ≡ R → Q ≡ R → kept ≡ leaves → ((xs : List ℕ) → IsMet A xs → AreIn R xs) → IsCut cap (IsAmong V.network S) (InSome (IsSummed V) leaves) → IsCut cap (IsCosted A) (IsLeft N Q kept)
-region_cut A V N R S Q leaves kept cap network cycles deref residues boxes all cut =
-    let here : IsCut cap (IsAmong A R) (InSome (IsSummed V) leaves) =
-    subst (λ (B : Arcs). IsCut cap (IsAmong B R) (InSome (IsSummed V) leaves)) network (subst (λ (T : List Range). IsCut cap (IsAmong V.network T) (InSome (IsSummed V) leaves)) deref cut) in
-    let there : IsCut cap (IsCosted A) (IsLeft V R leaves) = left_cut A V R leaves cap network all here in
-    subst (λ (M : Net). IsCut cap (IsCosted A) (IsLeft M Q kept)) (sym cycles)
-    (subst (λ (T : List Range). IsCut cap (IsCosted A) (IsLeft V T kept)) (sym residues)
-    (subst (λ (ls : List Boxes). IsCut cap (IsCosted A) (IsLeft V R ls)) (sym boxes) there))
+-- the leaves of a region that was made of these ones: where the ranges have the residues of all maps, no map of theirs is lost
+pub region_cut : (N V : Net) (A : Arcs) (R Q : List Range) (leaves kept : List Boxes) (cap : ℕ) → V ≡ N → A ≡ N.network → Q ≡ R → kept ≡ leaves → ((xs : List ℕ) → IsMet A xs → AreIn R xs) → IsCut cap (IsCosted N.network) (InSome (IsSummed N) leaves) → IsCut cap (IsCosted N.network) (IsLeft V Q kept)
+region_cut N V A R Q leaves kept cap cycles network residues boxes all cut =
+    let inside : (xs : List ℕ) → IsMet N.network xs → AreIn R xs = subst (λ (B : Arcs). (xs : List ℕ) → IsMet B xs → AreIn R xs) network all in
+    let left : IsCut cap (IsCosted N.network) (IsLeft N R leaves) = record {
+      keeps = λ xs cost less s. (cut.keeps xs cost less s, inside xs s.met);
+      within = λ xs cost s. cut.within xs cost s.0;
+    } in
+    subst (λ (M : Net). IsCut cap (IsCosted N.network) (IsLeft M Q kept)) (sym cycles)
+    (subst (λ (T : List Range). IsCut cap (IsCosted N.network) (IsLeft N T kept)) (sym residues)
+    (subst (λ (ls : List Boxes). IsCut cap (IsCosted N.network) (IsLeft N R ls)) (sym boxes) left))
 
 -- ---- what is told where a search stops
 

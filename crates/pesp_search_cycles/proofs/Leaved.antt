@@ -1,17 +1,14 @@
 -- Leaves that are copied, gone on with, and those of a network in those of its residues.
-use Rattle.std.proofs.Common.{ℕ, ◌+◌, All, List, [], ◌∷◌, inl, inr, sym, subst, arith}
+use Rattle.std.proofs.Common.{ℕ, All, List, [], ◌∷◌, inl, inr, sym, subst}
 use Rattle.std.specs.List.{AllZip}
 use Rattle.std.proofs.lemmas.List.Elements.{All-cons, All-head, All-tail}
 use Rattle.pesp_search_least.specs.Sums.{InSome, IsCut, IsWithin, Sums}
 use Rattle.pesp_search_network.specs.Arcs.{IsCosted, IsMet}
 use Rattle.pesp_search_cycles.specs.declared.boxes.Boxes.{Boxes}
-use Rattle.pesp_search_cycles.specs.declared.node.Node.{Node}
 use Rattle.pesp_search_cycles.specs.declared.range.Range.{Range}
-use Rattle.pesp_search_cycles.specs.Leaves.{sums_of}
 use Rattle.pesp_search_cycles.specs.Maps.{AreBoxes, IsAmong, IsSummed, Net}
 use Rattle.pesp_search_cycles.specs.Ranges.{AreIn}
 use Rattle.pesp_search_cycles.specs.Splits.{AreSame}
-use Rattle.pesp_search_cycles.specs.Starts.{AreStarts, IsInBoxes}
 use Rattle.pesp_search_cycles.specs.Walks.{RoundsAreIn}
 use Rattle.pesp_search_cycles.specs.Maps.{numbers_of}
 
@@ -29,21 +26,6 @@ module _ (N : Net) (R : List Range) (all : (xs : List ℕ) → IsMet N.network x
     keeps = λ map sum less has. cut.keeps map sum less (record { costed = has; inside = all map has.met });
     within = λ map sum has. (cut.within map sum has).costed;
   }
-
-  pub cut_of_among : IsCut cap (IsCosted N.network) some → IsCut cap (IsAmong N.network R) some
-  cut_of_among cut = record {
-    keeps = λ map sum less has. cut.keeps map sum less has.costed;
-    within = λ map sum has. let costed = cut.within map sum has in record { costed = costed; inside = all map costed.met };
-  }
-
--- nodes at boxes that have all maps of little cost have these
-pub cut_at_starts : (N : Net) (R : List Range) (cost : ℕ) (starts : List Boxes) (nodes : List Node) → AreStarts N.network N R cost starts
-    → ((xs : List ℕ) (sum : ℕ) → IsAmong N.network R xs sum → InSome (IsInBoxes N) starts xs sum → InSome sums_of nodes xs sum) → IsWithin (InSome sums_of nodes) (IsAmong N.network R)
-    → IsCut (cost + 1) (IsAmong N.network R) (InSome sums_of nodes)
-cut_at_starts N R cost starts nodes are all within = record {
-  keeps = λ xs sum less among. all xs sum among (are xs sum among (omega (arith, less)));
-  within = within;
-}
 
 -- other boxes or nodes with the same sums
 pub cut_alike : (cap : ℕ) (s t u : Sums) → IsWithin t u → IsWithin u t → IsCut cap s t → IsCut cap s u
