@@ -274,13 +274,3 @@ pub known_small : (I : Network) (path : List ℕ) → IsNetwork I → known_cost
 known_small I path network =
     sum_small (known_share I path) I.activities (greatest_weight * (greatest_period - 1)) (max_activities I.period)
     (λ k d l. share_small I path _ network (network.activities_within k d l)) network.few_activities
-
--- and so is what one time more adds
-pub completed_small : (I : Network) (m : Times) (e : ℕ) → IsNetwork I → m.period ≡ I.period
-    → sum_by (cost_in m) (filter (is_complete_at e) (around I e)) ≤ greatest_weight * (greatest_period - 1) * max_activities I.period
-completed_small I m e network same =
-    let P : Activity → Type 0 = λ a. cost_in m a ≤ greatest_weight * (greatest_period - 1) in
-    let all : All P I.activities = λ k d l. cost_small I m _ network same (network.activities_within k d l) in
-    sum_small (cost_in m) (filter (is_complete_at e) (around I e)) (greatest_weight * (greatest_period - 1)) (max_activities I.period)
-    (All-filter (is_complete_at e) P (around I e) (All-filter (is_end_of e) P I.activities all))
-    (omega (arith, length-filter_le (is_complete_at e) (around I e), length-filter_le (is_end_of e) I.activities, network.few_activities))

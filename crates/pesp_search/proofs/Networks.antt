@@ -94,27 +94,6 @@ kept_more old new row start T residue below is held =
       others = is.others;
     }
 
--- or it is forbidden
-pub forbidden_more : (old new row : List Bool) (start T residue : ℕ) → residue < T → start + residue < length new → IsKept old new row start T residue → holds row residue ≡ false
-    → IsKept old (slice_set new (start + residue) false) row start T (residue + 1)
-forbidden_more old new row start T residue below within is out =
-    record {
-      long = length-set new (start + residue) false ∙ is.long;
-      kept = λ r less.
-          elim (cases_eq r residue) [
-            | inl same ↦ rw same (get_or-set_same new (start + residue) false false within ∙ sym out)
-            | inr apart ↦ get_or-set_other new (start + residue) (start + r) false false (λ e. omega (arith, apart, e)) ∙ is.kept r (omega (arith, less, apart))
-          ];
-      full = λ r low less. get_or-set_other new (start + residue) (start + r) false false (λ e. omega (arith, low, e)) ∙ is.full r (omega (arith, low)) less;
-      others = λ k out.
-          get_or-set_other new (start + residue) k false false
-          (λ e. elim out [
-            | inl low ↦ omega (arith, low, e)
-            | inr high ↦ omega (arith, high, e, below)
-          ])
-          ∙ is.others k out;
-    }
-
 -- the rows of the first events are their domains, and all others are full
 pub record AreKept (I : Network) (pushes : List Pair) (rows : List Bool) (events n : ℕ) : Type 0 where
   pub domains : (index r : ℕ) → index < n → r < I.period → IsTrue (get_or rows (index * I.period + r) false) ↔ InDomains I pushes (get_or (event_ids I) index 0) r
@@ -141,17 +120,4 @@ row_kept I pushes old new row events n before domain kept others =
                 rw (others (index * I.period + r) (inl (omega (arith, block index n I.period under, low)))) (before.domains index r under low)
           ];
       full = λ index r low within less. others (index * I.period + r) (inr (omega (arith, block n index I.period (omega (arith, low)), less))) ∙ before.full index r (omega (arith, low)) within less;
-    }
-
--- ---- the whole
-
--- with an arc for each activity and the domains as rows it is the network of the instance
-pub network_is : (I : Network) (N : Arcs) (pushes : List Pair) → pushes ≡ [] → N.period ≡ I.period → N.events ≡ length (event_ids I) → AreArcsOf (event_ids I) I.activities N.arcs
-    → AreDomains I pushes N.rows → IsNetworkOf I N
-network_is I N pushes none period events arcs domains =
-    record {
-      period = period;
-      events = events;
-      arcs = arcs;
-      rows = λ index r within low. rw period (subst (λ ps. AreDomains I ps N.rows) none domains index r within low);
     }
