@@ -148,7 +148,7 @@ one_lacks I m e cost missing network times costed has none =
     omega (arith, l, costed.lacking)
 
 -- the timetable in which the time was set
-taken : (m n : Times) (e t : ℕ) → set_time m e t ≡ Ok n → n ≡ with_time m e t
+pub taken : (m n : Times) (e t : ℕ) → set_time m e t ≡ Ok n → n ≡ with_time m e t
 taken m n e t ok = accepted (when (nat_le m.period t) (no.TimeOutOfRange t) ∷ when (is_none (time_of m e) && nat_le (max_events m.period) (length m.entries)) no.TooManyEvents ∷ []) (with_time m e t) n ok
 
 -- after an event got a time, where it may have had one

@@ -1,11 +1,11 @@
 -- The cost of the working timetable and the number of events without a time, as they are kept.
-use Rattle.std.specs.Prelude.{◌≡◌, ℕ, ◌+◌, ◌-◌, if◌then◌else◌, is_none, [], length, None, Ok}
+use Rattle.std.specs.Prelude.{◌≡◌, ℕ, ◌+◌, ◌-◌, ◌<◌, if◌then◌else◌, is_none, [], length, None, Ok}
 use Rattle.std.specs.Option.{option_map_or}
 use Rattle.pesp_instance.specs.declared.edit.Edit.{Edit}
 use Rattle.pesp_instance.specs.declared.edit.Edit.TheVariants.{AddEvent, DropEvent, Fix, SetWindow, Unfix, AddActivity, DropActivity, SetSpan, SetWeight, SetEnds}
 use Rattle.pesp_instance.specs.Edited.{edited}
 use Rattle.pesp_instance.specs.Network.{IsNetwork, Network, activity_of}
-use Rattle.pesp_tension.specs.Answers.{cost_in, cost_of}
+use Rattle.pesp_tension.specs.Answers.{cost_in, cost_of, time_at}
 use Rattle.pesp_tension.specs.Timetables.{Times, time_of}
 use Rattle.pesp_bench.specs.State.{IsState}
 
@@ -17,6 +17,12 @@ AreTimesOf I m = IsState I [] m None
 pub record IsCosted (I : Network) (m : Times) (cost missing : ℕ) : Type 0 where
   pub costs : cost ≡ cost_of I m
   pub lacking : missing + length m.entries ≡ length I.events
+
+-- the first is the time of the event, 0 where it has none, and the second one that it may have
+pub record IsMove (m : Times) (e : ℕ) (own : ℕ × ℕ) : Type 0 where
+  pub before : own.0 ≡ time_at m e
+  pub low : own.0 < m.period
+  pub below : own.1 < m.period
 
 -- what the activity of a number costs, and 0 where there is none
 abbrev pub cost_of_number : Network → Times → ℕ → ℕ

@@ -1,6 +1,6 @@
 //! What the working timetable costs, and how many events have no time: kept through each change, and not computed again.
 
-ghost use Rattle.std.specs.Prelude.{◌≡◌, ℕ, ◌≤◌, ◌<◌, ◌+◌, ◌*◌, ◌-◌, ◌^◌, [], IfErr, IsSome, IsTrue, None, Ok, OnErr, OnOk, sum_by};
+ghost use Rattle.std.specs.Prelude.{◌≡◌, ℕ, ◌≤◌, ◌<◌, ◌+◌, ◌*◌, ◌-◌, ◌^◌, [], IfErr, IfSome, IsSome, IsTrue, None, Ok, OnErr, OnOk, sum_by};
 ghost use Rattle.pesp_base.specs.Limits.{greatest_period, greatest_weight, max_activities};
 ghost use Rattle.pesp_base.specs.Tensions.{slack_of};
 ghost use Rattle.pesp_instance.specs.declared.edit.Edit.TheVariants.{DropEvent};
@@ -10,9 +10,10 @@ ghost use Rattle.pesp_tension.specs.Timetables.{IsSetRefusal, set_time, time_of,
 ghost use Rattle.pesp_bench.specs.Costing.{AreTimesOf, IsCosted, WasCosted, cost_edited, cost_of_number, missing_after};
 ghost use Rattle.pesp_bench.specs.State.{times_after};
 
+use crate::moved::costs_around;
 use pesp_base::{Activity, ActivityId, EventId, Period, Refusal, slack};
 use pesp_instance::{Edit, Instance};
-use pesp_tension::{Timetable, cost};
+use pesp_tension::{EventTime, Timetable, cost};
 
 /// Weight times slack of an activity from one residue to another.
 pub(crate) fn cost_between(activity: &Activity, period: Period, from: u16, to: u16) -> u64
@@ -154,27 +155,35 @@ impl KeptCost {
         self.cost = self.cost - before + after;
     }
 
-    /// Gives an event of the instance a time, also in place of another one.
+    /// Gives an event of the instance a time, also in place of one that it had before.
     pub(crate) fn set(
         &mut self,
         instance: &Instance,
         times: &mut Timetable,
-        event: EventId,
-        time: u16,
+        timed: EventTime,
+        before: Option<u16>,
     ) -> Result<(), Refusal>
         requires times { AreTimesOf instance.now times.old }
         requires costed { IsCosted instance.now times.old self.old.cost self.old.missing }
-        requires event { IsTrue (has_event instance.now event) }
-        ensures ok { OnOk result (set_time times.old event time ≡ Ok times.new) }
-        ensures refused { IfErr result (IsSetRefusal times.old event time) }
+        requires event { IsTrue (has_event instance.now timed.event) }
+        requires before { before ≡ time_of times.old timed.event }
+        requires below { IfSome before (λ t. t < times.old.period) }
+        ensures ok { OnOk result (set_time times.old timed.event timed.time ≡ Ok times.new) }
+        ensures refused { IfErr result (IsSetRefusal times.old timed.event timed.time) }
         ensures unchanged { OnErr result (times.new ≡ times.old) }
         ensures costed { IsCosted instance.now times.new self.new.cost self.new.missing }
+        ensures network { IsNetwork instance.now }
     {
-        let before = cost_around(instance, times, event);
-        let was_missing = times.get(event).is_none();
+        // Each call of an instance tells that it is one.
+        let _period = instance.period();
+        let EventTime { event, time } = timed;
+        if time >= times.period().get() {
+            return Err(Refusal::TimeOutOfRange(time));
+        }
+        let costs = costs_around(instance, times, event, (before.unwrap_or(0), time));
         times.set(event, time)?;
-        self.replace(before, cost_around(instance, times, event));
-        if was_missing {
+        self.replace(costs.0, costs.1);
+        if before.is_none() {
             self.missing -= 1;
         }
         Ok(())

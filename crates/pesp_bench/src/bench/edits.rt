@@ -12,7 +12,7 @@ use crate::kept::{forget, keeps};
 use pesp_base::{EventId, Refusal};
 use pesp_domains::Keeper;
 use pesp_instance::Edit;
-use pesp_tension::Timetable;
+use pesp_tension::{EventTime, Timetable};
 
 /// Takes the time of a dropped event away.
 fn clear_dropped(times: &mut Timetable, edit: &Edit)
@@ -58,11 +58,14 @@ impl<K: Keeper> Bench<K> {
         ensures refused { IfErr result (IsTimeRefusal self.old event time) }
         ensures unchanged { OnErr result (self.new ≡ self.old) }
     {
-        if !self.instance().has_event(event) {
+        let before = self.times.get(event);
+        // What has a time is an event of the instance.
+        if before.is_none() && !self.instance().has_event(event) {
             return Err(Refusal::NoEvent(event));
         }
         let instance = self.keeper.instance();
-        self.kept.set(instance, &mut self.times, event, time)
+        let timed = EventTime { event, time };
+        self.kept.set(instance, &mut self.times, timed, before)
     }
 
     /// Takes the event's time away.
