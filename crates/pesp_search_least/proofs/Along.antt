@@ -1,8 +1,8 @@
 -- How far the search for the first map has come: the best agrees with each map that is left up to the event, and no map of its sum precedes it there.
 use Rattle.std.proofs.Common.{◌≡◌, ℕ, ◌+◌, ◌<◌, ◌⊎◌, List, [], ◌∷◌, ◌++◌, length, get_or, take, refl, sym, ◌∙◌, inl, inr, arith}
-use Rattle.std.proofs.lemmas.List.{length-take-le, take_all, take_more}
+use Rattle.std.proofs.lemmas.List.{length-take-le, take_more}
 use Rattle.pesp_search_least.specs.declared.outcome.Candidate.{Candidate}
-use Rattle.pesp_search_least.specs.Order.{IsFirst, IsFirstAt, IsHeld, IsSettled, Precedes}
+use Rattle.pesp_search_least.specs.Order.{IsFirstAt, IsHeld, IsSettled, Precedes}
 use Rattle.pesp_search_least.specs.Sums.{AreLong, IsLeast, IsLowerBound, IsWithin, Sums}
 
 -- ---- lists

@@ -2,7 +2,7 @@
 use Rattle.std.proofs.Common.{◌≡◌, ℕ, ◌≤◌, Option, Some, None, refl, inl, inr, arith}
 use Rattle.std.proofs.lemmas.Bool.{cases_lt}
 use Rattle.pesp_search_least.specs.declared.outcome.Candidate.{Candidate}
-use Rattle.pesp_search_least.specs.Sums.{AreHalves, AreHalvesBelow, IsCandidate, IsCut, IsEmpty, IsLowerBound, IsWithin, Sums}
+use Rattle.pesp_search_least.specs.Sums.{IsCandidate, IsLowerBound, IsWithin, Sums}
 use Rattle.pesp_search_least.specs.Expansions.{IsBetter, IsExpanded, IsKept, limit_of}
 
 -- ---- the best

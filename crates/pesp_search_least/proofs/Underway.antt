@@ -1,11 +1,9 @@
 -- How far a search has come: what its stack still has, what it found, and what it spent of the budget.
-use Rattle.std.proofs.Common.{◌≡◌, ◌≢◌, ℕ, ◌<◌, ◌≤◌, ◌⊎◌, max, refl, sym, ◌∙◌, List, [], ◌∷◌, ◌++◌, Option, Some, None, IfSome, IsSomeAnd, inl, inr, arith}
-use Rattle.std.proofs.lemmas.Bool.{cases_lt}
+use Rattle.std.proofs.Common.{◌≡◌, ◌≢◌, ℕ, ◌<◌, ◌≤◌, ◌⊎◌, sym, ◌∙◌, List, [], ◌∷◌, ◌++◌, Option, Some, None, IfSome, inl, inr, arith}
 use Rattle.pesp_search_least.specs.declared.outcome.Candidate.{Candidate}
-use Rattle.pesp_search_least.specs.declared.outcome.Outcome.TheVariants.{Spent}
 use Rattle.pesp_search_least.specs.Spending.{OnlySpends, SpendsUnit}
-use Rattle.pesp_search_least.specs.Sums.{AreHalvesBelow, InSome, IsBelow, IsLowerBound, IsOutcome, IsWithin, Sums}
-use Rattle.pesp_search_least.specs.Expansions.{IsBetter, limit_of, outcome_of}
+use Rattle.pesp_search_least.specs.Sums.{AreHalvesBelow, InSome, IsBelow, IsLowerBound, IsWithin, Sums}
+use Rattle.pesp_search_least.specs.Expansions.{IsBetter, limit_of}
 use Rattle.pesp_search_least.specs.Reached.{IsReached, IsUnderway}
 use Rattle.pesp_search_least.proofs.Budgets.{spends_none, unit_after, unit_none, unit_spends}
 use Rattle.pesp_search_least.proofs.Stack.{in_some_pop, in_some_push}
