@@ -23,7 +23,7 @@ use Rattle.pesp_instance.specs.Edited.{edited, effect, rewindowed}
 use Rattle.pesp_instance.specs.Network.{HasEnds, IsNetwork, Network, activity_of, admits, agrees_with, window_of, has_event, new_event}
 use Rattle.pesp_instance.proofs.Numbers.{activity_number as id_of, event_number as number}
 use Rattle.pesp_instance.proofs.Rising.{All-found, Rises, Rises-from_increasing, Rises-put_in, take_out-above, with_number-change_in, take_out-put_in}
-use Rattle.pesp_instance.proofs.Tables.{same_test}
+use Rattle.pesp_instance.proofs.Housed.{same_test}
 use Rattle.pesp_domains.proofs.Edits.{effect_is}
 use Rattle.pesp_search.specs.declared.answer.Answer.{Answer}
 use Rattle.pesp_search.specs.declared.answer.Answer.TheVariants.{Optimal, Infeasible}

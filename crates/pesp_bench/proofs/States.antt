@@ -23,7 +23,7 @@ use Rattle.pesp_search.specs.declared.answer.Answer.TheVariants.{Optimal}
 use Rattle.pesp_search.specs.Optima.{IsAnswer, IsOptimum}
 use Rattle.pesp_bench.specs.Kept.{IsKeptBy}
 use Rattle.pesp_bench.proofs.KeptAnswers.{kept_answer}
-use Rattle.pesp_instance.proofs.Tables.{same_test}
+use Rattle.pesp_instance.proofs.Housed.{same_test}
 use Rattle.pesp_bench.specs.State.{IsState, IsTimeRefusal, State, timed_state, times_after}
 use Rattle.pesp_bench.proofs.Entries.{found, found_put, found_without, key, put_last, rises_put, rises_without, room}
 use Rattle.pesp_base.proofs.Orders.{nat_le_not}

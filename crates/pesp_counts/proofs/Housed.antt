@@ -54,6 +54,12 @@ pub for_seen : (I : Network) (links links' : Links) (s s' : Supports) → AreFor
 for_seen I links links' s s' h stand seen more even =
     for_carried I I links links' s s' h refl stand more even (λ e p at. inl (sym (seen.events e) ∙ at)) (λ p k is. counts_there I links s s' p k h more (seen.lists p k is))
 
+-- more rows and counts are there for the same places
+pub for_roomier : (I : Network) (links : Links) (s s' : Supports) → AreFor I links s → IsRoomier s s' → length s'.counted ≡ length s'.rows → AreFor I links s'
+for_roomier I links s s' h more even =
+    let seen : SeeSame links links = record { events = λ e. refl; ends = λ p k is. refl; lists = λ p k is. is } in
+    for_seen I links links s s' h h.stand seen more even
+
 pub settled_seen : (I : Network) (pushes : List Pair) (links links' : Links) (s s' : Supports) → AreSettled I pushes links s → AreFor I links' s' → SeeSame links links' → IsRoomier s s' → AreSettled I pushes links' s'
 settled_seen I pushes links links' s s' h fits seen more =
     record {

@@ -1,8 +1,9 @@
 //! Places: small numbers of the keeper's own, which stand for the numbers of events and activities.
 
-ghost use Rattle.std.specs.Prelude.{◌≡◌, ◌==◌, ◌≤◌, ◌<◌, ◌+◌, ℕ, [], None, Some, if◌then◌else◌, length, IfOk, OnOk, OnErr};
+ghost use Rattle.std.specs.Prelude.{◌≡◌, ◌==◌, ◌≤◌, ◌<◌, ◌+◌, ℕ, [], None, Some, if◌then◌else◌, length, IfOk, IfSome, OnOk, OnErr};
 ghost use Rattle.pesp_counts_arcs.specs.Places.{ArePlaces, number_at, place_of};
 
+use pesp_instance::Guesses;
 use slab::Slab;
 use std::alloc::{AllocError, Global};
 use std::collections::BTreeMap;
@@ -15,6 +16,8 @@ pub struct Places {
     places: BTreeMap<u32, usize>,
     /// The number at each place that is taken: the one that has this place.
     numbers: Slab<u32>,
+    /// Of places, so that the map is asked for few numbers.
+    guesses: Guesses,
 }
 
 impl Model for Places {
@@ -36,14 +39,29 @@ impl Places {
         Places {
             places: BTreeMap::new(alloc),
             numbers: Slab::new(alloc),
+            guesses: Guesses::new(alloc),
         }
+    }
+
+    /// The place of a number, where it is guessed.
+    fn guess(&self, number: u32) -> Option<usize>
+        ensures { IfSome result (λ place. number_at self.now place ≡ Some number) }
+    {
+        let place = self.guesses.place(number)?;
+        if self.number(place)? != number {
+            return None;
+        }
+        Some(place)
     }
 
     /// The place of a number.
     pub fn place(&self, number: u32) -> Option<usize>
         ensures { result ≡ place_of self.now number }
     {
-        self.places.get(&number).copied()
+        match self.guess(number) {
+            Some(place) => Some(place),
+            None => self.places.get(&number).copied(),
+        }
     }
 
     /// The number that has a place, if there is one.
@@ -51,6 +69,21 @@ impl Places {
         ensures { result ≡ number_at self.now place }
     {
         self.numbers.get(place).copied()
+    }
+
+    /// Makes sure that there are more guesses than numbers.
+    fn make_guesses(&mut self) -> Result<(), AllocError>
+        ensures same { self.new ≡ self.old }
+        ensures paired { ArePlaces self.new }
+    {
+        if !self.guesses.are_few(self.places.len()) {
+            return Ok(());
+        }
+        self.guesses.grow()?;
+        for (number, place) in self.places.iter() {
+            self.guesses.keep(*number, *place);
+        }
+        Ok(())
     }
 
     /// Gives a new number a place that no other has. Without the memory for it, nothing changes.
@@ -62,10 +95,12 @@ impl Places {
         ensures paired { ArePlaces self.new }
         ensures err { OnErr result (self.new ≡ self.old) }
     {
+        self.make_guesses()?;
         self.numbers.reserve(1)?;
         let place = self.numbers.vacant_key();
         self.places.insert(number, place)?;
         self.numbers.insert_reserved(number);
+        self.guesses.keep(number, place);
         Ok(place)
     }
 

@@ -1,5 +1,6 @@
 mod Cases
 pub mod Effects
+pub mod Housed
 pub mod Links
 pub mod Listed
 pub mod Numbers

@@ -15,7 +15,7 @@ use Rattle.pesp_instance.specs.Ends.{vertex_number, has_key, lists_at, is_end_in
 use Rattle.pesp_instance.specs.Network.{is_end_of}
 use Rattle.pesp_instance.proofs.Numbers.{activity_number as id_of}
 use Rattle.pesp_instance.proofs.Rising.{IsAbove, IsAbove-less, IsAbove-filter, Rises, Rises-filter, All-found}
-use Rattle.pesp_instance.proofs.Tables.{same_test}
+use Rattle.pesp_instance.proofs.Housed.{same_test}
 
 -- ---- the numbers that are listed at an event
 

@@ -1,5 +1,5 @@
 -- A table's entries, and the values that they stand for.
-use Rattle.std.proofs.Common.{◌≡◌, ℕ, ◌<◌, ◌≤◌, Bool, true, false, cond, ◌==◌, not, List, [], ◌∷◌, length, map, Option, Some, None, is_some, slice_index_or, slice_set, refl, sym, ap, ◌∙◌, inl, inr, arith}
+use Rattle.std.proofs.Common.{◌≡◌, ◌≢◌, ℕ, ◌<◌, ◌≤◌, Bool, true, false, cond, ◌==◌, not, List, [], ◌∷◌, length, map, Option, Some, None, is_some, slice_index_or, slice_set, refl, sym, ap, ◌∙◌, inl, inr, arith}
 use Rattle.std.proofs.lemmas.Bool.{cases_order, lt-ltb, le-ltb, eq-eqb, ne_eqb, eqb-true}
 use Rattle.std.proofs.lemmas.Bool.Decides.{nat_tests}
 use Rattle.std.proofs.lemmas.Map.Keys.{sorted_head, sorted_tail, IsStrictlyIncreasing-from_sorted}
@@ -11,21 +11,12 @@ use Rattle.std.specs.Map.{keys_of, values_of, lookup, set_value, remove_entry}
 use Rattle.std.specs.Ordering.{nat_cmp}
 use Rattle.pesp_base.specs.Numbered.{with_number, put_in, take_out, change_in}
 use Rattle.slab.specs.Slab.{Slab, get, Updates}
+use Rattle.slab.proofs.SlabLemmas.{Updates-set, ContainsKey-within}
 use Rattle.pesp_instance.specs.Table.{AreNumbered, IsLinked, IsTable, resolved, values_in}
 use Rattle.pesp_base.proofs.Tests.{value_of}
+use Rattle.pesp_instance.proofs.Housed.{same_test, AreHoused-insert, AreHoused-set, AreHoused-remove}
 use Rattle.pesp_instance.proofs.Links.{slot_is_used, length-resolved, lookup-resolved, lookup-resolved-none, inserted, written, removed, remove_absent}
 use Rattle.pesp_instance.proofs.Rising.{Rises, Rises-from_sorted, filter_below-above, filter_above-above, take_out-above, change_in-above}
-
--- a look-up by comparison tests for the number itself
-pub same_test : (n k : ℕ) → is_at (nat_cmp n) k ≡ (k == n)
-same_test n k =
-    elim (cases_order n k) [
-      | inl same ↦ rw (le-ltb n k (omega arith), eq-eqb n k same, eq-eqb k n (sym same)) refl
-      | inr apart ↦ elim apart [
-        | inl below ↦ rw (lt-ltb n k below, ne_eqb k n (λ same. absurd (omega arith))) refl
-        | inr above ↦ rw (le-ltb n k (omega arith), ne_eqb n k (λ same. absurd (omega arith)), ne_eqb k n (λ same. absurd (omega arith))) refl
-      ]
-    ]
 
 module _ {V : Type 0} (number : V → ℕ) where
   numbers-values_of : (ps : List (ℕ × V)) → AreNumbered number ps → map number (values_of ps) ≡ keys_of ps
@@ -179,6 +170,13 @@ module _ {V : Type 0} (number : V → ℕ) (slots : List (Option V)) (es : List 
         | Some slot ↦ λ is. let v = value_of _ (slot_is_used slots es (is_at (nat_cmp n)) slot table.linked is) in sym (ap is_some (sym (found n slot is) ∙ v.1))
       ] refl
 
+  missing_entry : (n : ℕ) → with_number number n (values_in slots es) ≡ None → lookup (is_at (nat_cmp n)) es ≡ None
+  missing_entry n none =
+      elim (lookup (is_at (nat_cmp n)) es) as (λ o. lookup (is_at (nat_cmp n)) es ≡ o → o ≡ None) [
+        | None ↦ λ is. refl
+        | Some slot ↦ λ is. let v = value_of _ (slot_is_used slots es (is_at (nat_cmp n)) slot table.linked is) in let some : Some v.0 ≡ None = sym v.1 ∙ found n slot is ∙ none in absurd (cc)
+      ] refl
+
   pub absent : (n : ℕ) → with_number number n (values_in slots es) ≡ None → lookup (is_at (nat_cmp n)) (resolved slots es) ≡ None
   absent n is = sym (with_number-values_of number n (resolved slots es) table.numbered) ∙ is
 
@@ -188,24 +186,28 @@ module _ {V : Type 0} (number : V → ℕ) where
   pub inserted_in : (old mid new : Slab V) (es es' : List (ℕ × ℕ)) (k slot key : ℕ) (v : V) → k ≡ number v → mid ≡ record old { capacity = mid.capacity } → slot ≡ mid.vacant_key → get mid slot ≡ None → key ≡ mid.vacant_key → Updates mid new key (Some v) → es' ≡ insert_entry nat_cmp es k slot → IsStrictlySortedBy nat_cmp (keys_of es') → IsTable number old.slots es → with_number number (number v) (values_in old.slots es) ≡ None → (values_in new.slots es' ≡ put_in number v (values_in old.slots es)) × IsTable number new.slots es'
   inserted_in old mid new es es' k slot key v its kept is vacant same updates put sorted table none =
       let put' : es' ≡ insert_entry nat_cmp es (number v) slot = put ∙ ap (λ n. insert_entry nat_cmp es n slot) its in
-      let both = inserted old mid new es es' (number v) slot key v kept is vacant same updates put' table.linked in (
+      let both = inserted old mid new es es' (number v) slot key v kept is vacant same updates put' table.linked in
+      let at : key ≡ slot = same ∙ sym is in
+      let others : (other : ℕ) → other ≢ slot → get new other ≡ get old other = rw (← at, ← ap (λ s. s.slots) kept) updates.others in
+      let fresh = missing_entry number old.slots es table (number v) none in (
         ap values_of both.0 ∙ put_in-values_of number v (resolved old.slots es) table.numbered (rising number old.slots es table) (absent number old.slots es table (number v) none),
-        record { rises = sorted; linked = both.1; numbered = rw both.0 (AreNumbered-insert_entry number v (resolved old.slots es) table.numbered) },
+        record { rises = sorted; linked = both.1; numbered = rw both.0 (AreNumbered-insert_entry number v (resolved old.slots es) table.numbered); housed = rw put' (AreHoused-insert number old.slots new.slots slot others es table.housed v (rw (← at) updates.changed) fresh) },
       )
 
   pub written_in : (s : Slab V) (es : List (ℕ × ℕ)) (k slot : ℕ) (v : V) → k ≡ number v → IsTable number s.slots es → lookup (is_at (nat_cmp k)) es ≡ Some slot → (values_in (slice_set s.slots slot (Some v)) es ≡ change_in number (number v) (λ _. v) (values_in s.slots es)) × IsTable number (slice_set s.slots slot (Some v)) es
   written_in s es k slot v its table is =
       let is' : lookup (is_at (nat_cmp (number v))) es ≡ Some slot = ap (λ n. lookup (is_at (nat_cmp n)) es) (sym its) ∙ is in
-      let both = written s es (is_at (nat_cmp (number v))) slot v table.linked is' in (
+      let both = written s es (is_at (nat_cmp (number v))) slot v table.linked is' in
+      let updates = Updates-set s (record s { slots = slice_set s.slots slot (Some v) }) slot (Some v) (ContainsKey-within s slot (slot_is_used s.slots es (is_at (nat_cmp (number v))) slot table.linked is')) refl in (
         ap values_of both.0 ∙ change_in-values_of number v (resolved s.slots es) table.numbered (rising number s.slots es table),
-        record { rises = table.rises; linked = both.1; numbered = rw both.0 (AreNumbered-set_value number v (resolved s.slots es) table.numbered) },
+        record { rises = table.rises; linked = both.1; numbered = rw both.0 (AreNumbered-set_value number v (resolved s.slots es) table.numbered); housed = AreHoused-set number s.slots (slice_set s.slots slot (Some v)) slot updates.others es table.housed v updates.changed is' },
       )
 
   pub removed_in : (old new : Slab V) (es es' : List (ℕ × ℕ)) (n slot : ℕ) → Updates old new slot None → es' ≡ remove_entry (is_at (nat_cmp n)) es → IsStrictlySortedBy nat_cmp (keys_of es') → IsTable number old.slots es → lookup (is_at (nat_cmp n)) es ≡ Some slot → (values_in new.slots es' ≡ take_out number n (values_in old.slots es)) × IsTable number new.slots es'
   removed_in old new es es' n slot updates taken sorted table is =
       let both = removed old new es es' (is_at (nat_cmp n)) slot updates taken table.linked is in (
         ap values_of both.0 ∙ take_out-values_of number n (resolved old.slots es) table.numbered (rising number old.slots es table),
-        record { rises = sorted; linked = both.1; numbered = rw both.0 (AreNumbered-remove_entry number (is_at (nat_cmp n)) (resolved old.slots es) table.numbered) },
+        record { rises = sorted; linked = both.1; numbered = rw both.0 (AreNumbered-remove_entry number (is_at (nat_cmp n)) (resolved old.slots es) table.numbered); housed = rw taken (AreHoused-remove number old.slots new.slots slot updates.others es table.housed n updates.changed is) },
       )
 
   -- without an entry of the number, nothing is taken out

@@ -15,9 +15,10 @@ use Rattle.pesp_instance.specs.Network.{Event}
 use Rattle.pesp_instance.specs.Table.{IsTable, values_in}
 use Rattle.pesp_base.proofs.Orders.{eqb_turned}
 use Rattle.pesp_base.proofs.Tests.{or_elsewhere}
+use Rattle.pesp_instance.proofs.Housed.{same_test}
 use Rattle.pesp_instance.proofs.Numbers.{event_number}
 use Rattle.pesp_instance.proofs.Rising.{number-with_number, change_in-with_number, with_number-replaced, with_number-others}
-use Rattle.pesp_instance.proofs.Tables.{same_test, rising, found, written_in}
+use Rattle.pesp_instance.proofs.Tables.{rising, found, written_in}
 
 -- ---- the events of vertices
 

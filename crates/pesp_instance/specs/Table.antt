@@ -63,8 +63,13 @@ module _ {V : Type 0} where
   AreNumbered number [] = Unit {0}
   AreNumbered number (e ∷ es) = (number e.1 ≡ e.0) × AreNumbered number es
 
-  -- the numbers rise, and each has a slot of its own, with a value of that number
+  -- each value that stands in a slot is the one of its number
+  abbrev pub AreHoused : (V → ℕ) → List (Option V) → List (ℕ × ℕ) → Type 0
+  AreHoused number slots es = (slot : ℕ) (value : V) → slice_index_or slots slot None ≡ Some value → lookup (is_at (nat_cmp (number value))) es ≡ Some slot
+
+  -- the numbers rise, each has a slot of its own, with a value of that number, and no other slot has a value
   pub record IsTable (number : V → ℕ) (slots : List (Option V)) (es : List (ℕ × ℕ)) : Type 0 where
     pub rises : IsStrictlySortedBy nat_cmp (keys_of es)
     pub linked : IsLinked slots es
     pub numbered : AreNumbered number (resolved slots es)
+    pub housed : AreHoused number slots es

@@ -7,6 +7,7 @@ mod apply;
 mod edit;
 mod ends;
 mod event;
+mod guesses;
 mod instance;
 mod numbered;
 mod table;
@@ -15,5 +16,6 @@ mod walks;
 
 pub use edit::Edit;
 pub use event::Event;
+pub use guesses::Guesses;
 pub use instance::Instance;
 pub use walks::{Around, Events, Walk};

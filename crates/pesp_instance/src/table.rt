@@ -1,9 +1,10 @@
 //! A table of numbered values: the values stand in a slab, and an ordered map has the slot of each number.
 
-ghost use Rattle.std.specs.Prelude.{◌≡◌, ℕ, true, false, [], Some, None, IfNone, IfOk, OnErr, length, option_copied, is_some, is_none};
+ghost use Rattle.std.specs.Prelude.{◌≡◌, ℕ, true, false, [], Some, None, IfNone, IfSome, IfOk, OnErr, length, option_copied, is_some, is_none};
 ghost use Rattle.pesp_base.specs.Numbered.{with_number, put_in, take_out, change_in};
 ghost use Rattle.pesp_instance.specs.Table.{slot_of, IsSlot};
 
+use crate::guesses::Guesses;
 use crate::numbered::Numbered;
 use crate::walks::Walk;
 use slab::Slab;
@@ -18,6 +19,8 @@ pub struct Table<V: Numbered> {
     numbers: BTreeMap<u32, usize>,
     // The value of each number at its slot, and nothing else.
     pub(crate) slots: Slab<V>,
+    // Of slots, so that the map is asked for few numbers.
+    guesses: Guesses,
 }
 
 impl<V: Numbered> Model for Table<V> {
@@ -40,6 +43,7 @@ impl<V: Numbered> Table<V> {
         Table {
             numbers: BTreeMap::new(alloc),
             slots: Slab::new(alloc),
+            guesses: Guesses::new(alloc),
         }
     }
 
@@ -47,8 +51,8 @@ impl<V: Numbered> Table<V> {
     pub fn get(&self, number: u32) -> Option<&V>
         ensures { option_copied result ≡ with_number V.number number self.now.values }
     {
-        match self.numbers.get(&number) {
-            Some(slot) => self.slots.get(*slot),
+        match self.slot(number) {
+            Some(slot) => self.slots.get(slot),
             None => None,
         }
     }
@@ -60,12 +64,26 @@ impl<V: Numbered> Table<V> {
         self.get(number).is_some()
     }
 
+    /// The slot of a number, where it is guessed.
+    fn guess(&self, number: u32) -> Option<usize>
+        ensures { IfSome result (λ slot. slot_of self.now number ≡ Some slot) }
+    {
+        let slot = self.guesses.place(number)?;
+        if self.slots.get(slot)?.number() != number {
+            return None;
+        }
+        Some(slot)
+    }
+
     /// The slot of a number, which stays as long as the number has a value.
     pub fn slot(&self, number: u32) -> Option<usize>
         ensures slot { result ≡ slot_of self.now number }
         ensures present { is_some result ≡ is_some (with_number V.number number self.now.values) }
     {
-        self.numbers.get(&number).copied()
+        match self.guess(number) {
+            Some(slot) => Some(slot),
+            None => self.numbers.get(&number).copied(),
+        }
     }
 
     /// The value of a slot.
@@ -94,6 +112,20 @@ impl<V: Numbered> Table<V> {
         }
     }
 
+    /// Makes sure that there are more guesses than numbers.
+    fn make_guesses(&mut self) -> Result<(), AllocError>
+        ensures { self.new ≡ self.old }
+    {
+        if !self.guesses.are_few(self.numbers.len()) {
+            return Ok(());
+        }
+        self.guesses.grow()?;
+        for (number, slot) in self.numbers.iter() {
+            self.guesses.keep(*number, *slot);
+        }
+        Ok(())
+    }
+
     /// Adds a value, and says whether its number is new. Where it is not, and where there is no memory for it, nothing
     /// changes.
     pub fn insert(&mut self, value: V) -> Result<bool, AllocError>
@@ -105,9 +137,11 @@ impl<V: Numbered> Table<V> {
         ensures err { OnErr result (self.new ≡ self.old) }
     {
         let number = value.number();
+        self.make_guesses()?;
         self.slots.reserve(1)?;
         let Some(slot) = self.numbers.insert(number, self.slots.vacant_key())? else {
-            self.slots.insert_reserved(value);
+            let slot = self.slots.insert_reserved(value);
+            self.guesses.keep(number, slot);
             return Ok(true);
         };
         // The number has a value, which stays in its slot. An entry that is there takes no room.

@@ -1,6 +1,6 @@
 //! The names of commands.
 
-ghost use Rattle.std.specs.Prelude.{◌≡◌, ◌≤◌, ◌+◌, All, bytes_eq, drop, find, is_some, length, map, IfSome};
+ghost use Rattle.std.specs.Prelude.{◌≡◌, ◌≤◌, ◌+◌, false, All, bytes_eq, drop, find, is_some, length, map, IfSome};
 ghost use Rattle.std.specs.List.{starts_with};
 ghost use Rattle.pesp_shell_commands.specs.Forms.{AreAfter, IsNamed, begins_with, form_found};
 ghost use Rattle.pesp_shell_commands.specs.Parsed.{form_for, form_of};
@@ -59,6 +59,28 @@ const NAMES: [(&[&[u8]], Name); 21] = [
     (&[b"dump"], Name::Dump),
 ];
 
+/// Whether two words may be the same, by their first bytes.
+fn may_equal(own: &[u8], word: &[u8]) -> bool
+    ensures { result ≡ false → bytes_eq own.now word.now ≡ false }
+{
+    match (own, word) {
+        ([first, ..], [other, ..]) => first == other,
+        _ => true,
+    }
+}
+
+/// Whether words begin with a command's own ones. Most names are told apart by a letter.
+fn begin_with(own: &'static [&'static [u8]], words: &[&[u8]]) -> bool
+    ensures { result ≡ starts_with bytes_eq (texts words.now) (texts own.now) }
+{
+    if let ([name, ..], [word, ..]) = (own, words)
+        && !may_equal(name, word)
+    {
+        return false;
+    }
+    words.starts_with(&*own)
+}
+
 /// The words after a command's own ones, where the words begin with these.
 fn numbers_after<'a>(own: &'static [&'static [u8]], words: &'a [&'a [u8]]) -> Option<Numbers<'a>>
     requires { length own.now ≤ 2 }
@@ -67,7 +89,7 @@ fn numbers_after<'a>(own: &'static [&'static [u8]], words: &'a [&'a [u8]]) -> Op
     ensures words { IfSome result (λ a. a.words ≡ drop (length own.now) (texts words.now)) }
     ensures place { IfSome result (λ a. a.place ≡ length own.now + 1) }
 {
-    if words.starts_with(&*own) {
+    if begin_with(own, words) {
         Some(Numbers::after(words, own.len()))
     } else {
         None

@@ -72,6 +72,13 @@ fn house_events(alloc: Global, instance: &Instance, counted: &mut Counted) -> Re
     ensures room { KeepsRoom counted.old counted.new }
     ensures restored { counted.new.restored.items ≡ counted.old.restored.items }
 {
+    // Room for all at once, and not for one after another.
+    counted.supports.make_rows(
+        alloc,
+        instance.event_count(),
+        &mut counted.back,
+        &mut counted.restored,
+    )?;
     for event in instance.events() {
         house_event(alloc, counted, event.id)?;
     }
@@ -119,6 +126,8 @@ fn house_activities(
     ensures period { supports.new.period ≡ supports.old.period }
     ensures rows { length supports.new.rows ≡ length supports.old.rows }
 {
+    // Counts for all at once, and not for one after another.
+    supports.make_counts(instance.activity_count().saturating_mul(2))?;
     for activity in instance.activities() {
         house_activity(instance.period(), links, supports, activity)?;
     }

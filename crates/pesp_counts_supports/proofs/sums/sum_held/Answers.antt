@@ -2,7 +2,6 @@
 use Rattle.std.proofs.Common.{◌≡◌, ℕ, Bool, ◌%◌, ◌<◌, ◌≤◌, None, length, ap, ◌∙◌, arith}
 use Rattle.std.proofs.lemmas.List.{length-set}
 use Rattle.pesp_domains.proofs.Around.{mod_below}
-use Rattle.pesp_domains.specs.Domains.{holds}
 use Rattle.pesp_counts_supports.specs.Blocks.{is_beyond, sum_below}
 use Rattle.pesp_counts_supports.proofs.Supporters.{one, one_le}
 use Rattle.pesp_counts_supports.proofs.Partners.{byte_is}

@@ -1,8 +1,7 @@
 -- One residue more.
-use Rattle.std.proofs.Common.{◌≡◌, ℕ, Bool, ◌%◌, ◌<◌, ◌≤◌, Some, ◌&&◌, not, true, false, refl, sym, length, ap, ◌∙◌, arith}
+use Rattle.std.proofs.Common.{◌≡◌, ℕ, Bool, ◌%◌, ◌<◌, ◌≤◌, Some, length, ap, ◌∙◌, arith}
 use Rattle.std.proofs.lemmas.List.{length-set}
 use Rattle.pesp_domains.proofs.Around.{mod_below}
-use Rattle.pesp_domains.specs.Domains.{holds}
 use Rattle.pesp_counts_supports.specs.Blocks.{is_beyond, sum_below}
 use Rattle.pesp_counts_supports.proofs.Supporters.{one, one_le}
 use Rattle.pesp_counts_supports.proofs.Partners.{byte_is}

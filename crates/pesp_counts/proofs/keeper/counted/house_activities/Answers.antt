@@ -1,7 +1,24 @@
 -- An activity more has its place.
 use Rattle.std.proofs.Common.{◌∷◌, ◌++◌, [], ◌∙◌, sym, append_assoc}
-use Rattle.pesp_counts.proofs.Housed.{activity_made}
+use Rattle.pesp_instance.specs.Network.{Network}
+use Rattle.pesp_counts.proofs.Housed.{activity_made, for_roomier}
 use Rattle.pesp_counts.proofs.keeper.counted.house_activities.Goals as goal
+
+pub loop-activity-init : goal.loop-activity-init
+loop-activity-init c =
+    let I : Network = record { period = c.args.instance.now.period; events = c.args.instance.now.events; activities = [] } in
+    let counts = c.make_counts.ensures in
+    record {
+      can_next = tt;
+      is_finite = tt;
+      done = (
+        [],
+        c.into_iter-activity-iterator.ensures.into_iter_gives ∙ c.activities-activity-items.ensures.value,
+        for_roomier I c.args.links.now c.args.supports.now c.make_counts.new.self c.requires counts.grown counts.even,
+      );
+      period = counts.grown.period;
+      rows = counts.rows;
+    }
 
 pub house_activity-requires : goal.house_activity-requires
 house_activity-requires c =

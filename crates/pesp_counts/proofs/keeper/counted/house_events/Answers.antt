@@ -1,7 +1,24 @@
 -- An event more has its place.
 use Rattle.std.proofs.Common.{◌∷◌, ◌++◌, [], ◌∙◌, append_assoc}
-use Rattle.pesp_counts.proofs.Housed.{event_absent, for_event}
+use Rattle.pesp_instance.specs.Network.{Network}
+use Rattle.pesp_counts.proofs.Housed.{event_absent, for_event, for_roomier}
 use Rattle.pesp_counts.proofs.keeper.counted.house_events.Goals as goal
+
+pub loop-event-init : goal.loop-event-init
+loop-event-init c =
+    let I : Network = record { period = c.args.instance.now.period; events = []; activities = [] } in
+    let rows = c.make_rows.ensures in
+    record {
+      can_next = tt;
+      is_finite = tt;
+      done = (
+        [],
+        c.into_iter-event-iterator.ensures.into_iter_gives ∙ c.events-event-items.ensures.value,
+        for_roomier I c.args.counted.now.links c.args.counted.now.supports c.make_rows.new.self c.requires rows.grown rows.even,
+      );
+      room = rows.room;
+      restored = rows.restored;
+    }
 
 pub house_event-requires : goal.house_event-requires
 house_event-requires c =

@@ -1,10 +1,9 @@
 -- The part of the row is that of the range, and its counts stand as far behind.
-use Rattle.std.proofs.Common.{◌≡◌, ℕ, ◌+◌, ◌-◌, ◌*◌, ◌<◌, ◌≤◌, ◌==◌, ◌&&◌, None, Option, length, option_map, get_or, subst, sym, ap, [], List, Bool, refl, ◌∙◌, arith}
+use Rattle.std.proofs.Common.{◌≡◌, ◌+◌, ◌*◌, ◌<◌, ◌≤◌, ◌==◌, ◌&&◌, length, option_map, get_or, subst, sym, ap, [], ◌∙◌, arith}
 use Rattle.std.proofs.lemmas.List.{get_or_read}
 use Rattle.std.proofs.lemmas.List.Elements.{All-get_or}
-use Rattle.pesp_domains.specs.Domains.{holds}
 use Rattle.pesp_counts_supports.specs.Counts.{count_at, has_at}
-use Rattle.pesp_counts_supports.specs.Lone.{IsFirst, is_lone}
+use Rattle.pesp_counts_supports.specs.Lone.{IsFirst}
 use Rattle.pesp_counts_supports.specs.Supports.{Supports}
 use Rattle.pesp_counts_supports.proofs.Lone.{lone_within}
 use Rattle.pesp_counts_supports.proofs.supports.Supports.first_lone.Goals as goal

@@ -1,10 +1,8 @@
 -- The next residue of the range without a partner goes, and those before it stay.
-use Rattle.std.proofs.Common.{◌≡◌, ◌==◌, ◌&&◌, ◌<◌, ◌≤◌, ℕ, Bool, true, false, Option, Some, None, refl, sym, ap, subst, ◌∙◌, arith}
-use Rattle.std.proofs.lemmas.Bool.Decides.{nat_tests}
-use Rattle.pesp_domains.specs.Sweeps.{Of}
+use Rattle.std.proofs.Common.{◌≡◌, ◌==◌, ◌&&◌, ◌<◌, ◌≤◌, ℕ, Bool, true, false, Some, refl, subst, ◌∙◌, arith}
 use Rattle.pesp_counts_supports.specs.Counts.{count_at, has_at}
 use Rattle.pesp_counts_supports.specs.Lone.{IsFirst}
-use Rattle.pesp_counts_supports.proofs.Rows.{Clears, clears_none, clears_skipped, clears_taken}
+use Rattle.pesp_counts_supports.proofs.Rows.{clears_none, clears_skipped, clears_taken}
 use Rattle.pesp_counts_supports.proofs.Taken.{kept_none, kept_then, taken_none, taken_then}
 use Rattle.pesp_counts_supports.proofs.supports.Supports.sift_range.Goals as goal
 
