@@ -5,7 +5,7 @@ use Rattle.std.specs.Map.{keys_of, lookup}
 use Rattle.std.specs.Ordering.{nat_cmp}
 use Rattle.std.proofs.lemmas.Bool.{eq-eqb, false≢true}
 use Rattle.std.proofs.lemmas.List.Elements.{All-cons, All-head, All-nil, All-tail, All-weaker}
-use Rattle.pesp_instance.proofs.Tables.{same_test}
+use Rattle.pesp_instance.proofs.Housed.{same_test}
 use Rattle.pesp_instance.specs.Network.{Network, event_ids}
 use Rattle.pesp_base.specs.declared.refusal.Refusal.{Refusal}
 use Rattle.std.specs.Result.{is_ok, result_unwrap_or}

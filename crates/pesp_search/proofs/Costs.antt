@@ -20,7 +20,7 @@ use Rattle.pesp_tension.specs.Timetables.{Times, time_of}
 use Rattle.pesp_tension.specs.Answers.{cost_in, cost_of, time_at}
 use Rattle.pesp_search.specs.Paths.{timetable_of}
 use Rattle.pesp_search.specs.Nodes.{Extends, full_cost, known_cost, known_share}
-use Rattle.pesp_instance.proofs.Tables.{same_test}
+use Rattle.pesp_instance.proofs.Housed.{same_test}
 use Rattle.pesp_search.specs.Branch.{is_complete_at}
 
 -- the time of an event, where events and times stand side by side

@@ -15,7 +15,7 @@ use Rattle.pesp_base.specs.Bounds.{Bounds}
 use Rattle.pesp_base.specs.Tensions.{IsMet, residue, slack_of}
 use Rattle.pesp_base.proofs.Laws.{met_is, spread, against}
 use Rattle.pesp_base.proofs.ResidueLaws.{residue-whole_periods}
-use Rattle.pesp_instance.proofs.Tables.{same_test}
+use Rattle.pesp_instance.proofs.Housed.{same_test}
 use Rattle.pesp_instance.specs.Network.{HasEnds, IsNetwork, Network, admits, agrees_with, event_ids, has_event}
 use Rattle.pesp_domains.specs.declared.pair.Pair.{Pair}
 use Rattle.pesp_tension.specs.Answers.{cost_in}
