@@ -20,7 +20,7 @@ from tests.case_files import told, write_cases
 from tests.harness import TOP
 from tests.module_program import MODULE
 
-CRATES = ["pesp_tests_core", "pesp_tests_text", "pesp_tests_shell"]
+CRATES = ["pesp_tests_search", "pesp_tests_core", "pesp_tests_text", "pesp_tests_shell"]
 # What these groups try is not the module's: the built program's memory, the library in process, the module beside the
 # program, and the time that a start takes alone.
 PROGRAM_ALONE = ["want_of_memory", "memory_of_commands", "embedded", "page_module", "module_rows", "module_streams"]

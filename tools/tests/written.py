@@ -29,6 +29,7 @@ TARGETS = {
     "crates/pesp_shell_main/README.md": 220,
     "crates/pespbench/README.md": 60,
     "crates/pesp_embedded/README.md": 160,
+    "crates/pesp_tests_search/README.md": 60,
     "crates/pesp_tests_core/README.md": 130,
     "crates/pesp_tests_text/README.md": 70,
     "crates/pesp_tests_shell/README.md": 70,

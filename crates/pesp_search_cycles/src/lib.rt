@@ -30,8 +30,6 @@ mod settling;
 mod stack;
 mod starts;
 mod terms;
-#[cfg(test)]
-mod tests;
 mod turn;
 mod waiting;
 mod walk;

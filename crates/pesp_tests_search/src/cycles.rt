@@ -4,8 +4,8 @@ ghost use Rattle.std.specs.Prelude.{◌+◌, ◌<◌, ◌^◌};
 ghost use Rattle.pesp_search_least.specs.Sums.{IsLeast, IsOutcome};
 ghost use Rattle.pesp_search_network.specs.Arcs.{IsCosted};
 
-use crate::ByCycles;
 use pesp_base::{Period, Span, Weight};
+use pesp_search_cycles::ByCycles;
 use pesp_search_graph::Arc;
 use pesp_search_least::{Budget, Candidate, First, Limits, Outcome};
 use pesp_search_network::Network;
