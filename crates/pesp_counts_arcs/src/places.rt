@@ -71,21 +71,6 @@ impl Places {
         self.numbers.get(place).copied()
     }
 
-    /// Makes sure that there are more guesses than numbers.
-    fn make_guesses(&mut self) -> Result<(), AllocError>
-        ensures same { self.new ≡ self.old }
-        ensures paired { ArePlaces self.new }
-    {
-        if !self.guesses.are_few(self.places.len()) {
-            return Ok(());
-        }
-        self.guesses.grow()?;
-        for (number, place) in self.places.iter() {
-            self.guesses.keep(*number, *place);
-        }
-        Ok(())
-    }
-
     /// Gives a new number a place that no other has. Without the memory for it, nothing changes.
     pub fn insert(&mut self, number: u32) -> Result<usize, AllocError>
         requires absent { place_of self.old number ≡ None }
@@ -95,7 +80,7 @@ impl Places {
         ensures paired { ArePlaces self.new }
         ensures err { OnErr result (self.new ≡ self.old) }
     {
-        self.make_guesses()?;
+        self.guesses.make(&self.places)?;
         self.numbers.reserve(1)?;
         let place = self.numbers.vacant_key();
         self.places.insert(number, place)?;

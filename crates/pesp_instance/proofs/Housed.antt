@@ -19,7 +19,7 @@ same_test n k =
 
 -- ---- look-ups after a change of one number
 
-lookup-insert_same : (n s : ℕ) (es : List (ℕ × ℕ)) → lookup (is_at (nat_cmp n)) (insert_entry nat_cmp es n s) ≡ Some s
+pub lookup-insert_same : (n s : ℕ) (es : List (ℕ × ℕ)) → lookup (is_at (nat_cmp n)) (insert_entry nat_cmp es n s) ≡ Some s
 lookup-insert_same n s [] = rw (same_test n n, eq-eqb n n refl) refl
 lookup-insert_same n s (e ∷ es) =
     elim (cases_order n e.0) [
@@ -30,7 +30,7 @@ lookup-insert_same n s (e ∷ es) =
       ]
     ]
 
-lookup-insert_other : (n m s : ℕ) (es : List (ℕ × ℕ)) → m ≢ n → lookup (is_at (nat_cmp m)) (insert_entry nat_cmp es n s) ≡ lookup (is_at (nat_cmp m)) es
+pub lookup-insert_other : (n m s : ℕ) (es : List (ℕ × ℕ)) → m ≢ n → lookup (is_at (nat_cmp m)) (insert_entry nat_cmp es n s) ≡ lookup (is_at (nat_cmp m)) es
 lookup-insert_other n m s [] differs = rw (same_test m n, ne_eqb n m (λ same. differs (sym same))) refl
 lookup-insert_other n m s (e ∷ es) differs =
     elim (cases_order n e.0) [

@@ -1,8 +1,10 @@
 mod Cases
 pub mod Effects
 pub mod Housed
+pub mod Linked
 pub mod Links
 pub mod Listed
+pub mod Made
 pub mod Numbers
 pub mod PutLast
 pub mod Refused

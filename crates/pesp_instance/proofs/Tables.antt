@@ -98,7 +98,7 @@ module _ {V : Type 0} (number : V → ℕ) where
 
 -- ---- a number that is written over and then back
 
-lookup_above : (n m : ℕ) (es : List (ℕ × ℕ)) → n ≤ m → AllByRecursion (λ k. nat_cmp m k ≡ Less) (keys_of es) → lookup (is_at (nat_cmp n)) es ≡ None
+pub lookup_above : (n m : ℕ) (es : List (ℕ × ℕ)) → n ≤ m → AllByRecursion (λ k. nat_cmp m k ≡ Less) (keys_of es) → lookup (is_at (nat_cmp n)) es ≡ None
 lookup_above n m [] le above = refl
 lookup_above n m (e ∷ es) le above =
     let less : m < e.0 = (let h = above.0 in grind (arith, nat_tests)) in

@@ -1,16 +1,16 @@
 //! Which activities are at which event.
 
-ghost use Rattle.std.specs.Prelude.{◌≡◌, ℕ, Some, IfOk, OnOk, OnErr, is_some, not, ◌==◌, ◌&&◌, ◌||◌};
-ghost use Rattle.std.specs.List.Sorted.{IsStrictlySortedBy};
+ghost use Rattle.std.specs.Prelude.{◌≡◌, ℕ, true, Some, [], map, All, IfOk, OnOk, OnErr, is_some, not, ◌==◌, ◌&&◌, ◌||◌};
+ghost use Rattle.std.specs.List.Sorted.{IsStrictlyIncreasing, IsStrictlySortedBy};
 ghost use Rattle.std.specs.Ordering.{nat_cmp};
 ghost use Rattle.pesp_base.specs.Numbered.{with_number};
-ghost use Rattle.pesp_instance.specs.Ends.{vertex_number, numbers_at, numbers_left, events_of, with_window, lists, ListTheSame, ListsMore, ListsLess, KeepsEvents, is_pair_of, is_old_pair_of};
-ghost use Rattle.pesp_instance.specs.Network.{is_end_of};
+ghost use Rattle.pesp_instance.specs.Ends.{AreListed, vertex_number, numbers_at, numbers_left, events_of, with_window, lists, ListTheSame, ListsMore, ListsLess, KeepsEvents, is_pair_of, is_old_pair_of};
+ghost use Rattle.pesp_instance.specs.Network.{HasEnds, IsActivity, is_end_of};
 ghost use Rattle.pesp_instance.specs.Table.{slot_of, IsSlot};
 
 use crate::table::Table;
 use crate::vertex::Vertex;
-use pesp_base::{Activity, EventId, Window};
+use pesp_base::{Activity, EventId, GREATEST_NUMBER, GREATEST_WEIGHT, Window};
 use std::alloc::AllocError;
 use std::collections::btree_set;
 
@@ -135,5 +135,33 @@ impl Table<Vertex> {
         if !is_end(new, old.to) {
             self.unlist_at(old.to, number);
         }
+    }
+
+    /// Lists these activities at their ends, and says whether all of those are events.
+    pub fn link_all(&mut self, activities: &Table<Activity>) -> Result<bool, AllocError>
+        requires rising { IsStrictlyIncreasing (map (λ a. a.id) activities.now.values) }
+        requires none { AreListed self.old.values [] }
+        ensures listed { IfOk result (λ all. all ≡ true
+            → AreListed self.new.values activities.now.values) }
+        ensures ends { IfOk result (λ all. all ≡ true
+            → All (HasEnds (events_of self.old.values)) activities.now.values) }
+        ensures within { IfOk result (λ all. all ≡ true → All IsActivity activities.now.values) }
+        ensures kept { IfOk result (λ all. all ≡ true
+            → events_of self.new.values ≡ events_of self.old.values) }
+    {
+        for activity in activities.iter() {
+            // Known of the value by its type; the instance keeps it as a fact.
+            prove!(activity.id.get() <= GREATEST_NUMBER);
+            prove!(activity.span.lower() <= activity.span.upper());
+            prove!(activity.weight.get() <= GREATEST_WEIGHT);
+            let Some(from) = self.event_slot(activity.from) else {
+                return Ok(false);
+            };
+            let Some(to) = self.event_slot(activity.to) else {
+                return Ok(false);
+            };
+            self.link(activity, from, to)?;
+        }
+        Ok(true)
     }
 }

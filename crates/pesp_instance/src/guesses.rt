@@ -1,6 +1,7 @@
 //! Guesses of where a number stands, asked before an ordered map is.
 
 use std::alloc::{AllocError, Global};
+use std::collections::BTreeMap;
 
 /// For how many numbers there are guesses at first.
 const FIRST_ROOM: usize = 16;
@@ -44,14 +45,18 @@ impl Guesses {
         }
     }
 
-    /// Whether there are no more guesses than numbers.
-    pub fn are_few(&self, numbers: usize) -> bool {
-        self.places.len() <= numbers
-    }
-
-    /// Makes room for twice as many guesses. The numbers that have places are to be kept anew.
-    pub fn grow(&mut self) -> Result<(), AllocError> {
-        let room = self.places.len().saturating_mul(2).max(FIRST_ROOM);
-        self.places.resize(room, 0)
+    /// Makes sure that there are more guesses than numbers, where these are all that have places.
+    pub fn make(&mut self, numbers: &BTreeMap<u32, usize>) -> Result<(), AllocError> {
+        if numbers.len() < self.places.len() {
+            return Ok(());
+        }
+        let Some(room) = numbers.len().saturating_add(1).checked_next_power_of_two() else {
+            return Ok(());
+        };
+        self.places.resize(room.max(FIRST_ROOM), 0)?;
+        for (number, place) in numbers.iter() {
+            self.keep(*number, *place);
+        }
+        Ok(())
     }
 }

@@ -1,14 +1,17 @@
 //! Instances and their look-ups.
 
-ghost use Rattle.std.specs.Prelude.{◌≡◌, length, option_copied};
+ghost use Rattle.std.specs.Prelude.{◌≡◌, ◌≤◌, [], map, IfOk, IfSome, length, option_copied};
+ghost use Rattle.std.specs.List.Sorted.{IsStrictlyIncreasing};
+ghost use Rattle.pesp_base.specs.Limits as limits;
 ghost use Rattle.pesp_instance.specs.Edited.{empty_network};
+ghost use Rattle.pesp_instance.specs.Filled.{ArePut};
 ghost use Rattle.pesp_instance.specs.Network.{IsNetwork, has_event, fixed_of, window_of, activity_of, around};
 
 use crate::table::Table;
 use crate::vertex::Vertex;
 use crate::{Around, Events, Walk};
-use pesp_base::{Activity, ActivityId, EventId, LEAST_PERIOD, Period, Window};
-use std::alloc::Global;
+use pesp_base::{Activity, ActivityId, EventId, LEAST_PERIOD, Period, Window, max_activities};
+use std::alloc::{AllocError, Global};
 use std::marker::Model;
 
 /// A period, events, some of them with windows, and activities.
@@ -52,6 +55,46 @@ impl Instance {
             vertices: Table::new(alloc),
             activities: Table::new(alloc),
         }
+    }
+
+    /// The instance with all of these activities, where it has none. Nothing where a number stands twice, an end is no
+    /// event, or they are too many.
+    pub fn with_activities(self, activities: Vec<Activity>) -> Result<Option<Instance>, AllocError>
+        requires { self.activities ≡ [] }
+        ensures put { IfOk result (λ found. IfSome found (λ new.
+            ArePut (λ a. a.id) [] activities.items new.activities)) }
+        ensures kept { IfOk result (λ found. IfSome found (λ new.
+            new ≡ record self { activities = new.activities })) }
+        ensures network { IfOk result (λ found. IfSome found IsNetwork) }
+    {
+        if activities.len() > max_activities(self.period) {
+            return Ok(None);
+        }
+        match Table::of(self.alloc, activities)? {
+            Some(activities) => self.with_table(activities),
+            None => Ok(None),
+        }
+    }
+
+    /// The instance with the activities of a table, where it has none. Nothing where an end is no event.
+    fn with_table(self, activities: Table<Activity>) -> Result<Option<Instance>, AllocError>
+        requires none { self.activities ≡ [] }
+        requires rising { IsStrictlyIncreasing (map (λ a. a.id) activities.values) }
+        requires few { length activities.values ≤ limits.max_activities self.period }
+        ensures value { IfOk result (λ found. IfSome found (λ new.
+            new ≡ record self { activities = activities.values })) }
+        ensures network { IfOk result (λ found. IfSome found IsNetwork) }
+    {
+        let mut vertices = self.vertices;
+        if !vertices.link_all(&activities)? {
+            return Ok(None);
+        }
+        Ok(Some(Instance {
+            alloc: self.alloc,
+            period: self.period,
+            vertices,
+            activities,
+        }))
     }
 
     pub fn period(&self) -> Period

@@ -1,7 +1,9 @@
 //! A table of numbered values: the values stand in a slab, and an ordered map has the slot of each number.
 
-ghost use Rattle.std.specs.Prelude.{◌≡◌, ℕ, true, false, [], Some, None, IfNone, IfSome, IfOk, OnErr, length, option_copied, is_some, is_none};
+ghost use Rattle.std.specs.Prelude.{◌≡◌, ℕ, true, false, [], map, Some, None, IfNone, IfSome, IfOk, OnErr, length, option_copied, is_some, is_none};
+ghost use Rattle.std.specs.List.Sorted.{IsStrictlyIncreasing};
 ghost use Rattle.pesp_base.specs.Numbered.{with_number, put_in, take_out, change_in};
+ghost use Rattle.pesp_instance.specs.Filled.{ArePut};
 ghost use Rattle.pesp_instance.specs.Table.{slot_of, IsSlot};
 
 use crate::guesses::Guesses;
@@ -45,6 +47,36 @@ impl<V: Numbered> Table<V> {
             slots: Slab::new(alloc),
             guesses: Guesses::new(alloc),
         }
+    }
+
+    /// The table of these values, and nothing where two of them have one number.
+    pub fn of(alloc: Global, values: Vec<V>) -> Result<Option<Self>, AllocError>
+        ensures put { IfOk result (λ found. IfSome found (λ table.
+            ArePut V.number [] values.items table.values)) }
+        ensures rising { IfOk result (λ found. IfSome found (λ table.
+            IsStrictlyIncreasing (map V.number table.values))) }
+        ensures all { IfOk result (λ found. IfSome found (λ table.
+            length table.values ≡ length values.items)) }
+    {
+        let count = values.len();
+        let mut slots = Slab::with_capacity(alloc, count)?;
+        let mut pairs = Vec::with_capacity(alloc, count)?;
+        for value in values {
+            slots.reserve(1)?;
+            pairs.push((value.number(), slots.vacant_key()))?;
+            slots.insert_reserved(value);
+        }
+        let numbers = BTreeMap::from_iter(alloc, pairs)?;
+        if numbers.len() != count {
+            return Ok(None);
+        }
+        let mut guesses = Guesses::new(alloc);
+        guesses.make(&numbers)?;
+        Ok(Some(Table {
+            numbers,
+            slots,
+            guesses,
+        }))
     }
 
     /// The value of a number.
@@ -112,20 +144,6 @@ impl<V: Numbered> Table<V> {
         }
     }
 
-    /// Makes sure that there are more guesses than numbers.
-    fn make_guesses(&mut self) -> Result<(), AllocError>
-        ensures { self.new ≡ self.old }
-    {
-        if !self.guesses.are_few(self.numbers.len()) {
-            return Ok(());
-        }
-        self.guesses.grow()?;
-        for (number, slot) in self.numbers.iter() {
-            self.guesses.keep(*number, *slot);
-        }
-        Ok(())
-    }
-
     /// Adds a value, and says whether its number is new. Where it is not, and where there is no memory for it, nothing
     /// changes.
     pub fn insert(&mut self, value: V) -> Result<bool, AllocError>
@@ -137,7 +155,7 @@ impl<V: Numbered> Table<V> {
         ensures err { OnErr result (self.new ≡ self.old) }
     {
         let number = value.number();
-        self.make_guesses()?;
+        self.guesses.make(&self.numbers)?;
         self.slots.reserve(1)?;
         let Some(slot) = self.numbers.insert(number, self.slots.vacant_key())? else {
             let slot = self.slots.insert_reserved(value);

@@ -2,6 +2,7 @@ mod Cases
 pub mod CsvLemmas
 pub mod FieldLemmas
 pub mod FixedLemmas
+pub mod GatheredLemmas
 pub mod InstanceLemmas
 pub mod LeftLemmas
 pub mod PointLemmas

@@ -1,10 +1,12 @@
 //! Activities, in a file.
 
-ghost use Rattle.std.specs.Prelude.{◌≡◌, ◌≤◌, nat_lt, None, Ok, IfOk, IfErr, OnOk, length};
+ghost use Rattle.std.specs.Prelude.{◌≡◌, ◌≤◌, ◌++◌, ◌∷◌, [], true, nat_lt, None, Ok, IfSome, IfOk, IfErr, OnOk, length};
 ghost use Rattle.pesp_base.specs.Limits as limits;
+ghost use Rattle.pesp_base.specs.Refusals.{unless_refused};
 ghost use Rattle.pesp_instance.specs.Network.{activity_of};
 ghost use Rattle.pesplib_reader.specs.declared.fault.FaultKind.TheVariants as fault;
 ghost use Rattle.pesplib_reader.specs.Left.{trimmed_fields};
+ghost use Rattle.pesplib_reader.specs.Rows.{activity_faults, activity_in};
 ghost use Rattle.pesplib_reader.specs.Taking.{IsReadFault, IsTakeFault, row_taken};
 ghost use Rattle.pesplib_reader.specs.Reading.{activities_read, activity_faults_after, activity_taken, with_activity_row, with_ends, with_event};
 
@@ -112,14 +114,53 @@ fn take_activity(instance: &mut Instance, fields: &ByteRecord) -> Result<(), Fau
     add_activity(instance, &activity)
 }
 
-/// The instance that a file of activities stands for, or the fault of its first faulty row.
-///
-/// The events are the ends of the activities, and none has a window. A row has the number of an
-/// activity, its ends, its lower and its upper bound, and its weight. Of the faults of a row the first
-/// is named: `FieldCount`, `BadNumber`, `FractionalWeight` or `OutOfRange` from left to right,
-/// `Crossed`, `DuplicateActivity`, `TooManyEvents`, `TooManyActivities`. `Memory` is answered at the
-/// number of the records taken so far and one more.
-pub fn read_activities(alloc: Global, period: Period, bytes: &[u8]) -> Result<Instance, ReadFault>
+/// Gathers the activity of a row, and adds those of its ends that are new. Says whether it could: not where the row has
+/// a fault by itself, and not where an end finds no room.
+fn gather(instance: &mut Instance, activities: &mut Vec<Activity>, fields: &ByteRecord) -> bool
+    ensures good { result ≡ true
+        → unless_refused (activity_faults (trimmed_fields fields.now)) (activity_in (trimmed_fields fields.now))
+        ≡ Ok (activity_in (trimmed_fields fields.now)) }
+    ensures ends { result ≡ true
+        → instance.new ≡ with_ends instance.old (activity_in (trimmed_fields fields.now)) }
+    ensures gathered { result ≡ true
+        → activities.new.items ≡ activities.old.items ++ activity_in (trimmed_fields fields.now) ∷ [] }
+{
+    let Some(row) = activity_row(fields) else {
+        return false;
+    };
+    let Ok(activity) = row.activity() else {
+        return false;
+    };
+    if add_event(instance, activity.from).is_err() {
+        return false;
+    }
+    if add_event(instance, activity.to).is_err() {
+        return false;
+    }
+    activities.push(activity).is_ok()
+}
+
+/// The instance that a file of activities stands for, where no row has a fault and there is room to store all rows at
+/// once.
+fn read_at_once(alloc: Global, period: Period, bytes: &[u8]) -> Option<Instance>
+    ensures { IfSome result (λ instance. activities_read period bytes.now ≡ Ok instance) }
+{
+    let mut instance = Instance::new(alloc, period);
+    let mut activities = Vec::new(alloc);
+    let mut records = Records::new(alloc, bytes);
+    'rows: while records.next().ok()? {
+        if !gather(&mut instance, &mut activities, records.record()) {
+            return None;
+        }
+    }
+    match instance.with_activities(activities) {
+        Ok(found) => found,
+        Err(_) => None,
+    }
+}
+
+/// The same row by row, or the fault of its first faulty row.
+fn read_one_by_one(alloc: Global, period: Period, bytes: &[u8]) -> Result<Instance, ReadFault>
     ensures ok { IfOk result (λ instance. activities_read period bytes.now ≡ Ok instance) }
     ensures fault { IfErr result (IsReadFault bytes.now (activities_read period bytes.now)) }
 {
@@ -131,4 +172,21 @@ pub fn read_activities(alloc: Global, period: Period, bytes: &[u8]) -> Result<In
         }
     }
     Ok(instance)
+}
+
+/// The instance that a file of activities stands for, or the fault of its first faulty row.
+///
+/// The events are the ends of the activities, and none has a window. A row has the number of an
+/// activity, its ends, its lower and its upper bound, and its weight. Of the faults of a row the first
+/// is named: `FieldCount`, `BadNumber`, `FractionalWeight` or `OutOfRange` from left to right,
+/// `Crossed`, `DuplicateActivity`, `TooManyEvents`, `TooManyActivities`. `Memory` is answered at the
+/// number of the records taken so far and one more.
+pub fn read_activities(alloc: Global, period: Period, bytes: &[u8]) -> Result<Instance, ReadFault>
+    ensures ok { IfOk result (λ instance. activities_read period bytes.now ≡ Ok instance) }
+    ensures fault { IfErr result (IsReadFault bytes.now (activities_read period bytes.now)) }
+{
+    match read_at_once(alloc, period, bytes) {
+        Some(instance) => Ok(instance),
+        None => read_one_by_one(alloc, period, bytes),
+    }
 }

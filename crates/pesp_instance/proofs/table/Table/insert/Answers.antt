@@ -18,12 +18,12 @@ invariant_of-self-in_default g c =
 pub returns-in_default-clause-added : goal.returns-in_default-clause-added
 returns-in_default-clause-added g c =
     let none : with_number g.V.Numbered.number (g.V.Numbered.number c.args.value) (values_in c.self.inside.slots.slots c.self.inside.numbers.entries) ≡ None = rw c.number-number.ensures.value at (missing g.V.Numbered.number _ _ c.self.invariant c.number-number.result (sym c.in_ok-slot.ensures.old ∙ c.in_default.is)) in
-    rw (← c.make_guesses.ensures, ← c.self.view_is, none) refl
+    rw (← c.self.view_is, none) refl
 
 pub returns-in_default-clause-put : goal.returns-in_default-clause-put
 returns-in_default-clause-put g c is =
     let none : with_number g.V.Numbered.number (g.V.Numbered.number c.args.value) (values_in c.self.inside.slots.slots c.self.inside.numbers.entries) ≡ None = rw c.number-number.ensures.value at (missing g.V.Numbered.number _ _ c.self.invariant c.number-number.result (sym c.in_ok-slot.ensures.old ∙ c.in_default.is)) in
-    rw (← c.make_guesses.ensures, ← c.self.view_is)
+    rw (← c.self.view_is)
     (inserted_in g.V.Numbered.number c.self.inside.slots _ _ _ _ _ _ _ _ c.number-number.ensures.value c.in_ok-reserve.ensures.rest_kept c.vacant_key.ensures.value c.vacant_key.ensures.vacant c.insert_reserved-slot.ensures.key c.insert_reserved-slot.ensures.updates c.in_ok-slot.ensures.entries c.in_ok-slot.ensures.ordered c.self.invariant none).0
 
 pub invariant_of-self-2 : goal.invariant_of-self-2
@@ -35,12 +35,12 @@ pub returns-clause-added : goal.returns-clause-added
 returns-clause-added g c =
     let there : is_some (lookup (is_at (nat_cmp c.number-number.result)) c.self.inside.numbers.entries) ≡ true = ap is_some (sym c.in_ok-slot.ensures.old ∙ c.in-Some.is) in
     let some = rw c.number-number.ensures.value at (sym (same_presence g.V.Numbered.number _ _ c.self.invariant c.number-number.result) ∙ there) in
-    rw (← c.make_guesses.ensures, ← c.self.view_is) (sym (is_none-from _ true some))
+    rw (← c.self.view_is) (sym (is_none-from _ true some))
 
 pub returns-clause-known : goal.returns-clause-known
 returns-clause-known g c is =
     let back : c.insert-2.new.self.entries ≡ c.self.inside.numbers.entries = c.in_ok-insert.ensures.entries ∙ ap (λ es. insert_entry nat_cmp es c.number-number.result c.in-Some.slot) c.in_ok-slot.ensures.entries ∙ written_back c.number-number.result c.in-Some.slot c.vacant_key.result c.self.inside.numbers.entries c.self.invariant.rises (sym c.in_ok-slot.ensures.old ∙ c.in-Some.is) in
-    rw (← c.make_guesses.ensures, ← c.self.view_is, back, c.in_ok-reserve.ensures.rest_kept) refl
+    rw (← c.self.view_is, back, c.in_ok-reserve.ensures.rest_kept) refl
 
 -- The rest is found by search too, and named so that it is found at once.
 pub insert_reserved-slot-requires : goal.insert_reserved-slot-requires

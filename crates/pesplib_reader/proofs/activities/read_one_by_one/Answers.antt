@@ -6,7 +6,7 @@ use Rattle.pesp_instance.specs.Edited.{empty_network}
 use Rattle.pesp_instance.specs.Network.{Network}
 use Rattle.pesplib_reader.specs.Reading.{activity_faults_after, with_activity_row}
 use Rattle.pesplib_reader.proofs.TakingLemmas.{IsReadTo, begun, ended, passed, stopped_at, wanting}
-use Rattle.pesplib_reader.proofs.activities.read_activities.Goals as goal
+use Rattle.pesplib_reader.proofs.activities.read_one_by_one.Goals as goal
 
 pub returns-in_err-next-clause-fault : goal.returns-in_err-next-clause-fault
 returns-in_err-next-clause-fault c =

@@ -4,7 +4,7 @@ use Rattle.pesp_instance.specs.Edited.{empty_network}
 use Rattle.pesplib_reader.specs.Left.{rows_left}
 use Rattle.pesplib_reader.specs.Reading.{activity_faults_after, with_activity_row}
 use Rattle.pesplib_reader.proofs.TakingLemmas.{IsReadTo}
-use Rattle.pesplib_reader.proofs.activities.read_activities.Given as goal
+use Rattle.pesplib_reader.proofs.activities.read_one_by_one.Given as goal
 
 -- the rows so far stand for the instance so far
 abbrev pub invariant-rows : goal.invariant-rows

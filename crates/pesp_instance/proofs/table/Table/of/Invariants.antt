@@ -1,0 +1,10 @@
+use Rattle.std.proofs.Common.{◌≡◌, ◌++◌, length}
+use Rattle.pesp_instance.proofs.Made.{IsMade}
+use Rattle.pesp_instance.proofs.table.Table.of.Given as goal
+
+-- each value so far has a slot and a pair
+abbrev pub invariant-loop-value : goal.invariant-loop-value
+invariant-loop-value g l =
+    IsMade g.V.Numbered.number l.yielded l.slots l.pairs.items
+    × (length l.pairs.items ≡ length l.yielded)
+    × (l.yielded ++ l.value-iterator.rest.items ≡ l.fn.values.items)
