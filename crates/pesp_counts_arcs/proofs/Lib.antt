@@ -11,3 +11,4 @@ pub mod StandMembers
 pub mod StandMore
 pub mod StandMoved
 pub mod StandPairs
+pub mod PlaceLaws

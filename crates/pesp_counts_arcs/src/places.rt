@@ -1,23 +1,20 @@
 //! Places: small numbers of the keeper's own, which stand for the numbers of events and activities.
 
-ghost use Rattle.std.specs.Prelude.{◌≡◌, ◌==◌, ◌≤◌, ◌<◌, ◌+◌, ℕ, [], None, Some, if◌then◌else◌, length, IfOk, IfSome, OnOk, OnErr};
+ghost use Rattle.std.specs.Prelude.{◌≡◌, ◌==◌, ◌≤◌, ◌<◌, ◌+◌, ℕ, [], None, Some, if◌then◌else◌, length, IfOk, OnOk, OnErr};
 ghost use Rattle.pesp_counts_arcs.specs.Places.{ArePlaces, number_at, place_of};
 
-use pesp_instance::Guesses;
 use slab::Slab;
 use std::alloc::{AllocError, Global};
-use std::collections::BTreeMap;
+use std::collections::HashMap;
 use std::marker::Model;
 
 /// A place for each number that has one, which it keeps as long as it is there.
 #[derive(Drop)]
 pub struct Places {
     /// The place of each number that has one.
-    places: BTreeMap<u32, usize>,
+    places: HashMap<u32, usize>,
     /// The number at each place that is taken: the one that has this place.
     numbers: Slab<u32>,
-    /// Of places, so that the map is asked for few numbers.
-    guesses: Guesses,
 }
 
 impl Model for Places {
@@ -37,31 +34,16 @@ impl Places {
         ensures { result ≡ record { places = []; numbers = [] } }
     {
         Places {
-            places: BTreeMap::new(alloc),
+            places: HashMap::new(alloc),
             numbers: Slab::new(alloc),
-            guesses: Guesses::new(alloc),
         }
-    }
-
-    /// The place of a number, where it is guessed.
-    fn guess(&self, number: u32) -> Option<usize>
-        ensures { IfSome result (λ place. number_at self.now place ≡ Some number) }
-    {
-        let place = self.guesses.place(number)?;
-        if self.number(place)? != number {
-            return None;
-        }
-        Some(place)
     }
 
     /// The place of a number.
     pub fn place(&self, number: u32) -> Option<usize>
         ensures { result ≡ place_of self.now number }
     {
-        match self.guess(number) {
-            Some(place) => Some(place),
-            None => self.places.get(&number).copied(),
-        }
+        self.places.get(&number).copied()
     }
 
     /// The number that has a place, if there is one.
@@ -80,12 +62,10 @@ impl Places {
         ensures paired { ArePlaces self.new }
         ensures err { OnErr result (self.new ≡ self.old) }
     {
-        self.guesses.make(&self.places)?;
         self.numbers.reserve(1)?;
         let place = self.numbers.vacant_key();
         self.places.insert(number, place)?;
         self.numbers.insert_reserved(number);
-        self.guesses.keep(number, place);
         Ok(place)
     }
 

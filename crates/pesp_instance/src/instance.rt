@@ -57,16 +57,18 @@ impl Instance {
         }
     }
 
-    /// The instance with all of these activities, where it has none. Nothing where a number stands twice, an end is no
-    /// event, or they are too many.
+    /// The instance with all of these activities. Nothing where it has some, a number stands twice, an end is no event, or
+    /// they are too many.
     pub fn with_activities(self, activities: Vec<Activity>) -> Result<Option<Instance>, AllocError>
-        requires { self.activities ≡ [] }
         ensures put { IfOk result (λ found. IfSome found (λ new.
             ArePut (λ a. a.id) [] activities.items new.activities)) }
         ensures kept { IfOk result (λ found. IfSome found (λ new.
             new ≡ record self { activities = new.activities })) }
         ensures network { IfOk result (λ found. IfSome found IsNetwork) }
     {
+        if self.activities.len() != 0 {
+            return Ok(None);
+        }
         if activities.len() > max_activities(self.period) {
             return Ok(None);
         }

@@ -16,6 +16,5 @@ mod walks;
 
 pub use edit::Edit;
 pub use event::Event;
-pub use guesses::Guesses;
 pub use instance::Instance;
 pub use walks::{Around, Events, Walk};

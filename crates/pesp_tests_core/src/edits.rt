@@ -287,3 +287,44 @@ fn the_same_ends(rt: HostRuntime) {
     assert_all_around(&rt, &instance, BOTH_AROUND_BOTH);
     drop(instance);
 }
+
+/// Activities, each by its number and its ends.
+type Given<'a> = &'a [(u32, u32, u32)];
+
+fn activities_of(rt: &(impl Abort + AllocGlobal), given: Given<'_>) -> Vec<Activity> {
+    let mut activities = Vec::new(rt.alloc());
+    for (number, from, to) in given {
+        let one = activity(rt, *number, *from, *to);
+        hold(rt, activities.push(one).is_ok(), "memory");
+    }
+    activities
+}
+
+/// The instance of events 1 and 2 with these activities, where they can be stored at once.
+fn stored(rt: &(impl Abort + AllocGlobal), given: Given<'_>) -> Option<Instance> {
+    let mut instance = empty(rt, 10);
+    accepted(rt, &mut instance, Edit::AddEvent(event(rt, 2)), "event 2");
+    accepted(rt, &mut instance, Edit::AddEvent(event(rt, 1)), "event 1");
+    let stored = instance.with_activities(activities_of(rt, given));
+    stored.ok().expect(rt, "memory")
+}
+
+/// Two activities each way, and a loop.
+const STORED_AT_ONCE: Given<'_> = &[(2, 2, 1), (3, 2, 2), (1, 1, 2)];
+
+#[test]
+fn stored_at_once(rt: HostRuntime) {
+    let instance = stored(&rt, STORED_AT_ONCE).expect(&rt, "all are stored");
+    assert_walks(&rt, &instance);
+    drop(instance);
+}
+
+fn refused_at_once(rt: &(impl Abort + AllocGlobal), given: Given<'_>, message: &str) {
+    hold(rt, stored(rt, given).is_none(), message);
+}
+
+#[test]
+fn not_stored_at_once(rt: HostRuntime) {
+    refused_at_once(&rt, &[(1, 1, 2), (1, 2, 1)], "a number stands twice");
+    refused_at_once(&rt, &[(1, 1, 3)], "there is no event 3");
+}

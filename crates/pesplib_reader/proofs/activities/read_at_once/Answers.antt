@@ -2,7 +2,7 @@
 use Rattle.std.proofs.Common.{◌≡◌, ◌++◌, ◌∷◌, [], true, false, Some, None, Ok, IfSome, length, refl, sym, ap, ◌∙◌, arith}
 use Rattle.std.proofs.lemmas.List.{append_assoc, append-nil}
 use Rattle.pesp_instance.specs.Filled.{ArePut}
-use Rattle.pesp_instance.specs.Network.{IsNetwork, Network}
+use Rattle.pesp_instance.specs.Network.{IsNetwork}
 use Rattle.pesplib_reader.specs.Left.{IsNextRow, row_of, rows_left}
 use Rattle.pesplib_reader.specs.Reading.{activities_read}
 use Rattle.pesplib_reader.specs.Records.{rows_of}
@@ -33,9 +33,6 @@ pub rows-smaller : goal.rows-smaller
 rows-smaller c =
     let more : IsNextRow c.rows.records c.next.new.self = at_value (λ found. found ≡ true → IsNextRow c.rows.records c.next.new.self) c.next.result c.in_ok-ok.field-0 (sym c.ok.ensures.value ∙ c.in_ok-ok.was) c.next.ensures.found c.if-branch.true in
     omega (arith, ap (λ xs. length xs) more.next)
-
-pub with_activities-requires : goal.with_activities-requires
-with_activities-requires c = ap (λ (I : Network). I.activities) c.rows.invariant.3.ends
 
 pub returns-in-Ok : goal.returns-in-Ok
 returns-in-Ok c =

@@ -2,8 +2,5 @@
 use Rattle.std.proofs.Common.{rules}
 use Rattle.pesp_counts_arcs.proofs.places.Places.place.Goals as goal
 
-pub returns-in-Some : goal.returns-in-Some
-returns-in-Some c = search rules
-
-pub returns-in-None : goal.returns-in-None
-returns-in-None c = search rules
+pub returns : goal.returns
+returns c = search rules
