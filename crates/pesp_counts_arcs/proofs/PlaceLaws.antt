@@ -3,13 +3,6 @@ use Rattle.std.proofs.Common.{◌≡◌, ◌≢◌, ℕ, ◌==◌, cond, Some, N
 use Rattle.std.proofs.lemmas.Bool.{cases_eq, eq-eqb, ne_eqb}
 use Rattle.pesp_counts_arcs.specs.Places.{ArePlaces, Places, number_at, place_of}
 
-pub swapped : (a b : ℕ) → (a == b) ≡ (b == a)
-swapped a b =
-    elim (cases_eq a b) [
-      | inl same ↦ rw (eq-eqb a b same, eq-eqb b a (sym same)) refl
-      | inr apart ↦ rw (ne_eqb a b apart, ne_eqb b a (λ same. apart (sym same))) refl
-    ]
-
 module _ (old new : Places) (number place : ℕ) (was : ArePlaces old) (others : (p : ℕ) → p ≢ place → number_at new p ≡ number_at old p) where
   -- a new number at a free place
   module _ (came : (n : ℕ) → place_of new n ≡ cond (n == number) (Some place) (place_of old n)) (absent : place_of old number ≡ None) (free : number_at old place ≡ None) (its : number_at new place ≡ Some number) where

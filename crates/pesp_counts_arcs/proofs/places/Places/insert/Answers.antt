@@ -1,11 +1,12 @@
 -- A new number has the place that no other has.
 use Rattle.std.proofs.Common.{◌≡◌, ◌≢◌, ℕ, ◌==◌, cond, Some, None, sym, ap, ◌∙◌}
+use Rattle.pesp_base.proofs.Orders.{eqb_turned}
 use Rattle.pesp_counts_arcs.specs.Places.{Places, number_at, place_of}
-use Rattle.pesp_counts_arcs.proofs.PlaceLaws.{ArePlaces-put, swapped}
+use Rattle.pesp_counts_arcs.proofs.PlaceLaws.{ArePlaces-put}
 use Rattle.pesp_counts_arcs.proofs.places.Places.insert.Goals as goal
 
 came : (c : goal.After-insert_reserved) (n : ℕ) → place_of (record { places = c.insert.new.self.entries; numbers = c.insert_reserved.new.self.slots }) n ≡ cond (n == c.args.number) (Some c.vacant_key-place.result) (place_of (record { places = c.self.inside.places.entries; numbers = c.self.inside.numbers.slots }) n)
-came c n = c.in_ok-insert.ensures.updates.0 n ∙ ap (λ t. cond t (Some c.vacant_key-place.result) (place_of (record { places = c.self.inside.places.entries; numbers = c.self.inside.numbers.slots }) n)) (swapped c.args.number n)
+came c n = c.in_ok-insert.ensures.updates.0 n ∙ ap (λ t. cond t (Some c.vacant_key-place.result) (place_of (record { places = c.self.inside.places.entries; numbers = c.self.inside.numbers.slots }) n)) (eqb_turned c.args.number n)
 
 pub invariant_of-self-2 : goal.invariant_of-self-2
 invariant_of-self-2 c =

@@ -1,7 +1,8 @@
 -- The number that goes leaves its place to none.
 use Rattle.std.proofs.Common.{◌≡◌, ℕ, ◌==◌, cond, Some, None, refl, sym, ap, ◌∙◌}
+use Rattle.pesp_base.proofs.Orders.{eqb_turned}
 use Rattle.pesp_counts_arcs.specs.Places.{Places, place_of}
-use Rattle.pesp_counts_arcs.proofs.PlaceLaws.{ArePlaces-gone, swapped}
+use Rattle.pesp_counts_arcs.proofs.PlaceLaws.{ArePlaces-gone}
 use Rattle.pesp_counts_arcs.proofs.places.Places.remove.Goals as goal
 
 pub remove-requires-in-Some : goal.remove-requires-in-Some
@@ -10,7 +11,7 @@ remove-requires-in-Some c =
     rw ((c.self.invariant.paired c.args.number c.in-Some.place).0 there) refl
 
 went : (c : goal.After-remove-in-Some) (n : ℕ) → place_of (record { places = c.remove.new.self.entries; numbers = c.remove-in-Some.new.self.slots }) n ≡ cond (n == c.args.number) None (place_of (record { places = c.self.inside.places.entries; numbers = c.self.inside.numbers.slots }) n)
-went c n = c.in-Some.ensures.updates.0 n ∙ ap (λ t. cond t None (place_of (record { places = c.self.inside.places.entries; numbers = c.self.inside.numbers.slots }) n)) (swapped c.args.number n)
+went c n = c.in-Some.ensures.updates.0 n ∙ ap (λ t. cond t None (place_of (record { places = c.self.inside.places.entries; numbers = c.self.inside.numbers.slots }) n)) (eqb_turned c.args.number n)
 
 pub invariant_of-self : goal.invariant_of-self
 invariant_of-self c =
