@@ -43,4 +43,3 @@ returns-in-Ok c =
       | None ↦ λ put kept net. tt
       | Some J ↦ λ put kept net. all_gathered c.args.period c.args.bytes.now front c.rows.activities.items c.rows.instance J c.rows.invariant.3 all put kept net
     ] c.in-Ok.ensures.put c.in-Ok.ensures.kept c.in-Ok.ensures.network
-
