@@ -2,7 +2,7 @@
 
 import re
 from pathlib import Path
-from typing import List, Optional, Tuple
+from typing import Callable, List, Optional, Tuple
 
 from hostile.inputs import Input
 from hostile.served import Came, Order, Served
@@ -28,6 +28,8 @@ FORMS = {
     "best_within in the tree": rb"Memory\n",
     "known_within in the tree": rb"Memory\n",
 }
+# Calls that go another way where a request is refused. All is as without a refusal, unless one of that way is refused too.
+TWO_WAYS = ["read_activities"]
 # Cases of calls that take no memory.
 QUIET = " without memory"
 # What a search may leave after where memory is refused after it.
@@ -100,27 +102,44 @@ def judge_call(name: str, came: Came, plain: Came) -> Tuple[Optional[str], bool]
     return fault_of_refused(name, *differing[0]), True
 
 
+def refuse_each(served: Served, name: str, plain: Came, order: Callable[[int], Order]) -> Tuple[List[Came], List[Wrong], int]:
+    """Refuses one request after the other, until none is: what came, what was wrong, and how often a call had none."""
+    runs: List[Came] = []
+    wrong: List[Wrong] = []
+    inside = 0
+    while True:
+        asked = order(len(runs) + 1)
+        came = served.run(asked)
+        if came.refused < (2 if asked.refuse_too else 1):
+            return runs, wrong, inside
+        runs.append(came)
+        fault, is_inside = judge_call(name, came, plain)
+        wrong += [(len(runs), fault, came)] if fault else []
+        inside += is_inside
+
+
+def is_outside(came: Came) -> bool:
+    """Whether an input had no room, before a call."""
+    return (came.status, came.error) == OUTSIDE
+
+
 def refuse_in_case(suite: Suite, folder: Path, program: Path, name: str) -> int:
     """Refuses one request after the other of a case, until none is refused any more."""
     with Served(suite.library, [program, name], folder) as served:
         plain = served.run()
         suite.holds(f"{name}: nothing is wrong where nothing is refused", (plain.status, plain.error) == (0, b""))
-        wrong: List[Wrong] = []
-        inside, is_before, request = 0, False, 1
-        while True:
-            came = served.run(Order(refuse_from=request, refuse_to=request))
-            if came.refused == 0:
-                break
-            fault, is_inside = judge_call(name, came, plain)
-            wrong += [(request, fault, came)] if fault else []
-            is_before = (came.status, came.error) == OUTSIDE and b"before\n" not in came.output
-            inside, request = inside + is_inside, request + 1
-        suite.found(f"{name}: each request for memory refused", request - 1, wrong)
+        runs, wrong, inside = refuse_each(served, name, plain, lambda request: Order(refuse_from=request, refuse_to=request))
+        suite.found(f"{name}: each request for memory refused", len(runs), wrong)
+        if name in TWO_WAYS:
+            suite.holds(f"{name}: one request that is refused changes nothing", inside == 0 and not is_outside(runs[-1]))
+            first = 1 + max(place for place, came in enumerate(runs, 1) if is_outside(came))
+            runs, wrong, inside = refuse_each(served, name, plain, lambda request: Order(first, first, refuse_too=first + request))
+            suite.found(f"{name}: each request of the other way refused", len(runs), wrong)
         if name.endswith(QUIET):
-            suite.holds(f"{name}: the last request comes before the calls", is_before)
+            suite.holds(f"{name}: the last request comes before the calls", is_outside(runs[-1]) and b"before\n" not in runs[-1].output)
         else:
             suite.holds(f"{name}: memory is refused inside of a call", inside)
-        suite.holds(f"{name}: the same without a refusal at the end", came.told() == plain.told())
+        suite.holds(f"{name}: the same without a refusal at the end", served.run().told() == plain.told())
         return inside
 
 

@@ -13,6 +13,7 @@ enum call { READ_COMMANDS, READ_FILE, WRITE_REPLIES, WRITE_ERROR, OPEN, LENGTH, 
 
 struct order {
     number refuse_from, refuse_to; /* the requests for memory that are refused */
+    number refuse_too;             /* one that is refused besides; 0: none */
     number call;                   /* the call of devices that is meant below */
     number from, to;               /* its calls that are answered otherwise */
     number every;                  /* each call whose number this divides is answered otherwise too, if it is not 0 */
@@ -34,7 +35,7 @@ static int running;
 static int is_refused(void) {
     if (!running) return 0;
     number place = ++report->requests;
-    if (place < order.refuse_from || place > order.refuse_to) return 0;
+    if ((place < order.refuse_from || place > order.refuse_to) && place != order.refuse_too) return 0;
     report->refused++;
     *__errno_location() = NO_MEMORY;
     return 1;

@@ -24,6 +24,7 @@ class Order:
 
     refuse_from: int = 0
     refuse_to: int = 0
+    refuse_too: int = 0
     call: str = CALLS[0]
     begin: int = 0
     end: int = 0
@@ -33,8 +34,8 @@ class Order:
 
     def packed(self) -> bytes:
         place = CALLS.index(self.call)
-        numbers = [self.refuse_from, self.refuse_to, place, self.begin, self.end, self.every, self.answer, self.most]
-        return struct.pack("<9Q", *numbers, SECONDS)
+        refused = [self.refuse_from, self.refuse_to, self.refuse_too]
+        return struct.pack("<10Q", *refused, place, self.begin, self.end, self.every, self.answer, self.most, SECONDS)
 
 
 @dataclasses.dataclass(frozen=True)
