@@ -74,7 +74,7 @@ struct pesp_told {
  * itself is never given null: the names at the end of this file see to that, for calls that are written with it); that the
  * bytes after the first four pairs are set, and stay as they are during the call; that `out` (which need not be
  * set) and `told` meet nothing else that the call is given; that each length is below 2^63; and that the stack has room
- * (128 kB). `period` takes the whole numbers of 16 bits. */
+ * (192 kB). `period` takes the whole numbers of 16 bits. */
 void pesp_answer(uint16_t period, const uint8_t *activities, size_t activities_length, const uint8_t *fixed,
                  size_t fixed_length, const uint8_t *times, size_t times_length, const uint8_t *commands,
                  size_t commands_length, uint8_t *out, size_t out_length, struct pesp_told *told);
