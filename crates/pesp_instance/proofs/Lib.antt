@@ -1,5 +1,6 @@
 mod Cases
 pub mod Effects
+pub mod Given
 pub mod Housed
 pub mod Linked
 pub mod Links

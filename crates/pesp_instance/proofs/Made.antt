@@ -1,5 +1,5 @@
 -- A table that is made at once, over a map of all pairs of a number and a slot.
-use Rattle.std.proofs.Common.{◌≡◌, ℕ, ◌+◌, ◌<◌, ◌≤◌, List, [], ◌∷◌, ◌++◌, length, Option, Some, None, refl, sym, ap, ◌∙◌, inl, inr, arith}
+use Rattle.std.proofs.Common.{◌≡◌, ℕ, ◌+◌, ◌<◌, ◌≤◌, true, List, [], ◌∷◌, ◌++◌, length, map, Option, Some, None, is_some, refl, sym, ap, ◌∙◌, inl, inr, arith}
 use Rattle.std.proofs.lemmas.Bool.{cases_eq, cases_order, lt-ltb, le-ltb, eq-eqb, ne_eqb}
 use Rattle.std.proofs.lemmas.List.{length-append}
 use Rattle.std.proofs.lemmas.Map.Keys.{sorted_head, sorted_tail}
@@ -13,7 +13,7 @@ use Rattle.slab.specs.Slab.{Slab, get, Updates}
 use Rattle.pesp_instance.specs.Filled.{ArePut}
 use Rattle.pesp_instance.specs.Table.{IsTable, values_in}
 use Rattle.pesp_instance.proofs.Housed.{same_test, lookup-insert_same, lookup-insert_other}
-use Rattle.pesp_instance.proofs.Rising.{IsAbove, IsAbove-less, Rises, length-put_in, sorted_from_rises}
+use Rattle.pesp_instance.proofs.Rising.{IsAbove, IsAbove-less, Rises, length-put_in, sorted_from_rises, with_number-put_in}
 use Rattle.pesp_instance.proofs.Tables.{inserted_in, lookup_above, missing}
 
 -- ---- entries that are inserted one after another
@@ -90,6 +90,20 @@ length-insert_found k s t (e ∷ es) sorted is =
       ]
     ]
 
+-- and one that is new does
+length-insert_new : (k s : ℕ) (es : List (ℕ × ℕ)) → lookup (is_at (nat_cmp k)) es ≡ None → length (insert_entry nat_cmp es k s) ≡ length es + 1
+length-insert_new k s [] none = omega arith
+length-insert_new k s (e ∷ es) none =
+    elim (cases_order k e.0) [
+      | inl same ↦ let is : Some e.1 ≡ None = rw (same_test k e.0, eq-eqb e.0 k (sym same)) at none in absurd (cc)
+      | inr apart ↦ elim apart [
+        | inl below ↦ rw (lt-ltb k e.0 below) (omega arith)
+        | inr above ↦
+            let later : lookup (is_at (nat_cmp k)) es ≡ None = rw (same_test k e.0, ne_eqb e.0 k (λ same. absurd (omega arith))) at none in
+            rw (le-ltb k e.0 (omega arith), ne_eqb k e.0 (λ is. absurd (omega arith))) (omega (arith, length-insert_new k s es later))
+      ]
+    ]
+
 -- where it took room, the number is new
 fresh : (k s : ℕ) (es : List (ℕ × ℕ)) → IsStrictlySortedBy nat_cmp (keys_of es) → length (insert_entry nat_cmp es k s) ≡ length es + 1 → lookup (is_at (nat_cmp k)) es ≡ None
 fresh k s es sorted more =
@@ -153,6 +167,46 @@ module _ {V : Type 0} (number : V → ℕ) where
   pub length-ArePut : (before xs last : List V) → ArePut number before xs last → length last ≡ length before + length xs
   length-ArePut before [] last put = rw put (omega arith)
   length-ArePut before (x ∷ xs) last put = omega (arith, length-ArePut (put_in number x before) xs last put.1, length-put_in number x before put.0)
+
+  pub ArePut-same : (before xs last other : List V) → ArePut number before xs last → ArePut number before xs other → last ≡ other
+  ArePut-same before [] last other put same = put ∙ sym same
+  ArePut-same before (x ∷ xs) last other put same = ArePut-same (put_in number x before) xs last other put.1 same.1
+
+  -- the entries are of the numbers of these values
+  HaveNumbers : List (ℕ × ℕ) → List V → Type 0
+  HaveNumbers es before = (n : ℕ) → is_some (lookup (is_at (nat_cmp n)) es) ≡ is_some (with_number number n before)
+
+  none_from : (n : ℕ) (es : List (ℕ × ℕ)) (before : List V) → HaveNumbers es before → with_number number n before ≡ None → lookup (is_at (nat_cmp n)) es ≡ None
+  unfolding HaveNumbers
+  none_from n es before have none =
+      elim (lookup (is_at (nat_cmp n)) es) as (λ o. is_some o ≡ is_some (with_number number n before) → o ≡ None) [
+        | None ↦ λ is. refl
+        | Some t ↦ λ is. let not : true ≡ is_some {T = V} None = is ∙ ap is_some none in absurd (cc)
+      ] (have n)
+
+  one_more : (es : List (ℕ × ℕ)) (before : List V) (s : ℕ) (x : V) → HaveNumbers es before → HaveNumbers (insert_entry nat_cmp es (number x) s) (put_in number x before)
+  unfolding HaveNumbers
+  one_more es before s x have n =
+      elim (cases_eq n (number x)) [
+        | inl same ↦ rw (with_number-put_in number n x before, eq-eqb (number x) n (sym same), same) (ap is_some (lookup-insert_same (number x) s es))
+        | inr apart ↦ rw (with_number-put_in number n x before, ne_eqb (number x) n (λ is. apart (sym is))) (ap is_some (lookup-insert_other (number x) n s es apart) ∙ have n)
+      ]
+
+  all_new : (es ps : List (ℕ × ℕ)) (before xs last : List V) → HaveNumbers es before → keys_of ps ≡ map number xs → ArePut number before xs last → length (inserts es ps) ≡ length es + length ps
+  all_new es [] before xs last have keys put = omega arith
+  all_new es (p ∷ ps) before [] last have keys put = absurd (cc)
+  all_new es (p ∷ ps) before (x ∷ xs) last have keys put =
+      let first : p.0 ≡ number x = cc in
+      let later : keys_of ps ≡ map number xs = cc in
+      let none = none_from (number x) es before have put.0 in
+      let more : length (insert_entry nat_cmp es p.0 p.1) ≡ length es + 1 = length-insert_new p.0 p.1 es (rw first none) in
+      let so : HaveNumbers (insert_entry nat_cmp es p.0 p.1) (put_in number x before) = rw first (one_more es before p.1 x have) in
+      omega (arith, all_new (insert_entry nat_cmp es p.0 p.1) ps (put_in number x before) xs last so later put.1, more)
+
+  -- where a number stands twice, no list has all values put in
+  pub none_put : (values : List V) (pairs : List (ℕ × ℕ)) (m : BTreeMap ℕ ℕ) → keys_of pairs ≡ map number values → IsFromIterResult nat_cmp pairs m → (length m.entries ≡ length pairs → ⊥) → (last : List V) → ArePut number [] values last → ⊥
+  unfolding HaveNumbers
+  none_put values pairs m keys from fewer last put = fewer (omega (arith, ap (λ l. length l) (entries_of pairs m from), all_new [] pairs [] values last (λ n. refl) keys put))
 
   -- where no number stands twice, these slots and pairs make the table of the values so far
   abbrev pub IsMade : List V → Slab V → List (ℕ × ℕ) → Type 0

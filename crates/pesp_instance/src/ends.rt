@@ -1,6 +1,6 @@
 //! Which activities are at which event.
 
-ghost use Rattle.std.specs.Prelude.{◌≡◌, ℕ, true, Some, [], map, All, IfOk, OnOk, OnErr, is_some, not, ◌==◌, ◌&&◌, ◌||◌};
+ghost use Rattle.std.specs.Prelude.{◌≡◌, ℕ, true, false, Some, [], map, All, IfOk, OnOk, OnErr, is_some, not, ◌==◌, ◌&&◌, ◌||◌};
 ghost use Rattle.std.specs.List.Sorted.{IsStrictlyIncreasing, IsStrictlySortedBy};
 ghost use Rattle.std.specs.Ordering.{nat_cmp};
 ghost use Rattle.pesp_base.specs.Numbered.{with_number};
@@ -141,6 +141,8 @@ impl Table<Vertex> {
     pub fn link_all(&mut self, activities: &Table<Activity>) -> Result<bool, AllocError>
         requires rising { IsStrictlyIncreasing (map (λ a. a.id) activities.now.values) }
         requires none { AreListed self.old.values [] }
+        ensures missing { IfOk result (λ all. all ≡ false
+            → All (HasEnds (events_of self.old.values)) activities.now.values → ⊥) }
         ensures listed { IfOk result (λ all. all ≡ true
             → AreListed self.new.values activities.now.values) }
         ensures ends { IfOk result (λ all. all ≡ true

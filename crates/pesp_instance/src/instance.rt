@@ -1,11 +1,11 @@
 //! Instances and their look-ups.
 
-ghost use Rattle.std.specs.Prelude.{◌≡◌, ◌≤◌, [], map, IfOk, IfSome, length, option_copied};
+ghost use Rattle.std.specs.Prelude.{◌≡◌, ◌<◌, ◌≤◌, [], map, All, IfNone, IfOk, IfSome, MatchOption, OnErr, length, option_copied};
 ghost use Rattle.std.specs.List.Sorted.{IsStrictlyIncreasing};
 ghost use Rattle.pesp_base.specs.Limits as limits;
 ghost use Rattle.pesp_instance.specs.Edited.{empty_network};
-ghost use Rattle.pesp_instance.specs.Filled.{ArePut};
-ghost use Rattle.pesp_instance.specs.Network.{IsNetwork, has_event, fixed_of, window_of, activity_of, around};
+ghost use Rattle.pesp_instance.specs.Filled.{IsFilled};
+ghost use Rattle.pesp_instance.specs.Network.{HasEnds, IsNetwork, Network, has_event, fixed_of, window_of, activity_of, around};
 
 use crate::table::Table;
 use crate::vertex::Vertex;
@@ -60,14 +60,16 @@ impl Instance {
     /// The instance with all of these activities. Nothing where it has some, a number stands twice, an end is no event, or
     /// they are too many.
     pub fn with_activities(self, activities: Vec<Activity>) -> Result<Option<Instance>, AllocError>
-        ensures put { IfOk result (λ found. IfSome found (λ new.
-            ArePut (λ a. a.id) [] activities.items new.activities)) }
-        ensures kept { IfOk result (λ found. IfSome found (λ new.
-            new ≡ record self { activities = new.activities })) }
-        ensures network { IfOk result (λ found. IfSome found IsNetwork) }
+        ensures filled { IfOk result (λ found. MatchOption found
+            ((J : Network) → IsFilled self activities.items J → ⊥)
+            (IsFilled self activities.items)) }
+        ensures err { OnErr result (0 < length activities.items) }
     {
         if self.activities.len() != 0 {
             return Ok(None);
+        }
+        if activities.is_empty() {
+            return Ok(Some(self));
         }
         if activities.len() > max_activities(self.period) {
             return Ok(None);
@@ -83,6 +85,8 @@ impl Instance {
         requires none { self.activities ≡ [] }
         requires rising { IsStrictlyIncreasing (map (λ a. a.id) activities.values) }
         requires few { length activities.values ≤ limits.max_activities self.period }
+        ensures none { IfOk result (λ found. IfNone found
+            (All (HasEnds self.events) activities.values → ⊥)) }
         ensures value { IfOk result (λ found. IfSome found (λ new.
             new ≡ record self { activities = activities.values })) }
         ensures network { IfOk result (λ found. IfSome found IsNetwork) }

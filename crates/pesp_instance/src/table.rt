@@ -1,6 +1,6 @@
 //! A table of numbered values: the values stand in a slab, and an ordered map has the slot of each number.
 
-ghost use Rattle.std.specs.Prelude.{◌≡◌, ℕ, true, false, [], map, Some, None, IfNone, IfSome, IfOk, OnErr, length, option_copied, is_some, is_none};
+ghost use Rattle.std.specs.Prelude.{◌≡◌, ℕ, List, true, false, [], map, Some, None, IfNone, IfSome, IfOk, OnErr, length, option_copied, is_some, is_none};
 ghost use Rattle.std.specs.List.Sorted.{IsStrictlyIncreasing};
 ghost use Rattle.pesp_base.specs.Numbered.{with_number, put_in, take_out, change_in};
 ghost use Rattle.pesp_instance.specs.Filled.{ArePut};
@@ -51,6 +51,8 @@ impl<V: Numbered> Table<V> {
 
     /// The table of these values, and nothing where two of them have one number.
     pub fn of(alloc: Global, values: Vec<V>) -> Result<Option<Self>, AllocError>
+        ensures none { IfOk result (λ found. IfNone found
+            ((last : List V) → ArePut V.number [] values.items last → ⊥)) }
         ensures put { IfOk result (λ found. IfSome found (λ table.
             ArePut V.number [] values.items table.values)) }
         ensures rising { IfOk result (λ found. IfSome found (λ table.

@@ -9,8 +9,8 @@ use Rattle.pesp_base.specs.Refusals.{unless_refused}
 use Rattle.pesp_instance.specs.declared.event.Event.{Event}
 use Rattle.pesp_instance.specs.declared.edit.Edit.TheVariants.{AddEvent}
 use Rattle.pesp_instance.specs.Edited.{effect, empty_network}
-use Rattle.pesp_instance.specs.Filled.{ArePut}
-use Rattle.pesp_instance.specs.Network.{IsNetwork, Network, has_event, new_event}
+use Rattle.pesp_instance.specs.Filled.{ArePut, IsFilled}
+use Rattle.pesp_instance.specs.Network.{Network, has_event, new_event}
 use Rattle.pesp_instance.proofs.Made.{length-ArePut}
 use Rattle.pesp_instance.proofs.Rising.{length-put_in}
 use Rattle.pesplib_reader.specs.Reading.{activities_read, activity_faults_after, activity_taken, instance_faults, with_activity, with_activity_row, with_ends, with_event}
@@ -114,13 +114,13 @@ one_gathered period front added more I J r so is same put =
     })
 
 -- all rows are taken where the activities of all are put in
-pub all_gathered : (period : ℕ) (bytes : List ℕ) (front : List Row) (added : List Activity) (I J : Network) → IsGathered period front added I → front ≡ rows_of bytes → ArePut (λ a. a.id) [] added J.activities → J ≡ record I { activities = J.activities } → IsNetwork J → activities_read period bytes ≡ Ok J
-all_gathered period bytes front added I J so all put same net =
-    let is : J ≡ stored period (all_ends [] added) J.activities = same ∙ ap (λ (K : Network). record K { activities = J.activities }) so.ends in
-    let few : length J.activities ≤ max_activities period = subst (λ (K : Network). length J.activities ≤ max_activities K.period) is net.few_activities in
-    let room : length (all_ends [] added) ≤ max_events period = subst (λ (K : Network). length K.events ≤ max_events K.period) is net.few_events in
+pub all_gathered : (period : ℕ) (bytes : List ℕ) (front : List Row) (added : List Activity) (I J : Network) → IsGathered period front added I → front ≡ rows_of bytes → IsFilled I added J → activities_read period bytes ≡ Ok J
+all_gathered period bytes front added I J so all filled =
+    let is : J ≡ stored period (all_ends [] added) J.activities = filled.kept ∙ ap (λ (K : Network). record K { activities = J.activities }) so.ends in
+    let few : length J.activities ≤ max_activities period = subst (λ (K : Network). length J.activities ≤ max_activities K.period) is filled.network.few_activities in
+    let room : length (all_ends [] added) ≤ max_events period = subst (λ (K : Network). length K.events ≤ max_events K.period) is filled.network.few_events in
     ap (taken activity_faults_after with_activity_row (empty_network period)) (sym all)
-    ∙ taken_all period [] [] front added J.activities so.good put few room ∙ ap (λ (K : Network). Ok K) (sym is)
+    ∙ taken_all period [] [] front added J.activities so.good filled.put few room ∙ ap (λ (K : Network). Ok K) (sym is)
 
 -- what holds of a value that came
 pub at_value : {X E : Type 0} (P : X → Type 0) (r : Result X E) (v : X) → result_ok r ≡ Some v → IfOk r P → P v

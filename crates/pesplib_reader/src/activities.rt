@@ -142,6 +142,8 @@ fn gather(instance: &mut Instance, activities: &mut Vec<Activity>, fields: &Byte
 
 /// The instance that a file of activities stands for, where no row has a fault and there is room to store all rows at
 /// once.
+// What it holds is not on the stack while the other way is gone.
+#[inline(never)]
 fn read_at_once(alloc: Global, period: Period, bytes: &[u8]) -> Option<Instance>
     ensures { IfSome result (λ instance. activities_read period bytes.now ≡ Ok instance) }
 {
@@ -160,6 +162,7 @@ fn read_at_once(alloc: Global, period: Period, bytes: &[u8]) -> Option<Instance>
 }
 
 /// The same row by row, or the fault of its first faulty row.
+#[inline(never)]
 fn read_one_by_one(alloc: Global, period: Period, bytes: &[u8]) -> Result<Instance, ReadFault>
     ensures ok { IfOk result (λ instance. activities_read period bytes.now ≡ Ok instance) }
     ensures fault { IfErr result (IsReadFault bytes.now (activities_read period bytes.now)) }

@@ -1,8 +1,9 @@
 -- Each row without a fault is gathered, and all of them are put in at the end.
 use Rattle.std.proofs.Common.{◌≡◌, ◌++◌, ◌∷◌, [], true, false, Some, None, Ok, IfSome, length, refl, sym, ap, ◌∙◌, arith}
 use Rattle.std.proofs.lemmas.List.{append_assoc, append-nil}
-use Rattle.pesp_instance.specs.Filled.{ArePut}
-use Rattle.pesp_instance.specs.Network.{IsNetwork}
+use Rattle.std.specs.Option.{MatchOption}
+use Rattle.pesp_instance.specs.Filled.{IsFilled}
+use Rattle.pesp_instance.specs.Network.{Network}
 use Rattle.pesplib_reader.specs.Left.{IsNextRow, row_of, rows_left}
 use Rattle.pesplib_reader.specs.Reading.{activities_read}
 use Rattle.pesplib_reader.specs.Records.{rows_of}
@@ -39,7 +40,7 @@ returns-in-Ok c =
     let front = c.rows.invariant.1 in
     let none : rows_left c.rows.records ≡ [] = at_value (λ found. found ≡ false → rows_left c.rows.records ≡ []) c.next.result c.in_ok-ok.field-0 (sym c.ok.ensures.value ∙ c.in_ok-ok.was) c.next.ensures.none c.if-branch.false in
     let all : front ≡ rows_of c.args.bytes.now = sym (append-nil front) ∙ ap (λ rows. front ++ rows) (sym none) ∙ c.rows.invariant.2 in
-    elim c.in-Ok.found as (λ o. IfSome o (λ J. ArePut (λ a. a.id) [] c.rows.activities.items J.activities) → IfSome o (λ J. J ≡ record c.rows.instance { activities = J.activities }) → IfSome o IsNetwork → IfSome o (λ J. activities_read c.args.period c.args.bytes.now ≡ Ok J)) [
-      | None ↦ λ put kept net. tt
-      | Some J ↦ λ put kept net. all_gathered c.args.period c.args.bytes.now front c.rows.activities.items c.rows.instance J c.rows.invariant.3 all put kept net
-    ] c.in-Ok.ensures.put c.in-Ok.ensures.kept c.in-Ok.ensures.network
+    elim c.in-Ok.found as (λ o. MatchOption o ((J : Network) → IsFilled c.rows.instance c.rows.activities.items J → ⊥) (IsFilled c.rows.instance c.rows.activities.items) → IfSome o (λ J. activities_read c.args.period c.args.bytes.now ≡ Ok J)) [
+      | None ↦ λ filled. tt
+      | Some J ↦ λ filled. all_gathered c.args.period c.args.bytes.now front c.rows.activities.items c.rows.instance J c.rows.invariant.3 all filled
+    ] c.in-Ok.ensures.filled

@@ -20,3 +20,6 @@ returns-clause-network c =
     let is = c.if-not-branch.false in
     let linked : IsLinkedTo c.self.inside.vertices.values c.link_all.new.self.values c.args.activities.values = record { listed = all.listed is; ends = all.ends is; within = all.within is; kept = all.kept is } in
     with_linked (network_in c.self.inside) c.self.inside.vertices.values c.link_all.new.self.values c.args.activities.values c.self.invariant.network refl c.requires.rising (rw (← c.self.view_is) at c.requires.few) linked
+
+pub returns-then-not-branch-clause-none : goal.returns-then-not-branch-clause-none
+returns-then-not-branch-clause-none c ends = c.in_ok-link_all.ensures.missing c.if-not-branch.true (rw (← c.self.view_is) at ends)

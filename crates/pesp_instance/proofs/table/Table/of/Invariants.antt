@@ -1,4 +1,5 @@
-use Rattle.std.proofs.Common.{◌≡◌, ◌++◌, length}
+use Rattle.std.proofs.Common.{◌≡◌, ◌++◌, map}
+use Rattle.std.specs.Map.{keys_of}
 use Rattle.pesp_instance.proofs.Made.{IsMade}
 use Rattle.pesp_instance.proofs.table.Table.of.Given as goal
 
@@ -6,5 +7,5 @@ use Rattle.pesp_instance.proofs.table.Table.of.Given as goal
 abbrev pub invariant-loop-value : goal.invariant-loop-value
 invariant-loop-value g l =
     IsMade g.V.Numbered.number l.yielded l.slots l.pairs.items
-    × (length l.pairs.items ≡ length l.yielded)
+    × (keys_of l.pairs.items ≡ map g.V.Numbered.number l.yielded)
     × (l.yielded ++ l.value-iterator.rest.items ≡ l.fn.values.items)
