@@ -1,8 +1,9 @@
 -- Guesses are found by the last bits of numbers, and stay where the list is copied behind itself.
-use Rattle.std.proofs.Common.{◌≡◌, ◌≢◌, ◌⊎◌, ◌+◌, ◌-◌, ◌*◌, ◌%◌, ◌/◌, ◌^◌, ◌<◌, ◌≤◌, ◌++◌, ℕ, zero, suc, List, [], ◌∷◌, Option, Some, None, length, take, true, false, refl, sym, ap, ◌∙◌, inl, inr, get_or, rules, arith, length-append}
+use Rattle.std.proofs.Common.{◌≡◌, ◌≢◌, ◌⊎◌, ◌+◌, ◌-◌, ◌*◌, ◌%◌, ◌/◌, ◌^◌, ◌<◌, ◌++◌, ℕ, zero, suc, List, [], ◌∷◌, Some, length, take, true, false, refl, sym, ap, ◌∙◌, inl, inr, get_or, arith, length-append}
 use Rattle.std.specs.Int.{IsPowerOfTwo}
 use Rattle.std.specs.Int.Bits.{bit_and}
 use Rattle.std.specs.List.{slice_get}
+use Rattle.slab.specs.Slab.{Slab}
 use Rattle.std.proofs.Math.Arith.{mod-mul}
 use Rattle.std.proofs.Math.ListN.{set, length-set}
 use Rattle.std.proofs.Math.Nat.{mod-eq_of_lt, mod-zero, two-pow-succ}
@@ -12,7 +13,7 @@ use Rattle.std.proofs.lemmas.Nat.{and_mask}
 use Rattle.std.proofs.lemmas.Option.{slice_get-get_or, slice_get_within}
 use Rattle.std.proofs.lemmas.Bool.{cases_eq, false≢true, true≢false}
 use Rattle.std.proofs.lemmas.List.{get_or-set_other, get_or-set_same}
-use Rattle.pesp_counts_arcs.specs.Places.{AreByBits, AreGuessed, Places, guess_of, number_at}
+use Rattle.pesp_counts_arcs.specs.Places.{AreByBits, AreGuessed, IsGuessed, guess_of}
 
 slice_get-append_left : (xs ys : List ℕ) (i p : ℕ) → slice_get xs i ≡ Some p → slice_get (xs ++ ys) i ≡ Some p
 slice_get-append_left [] ys i p is = absurd (cc)
@@ -87,24 +88,24 @@ module _ (guesses : List ℕ) (n p : ℕ) (some : 0 < length guesses) where
       ap (λ k. slice_get (set guesses (n % length guesses) p) (m % k)) as_many ∙ slice_get-get_or (set guesses (n % length guesses) p) (m % length guesses) 0 low ∙ ap (λ k. Some k) at ∙ sym (slice_get-get_or guesses (m % length guesses) 0 (within m))
 
   -- the guess was no number's own
-  pub AreGuessed-written : (places : Places) → ((m q : ℕ) → m % length guesses ≡ n % length guesses → guess_of guesses m ≡ Some q → number_at places q ≡ Some m → ⊥) → AreGuessed places guesses (set guesses (n % length guesses) p) n p true
-  AreGuessed-written places free = record {
-    its = λ _. guess_of-written n refl;
+  pub AreGuessed-written : (numbers : Slab ℕ) → numbers.vacant_key ≡ p → ((m q : ℕ) → m % length guesses ≡ n % length guesses → IsGuessed numbers guesses m q → ⊥) → AreGuessed numbers guesses (set guesses (n % length guesses) p) n true
+  AreGuessed-written numbers vacant free = record {
+    its = λ _. guess_of-written n refl ∙ ap (λ k. Some k) (sym vacant);
     lost = λ no. absurd (true≢false no);
-    stays = λ m q guess stands. elim (cases_eq (m % length guesses) (n % length guesses)) [ inl same ↦ absurd (free m q same guess stands) | inr apart ↦ guess_of-unwritten m apart ∙ guess ];
-    was = λ m g guess. elim (cases_eq (m % length guesses) (n % length guesses)) [ inl same ↦ inr (guess_of-written m same) | inr apart ↦ inl (guess_of-unwritten m apart ∙ guess) ];
+    stays = λ m q guessed. elim (cases_eq (m % length guesses) (n % length guesses)) [ inl same ↦ absurd (free m q same guessed) | inr apart ↦ guess_of-unwritten m apart ∙ guessed.0 ];
+    was = λ m g guess. elim (cases_eq (m % length guesses) (n % length guesses)) [ inl same ↦ inr (guess_of-written m same ∙ ap (λ k. Some k) (sym vacant)) | inr apart ↦ inl (guess_of-unwritten m apart ∙ guess) ];
     many = as_many;
   }
 
-  -- another place stays guessed for the number
-  pub AreGuessed-lost : (places : Places) (d : ℕ) → get_or guesses (n % length guesses) d ≢ p → AreGuessed places guesses guesses n p false
-  AreGuessed-lost places d apart = record {
-    its = λ no. absurd (false≢true no);
-    lost = λ _. (get_or guesses (n % length guesses) d, guess_of-at d, apart);
-    stays = λ m q guess _. guess;
-    was = λ m h guess. inl guess;
-    many = refl;
-  }
+-- another place stays guessed for the number
+pub AreGuessed-lost : (guesses : List ℕ) (n d : ℕ) (numbers : Slab ℕ) → 0 < length guesses → get_or guesses (n % length guesses) d ≢ numbers.vacant_key → AreGuessed numbers guesses guesses n false
+AreGuessed-lost guesses n d numbers some apart = record {
+  its = λ no. absurd (false≢true no);
+  lost = λ _. (get_or guesses (n % length guesses) d, guess_of-at guesses n 0 some d, apart);
+  stays = λ m q guessed. guessed.0;
+  was = λ m h guess. inl guess;
+  many = refl;
+}
 
 -- one place is guessed for all numbers with the same last bits
 pub guess_of-same : (guesses : List ℕ) (n m q : ℕ) → 0 < length guesses → m % length guesses ≡ n % length guesses → guess_of guesses m ≡ Some q → get_or guesses (n % length guesses) 0 ≡ q

@@ -1,12 +1,13 @@
 -- Each number keeps the place of its own where one comes or goes, and is found as before.
-use Rattle.std.proofs.Common.{◌≡◌, ◌≢◌, ◌⊎◌, ◌↔◌, ◌+◌, ℕ, zero, suc, ◌==◌, Bool, true, false, cond, List, [], ◌∷◌, Option, Some, None, refl, sym, ap, subst, ◌∙◌, inl, inr, get_or, rules, arith}
-use Rattle.std.proofs.lemmas.Bool.{cases_eq, eq-eqb, eqb-true, ne_eqb, true≢false, false≢true}
+use Rattle.std.proofs.Common.{◌≡◌, ◌≢◌, ◌⊎◌, ◌↔◌, ◌+◌, ℕ, zero, suc, ◌==◌, Bool, true, false, cond, List, [], ◌∷◌, Option, Some, None, refl, sym, ap, subst, ◌∙◌, inl, inr, get_or, arith}
+use Rattle.std.proofs.lemmas.Bool.{cases_eq, eq-eqb, eqb-true, ne_eqb, false≢true}
 use Rattle.std.specs.BTreeMap.{is_at}
 use Rattle.std.specs.List.{position_from}
 use Rattle.std.specs.Ordering.{nat_cmp}
+use Rattle.slab.specs.Slab.{Slab, get}
 use Rattle.pesp_instance.proofs.Housed.{same_test}
 use Rattle.pesp_counts_arcs.proofs.GuessLaws.{by_bits-many}
-use Rattle.pesp_counts_arcs.specs.Places.{AreFound, AreGuessed, ArePlaces, AreByBits, IsOther, Places, guess_of, is_number, number_at, other_of, place_of}
+use Rattle.pesp_counts_arcs.specs.Places.{AreFound, AreGuessed, ArePlaces, AreByBits, IsOther, Places, StayGuessed, guess_of, is_number, number_at, other_of, place_of}
 
 -- ---- the first place of a number
 
@@ -180,7 +181,7 @@ place_of_other places guesses others n is out =
     place_is places n (other_of others n) is.are_places (λ p at. (is.mapped n p at).stands) (λ p at. elim (is.found n p at) [ inl g ↦ absurd (out p g at) | inr m ↦ m ])
 
 -- more guesses find what was found, where those that there were stay
-pub AreFound-more : (places : Places) (guesses guesses' : List ℕ) (others : List (ℕ × ℕ)) → AreFound places guesses others → AreByBits guesses' → ((n p : ℕ) → guess_of guesses n ≡ Some p → guess_of guesses' n ≡ Some p) → AreFound places guesses' others
+pub AreFound-more : (places : Places) (guesses guesses' : List ℕ) (others : List (ℕ × ℕ)) → AreFound places guesses others → AreByBits guesses' → StayGuessed guesses guesses' → AreFound places guesses' others
 AreFound-more places guesses guesses' others is by_bits stay = record {
   are_places = is.are_places;
   by_bits = by_bits;
@@ -188,17 +189,18 @@ AreFound-more places guesses guesses' others is by_bits stay = record {
   mapped = λ n p at. let o = is.mapped n p at in record { stands = o.stands; guess = o.guess; guessed = stay n o.guess o.guessed; apart = o.apart };
 }
 
--- a free place is guessed for a number whose guess was no number's own
-pub AreFound-guessed : (places : Places) (before after : List ℕ) (entries : List (ℕ × ℕ)) (number place : ℕ) (kept : Bool) → AreFound places before entries → AreGuessed places before after number place kept → AreByBits after → number_at places place ≡ None → AreFound places after entries
-AreFound-guessed places before after entries number place kept is guesses by_bits free = record {
+-- the vacant place is guessed for a number whose guess was no number's own
+pub AreFound-guessed : (numbers : Slab ℕ) (before after : List ℕ) (entries : List (ℕ × ℕ)) (number : ℕ) (kept : Bool) → AreFound (record { numbers = numbers.slots }) before entries → AreGuessed numbers before after number kept → AreByBits after → get numbers numbers.vacant_key ≡ None
+    → AreFound (record { numbers = numbers.slots }) after entries
+AreFound-guessed numbers before after entries number kept is guesses by_bits free = record {
   are_places = is.are_places;
   by_bits = by_bits;
-  found = λ n p at. elim (is.found n p at) [ inl g ↦ inl (guesses.stays n p g at) | inr m ↦ inr m ];
+  found = λ n p at. elim (is.found n p at) [ inl g ↦ inl (guesses.stays n p (g, at)) | inr m ↦ inr m ];
   mapped = λ n p at.
       let o = is.mapped n p at in
       elim (guesses.was n o.guess o.guessed) [
         | inl g ↦ record { stands = o.stands; guess = o.guess; guessed = g; apart = o.apart }
-        | inr g ↦ record { stands = o.stands; guess = place; guessed = g; apart = λ same. let none : Some n ≡ None = sym o.stands ∙ ap (number_at places) (sym same) ∙ free in absurd (cc) }
+        | inr g ↦ record { stands = o.stands; guess = numbers.vacant_key; guessed = g; apart = λ same. let none : Some n ≡ None = sym o.stands ∙ ap (get numbers) (sym same) ∙ free in absurd (cc) }
       ];
 }
 
@@ -263,8 +265,8 @@ went_none places number none n =
 
 -- ---- a place is guessed before it is taken
 
-pub AreFound-kept : (places : Places) (before made slice after : List ℕ) (entries : List (ℕ × ℕ)) (number place : ℕ) (kept : Bool) → AreFound places before entries → AreByBits made → ((n p : ℕ) → guess_of before n ≡ Some p → guess_of made n ≡ Some p)
-    → slice ≡ made → AreGuessed places slice after number place kept → number_at places place ≡ None → AreFound places after entries
-AreFound-kept places before made slice after entries number place kept is by_bits stay same guesses free =
-    let found : AreFound places slice entries = rw same (AreFound-more places before made entries is by_bits stay) in
-    AreFound-guessed places slice after entries number place kept found guesses (by_bits-many slice after found.by_bits guesses.many) free
+pub AreFound-kept : (numbers : Slab ℕ) (before made slice after : List ℕ) (entries : List (ℕ × ℕ)) (number : ℕ) (kept : Bool) → AreFound (record { numbers = numbers.slots }) before entries → AreByBits made → StayGuessed before made
+    → slice ≡ made → AreGuessed numbers slice after number kept → get numbers numbers.vacant_key ≡ None → AreFound (record { numbers = numbers.slots }) after entries
+AreFound-kept numbers before made slice after entries number kept is by_bits stay same guesses free =
+    let found : AreFound (record { numbers = numbers.slots }) slice entries = rw same (AreFound-more (record { numbers = numbers.slots }) before made entries is by_bits stay) in
+    AreFound-guessed numbers slice after entries number kept found guesses (by_bits-many slice after found.by_bits guesses.many) free

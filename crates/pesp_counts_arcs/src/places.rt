@@ -1,8 +1,7 @@
 //! Places: small numbers of the keeper's own, which stand for the numbers of events and activities.
 
 ghost use Rattle.std.specs.Prelude.{◌≡◌, ◌==◌, ◌≤◌, ◌<◌, ◌+◌, ◌%◌, ◌↔◌, ℕ, [], None, Some, if◌then◌else◌, length, IfOk, OnOk, OnErr};
-ghost use Rattle.pesp_counts_arcs.specs.Places.{AreByBits, AreGuessed, ArePlaces, guess_of, number_at, place_of};
-ghost use Rattle.slab.specs.Slab.{get};
+ghost use Rattle.pesp_counts_arcs.specs.Places.{AreByBits, AreGuessed, ArePlaces, IsGuessed, StayGuessed, number_at, place_of};
 
 use slab::Slab;
 use std::alloc::{AllocError, Global};
@@ -51,8 +50,8 @@ impl Places {
     pub fn make_room(&mut self, numbers: usize) -> Result<(), AllocError>
         ensures { self.new ≡ self.old }
     {
-        let more = numbers.saturating_sub(self.numbers.len());
-        self.numbers.reserve(more)?;
+        self.numbers
+            .reserve(numbers.saturating_sub(self.numbers.len()))?;
         make_guesses(&mut self.guesses, numbers)
     }
 
@@ -85,7 +84,7 @@ impl Places {
         self.numbers.reserve(1)?;
         make_guesses(&mut self.guesses, self.numbers.len().saturating_add(1))?;
         let place = self.numbers.vacant_key();
-        if !keep_guess(&self.numbers, &mut self.guesses, number, place) {
+        if !keep_guess(&self.numbers, &mut self.guesses, number) {
             self.others.insert(number, place)?;
         }
         self.numbers.insert_reserved(number);
@@ -119,26 +118,20 @@ fn guess_index(guesses: &[u32], number: u32) -> usize
 /// The place of a number, where it is the guessed one.
 fn guessed(numbers: &Slab<u32>, guesses: &[u32], number: u32) -> Option<usize>
     requires { AreByBits guesses.now }
-    ensures { (p : ℕ) → (result ≡ Some p)
-        ↔ ((guess_of guesses.now number ≡ Some p) × (get numbers.now p ≡ Some number)) }
+    ensures { (p : ℕ) → (result ≡ Some p) ↔ IsGuessed numbers.now guesses.now number p }
 {
     let guess = *guesses.get(guess_index(guesses, number))? as usize;
-    if *numbers.get(guess)? == number {
-        Some(guess)
-    } else {
-        None
-    }
+    (*numbers.get(guess)? == number).then_some(guess)
 }
 
-/// Guesses a free place for a number from now on, unless its guess is another number's place.
-fn keep_guess(numbers: &Slab<u32>, guesses: &mut [u32], number: u32, place: usize) -> bool
+/// Guesses the vacant place for a number from now on, unless its guess is another number's place.
+fn keep_guess(numbers: &Slab<u32>, guesses: &mut [u32], number: u32) -> bool
     requires by_bits { AreByBits guesses.old }
     requires some { 0 < length guesses.old }
-    requires free { get numbers.now place ≡ None }
-    ensures { AreGuessed (record { numbers = (numbers.now).slots }) guesses.old guesses.new number place result }
+    ensures { AreGuessed numbers.now guesses.old guesses.new number result }
 {
     let index = guess_index(guesses, number);
-    let Ok(guess) = u32::try_from(place) else {
+    let Ok(place) = u32::try_from(numbers.vacant_key()) else {
         return false;
     };
     if let Some(other) = numbers.get(guesses[index] as usize) {
@@ -146,7 +139,7 @@ fn keep_guess(numbers: &Slab<u32>, guesses: &mut [u32], number: u32, place: usiz
             return false;
         }
     }
-    guesses[index] = guess;
+    guesses[index] = place;
     true
 }
 
@@ -156,15 +149,11 @@ fn make_guesses(guesses: &mut Vec<u32>, count: usize) -> Result<(), AllocError>
     requires { AreByBits (guesses.old).items }
     ensures by_bits { AreByBits (guesses.new).items }
     ensures enough { OnOk result (count ≤ length (guesses.new).items) }
-    ensures stay { (n p : ℕ) → guess_of (guesses.old).items n ≡ Some p
-        → guess_of (guesses.new).items n ≡ Some p }
+    ensures stay { StayGuessed (guesses.old).items (guesses.new).items }
 {
     if guesses.is_empty() {
-        let room = count
-            .max(FIRST_ROOM)
-            .checked_next_power_of_two()
-            .ok_or(AllocError)?;
-        guesses.resize(room, 0)?;
+        let room = count.max(FIRST_ROOM);
+        guesses.resize(room.checked_next_power_of_two().ok_or(AllocError)?, 0)?;
     }
     while guesses.len() < count {
         guesses.extend_from_within(..)?;

@@ -1,5 +1,5 @@
 -- The list is copied behind itself, and what was guessed stays.
-use Rattle.std.proofs.Common.{◌≡◌, ◌<◌, ◌++◌, ◌-◌, ◌∙◌, ap, take, arith, length, length-append}
+use Rattle.std.proofs.Common.{◌≡◌, ◌++◌, ◌-◌, ◌∙◌, ap, take, arith, length, length-append}
 use Rattle.std.proofs.Math.Seq.{take-length}
 use Rattle.pesp_counts_arcs.proofs.GuessLaws.{AreByBits-copied, guess_of-copied}
 use Rattle.pesp_counts_arcs.proofs.places.make_guesses.Goals as goal

@@ -1,5 +1,5 @@
 -- A number stands at its guess, or the map has its place.
-use Rattle.std.proofs.Common.{◌≡◌, ℕ, None, Some, refl, sym, ap, ◌∙◌}
+use Rattle.std.proofs.Common.{◌≡◌, ℕ, None, Some, refl, sym, ◌∙◌}
 use Rattle.pesp_counts_arcs.specs.Places.{guess_of, number_at}
 use Rattle.pesp_counts_arcs.proofs.PlaceLaws.{place_of_other}
 use Rattle.pesp_counts_arcs.proofs.places.Places.place.Goals as goal

@@ -1,6 +1,6 @@
 -- The number that goes leaves its place to none, and the map forgets it.
-use Rattle.std.proofs.Common.{◌≡◌, ◌∙◌, Some, ap, sym, refl}
-use Rattle.pesp_counts_arcs.specs.Places.{Places, number_at, place_of}
+use Rattle.std.proofs.Common.{◌∙◌, refl}
+use Rattle.pesp_counts_arcs.specs.Places.{Places}
 use Rattle.pesp_counts_arcs.proofs.PlaceLaws.{AreFound-gone, IsTakenOut, place_stands, taken_guess, taken_other, went, went_none}
 use Rattle.pesp_counts_arcs.proofs.places.Places.remove.Goals as goal
 use Rattle.pesp_counts_arcs.proofs.places.Places.remove.Goals.{in-Some, in-None}
