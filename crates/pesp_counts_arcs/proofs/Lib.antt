@@ -12,3 +12,4 @@ pub mod StandMore
 pub mod StandMoved
 pub mod StandPairs
 pub mod PlaceLaws
+pub mod GuessLaws

@@ -63,7 +63,7 @@ pub record StandFor (I : Network) (links : Links) : Type 0 where
 
 -- nothing has a place
 abbrev pub no_links : Links
-no_links = record { events = record { places = []; numbers = [] }; activities = record { places = []; numbers = [] }; ends = []; lists = [] }
+no_links = record { events = record { numbers = [] }; activities = record { numbers = [] }; ends = []; lists = [] }
 
 -- all that is looked up is as before
 pub record LookSame (before after : Links) : Type 0 where

@@ -1,20 +1,26 @@
 //! Places: small numbers of the keeper's own, which stand for the numbers of events and activities.
 
-ghost use Rattle.std.specs.Prelude.{◌≡◌, ◌==◌, ◌≤◌, ◌<◌, ◌+◌, ℕ, [], None, Some, if◌then◌else◌, length, IfOk, OnOk, OnErr};
-ghost use Rattle.pesp_counts_arcs.specs.Places.{ArePlaces, number_at, place_of};
+ghost use Rattle.std.specs.Prelude.{◌≡◌, ◌==◌, ◌≤◌, ◌<◌, ◌+◌, ◌%◌, ◌↔◌, ℕ, [], None, Some, if◌then◌else◌, length, IfOk, OnOk, OnErr};
+ghost use Rattle.pesp_counts_arcs.specs.Places.{AreByBits, AreGuessed, ArePlaces, IsGuessed, StayGuessed, number_at, place_of};
 
 use slab::Slab;
 use std::alloc::{AllocError, Global};
-use std::collections::HashMap;
+use std::collections::BTreeMap;
 use std::marker::Model;
+
+/// How many guesses there are at first.
+const FIRST_ROOM: usize = 16;
 
 /// A place for each number that has one, which it keeps as long as it is there.
 #[derive(Drop)]
 pub struct Places {
-    /// The place of each number that has one.
-    places: HashMap<u32, usize>,
     /// The number at each place that is taken: the one that has this place.
     numbers: Slab<u32>,
+    /// A place for the last bits of each number, as many as a power of two, or none. It is the
+    /// number's own where the number at it says so.
+    guesses: Vec<u32>,
+    /// The places of the numbers that do not stand at their guess.
+    others: BTreeMap<u32, usize>,
 }
 
 impl Model for Places {
@@ -22,28 +28,41 @@ impl Model for Places {
 
     ghost Value = { words.Places };
 
-    ghost view = { λ a. record { places = a.places.entries; numbers = a.numbers.slots } };
+    ghost view = { λ a. record { numbers = a.numbers.slots } };
 
     ghost invariant = { λ a.
-        words.ArePlaces (record { places = a.places.entries; numbers = a.numbers.slots }) };
+        words.AreFound (record { numbers = a.numbers.slots }) a.guesses.items a.others.entries };
 }
 
 impl Places {
     /// No number has a place.
     pub fn new(alloc: Global) -> Places
-        ensures { result ≡ record { places = []; numbers = [] } }
+        ensures { result ≡ record { numbers = [] } }
     {
         Places {
-            places: HashMap::new(alloc),
             numbers: Slab::new(alloc),
+            guesses: Vec::new(alloc),
+            others: BTreeMap::new(alloc),
         }
+    }
+
+    /// Makes room for so many numbers in all.
+    pub fn make_room(&mut self, numbers: usize) -> Result<(), AllocError>
+        ensures { self.new ≡ self.old }
+    {
+        self.numbers
+            .reserve(numbers.saturating_sub(self.numbers.len()))?;
+        make_guesses(&mut self.guesses, numbers)
     }
 
     /// The place of a number.
     pub fn place(&self, number: u32) -> Option<usize>
         ensures { result ≡ place_of self.now number }
     {
-        self.places.get(&number).copied()
+        match guessed(&self.numbers, &self.guesses, number) {
+            Some(place) => Some(place),
+            None => self.others.get(&number).copied(),
+        }
     }
 
     /// The number that has a place, if there is one.
@@ -63,8 +82,11 @@ impl Places {
         ensures err { OnErr result (self.new ≡ self.old) }
     {
         self.numbers.reserve(1)?;
+        make_guesses(&mut self.guesses, self.numbers.len().saturating_add(1))?;
         let place = self.numbers.vacant_key();
-        self.places.insert(number, place)?;
+        if !keep_guess(&self.numbers, &mut self.guesses, number) {
+            self.others.insert(number, place)?;
+        }
         self.numbers.insert_reserved(number);
         Ok(place)
     }
@@ -75,8 +97,66 @@ impl Places {
             place_of self.new n ≡ (if n == number then None else place_of self.old n) }
         ensures paired { ArePlaces self.new }
     {
-        if let Some(place) = self.places.remove(&number) {
+        let place = match guessed(&self.numbers, &self.guesses, number) {
+            Some(place) => Some(place),
+            None => self.others.remove(&number),
+        };
+        if let Some(place) = place {
             self.numbers.remove(place);
         }
     }
+}
+
+/// Which guess is a number's: that of its last bits.
+fn guess_index(guesses: &[u32], number: u32) -> usize
+    requires { AreByBits guesses.now }
+    ensures { result ≡ number % length guesses.now }
+{
+    number as usize & guesses.len().wrapping_sub(1)
+}
+
+/// The place of a number, where it is the guessed one.
+fn guessed(numbers: &Slab<u32>, guesses: &[u32], number: u32) -> Option<usize>
+    requires { AreByBits guesses.now }
+    ensures { (p : ℕ) → (result ≡ Some p) ↔ IsGuessed numbers.now guesses.now number p }
+{
+    let guess = *guesses.get(guess_index(guesses, number))? as usize;
+    (*numbers.get(guess)? == number).then_some(guess)
+}
+
+/// Guesses the vacant place for a number from now on, unless its guess is another number's place.
+fn keep_guess(numbers: &Slab<u32>, guesses: &mut [u32], number: u32) -> bool
+    requires by_bits { AreByBits guesses.old }
+    requires some { 0 < length guesses.old }
+    ensures { AreGuessed numbers.now guesses.old guesses.new number result }
+{
+    let index = guess_index(guesses, number);
+    let Ok(place) = u32::try_from(numbers.vacant_key()) else {
+        return false;
+    };
+    if let Some(other) = numbers.get(guesses[index] as usize) {
+        if guess_index(guesses, *other) == index {
+            return false;
+        }
+    }
+    guesses[index] = place;
+    true
+}
+
+/// Makes sure of as many guesses. They are copied behind themselves, so that what is guessed for a
+/// number stays.
+fn make_guesses(guesses: &mut Vec<u32>, count: usize) -> Result<(), AllocError>
+    requires { AreByBits (guesses.old).items }
+    ensures by_bits { AreByBits (guesses.new).items }
+    ensures enough { OnOk result (count ≤ length (guesses.new).items) }
+    ensures stay { StayGuessed (guesses.old).items (guesses.new).items }
+{
+    if guesses.is_empty() {
+        let room = count.max(FIRST_ROOM);
+        guesses.resize(room.checked_next_power_of_two().ok_or(AllocError)?, 0)?;
+    }
+    while guesses.len() < count {
+        guesses.extend_from_within(..)?;
+    }
+    Ok(())
 }
