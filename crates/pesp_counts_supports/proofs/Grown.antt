@@ -64,20 +64,20 @@ long_set period place rows row item within long read same =
     All-set (λ r. length r ≡ period) rows place row (same ∙ ap length read ∙ All-get_or (λ r. length r ≡ period) rows place item within long) long
 
 -- one empty row more
-pub padded_one : (period : ℕ) (rows : List (List Bool)) (row : List Bool) → All (λ r. length r ≡ period) rows → length row ≡ period → ((r : ℕ) → holds row r ≡ false) → ArePadded period rows (rows ++ row ∷ [])
-padded_one period rows row long is empty =
+pub padded_one : (period : ℕ) (before rows : List (List Bool)) (row : List Bool) → ArePadded period before rows → length row ≡ period → ((r : ℕ) → holds row r ≡ false) → ArePadded period before (rows ++ row ∷ [])
+padded_one period before rows row so_far is empty =
     let many = length_push rows row in
     record {
-      long = All-push (λ r. length r ≡ period) rows row long is;
-      has = has_added rows row empty;
-      held = held_added rows row empty;
-      more = omega (arith, many);
+      long = All-push (λ r. length r ≡ period) rows row so_far.long is;
+      has = λ p r. has_added rows row empty p r ∙ so_far.has p r;
+      held = held_added rows row empty ∙ so_far.held;
+      more = omega (arith, many, so_far.more);
     }
 
 -- and a row made without a residue is one
-pub padded_empty : (period : ℕ) (rows : List (List Bool)) (row : List Bool) → All (λ r. length r ≡ period) rows → row ≡ replicate period false → ArePadded period rows (rows ++ row ∷ [])
-padded_empty period rows row long is =
-    padded_one period rows row long (ap length is ∙ length-replicate period false)
+pub padded_empty : (period : ℕ) (before rows : List (List Bool)) (row : List Bool) → ArePadded period before rows → row ≡ replicate period false → ArePadded period before (rows ++ row ∷ [])
+padded_empty period before rows row so_far is =
+    padded_one period before rows row so_far (ap length is ∙ length-replicate period false)
     (λ r.
     elim (cases_lt r period) [
       | inl low ↦ ap (λ xs. holds xs r) is ∙ get_or-replicate period r false false low

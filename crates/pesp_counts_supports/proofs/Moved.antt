@@ -16,7 +16,7 @@ use Rattle.pesp_counts_supports.specs.Blocks.{AreSums}
 use Rattle.pesp_counts_supports.specs.Counted as can
 use Rattle.pesp_counts_supports.specs.Counted.{AreShifted}
 use Rattle.pesp_counts_supports.specs.Counts.{count_at, has_at, supporters}
-use Rattle.pesp_counts_supports.specs.Moves.{CanMove, CanShift, IsMoved, IsShifted, MovesBy, is_touched, partners, Goes, Moves, is_leveled}
+use Rattle.pesp_counts_supports.specs.Moves.{CanMove, CanShift, IsMoved, IsShifted, MovesBy, OnlyCounts, is_touched, partners, Goes, Moves, is_leveled}
 use Rattle.pesp_domains.specs.Sweeps.{Pairs}
 use Rattle.pesp_counts_arcs.specs.Links.{Links}
 use Rattle.pesp_counts_supports.specs.Supports.{HaveSameShape, Supports}
@@ -204,6 +204,15 @@ module _ (way : Way) (T : ℕ) (ends : List End) (number : ℕ) (D : ℕ → Boo
 -- one end less is to come, at which so many looks may be made
 pub one_end : (T : ℕ) (these rest : List ℕ) (m : ℕ) → these ≡ m ∷ rest → T * length these ≡ T + T * length rest
 one_end T these rest m is = let long = ap length is in rw long (let next : T * suc (length rest) ≡ T + T * length rest = omega arith in next)
+
+-- counts alone change, and change again
+pub only_then : (first second third : Supports) → OnlyCounts first second → OnlyCounts second third → OnlyCounts first third
+only_then first second third h k =
+    record {
+      same = k.same ∙ ap (λ (s : Supports). record s { counts = third.counts; probes = third.probes }) h.same;
+      long = k.long ∙ h.long;
+      counts_on = omega (arith, h.counts_on, k.counts_on);
+    }
 
 -- ---- sums are made, the counts go by them, and what is counted is leveled
 

@@ -1,5 +1,5 @@
--- Sums of a row and another one by other names, sums of one residue alone, and the residues of a window.
-use Rattle.std.proofs.Common.{◌≡◌, ◌≢◌, ◌==◌, cond, ℕ, zero, suc, ◌+◌, ◌-◌, ◌*◌, ◌/◌, ◌%◌, ◌<◌, ◌≤◌, min, pos, ◌+ℤ◌, ◌-ℤ◌, ◌*ℤ◌, ◌⊎◌, ◌&&◌, nat_lt, Bool, IsTrue, true, false, List, Option, ◌++◌, drop, take, length, get_or, refl, sym, ap, subst, ◌∙◌, inl, inr, arith}
+-- Sums of one residue alone, and the residues of a window.
+use Rattle.std.proofs.Common.{◌≡◌, ◌≢◌, ◌==◌, cond, ℕ, zero, suc, ◌+◌, ◌-◌, ◌*◌, ◌/◌, ◌%◌, ◌<◌, ◌≤◌, min, pos, ◌+ℤ◌, ◌-ℤ◌, ◌*ℤ◌, ◌⊎◌, ◌&&◌, nat_lt, Bool, IsTrue, true, false, List, ◌++◌, drop, take, length, get_or, refl, sym, ap, ◌∙◌, inl, inr, arith}
 use Rattle.std.proofs.lemmas.Bool.Decides.{nat_tests}
 use Rattle.std.proofs.Math.IntN.{pos-*ℤ-pos}
 use Rattle.std.proofs.Math.Nat.{add-mod_left, mod-add-div}
@@ -16,20 +16,13 @@ use Rattle.pesp_counts_arcs.specs.declared.end.End.{End}
 use Rattle.pesp_counts_arcs.specs.declared.end.Ranges.{Ranges}
 use Rattle.pesp_counts_arcs.specs.Ends.{is_from_to, passes}
 use Rattle.pesp_counts_supports.specs.declared.moving.Way.TheVariants.{In}
-use Rattle.pesp_counts_supports.specs.Blocks.{AreSums, is_beyond, sum_below}
+use Rattle.pesp_counts_supports.specs.Blocks.{sum_below}
 use Rattle.pesp_counts_supports.specs.Counts.{count_at, supporters}
 use Rattle.pesp_counts_supports.specs.Moves.{CanShift, IsShifted}
 use Rattle.pesp_counts_supports.specs.Restored.{AreRanges, in_ranges, size_of}
 use Rattle.pesp_counts_supports.proofs.Partners.{around_le, not_below, supporters_around}
 use Rattle.pesp_counts_supports.proofs.Raised.{block_out}
 use Rattle.pesp_counts_supports.proofs.Supporters.{one}
-
--- the same sums by other names of the period and the rows
-pub sums_as : (T T' : ℕ) (row row' : List Bool) (other other' : Option (List Bool)) (sums : List ℕ) → T ≡ T' → row ≡ row' → other ≡ other' → AreSums T (is_beyond row other) sums → AreSums T' (is_beyond row' other') sums
-sums_as T T' row row' other other' sums is one two are =
-    subst (λ n. AreSums n (is_beyond row' other') sums) is
-    (subst (λ xs. AreSums T (is_beyond xs other') sums) one
-    (subst (λ xs. AreSums T (is_beyond row xs) sums) two are))
 
 -- what a slice of a vector becomes, the vector holds
 pub sums_written : (ws xs : List ℕ) (len : ℕ) → len ≡ length xs → length ws ≡ length xs → take len (ws ++ drop (length ws) xs) ≡ ws

@@ -14,7 +14,7 @@ use Rattle.pesp_counts_arcs.specs.declared.end.End.{End}
 use Rattle.pesp_counts_supports.specs.declared.trail.Placed.{Placed}
 use Rattle.pesp_counts_supports.specs.Counts.{ArePending, KeepsClosed, has_at}
 use Rattle.pesp_counts_arcs.specs.Links.{Links}
-use Rattle.pesp_counts_supports.specs.Supports.{Fit, HaveSameShape, IsTaken, Keeps, Supports, is_in}
+use Rattle.pesp_counts_supports.specs.Supports.{Fit, HaveSameShape, IsTaken, Keeps, OnlyTakes, Supports, is_in}
 
 -- ---- members of a trail
 
@@ -166,6 +166,13 @@ kept_then first second third h k =
 pub kept_shape : (first second : Supports) → Keeps first second → HaveSameShape first second
 kept_shape first second h =
     record { period = h.period; counts = ap length h.counts; counted = ap length h.counted; rows = h.many; room = h.room }
+
+pub takes_none : (s : Supports) → OnlyTakes s s
+takes_none s = record { taken = taken_none s; keeps = kept_none s; probes = refl }
+
+pub takes_then : (first second third : Supports) → OnlyTakes first second → OnlyTakes second third → OnlyTakes first third
+takes_then first second third h k =
+    record { taken = taken_then first second third h.taken k.taken; keeps = kept_then first second third h.keeps k.keeps; probes = k.probes ∙ h.probes }
 
 -- ---- with nothing waiting
 

@@ -1,5 +1,5 @@
 -- Blocks: all residues of one event that wait to be counted, and how many of them the windows hold.
-use Rattle.std.specs.Prelude.{◌≡◌, ℕ, zero, suc, ◌+◌, ◌*◌, ◌%◌, ◌<◌, ◌≤◌, ◌==◌, nat_lt, Bool, true, ◌&&◌, ◌||◌, not, cond, List, Option, Some, None, length, slice_index_or}
+use Rattle.std.specs.Prelude.{◌≡◌, ℕ, zero, suc, ◌+◌, ◌*◌, ◌%◌, ◌<◌, ◌≤◌, ◌==◌, nat_lt, Bool, true, false, ◌&&◌, ◌||◌, not, cond, List, Option, Some, None, length, slice_index_or}
 use Rattle.std.specs.List.{list_any}
 use Rattle.pesp_instance.specs.Network.{Network}
 use Rattle.pesp_domains.specs.Domains.{holds}
@@ -22,10 +22,10 @@ pub record AreSums (period : ℕ) (D : ℕ → Bool) (sums : List ℕ) : Type 0 
   pub long : 3 * period < length sums
   pub each : (i : ℕ) → i ≤ 3 * period → slice_index_or sums i 0 ≡ sum_below period D i
 
--- the residues that the one row holds and the other, where there is one, lacks
-abbrev pub is_beyond : List Bool → Option (List Bool) → ℕ → Bool
-is_beyond row None r = holds row r
-is_beyond row (Some other) r = holds row r && not (holds other r)
+-- the residues that the one row holds, all or those that the other lacks
+abbrev pub is_beyond : List Bool → List Bool → Bool → ℕ → Bool
+is_beyond row other true r = holds row r
+is_beyond row other false r = holds row r && not (holds other r)
 
 -- the residues that the counts have seen at a place and that the rows do not hold
 abbrev pub gone_at : Supports → ℕ → ℕ → Bool

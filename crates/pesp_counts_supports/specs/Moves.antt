@@ -82,9 +82,11 @@ abbrev pub MovesBy : Way → ℕ → List End → ℕ → (ℕ → Bool) → Lis
 MovesBy way period ends near moves before after =
     (k r : ℕ) → r < period → IsShifted way (cond (k == (end_at ends near).mate) (partners period ends near moves r) 0) (count_at period before k r) (count_at period after k r)
 
--- nothing but counts and probes changes
-abbrev pub OnlyCounts : Supports → Supports → Type 0
-OnlyCounts before after = after ≡ record before { counts = after.counts; probes = after.probes }
+-- nothing but counts and probes changes: there are as many counts, and no fewer probes
+pub record OnlyCounts (before after : Supports) : Type 0 where
+  pub same : after ≡ record before { counts = after.counts; probes = after.probes }
+  pub long : length after.counts ≡ length before.counts
+  pub counts_on : before.probes ≤ after.probes
 
 -- ---- from one set to another
 

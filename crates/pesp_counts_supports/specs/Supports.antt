@@ -76,6 +76,12 @@ pub record Keeps (before after : Supports) : Type 0 where
   pub room : after.room ≡ before.room
   pub sums : after.sums ≡ before.sums
 
+-- pairs go to the trail so, and nothing else changes
+pub record OnlyTakes (before after : Supports) : Type 0 where
+  pub taken : IsTaken before after
+  pub keeps : Keeps before after
+  pub probes : after.probes ≡ before.probes
+
 -- as many counts and rows as before, and as much room
 pub record HaveSameShape (before after : Supports) : Type 0 where
   pub period : after.period ≡ before.period

@@ -114,7 +114,7 @@ impl Supports {
         if self.holds(place, residue) {
             return;
         }
-        let residue = probes::at(&mut self.probes, residue);
+        probes::over(&mut self.probes, residue, residue + 1);
         if is_met(&self.sums, met, residue) {
             self.rows[place].put_in(residue);
             back.push_reserved(Placed {
@@ -223,25 +223,6 @@ impl Supports {
         }
     }
 
-    /// Brings all that is admitted at a place.
-    fn bring_start(&mut self, instance: &Instance, links: &Links, place: usize, back: &mut Back)
-        requires place { place < length (self.old).rows }
-        requires period { (self.old).period ≡ (instance.now).period }
-        requires trail { (self.old).trail ≡ [] }
-        requires room { HasRoom self.old back.old }
-        ensures brought { IsBrought (of_start instance.now links.now place) self.old self.new
-            back.old back.new }
-        ensures probes { LooksAt 0 self.old self.new back.old back.new }
-    {
-        let all = Ranges {
-            start: 0,
-            end: self.period.get(),
-            wrapped: 0,
-        };
-        let ranges = admitted_at(instance, links, place).unwrap_or(all);
-        self.bring_ranges(place, None, ranges, back);
-    }
-
     /// Brings all that is admitted at these places.
     pub(crate) fn bring_starts(
         &mut self,
@@ -258,8 +239,14 @@ impl Supports {
             back.old back.new }
         ensures probes { LooksAt 0 self.old self.new back.old back.new }
     {
+        let all = Ranges {
+            start: 0,
+            end: self.period.get(),
+            wrapped: 0,
+        };
         for place in starts {
-            self.bring_start(instance, links, *place, back);
+            let ranges = admitted_at(instance, links, *place).unwrap_or(all);
+            self.bring_ranges(*place, None, ranges, back);
         }
     }
 }

@@ -4,7 +4,7 @@ ghost use Rattle.std.specs.Prelude.{◌≡◌, ◌+◌, ◌*◌, ◌<◌, ◌≤
 ghost use Rattle.pesp_counts_supports.specs.Counted.{AreShifted, CanShift};
 ghost use Rattle.pesp_counts_supports.specs.Lone.{IsFirst, is_lone};
 
-use crate::widths::{first_lone_byte, first_lone_word, shift_bytes, shift_words};
+use crate::widths::{may_be_lone_byte, may_be_lone_word, shift_bytes, shift_words};
 use pesp_base::Period;
 use std::alloc::{AllocError, Global};
 use std::marker::Model;
@@ -78,10 +78,18 @@ impl Counts {
         requires { from + length held.now ≤ length (self.now).values }
         ensures { IsFirst (is_lone held.now (self.now).values from) 0 (length held.now) result }
     {
-        match &self.values {
-            Values::Narrow(bytes) => first_lone_byte(held, &bytes[from..from + held.len()]),
-            Values::Wide(words) => first_lone_word(held, &words[from..from + held.len()]),
+        let any = match &self.values {
+            Values::Narrow(bytes) => may_be_lone_byte(held, &bytes[from..from + held.len()]),
+            Values::Wide(words) => may_be_lone_word(held, &words[from..from + held.len()]),
+        };
+        if any {
+            for at in 0..held.len() {
+                if held[at] && self.get(from + at) == 0 {
+                    return Some(at);
+                }
+            }
         }
+        None
     }
 
     /// Moves each count from one on by the difference of two sums: down by the one, and up by the other.
@@ -125,17 +133,8 @@ impl Counts {
         ensures err { OnErr result (self.new ≡ self.old) }
     {
         match &mut self.values {
-            Values::Narrow(bytes) => {
-                if bytes.len() < long {
-                    bytes.resize(long, 0)?;
-                }
-            }
-            Values::Wide(words) => {
-                if words.len() < long {
-                    words.resize(long, 0)?;
-                }
-            }
+            Values::Narrow(bytes) => bytes.resize(bytes.len().max(long), 0),
+            Values::Wide(words) => words.resize(words.len().max(long), 0),
         }
-        Ok(())
     }
 }

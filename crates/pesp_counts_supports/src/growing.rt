@@ -14,31 +14,6 @@ use std::alloc::{AllocError, Global};
 /// The greatest number of places, so that a listed pair keeps its own in 32 bits.
 const MOST_PLACES: usize = 4_294_967_295;
 
-/// Adds an empty row to both lists. Without the memory for it, nothing changes.
-fn add_row(
-    alloc: Global,
-    period: Period,
-    rows: &mut Vec<Row>,
-    counted: &mut Vec<Row>,
-) -> Result<(), AllocError>
-    requires rows { All (λ row. length row ≡ period) rows.old.items }
-    requires counted { All (λ row. length row ≡ period) counted.old.items }
-    ensures rows { ArePadded period rows.old.items rows.new.items }
-    ensures counted { ArePadded period counted.old.items counted.new.items }
-    ensures ok { OnOk result ((length rows.new.items ≡ length rows.old.items + 1)
-        × (length counted.new.items ≡ length counted.old.items + 1)) }
-    ensures err { OnErr result ((length rows.new.items ≡ length rows.old.items)
-        × (length counted.new.items ≡ length counted.old.items)) }
-{
-    let row = Row::empty(alloc, period)?;
-    let other = Row::empty(alloc, period)?;
-    rows.reserve(1)?;
-    counted.reserve(1)?;
-    rows.push_reserved(row);
-    counted.push_reserved(other);
-    Ok(())
-}
-
 /// Makes sure of so many rows in both lists, which are equally long. Rows that come are empty, and stay where there is no memory
 /// for the others.
 fn add_rows(
@@ -58,7 +33,12 @@ fn add_rows(
     ensures ok { OnOk result (places ≤ length rows.new.items) }
 {
     while rows.len() < places {
-        add_row(alloc, period, rows, counted)?;
+        let row = Row::empty(alloc, period)?;
+        let other = Row::empty(alloc, period)?;
+        rows.reserve(1)?;
+        counted.reserve(1)?;
+        rows.push_reserved(row);
+        counted.push_reserved(other);
     }
     Ok(())
 }
@@ -92,13 +72,9 @@ impl Supports {
         back.reserve(room)?;
         restored.reserve(room)?;
         self.sums.resize(3 * period + 1, 0)?;
-        add_rows(
-            alloc,
-            self.period,
-            places,
-            &mut self.rows,
-            &mut self.counted,
-        )
+        let rows = &mut self.rows;
+        let counted = &mut self.counted;
+        add_rows(alloc, self.period, places, rows, counted)
     }
 
     /// Makes sure of counts for so many ends. Counts that come are 0.

@@ -69,10 +69,7 @@ pub(crate) fn touched(moved: Moved, end: End, period: u16) -> Ranges
 pub(crate) fn is_spared_end(spared: Option<usize>, end: usize) -> bool
     ensures { result ≡ is_spared spared end }
 {
-    match spared {
-        None => false,
-        Some(place) => end / 2 == place,
-    }
+    spared == Some(end / 2)
 }
 
 impl Supports {
@@ -110,10 +107,8 @@ impl Supports {
             (supporters (self.old).period moved (passes (self.old).period end r)) 0)
             (count_at (self.old).period (self.old).counts k r)
             (count_at (self.old).period (self.new).counts k r) }
-        ensures long { length (self.new).counts ≡ length (self.old).counts }
-        ensures same { OnlyCounts self.old self.new }
+        ensures only { OnlyCounts self.old self.new }
         ensures probes { (self.new).probes + low ≤ (self.old).probes + high }
-        ensures counts_on { (self.old).probes ≤ (self.new).probes }
     {
         let base = self.counts.base(number, self.period.get());
         probes::over(&mut self.probes, low, high);
@@ -138,10 +133,8 @@ impl Supports {
             → IsMoved (self.old).period moved (self.old).sums moves
             → MovesBy way (self.old).period (links.now).ends number moves
             (self.old).counts (self.new).counts }
-        ensures long { length (self.new).counts ≡ length (self.old).counts }
-        ensures same { OnlyCounts self.old self.new }
+        ensures only { OnlyCounts self.old self.new }
         ensures probes { (self.new).probes ≤ (self.old).probes + (self.old).period }
-        ensures counts_on { (self.old).probes ≤ (self.new).probes }
     {
         let near = links.end(number);
         let far = links.end(near.mate);
@@ -166,11 +159,9 @@ impl Supports {
         ensures exact { (from to : Pairs) → (moves : ℕ → Bool)
             → Moves links.now spared self.old place moved way from moves to
             → AreExactBut links.now spared self.new to }
-        ensures long { length (self.new).counts ≡ length (self.old).counts }
-        ensures same { OnlyCounts self.old self.new }
+        ensures only { OnlyCounts self.old self.new }
         ensures probes { (self.new).probes ≤ (self.old).probes
             + (self.old).period * length (ends_of (links.now).lists place) }
-        ensures counts_on { (self.old).probes ≤ (self.new).probes }
     {
         for number in links.at(place) {
             if !is_spared_end(spared, number) {

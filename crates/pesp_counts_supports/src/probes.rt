@@ -1,6 +1,6 @@
 //! Looks at residues along activities, counted.
 //!
-//! A probe is a look at one residue along one activity. All code that looks along an activity takes its residues from here. The number
+//! A probe is a look at one residue along one activity. All code that looks along an activity counts its looks here. The number
 //! of probes stops at the greatest there is.
 
 ghost use Rattle.std.specs.Prelude.{◌≡◌, ◌+◌, ◌-◌, ◌≤◌, ◌<◌, min};
@@ -16,14 +16,4 @@ pub(crate) fn over(probes: &mut u64, low: u16, high: u16) -> Range<u16>
 {
     *probes = probes.saturating_add(u64::from(high - low));
     low..high
-}
-
-/// A residue that is looked at now.
-pub(crate) fn at(probes: &mut u64, residue: u16) -> u16
-    requires { residue < 65535 }
-    ensures same { result ≡ residue }
-    ensures counted { probes.new ≡ min (probes.old + 1) most_probes }
-{
-    over(probes, residue, residue + 1);
-    residue
 }

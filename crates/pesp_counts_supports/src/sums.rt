@@ -1,6 +1,6 @@
 //! Sums of the residues that move: how many of them a window holds is the difference of two.
 
-ghost use Rattle.std.specs.Prelude.{◌≡◌, ◌<◌, ◌≤◌, ◌*◌, ◌+◌, ◌==◌, ◌⊎◌, ℕ, IfSome, None, Some, length, option_map, slice_index_or};
+ghost use Rattle.std.specs.Prelude.{◌≡◌, ◌<◌, ◌≤◌, ◌*◌, ◌+◌, ◌==◌, ℕ, length, slice_index_or};
 ghost use Rattle.pesp_base.specs.Limits.{greatest_period};
 ghost use Rattle.pesp_counts_supports.specs.Blocks.{AreSums, is_beyond, sum_below};
 ghost use Rattle.pesp_counts_supports.specs.Moves.{waiting_at};
@@ -8,76 +8,6 @@ ghost use Rattle.pesp_counts_supports.specs.Moves.{waiting_at};
 use crate::moving::Way;
 use crate::supports::Supports;
 use pesp_domains::Row;
-
-/// Makes the sum below each residue of those that are held, and tells how many they are.
-fn sum_held(held: &[bool], sums: &mut [u16]) -> u16
-    requires few { length held.now ≤ greatest_period }
-    requires even { length sums.old ≡ length held.now }
-    ensures long { length sums.new ≡ length sums.old }
-    ensures sums { (i : ℕ) → i < length held.now → slice_index_or sums.new i 0
-        ≡ sum_below (length held.now) (is_beyond held.now None) i }
-    ensures many { result ≡ sum_below (length held.now) (is_beyond held.now None) (length held.now) }
-    ensures few { result ≤ length held.now }
-{
-    let mut many = 0;
-    for at in 0..held.len() {
-        sums[at] = many;
-        many += u16::from(held[at]);
-    }
-    many
-}
-
-/// The same of those that the one row holds and the other lacks.
-fn sum_lacked(held: &[bool], others: &[bool], sums: &mut [u16]) -> u16
-    requires few { length held.now ≤ greatest_period }
-    requires even { length sums.old ≡ length held.now }
-    requires others { length others.now ≡ length held.now }
-    ensures long { length sums.new ≡ length sums.old }
-    ensures sums { (i : ℕ) → i < length held.now → slice_index_or sums.new i 0
-        ≡ sum_below (length held.now) (is_beyond held.now (Some others.now)) i }
-    ensures many { result
-        ≡ sum_below (length held.now) (is_beyond held.now (Some others.now)) (length held.now) }
-    ensures few { result ≤ length held.now }
-{
-    let mut many = 0;
-    for at in 0..held.len() {
-        sums[at] = many;
-        many += u16::from(held[at] & !others[at]);
-    }
-    many
-}
-
-/// Makes the sums of one period, and tells how many residues they are of.
-fn sum_once(row: &Row, other: Option<&Row>, period: u16, sums: &mut [u16]) -> u16
-    requires period { period ≤ greatest_period }
-    requires row { length row.now ≡ period }
-    requires other { IfSome other (λ o. length o.now ≡ period) }
-    requires long { 3 * period < length sums.old }
-    ensures long { length sums.new ≡ length sums.old }
-    ensures sums { (i : ℕ) → i < period
-        → slice_index_or sums.new i 0 ≡ sum_below period (is_beyond row.now (option_map (λ o. o.now) other.entry)) i }
-    ensures many { result ≡ sum_below period (is_beyond row.now (option_map (λ o. o.now) other.entry)) period }
-    ensures few { result ≤ period }
-{
-    let held = row.tests();
-    let sums = &mut sums[..held.len()];
-    match other {
-        Some(other) => sum_lacked(held, &other.tests()[..held.len()], sums),
-        None => sum_held(held, sums),
-    }
-}
-
-/// Makes each sum of a range this one.
-fn fill_range(sums: &mut [u16], from: usize, to: usize, sum: u16)
-    requires order { from ≤ to }
-    requires within { to ≤ length sums.old }
-    ensures long { length sums.new ≡ length sums.old }
-    ensures here { (i : ℕ) → from ≤ i → i < to → slice_index_or sums.new i 0 ≡ sum }
-    ensures elsewhere { (i : ℕ) → i < from ⊎ to ≤ i
-        → slice_index_or sums.new i 0 ≡ slice_index_or sums.old i 0 }
-{
-    sums[from..to].fill(sum);
-}
 
 /// Goes on with the sums of one period through two more, in each of which as many residues are.
 fn sum_on(sums: &mut [u16], period: u16, many: u16)
@@ -98,18 +28,24 @@ fn sum_on(sums: &mut [u16], period: u16, many: u16)
     }
 }
 
-/// Makes the sums of the residues that the one row holds and the other, where there is one, lacks, and tells how many they are.
-pub(crate) fn sum_beyond(row: &Row, other: Option<&Row>, period: u16, sums: &mut [u16]) -> u16
+/// Makes the sums of the residues that the one row holds, of all or of those that the other lacks, and tells how many they are.
+pub(crate) fn sum_beyond(row: &Row, other: &Row, all: bool, period: u16, sums: &mut [u16]) -> u16
     requires period { period ≤ greatest_period }
     requires some { 0 < period }
     requires row { length row.now ≡ period }
-    requires other { IfSome other (λ o. length o.now ≡ period) }
+    requires other { length other.now ≡ period }
     requires long { 3 * period < length sums.old }
     ensures long { length sums.new ≡ length sums.old }
-    ensures sums { AreSums period (is_beyond row.now (option_map (λ o. o.now) other.entry)) sums.new }
-    ensures many { result ≡ sum_below period (is_beyond row.now (option_map (λ o. o.now) other.entry)) period }
+    ensures sums { AreSums period (is_beyond row.now other.now all) sums.new }
+    ensures many { result ≡ sum_below period (is_beyond row.now other.now all) period }
 {
-    let many = sum_once(row, other, period, sums);
+    let held = row.tests();
+    let others = other.tests();
+    let mut many = 0;
+    for at in 0..held.len() {
+        sums[at] = many;
+        many += u16::from(held[at] & (all | !others[at]));
+    }
     sum_on(sums, period, many);
     many
 }
@@ -123,8 +59,8 @@ pub(crate) fn sum_one(residue: u16, period: u16, sums: &mut [u16])
     ensures sums { AreSums period (λ r. r == residue) sums.new }
 {
     let next = residue as usize + 1;
-    fill_range(sums, 0, next, 0);
-    fill_range(sums, next, period as usize, 1);
+    sums[..next].fill(0);
+    sums[next..period as usize].fill(1);
     sum_on(sums, period, 1);
 }
 
@@ -141,8 +77,8 @@ impl Supports {
         let row = &self.rows[place];
         let counted = &self.counted[place];
         match way {
-            Way::Out => sum_beyond(counted, Some(row), period, &mut self.sums),
-            Way::In => sum_beyond(row, Some(counted), period, &mut self.sums),
+            Way::Out => sum_beyond(counted, row, false, period, &mut self.sums),
+            Way::In => sum_beyond(row, counted, false, period, &mut self.sums),
         }
     }
 }

@@ -10,7 +10,7 @@ ghost use Rattle.pesp_counts_supports.specs.Counts.{count_at, has_at};
 ghost use Rattle.pesp_counts_supports.specs.Lone.{IsFirst};
 ghost use Rattle.pesp_counts_supports.specs.Moves.{IsOne, is_touched, owed};
 ghost use Rattle.pesp_counts_supports.specs.Resting.{AreAtRest, AreLive, AreLiveBut, ArePendingBut, AreWaiting, KeepsAllClosed};
-ghost use Rattle.pesp_counts_supports.specs.Supports.{AreExact, Fit, HaveSameShape, IsTaken, Keeps, is_in, lacks_partner};
+ghost use Rattle.pesp_counts_supports.specs.Supports.{AreExact, Fit, HaveSameShape, IsTaken, Keeps, OnlyTakes, is_in, lacks_partner};
 ghost use Rattle.pesp_counts_supports.specs.Spent.{ends_at};
 
 use crate::bringing::ranges_of;
@@ -88,9 +88,7 @@ impl Supports {
         requires live { AreLiveBut links.now self.old left (ends_of (links.now).lists place) }
         ensures live { AreLive links.now self.new }
         ensures closed { KeepsAllClosed links.now self.old self.new }
-        ensures taken { IsTaken self.old self.new }
-        ensures keeps { Keeps self.old self.new }
-        ensures probes { (self.new).probes ≡ (self.old).probes }
+        ensures takes { OnlyTakes self.old self.new }
     {
         for number in links.at(place) {
             self.sift_along(links, number, left);
@@ -107,9 +105,7 @@ impl Supports {
             ≡ (has_at (self.old).rows p r && not (p == end.looks_at
             && is_touched (self.old).period left end r
             && (count_at (self.old).period (self.old).counts end.mate r == 0))) }
-        ensures taken { IsTaken self.old self.new }
-        ensures keeps { Keeps self.old self.new }
-        ensures probes { (self.new).probes ≡ (self.old).probes }
+        ensures takes { OnlyTakes self.old self.new }
     {
         let end = links.end(number);
         let ranges = touched(left, end, self.period.get());
@@ -127,9 +123,7 @@ impl Supports {
             ≡ (has_at (self.old).rows p r && not (p == place
             && is_from_to residues.start residues.end r
             && (count_at (self.old).period (self.old).counts end r == 0))) }
-        ensures taken { IsTaken self.old self.new }
-        ensures keeps { Keeps self.old self.new }
-        ensures probes { (self.new).probes ≡ (self.old).probes }
+        ensures takes { OnlyTakes self.old self.new }
     {
         let mut from = residues.start;
         'lone: while let Some(residue) = self.first_lone(place, end, from, residues.end) {
@@ -190,9 +184,7 @@ impl Supports {
         ensures rows { (p r : ℕ) → has_at (self.new).rows p r
             ≡ (has_at (self.old).rows p r
             && not (p == place && is_from_to residues.start residues.end r)) }
-        ensures taken { IsTaken self.old self.new }
-        ensures keeps { Keeps self.old self.new }
-        ensures probes { (self.new).probes ≡ (self.old).probes }
+        ensures takes { OnlyTakes self.old self.new }
     {
         for residue in residues {
             if self.row(place).holds(residue) {
@@ -265,8 +257,8 @@ impl Supports {
         ensures counts_on { (self.old).probes ≤ (self.new).probes }
     {
         for end in links.at(pair.place as usize) {
-            let residue = probes::at(&mut self.probes, pair.residue);
-            if self.count(end, residue) == 0 {
+            probes::over(&mut self.probes, pair.residue, pair.residue + 1);
+            if self.count(end, pair.residue) == 0 {
                 return true;
             }
         }
@@ -281,9 +273,7 @@ impl Supports {
         requires { Of (has_at (self.old).rows) place residue }
         ensures rows { (p r : ℕ) → has_at (self.new).rows p r
             ≡ without (has_at (self.old).rows) place residue p r }
-        ensures taken { IsTaken self.old self.new }
-        ensures keeps { Keeps self.old self.new }
-        ensures probes { (self.new).probes ≡ (self.old).probes }
+        ensures takes { OnlyTakes self.old self.new }
     {
         self.rows[place].take_out(residue);
         self.trail.push_reserved(Placed {

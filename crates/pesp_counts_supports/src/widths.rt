@@ -2,7 +2,7 @@
 
 ghost use Rattle.std.specs.Prelude.{◌≡◌, ℕ, ◌+◌, ◌<◌, ◌≤◌, false, length};
 ghost use Rattle.pesp_counts_supports.specs.Counted.{AreShifted, CanShift};
-ghost use Rattle.pesp_counts_supports.specs.Lone.{IsFirst, is_lone};
+ghost use Rattle.pesp_counts_supports.specs.Lone.{is_lone};
 
 /// Moves each count from one on by the difference of two sums, of counts of one byte.
 // The loop has no branch, so that several counts change at once.
@@ -34,7 +34,7 @@ pub(crate) fn shift_words(words: &mut [u16], from: usize, down: &[u16], up: &[u1
 
 /// Whether some residue is held and has no partner, by counts of one byte. That none is may be relied upon.
 // The loop has no branch, so that several counts are looked at together.
-fn may_be_lone_byte(held: &[bool], counts: &[u8]) -> bool
+pub(crate) fn may_be_lone_byte(held: &[bool], counts: &[u8]) -> bool
     requires { length counts.now ≡ length held.now }
     ensures { result ≡ false → (r : ℕ) → r < length held.now
         → is_lone held.now counts.now 0 r ≡ false }
@@ -44,27 +44,11 @@ fn may_be_lone_byte(held: &[bool], counts: &[u8]) -> bool
         any |= held[at] & (counts[at] == 0);
     }
     any
-}
-
-/// The first residue that is held and has no partner, by counts of one byte.
-pub(crate) fn first_lone_byte(held: &[bool], counts: &[u8]) -> Option<usize>
-    requires { length counts.now ≡ length held.now }
-    ensures { IsFirst (is_lone held.now counts.now 0) 0 (length held.now) result }
-{
-    if !may_be_lone_byte(held, counts) {
-        return None;
-    }
-    for at in 0..held.len() {
-        if held[at] && counts[at] == 0 {
-            return Some(at);
-        }
-    }
-    None
 }
 
 /// Whether some residue is held and has no partner, by counts of two bytes. That none is may be relied upon.
 // The loop has no branch, so that several counts are looked at together.
-fn may_be_lone_word(held: &[bool], counts: &[u16]) -> bool
+pub(crate) fn may_be_lone_word(held: &[bool], counts: &[u16]) -> bool
     requires { length counts.now ≡ length held.now }
     ensures { result ≡ false → (r : ℕ) → r < length held.now
         → is_lone held.now counts.now 0 r ≡ false }
@@ -74,20 +58,4 @@ fn may_be_lone_word(held: &[bool], counts: &[u16]) -> bool
         any |= held[at] & (counts[at] == 0);
     }
     any
-}
-
-/// The first residue that is held and has no partner, by counts of two bytes.
-pub(crate) fn first_lone_word(held: &[bool], counts: &[u16]) -> Option<usize>
-    requires { length counts.now ≡ length held.now }
-    ensures { IsFirst (is_lone held.now counts.now 0) 0 (length held.now) result }
-{
-    if !may_be_lone_word(held, counts) {
-        return None;
-    }
-    for at in 0..held.len() {
-        if held[at] && counts[at] == 0 {
-            return Some(at);
-        }
-    }
-    None
 }

@@ -2,5 +2,5 @@
 use Rattle.std.proofs.Common.{rules}
 use Rattle.pesp_counts_supports.proofs.moving.is_spared_end.Goals as goal
 
-pub returns-in-Some : goal.returns-in-Some
-returns-in-Some c = search rules
+pub returns : goal.returns
+returns c = search rules

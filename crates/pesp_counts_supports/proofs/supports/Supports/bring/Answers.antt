@@ -1,5 +1,5 @@
 -- The row has one residue more, and so the list has room for it.
-use Rattle.std.proofs.Common.{◌≡◌, [], ◌∷◌, ◌++◌, ◌==◌, ◌||◌, ◌+◌, ◌*◌, ◌<◌, ℕ, false, true, All, length, slice_set, sym, ap, subst, ◌∙◌, refl, arith}
+use Rattle.std.proofs.Common.{◌≡◌, ◌==◌, ◌||◌, ◌+◌, ◌*◌, ◌<◌, ℕ, false, true, All, length, slice_set, sym, ap, subst, ◌∙◌, refl, arith}
 use Rattle.std.proofs.lemmas.List.{length-set}
 use Rattle.std.proofs.lemmas.List.Elements.{All-get_or}
 use Rattle.pesp_domains.specs.Domains.{holds}
@@ -28,7 +28,7 @@ facts c =
     let long = ap length c.index_mut.ensures.value ∙ All-get_or (λ xs. length xs ≡ n) rows place item here v.rows in
     let below : c.args.residue < length item = omega (arith, long, ap (λ (s : Supports). s.period) c.self.view_is, c.requires.residue) in
     let absent = ap (λ (s : Supports). has_at s.rows place c.args.residue) c.self.view_is ∙ sym c.holds.ensures ∙ c.if-holds.false in
-    let put : (r : ℕ) → holds row r ≡ (holds item r || r == c.args.residue) = λ r. c.put_in.ensures.holds r ∙ ap (λ q. holds item r || r == q) c.at-residue.ensures.same in (
+    let put : (r : ℕ) → holds row r ≡ (holds item r || r == c.args.residue) = c.put_in.ensures.holds in (
       long_set n place rows row item here v.rows c.index_mut.ensures.value c.put_in.ensures.long,
       absent,
       held_put rows place c.args.residue row item here c.index_mut.ensures.value put c.put_in.ensures.long below absent,
@@ -74,10 +74,9 @@ returns-then-is_met-clause-brought c =
     let (long, absent, more, put) = facts (goal.at.returns-then-is_met-clause-brought c).After-put_in in
     let sums = c.self.inside.sums.items in
     let meets : is_met_by sums c.args.met q ≡ true =
-    ap (is_met_by sums c.args.met) (sym c.at-residue.ensures.same) ∙ ap (λ xs. is_met_by xs c.args.met c.at-residue.result) (sym c.deref.ensures.value) ∙ sym c.is_met.ensures ∙ c.if-is_met.true
+    ap (λ xs. is_met_by xs c.args.met q) (sym c.deref.ensures.value) ∙ sym c.is_met.ensures ∙ c.if-is_met.true
     in
-    let pushed = c.push_reserved.ensures.items ∙ ap (λ n. c.args.back.now.items ++ record { place = place; residue = n } ∷ []) c.at-residue.ensures.same in
     rw (← c.self.view_is)
     (brought_as (of_pair place q) (of_met sums c.args.met (of_pair place q)) _ _ c.args.back.now c.push_reserved.new.self (met_one sums c.args.met place q meets)
-    (brought_one _ _ c.args.back.now c.push_reserved.new.self place q absent pushed c.push_reserved.ensures.capacity put
+    (brought_one _ _ c.args.back.now c.push_reserved.new.self place q absent c.push_reserved.ensures.items c.push_reserved.ensures.capacity put
     (record { period = refl; counts = refl; counted = refl; many = length-set rows place c.put_in.new.self; room = refl; sums = refl }) refl more))

@@ -51,8 +51,8 @@ counted c out =
     let there = sym c.has_counted.ensures ∙ c.if-has_counted.true in
     let S : Pairs = arrived start (drop c.args.mark start.trail) in
     let D : ℕ → Bool = leaves_of start pair.place l in
-    let gone = has_gone links None start c.moving_with-coming.new.self c.move_around.new.self c.level.new.self pair.place l In S (joined_block S pair.place D) D made.same moved.same does.same
-    (λ q k is free. c.requires.returning.exact q k is) made.moving (comes_now links start c.args.mark pair l c.requires.returning there out made.alone) moved.exact moved.long moved.probes does.counted does.long
+    let gone = has_gone links None start c.moving_with-coming.new.self c.move_around.new.self c.level.new.self pair.place l In S (joined_block S pair.place D) D made.same moved.only.same does.same
+    (λ q k is free. c.requires.returning.exact q k is) made.moving (comes_now links start c.args.mark pair l c.requires.returning there out made.alone) moved.exact moved.only.long moved.probes does.counted does.long
     in
     counted_now links start c.args.mark pair l c.requires.returning there out made.alone c.level.new.self gone (subst (λ (s : Supports). All (λ row. length row ≡ s.period) s.counted) c.self.view_is c.self.invariant.counted)
 

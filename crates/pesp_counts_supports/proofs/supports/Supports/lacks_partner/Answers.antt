@@ -1,5 +1,5 @@
 -- An end more has a count above 0.
-use Rattle.std.proofs.Common.{◌≡◌, ◌+◌, ◌*◌, ◌≤◌, ℕ, length, sym, ap, subst, ◌∙◌, ◌==◌, false, refl, arith}
+use Rattle.std.proofs.Common.{◌≡◌, ◌+◌, ◌-◌, ◌*◌, ◌≤◌, ℕ, length, sym, ap, subst, ◌∙◌, ◌==◌, false, refl, arith}
 use Rattle.std.specs.List.{Contains, list_any}
 use Rattle.std.proofs.lemmas.Bool.{ne_eqb}
 use Rattle.pesp_domains.proofs.Families.{here, there}
@@ -28,17 +28,17 @@ loop-end-preserved c =
     let inside = c.self.inside in
     let same = c.self.view_is ∙ inv.same in
     let count : c.count.result ≡ count_at s.period s.counts m r =
-    c.count.ensures ∙ ap (λ n. count_at inside.period inside.counts.values m n) c.at-residue.ensures.same ∙ ap (λ (t : Supports). count_at t.period t.counts m r) same
+    c.count.ensures ∙ ap (λ (t : Supports). count_at t.period t.counts m r) same
     in
     let some : (count_at s.period s.counts m r == 0) ≡ false = ne_eqb _ 0 (λ none. c.if-count-eq0.false (count ∙ none)) in
-    let few : c.at-residue.new.probes ≤ inside.probes + 1 = at_most inside.probes 1 most_probes c.at-residue.new.probes c.at-residue.ensures.counted in
+    let few : c.over.new.probes ≤ inside.probes + 1 = let one = at_most inside.probes (r + 1 - r) most_probes c.over.new.probes c.over.ensures.counted in omega (arith, one) in
     let probes : inside.probes ≡ c.loop-end.self.probes = ap (λ (t : Supports). t.probes) c.self.view_is in
     record {
       can = tt;
       finite = tt;
       listed = λ k i. inv.listed k (subst (λ xs. Contains xs k) (sym c.in-Some.ensures.steps) (there k m rest i));
       lacks = inv.lacks ∙ ap (list_any (λ k. count_at s.period s.counts k r == 0)) c.in-Some.ensures.steps ∙ rw some refl;
-      same = ap (λ (t : Supports). record { period = t.period; counts = t.counts; counted = t.counted; rows = t.rows; trail = t.trail; room = t.room; sums = t.sums; probes = c.at-residue.new.probes }) same;
-      counts_on = omega (arith, probes, inv.counts_on, c.at-residue.ensures.counted);
+      same = ap (λ (t : Supports). record { period = t.period; counts = t.counts; counted = t.counted; rows = t.rows; trail = t.trail; room = t.room; sums = t.sums; probes = c.over.new.probes }) same;
+      counts_on = omega (arith, probes, inv.counts_on, c.over.ensures.counted);
       probes = omega (arith, few, probes, inv.probes, ap length c.in-Some.ensures.steps);
     }

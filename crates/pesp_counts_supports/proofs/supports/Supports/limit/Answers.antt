@@ -22,9 +22,9 @@ loop-other-preserved c =
           rw w.self-is
           (record {
             rows = clears_taken c.args.place f 0 start.rows other now.rows after.rows (omega arith) goes w.take_out.ensures.rows inv.rows;
-            taken = taken_then start now after inv.taken w.take_out.ensures.taken;
-            keeps = kept_then start now after inv.keeps w.take_out.ensures.keeps;
-            probes = w.take_out.ensures.probes ∙ inv.probes;
+            taken = taken_then start now after inv.taken w.take_out.ensures.takes.taken;
+            keeps = kept_then start now after inv.keeps w.take_out.ensures.takes.keeps;
+            probes = w.take_out.ensures.takes.probes ∙ inv.probes;
           })
       | else-other-residue w ↦
           let stays : (has_at now.rows c.args.place other && f other) ≡ false =

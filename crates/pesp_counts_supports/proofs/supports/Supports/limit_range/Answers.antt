@@ -4,7 +4,7 @@ use Rattle.pesp_domains.specs.Domains.{holds}
 use Rattle.pesp_domains.specs.Removals.{without}
 use Rattle.pesp_counts_supports.specs.Counts.{has_at}
 use Rattle.pesp_counts_supports.proofs.Rows.{clears_none, clears_passed, clears_taken}
-use Rattle.pesp_counts_supports.proofs.Taken.{kept_none, kept_then, taken_none, taken_then}
+use Rattle.pesp_counts_supports.proofs.Taken.{takes_none, takes_then}
 use Rattle.pesp_counts_supports.proofs.supports.Supports.limit_range.Goals as goal
 
 pub loop-residue-init : goal.loop-residue-init
@@ -18,9 +18,7 @@ loop-residue-init c =
       end = refl;
       high = c.requires.order;
       rows = clears_none c.args.place (λ r. true) c.args.residues.start start.rows;
-      taken = taken_none start;
-      keeps = kept_none start;
-      probes = refl;
+      takes = takes_none start;
     })
 
 pub loop-residue-preserved-then-holds : goal.loop-residue-preserved-then-holds
@@ -40,9 +38,7 @@ loop-residue-preserved-then-holds c =
       end = steps.0 ∙ inv.end;
       high = omega (arith, steps.1.0, inv.end);
       rows = clears_taken c.args.place (λ r. true) c.args.residues.start start.rows q now.rows after.rows inv.low refl takes inv.rows;
-      taken = taken_then start now after inv.taken c.take_out.ensures.taken;
-      keeps = kept_then start now after inv.keeps c.take_out.ensures.keeps;
-      probes = c.take_out.ensures.probes ∙ inv.probes;
+      takes = takes_then start now after inv.takes c.take_out.ensures.takes;
     })
 
 pub loop-residue-preserved : goal.loop-residue-preserved
@@ -62,7 +58,5 @@ loop-residue-preserved c =
       end = steps.0 ∙ inv.end;
       high = omega (arith, steps.1.0, inv.end);
       rows = clears_passed c.args.place (λ r. true) c.args.residues.start start.rows q now.rows stays inv.rows;
-      taken = inv.taken;
-      keeps = inv.keeps;
-      probes = inv.probes;
+      takes = inv.takes;
     })

@@ -1,6 +1,6 @@
 -- Of the residues of the range none before this one is left.
 use Rattle.std.proofs.Common.{◌≡◌, ◌≤◌, true}
-use Rattle.pesp_counts_supports.specs.Supports.{IsTaken, Keeps}
+use Rattle.pesp_counts_supports.specs.Supports.{OnlyTakes}
 use Rattle.pesp_counts_supports.proofs.Rows.{Clears}
 use Rattle.pesp_counts_supports.proofs.supports.Supports.limit_range.Given as goal
 
@@ -12,7 +12,5 @@ invariant-loop-residue l = record {
   end : l.residue-iterator.end ≡ l.fn.residues.end;
   high : l.residue-iterator.start ≤ l.fn.residues.end;
   rows : Clears l.place (λ r. true) l.fn.residues.start l.residue-iterator.start l.fn.self.rows l.self.rows;
-  taken : IsTaken l.fn.self l.self;
-  keeps : Keeps l.fn.self l.self;
-  probes : l.self.probes ≡ l.fn.self.probes;
+  takes : OnlyTakes l.fn.self l.self;
 }

@@ -36,23 +36,23 @@ move_range-requires-clause-block c = (end_known _ _ c.requires.fit _ _ c.require
 
 pub move_range-requires-2-clause-first : goal.move_range-requires-2-clause-first
 move_range-requires-2-clause-first c =
-    rw (ap (λ (s : Supports). s.period) c.move_range.ensures.same, c.end-far.ensures)
+    rw (ap (λ (s : Supports). s.period) c.move_range.ensures.only.same, c.end-far.ensures)
     (end_known _ _ c.requires.fit _ _ c.requires.listed.1 _ c.end-near.ensures).1.first
 
 pub move_range-requires-2-clause-width : goal.move_range-requires-2-clause-width
 move_range-requires-2-clause-width c =
-    rw (ap (λ (s : Supports). s.period) c.move_range.ensures.same, c.end-far.ensures)
+    rw (ap (λ (s : Supports). s.period) c.move_range.ensures.only.same, c.end-far.ensures)
     (end_known _ _ c.requires.fit _ _ c.requires.listed.1 _ c.end-near.ensures).1.width
 
 pub move_range-requires-2-clause-block : goal.move_range-requires-2-clause-block
 move_range-requires-2-clause-block c =
-    rw (ap (λ (s : Supports). s.period) c.move_range.ensures.same, c.move_range.ensures.long)
+    rw (ap (λ (s : Supports). s.period) c.move_range.ensures.only.same, c.move_range.ensures.only.long)
     (end_known _ _ c.requires.fit _ _ c.requires.listed.1 _ c.end-near.ensures).3
 
 pub move_range-requires-2-clause-can : goal.move_range-requires-2-clause-can
 move_range-requires-2-clause-can c =
     let start = c.args.self.now in
-    let same = c.move_range.ensures.same in
+    let same = c.move_range.ensures.only.same in
     let w = c.touched-ranges.result in
     let touched = c.touched-ranges.ensures in
     let (D, is, can) = c.requires.can in
@@ -69,9 +69,9 @@ returns-clause-moved c D is =
     let w = c.touched-ranges.result in
     let near = c.end-near.result in
     let touched = c.touched-ranges.ensures in
-    let same = ap (λ (s : Supports). s.period) c.move_range.ensures.same in
+    let same = ap (λ (s : Supports). s.period) c.move_range.ensures.only.same in
     let are = sums_of start.period c.args.moved start.sums D is in
-    let again = c.move_range-2.ensures.moved D (rw (same, ap (λ (s : Supports). s.sums) c.move_range.ensures.same) are) in
+    let again = c.move_range-2.ensures.moved D (rw (same, ap (λ (s : Supports). s.sums) c.move_range.ensures.only.same) are) in
     let all : (s : ℕ) → s < start.period → in_ranges w s ≡ is_touched start.period c.args.moved near s =
     subst (λ n. (s : ℕ) → s < n → in_ranges w s ≡ is_touched n c.args.moved near s) (c.get.ensures.value ∙ ap (λ (s : Supports). s.period) c.self.view_is) touched.touched
     in

@@ -92,7 +92,7 @@ pub level-requires-clause-place : goal.level-requires-clause-place
 level-requires-clause-place c =
     let (within, below, there) = facts (goal.at.level-requires-clause-place c).After-index-pair in
     let made = ap (λ (s : Supports). length s.rows) c.moving_with-coming.ensures.same in
-    let went = ap (λ (s : Supports). length s.rows) c.move_around.ensures.same in
+    let went = ap (λ (s : Supports). length s.rows) c.move_around.ensures.only.same in
     omega (arith, within_rows c.loop-next.self.rows c.index-pair.result.now.place c.index-pair.result.now.residue there, made, went)
 
 -- what comes is counted
@@ -107,8 +107,8 @@ counted c absent =
     let made = c.moving_with-coming.ensures in
     let moved = c.move_around.ensures in
     let does = c.level.ensures in
-    has_gone c.args.links.now c.args.spared now c.moving_with-coming.new.self c.move_around.new.self c.level.new.self place l In S (joined_block S place D) D made.same moved.same does.same
-    c.loop-next.invariant.coming.exact made.moving (record { apart = absent; joined = λ p r. refl }) moved.exact moved.long moved.probes does.counted does.long
+    has_gone c.args.links.now c.args.spared now c.moving_with-coming.new.self c.move_around.new.self c.level.new.self place l In S (joined_block S place D) D made.same moved.only.same does.same
+    c.loop-next.invariant.coming.exact made.moving (record { apart = absent; joined = λ p r. refl }) moved.exact moved.only.long moved.probes does.counted does.long
 
 pub bring_around-requires-clause-fit : goal.bring_around-requires-clause-fit
 bring_around-requires-clause-fit c =

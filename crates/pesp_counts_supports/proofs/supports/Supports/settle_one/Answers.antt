@@ -65,8 +65,8 @@ left c w =
     let l = c.moving_with-leaving.result in
     let moved = c.move_around.ensures in
     let does = c.level.ensures in
-    has_gone links None start mid c.move_around.new.self c.level.new.self pair.place l Out (has_at start.counted) (rest_of pair l start) (leaves_of start pair.place l) c.moving_with-leaving.ensures.same moved.same does.same
-    (λ q k is free. c.requires.pending.exact q k is) w.moved (step_goes links c.args.next pair l start mid w) moved.exact moved.long moved.probes does.counted does.long
+    has_gone links None start mid c.move_around.new.self c.level.new.self pair.place l Out (has_at start.counted) (rest_of pair l start) (leaves_of start pair.place l) c.moving_with-leaving.ensures.same moved.only.same does.same
+    (λ q k is free. c.requires.pending.exact q k is) w.moved (step_goes links c.args.next pair l start mid w) moved.exact moved.only.long moved.probes does.counted does.long
 
 pub sift_around-requires-clause-fit : goal.sift_around-requires-clause-fit
 sift_around-requires-clause-fit c =
@@ -101,7 +101,7 @@ returns-then-not-holds-clause-pending c =
     let w = leaving at.After-moving_with-leaving in
     let v = left at.After-level w in
     let does = c.sift_around.ensures in
-    step_pending c.args.links.now c.args.next c.index-pair.result.now c.moving_with-leaving.result c.args.self.now c.moving_with-leaving.new.self w c.level.new.self v c.sift_around.new.self (taken_on v does.taken) does.keeps does.live
+    step_pending c.args.links.now c.args.next c.index-pair.result.now c.moving_with-leaving.result c.args.self.now c.moving_with-leaving.new.self w c.level.new.self v c.sift_around.new.self (taken_on v does.takes.taken) does.takes.keeps does.live
 
 pub returns-then-not-holds-clause-probes : goal.returns-then-not-holds-clause-probes
 returns-then-not-holds-clause-probes c =
@@ -109,9 +109,9 @@ returns-then-not-holds-clause-probes c =
     let w = leaving at.After-moving_with-leaving in
     let v = left at.After-level w in
     let does = c.sift_around.ensures in
-    step_paid c.args.links.now c.args.next c.index-pair.result.now c.moving_with-leaving.result c.args.self.now c.moving_with-leaving.new.self w c.level.new.self v c.sift_around.new.self (taken_on v does.taken) does.keeps does.probes
+    step_paid c.args.links.now c.args.next c.index-pair.result.now c.moving_with-leaving.result c.args.self.now c.moving_with-leaving.new.self w c.level.new.self v c.sift_around.new.self (taken_on v does.takes.taken) does.takes.keeps does.takes.probes
 
 pub returns-then-not-holds-clause-taken : goal.returns-then-not-holds-clause-taken
 returns-then-not-holds-clause-taken c =
     let at = goal.at.returns-then-not-holds-clause-taken c in
-    taken_on (left at.After-level (leaving at.After-moving_with-leaving)) c.sift_around.ensures.taken
+    taken_on (left at.After-level (leaving at.After-moving_with-leaving)) c.sift_around.ensures.takes.taken

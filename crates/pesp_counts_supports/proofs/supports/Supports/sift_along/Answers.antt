@@ -8,7 +8,7 @@ use Rattle.pesp_counts_supports.specs.Restored.{in_ranges}
 use Rattle.pesp_counts_supports.specs.Supports.{Supports}
 use Rattle.pesp_counts_supports.proofs.Rows.{Clears}
 use Rattle.pesp_counts_supports.proofs.Sifted.{clears_both}
-use Rattle.pesp_counts_supports.proofs.Taken.{taken_then}
+use Rattle.pesp_counts_supports.proofs.Taken.{takes_then}
 use Rattle.pesp_counts_supports.proofs.supports.Supports.sift_along.Goals as goal
 use Rattle.pesp_counts_supports.proofs.supports.Supports.sift_along.Goals.{Start, After-end-end}
 
@@ -45,19 +45,19 @@ pub sift_range-requires-clause-end : goal.sift_range-requires-clause-end
 sift_range-requires-clause-end c = (far (goal.at.sift_range-requires-clause-end c).After-end-end).1
 
 pub sift_range-requires-2-clause-place : goal.sift_range-requires-2-clause-place
-sift_range-requires-2-clause-place c = rw c.sift_range.ensures.keeps.many (far (goal.at.sift_range-requires-2-clause-place c).After-end-end).0
+sift_range-requires-2-clause-place c = rw c.sift_range.ensures.takes.keeps.many (far (goal.at.sift_range-requires-2-clause-place c).After-end-end).0
 
 pub sift_range-requires-2-clause-end : goal.sift_range-requires-2-clause-end
-sift_range-requires-2-clause-end c = let keeps = c.sift_range.ensures.keeps in rw (keeps.period, keeps.counts) (far (goal.at.sift_range-requires-2-clause-end c).After-end-end).1
+sift_range-requires-2-clause-end c = let keeps = c.sift_range.ensures.takes.keeps in rw (keeps.period, keeps.counts) (far (goal.at.sift_range-requires-2-clause-end c).After-end-end).1
 
-pub returns-clause-taken : goal.returns-clause-taken
-returns-clause-taken c = taken_then c.args.self.now c.sift_range.new.self c.sift_range-2.new.self c.sift_range.ensures.taken c.sift_range-2.ensures.taken
+pub returns-clause-takes : goal.returns-clause-takes
+returns-clause-takes c = takes_then c.args.self.now c.sift_range.new.self c.sift_range-2.new.self c.sift_range.ensures.takes c.sift_range-2.ensures.takes
 
 pub returns-clause-rows : goal.returns-clause-rows
 returns-clause-rows c p r below =
     let s = c.args.self.now in
     let mid = c.sift_range.new.self in
-    let keeps = c.sift_range.ensures.keeps in
+    let keeps = c.sift_range.ensures.takes.keeps in
     let w = c.touched-ranges.result in
     let e = c.end-end.result in
     let f : ℕ → Bool = λ q. count_at s.period s.counts e.mate q == 0 in

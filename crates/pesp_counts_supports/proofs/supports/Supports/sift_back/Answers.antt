@@ -39,10 +39,10 @@ loop-pair-preserved c =
           rw w.self-is
           (record {
             rows = subst (λ xs. Sifts links start xs after.rows) (sym more) (sifts_taken links start (take i back) x now.rows inv.rows after.rows (sym same ∙ sym w.lacks_partner.ensures.lacks ∙ w.if-lacks_partner.true) takes);
-            taken = taken_then start now after inv.taken (taken_then now mid after (looked_taken now mid is) w.take_out.ensures.taken);
-            keeps = kept_then start now after inv.keeps (kept_then now mid after (looked_keeps now mid is) w.take_out.ensures.keeps);
-            counts_on = omega (arith, inv.counts_on, w.lacks_partner.ensures.counts_on, w.take_out.ensures.probes);
-            probes = omega (arith, spends, w.lacks_partner.ensures.probes, w.take_out.ensures.probes, inv.probes);
+            taken = taken_then start now after inv.taken (taken_then now mid after (looked_taken now mid is) w.take_out.ensures.takes.taken);
+            keeps = kept_then start now after inv.keeps (kept_then now mid after (looked_keeps now mid is) w.take_out.ensures.takes.keeps);
+            counts_on = omega (arith, inv.counts_on, w.lacks_partner.ensures.counts_on, w.take_out.ensures.takes.probes);
+            probes = omega (arith, spends, w.lacks_partner.ensures.probes, w.take_out.ensures.takes.probes, inv.probes);
           })
       | else-holds w ↦
           elim w.else-holds.branch [

@@ -1,9 +1,9 @@
 -- The next residue of the range without a partner goes, and those before it stay.
-use Rattle.std.proofs.Common.{◌≡◌, ◌==◌, ◌&&◌, ◌<◌, ◌≤◌, ℕ, Bool, true, false, Some, refl, subst, ◌∙◌, arith}
+use Rattle.std.proofs.Common.{◌≡◌, ◌==◌, ◌&&◌, ◌<◌, ◌≤◌, ℕ, Bool, true, false, Some, subst, arith}
 use Rattle.pesp_counts_supports.specs.Counts.{count_at, has_at}
 use Rattle.pesp_counts_supports.specs.Lone.{IsFirst}
 use Rattle.pesp_counts_supports.proofs.Rows.{clears_none, clears_skipped, clears_taken}
-use Rattle.pesp_counts_supports.proofs.Taken.{kept_none, kept_then, taken_none, taken_then}
+use Rattle.pesp_counts_supports.proofs.Taken.{takes_none, takes_then}
 use Rattle.pesp_counts_supports.proofs.supports.Supports.sift_range.Goals as goal
 
 pub lone-init : goal.lone-init
@@ -14,9 +14,7 @@ lone-init c =
       low = omega arith;
       high = c.requires.order;
       rows = clears_none c.args.place f c.args.residues.start start.rows;
-      taken = taken_none start;
-      keeps = kept_none start;
-      probes = refl;
+      takes = takes_none start;
     }
 
 pub take_out-requires : goal.take_out-requires
@@ -34,7 +32,7 @@ lone-preserved c =
     let inv = c.lone.invariant in
     let q = c.in-Some.residue in
     let f : ℕ → Bool = λ r. count_at start.period start.counts c.args.end r == 0 in
-    let told : IsFirst (λ r. has_at now.rows c.args.place r && f r) c.lone.from c.args.residues.end c.first_lone.result = rw (inv.keeps.period, inv.keeps.counts) at c.first_lone.ensures in
+    let told : IsFirst (λ r. has_at now.rows c.args.place r && f r) c.lone.from c.args.residues.end c.first_lone.result = rw (inv.takes.keeps.period, inv.takes.keeps.counts) at c.first_lone.ensures in
     let first : IsFirst (λ r. has_at now.rows c.args.place r && f r) c.lone.from c.args.residues.end (Some q) = subst (IsFirst (λ r. has_at now.rows c.args.place r && f r) c.lone.from c.args.residues.end) c.in-Some.is told in
     let goes : f q ≡ true = grind (arith, first.2) in
     let skipped = clears_skipped c.args.place f c.args.residues.start start.rows c.lone.from q now.rows first.0 first.3 inv.rows in
@@ -42,9 +40,7 @@ lone-preserved c =
       low = omega (arith, inv.low, first.0);
       high = omega (arith, first.1);
       rows = clears_taken c.args.place f c.args.residues.start start.rows q now.rows after.rows (omega (arith, inv.low, first.0)) goes c.take_out.ensures.rows skipped;
-      taken = taken_then start now after inv.taken c.take_out.ensures.taken;
-      keeps = kept_then start now after inv.keeps c.take_out.ensures.keeps;
-      probes = c.take_out.ensures.probes ∙ inv.probes;
+      takes = takes_then start now after inv.takes c.take_out.ensures.takes;
     }
 
 pub returns-clause-rows : goal.returns-clause-rows
@@ -53,5 +49,5 @@ returns-clause-rows c =
     let now = c.lone.self in
     let inv = c.lone.invariant in
     let f : ℕ → Bool = λ r. count_at start.period start.counts c.args.end r == 0 in
-    let none : (r : ℕ) → c.lone.from ≤ r → r < c.args.residues.end → (has_at now.rows c.args.place r && f r) ≡ false = rw (inv.keeps.period, inv.keeps.counts) at c.in_default.ensures in
+    let none : (r : ℕ) → c.lone.from ≤ r → r < c.args.residues.end → (has_at now.rows c.args.place r && f r) ≡ false = rw (inv.takes.keeps.period, inv.takes.keeps.counts) at c.in_default.ensures in
     clears_skipped c.args.place f c.args.residues.start start.rows c.lone.from c.args.residues.end now.rows inv.high none inv.rows

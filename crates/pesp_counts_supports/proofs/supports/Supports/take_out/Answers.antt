@@ -1,5 +1,5 @@
 -- The row loses a residue where the trail gains a pair.
-use Rattle.std.proofs.Common.{◌≡◌, ◌==◌, ◌&&◌, not, Bool, List, [], length, sym, ap, subst, ◌∙◌, arith}
+use Rattle.std.proofs.Common.{◌≡◌, ◌==◌, ◌&&◌, not, Bool, List, [], length, refl, sym, ap, subst, ◌∙◌, arith}
 use Rattle.std.proofs.lemmas.List.{get_or_default, length-set, length_push}
 use Rattle.std.proofs.lemmas.List.Elements.{All-get_or, All-set}
 use Rattle.pesp_domains.specs.Domains.{holds}
@@ -40,11 +40,15 @@ invariant_of-self c =
       fits = c.self.invariant.fits;
     }
 
-pub returns-clause-taken : goal.returns-clause-taken
-returns-clause-taken c =
+pub returns-clause-takes : goal.returns-clause-takes
+returns-clause-takes c =
     let rows = c.self.inside.rows.items in
     let here = subst (λ (s : Supports). Of (has_at s.rows) c.args.place c.args.residue) (sym c.self.view_is) c.requires in
     let same = c.index_mut.ensures.value ∙ get_or_default rows c.args.place c.index_mut.result.now [] (within_rows rows c.args.place c.args.residue here) in
+    let without = rows_without rows c.args.place c.args.residue c.take_out.new.self here (c.take_out.ensures.long ∙ ap length same) (λ r. c.take_out.ensures.holds r ∙ ap (λ row. holds row r && not (r == c.args.residue)) same) in
     rw (← c.self.view_is)
-    (taken_one _ _ c.args.place c.args.residue here c.push_reserved.ensures.items
-    (rows_without rows c.args.place c.args.residue c.take_out.new.self here (c.take_out.ensures.long ∙ ap length same) (λ r. c.take_out.ensures.holds r ∙ ap (λ row. holds row r && not (r == c.args.residue)) same)))
+    (record {
+      taken = taken_one _ _ c.args.place c.args.residue here c.push_reserved.ensures.items without;
+      keeps = record { period = refl; counts = refl; counted = refl; many = length-set rows c.args.place c.take_out.new.self; room = c.push_reserved.ensures.capacity; sums = refl };
+      probes = refl;
+    })

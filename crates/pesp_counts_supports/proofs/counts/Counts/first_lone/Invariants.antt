@@ -1,7 +1,7 @@
 -- None of the residues so far is lone.
 use Rattle.std.proofs.Common.{◌≡◌, ℕ, ◌<◌, false}
 use Rattle.pesp_counts_supports.specs.Lone.{is_lone}
-use Rattle.pesp_counts_supports.proofs.widths.first_lone_word.Given as goal
+use Rattle.pesp_counts_supports.proofs.counts.Counts.first_lone.Given as goal
 
 abbrev pub invariant-loop-at : goal.invariant-loop-at
-invariant-loop-at l = (r : ℕ) → r < l.at → is_lone l.held l.counts 0 r ≡ false
+invariant-loop-at l = (r : ℕ) → r < l.at → is_lone l.held l.self.values l.from r ≡ false
