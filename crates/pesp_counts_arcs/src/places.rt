@@ -39,6 +39,13 @@ impl Places {
         }
     }
 
+    /// Makes room for so many numbers, which have no places yet.
+    pub fn make_room(&mut self, numbers: usize) -> Result<(), AllocError>
+        ensures { self.new ≡ self.old }
+    {
+        self.numbers.reserve(numbers)
+    }
+
     /// The place of a number.
     pub fn place(&self, number: u32) -> Option<usize>
         ensures { result ≡ place_of self.now number }

@@ -34,7 +34,8 @@ impl Supports {
     {
         let period = self.period.get();
         let base = self.counts.base(number, period);
-        sum_beyond(&self.counted[end.looks_at], None, period, &mut self.sums);
+        let place = end.looks_at as usize;
+        sum_beyond(&self.counted[place], None, period, &mut self.sums);
         self.counts.fill_range(base, base + period as usize, 0);
         self.move_range(number, end, Way::In, 0, period);
     }
