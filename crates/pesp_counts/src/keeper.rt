@@ -92,7 +92,7 @@ impl CountKeeper {
         let tail = self.counted.links.tail(activity.id)?;
         let end = match side {
             Side::Tail => tail,
-            Side::Head => self.counted.links.end(tail).mate,
+            Side::Head => self.counted.links.end(tail).mate as usize,
         };
         Some(self.counted.supports.count(end, residue))
     }

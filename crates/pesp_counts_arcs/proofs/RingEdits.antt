@@ -33,18 +33,20 @@ module _ (items after : List Neighbours) (heads : List Head) (n long : ℕ) (is 
   rings_grown many few h =
       subst (AreRings after) (sym lists_grown)
       (record {
-        few = omega (arith, many, few);
-        shared = shared_room (length items) (length after) (lists_of (afters items) heads) (omega (arith, is, more, many)) h.shared;
+        stored = record {
+          few = omega (arith, many, few);
+          few_lists = h.stored.few_lists;
+          shared = shared_room (length items) (length after) (lists_of (afters items) heads) (omega (arith, is, more, many)) h.stored.shared;
+        };
         forward = round_read (afters items) (befores items) (afters after) (befores after) (lists_of (afters items) heads) same_afters same_befores h.forward;
         backward = round_read (befores items) (afters items) (befores after) (afters after) (lists_of (afters items) heads) same_befores same_afters h.backward;
       })
 
 -- lists with the same items are rings as those are
-pub rings_same : (items : List Neighbours) (lists after : List (List ℕ)) → ((p : ℕ) → items_at after p ≡ items_at lists p) → AreRings items lists → AreRings items after
-rings_same items lists after same h =
+pub rings_same : (items : List Neighbours) (lists after : List (List ℕ)) → length after < 2 ^ 32 → ((p : ℕ) → items_at after p ≡ items_at lists p) → AreRings items lists → AreRings items after
+rings_same items lists after few same h =
     record {
-      few = h.few;
-      shared = shared_same (length items) lists after same h.shared;
+      stored = record { few = h.stored.few; few_lists = few; shared = shared_same (length items) lists after same h.stored.shared };
       forward = round_same (afters items) (befores items) lists after same h.forward;
       backward = round_same (befores items) (afters items) lists after same h.backward;
     }

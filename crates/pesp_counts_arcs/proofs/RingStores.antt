@@ -2,7 +2,7 @@
 use Rattle.std.proofs.Common.{◌≡◌, ◌≢◌, ℕ, suc, ◌+◌, ◌-◌, ◌<◌, ◌≤◌, List, ◌∷◌, AllPairs, length, get_or, map, set, refl, sym, ap, subst, ◌∙◌, inl, inr, ◌⊎◌, arith}
 use Rattle.std.specs.List.{Contains}
 use Rattle.std.proofs.lemmas.Bool.{cases_eq, eq-eqb, ne_eqb}
-use Rattle.std.proofs.lemmas.List.{get_or-map, get_or_default, length-map}
+use Rattle.std.proofs.lemmas.List.{get_or-map, get_or_default, length-map, length-set}
 use Rattle.std.proofs.lemmas.List.Elements.{Contains-get_or}
 use Rattle.pesp_domains.proofs.Families.{here}
 use Rattle.pesp_counts_arcs.specs.declared.lists.Head.{Head}
@@ -48,13 +48,13 @@ module _ (items : List Neighbours) (heads : List Head) (p : ℕ) (head : Head) (
   walked = items_any A heads p ∙ ap (λ (h : Head). steps A h.first h.count) (sym (store.is no_head))
 
   once : AllPairs (λ a b. a ≢ b) (steps A head.first head.count)
-  once = subst (AllPairs (λ a b. a ≢ b)) walked (store.rings.shared.once p)
+  once = subst (AllPairs (λ a b. a ≢ b)) walked (store.rings.stored.shared.once p)
 
   in_list : (q k : ℕ) → Contains (steps A (get_or heads q no_head).first (get_or heads q no_head).count) k → Contains (items_at lists q) k
   in_list q k = subst (λ xs. Contains xs k) (sym (items_any A heads q))
 
   low_item : (q k : ℕ) → Contains (items_at lists q) k → k < length A
-  low_item q k i = let low = store.rings.shared.within q k i in omega (arith, low, length-afters items)
+  low_item q k i = let low = store.rings.stored.shared.within q k i in omega (arith, low, length-afters items)
 
   -- ---- an item goes
 
@@ -69,7 +69,7 @@ module _ (items : List Neighbours) (heads : List Head) (p : ℕ) (head : Head) (
         let b_in : Contains (items_at lists p) b = store.rings.backward.stays p item there_is in
         ap (λ xs. lists_of xs (set heads p (record { first = first; count = head.count - 1 }))) ahead
         ∙ lists_but A (set A b a) heads p (record { first = first; count = head.count - 1 })
-        (λ q apart. steps_same A _ _ b a (λ i. apart (store.rings.shared.apart q p b (in_list q b i) b_in)))
+        (λ q apart. steps_same A _ _ b a (λ i. apart (store.rings.stored.shared.apart q p b (in_list q b i) b_in)))
         ∙ ap (set lists p)
         (walk_less A B head.first head.count item first once (subst (λ xs. Contains xs item) walked there_is)
         (λ k i. store.rings.forward.returns p k (subst (λ xs. Contains xs k) (sym walked) i))
@@ -84,10 +84,13 @@ module _ (items : List Neighbours) (heads : List Head) (p : ℕ) (head : Head) (
         let low' : length items ≤ length B = omega (arith, length-befores items) in
         subst (AreRings after) (sym lists_less)
         (record {
-          few = (let few = r.few in omega (arith, many, few));
-          shared = subst (λ n. AreShared n less) (sym many) (shared_less lists p item (list_there lists p item there_is) (length items) there_is r.shared);
-          forward = rw (ahead, back) (round_less A B lists p item (length items) there_is r.shared r.forward r.backward low low');
-          backward = rw (ahead, back) (round_less B A lists p item (length items) there_is r.shared r.backward r.forward low' low);
+          stored = record {
+            few = (let few = r.stored.few in omega (arith, many, few));
+            few_lists = rw (length-set lists p _) r.stored.few_lists;
+            shared = subst (λ n. AreShared n less) (sym many) (shared_less lists p item (list_there lists p item there_is) (length items) there_is r.stored.shared);
+          };
+          forward = rw (ahead, back) (round_less A B lists p item (length items) there_is r.stored.shared r.forward r.backward low low');
+          backward = rw (ahead, back) (round_less B A lists p item (length items) there_is r.stored.shared r.backward r.forward low' low);
         })
 
   -- ---- an item comes
@@ -117,10 +120,10 @@ module _ (items : List Neighbours) (heads : List Head) (p : ℕ) (head : Head) (
         ]
 
     pub first_low : first < length items
-    first_low = elim ends [ inl alone ↦ subst (λ k. k < length items) (sym alone.1) low | inr two ↦ store.rings.shared.within p first two.first_in ]
+    first_low = elim ends [ inl alone ↦ subst (λ k. k < length items) (sym alone.1) low | inr two ↦ store.rings.stored.shared.within p first two.first_in ]
 
     pub last_low : last < length items
-    last_low = elim ends [ inl alone ↦ subst (λ k. k < length items) (sym alone.0) low | inr two ↦ store.rings.shared.within p last two.last_in ]
+    last_low = elim ends [ inl alone ↦ subst (λ k. k < length items) (sym alone.0) low | inr two ↦ store.rings.stored.shared.within p last two.last_in ]
 
     walked_on : steps A first head.count ≡ steps A head.first head.count
     walked_on =
@@ -145,7 +148,7 @@ module _ (items : List Neighbours) (heads : List Head) (p : ℕ) (head : Head) (
         let same = steps_same A (get_or heads q no_head).first (get_or heads q no_head).count last item
         (λ i. elim ends [
           | inl alone ↦ out q (subst (Contains (items_at lists q)) alone.0 (in_list q last i))
-          | inr two ↦ apart (store.rings.shared.apart q p last (in_list q last i) two.last_in)
+          | inr two ↦ apart (store.rings.stored.shared.apart q p last (in_list q last i) two.last_in)
         ])
         in
         steps_same (set A last item) _ _ item first (λ i. out q (in_list q item (subst (λ xs. Contains xs item) same i))) ∙ same
@@ -178,10 +181,13 @@ module _ (items : List Neighbours) (heads : List Head) (p : ℕ) (head : Head) (
           let more : List (List ℕ) = set lists p (item ∷ items_at lists p) in
           subst (AreRings after) (sym lists_more)
           (record {
-            few = (let few = r.few in omega (arith, many, few));
-            shared = subst (λ n. AreShared n more) (sym many) (shared_more lists p item store.there (length items) low out r.shared);
-            forward = rw (ahead, back) (round_more A B _ _ lists p item first last (length items) store.there r.shared out r.forward lead_there lead_back ends);
-            backward = rw (ahead, back) (round_more B A _ _ lists p item last first (length items) store.there r.shared out r.backward lead_back lead_there turned);
+            stored = record {
+              few = (let few = r.stored.few in omega (arith, many, few));
+              few_lists = rw (length-set lists p _) r.stored.few_lists;
+              shared = subst (λ n. AreShared n more) (sym many) (shared_more lists p item store.there (length items) low out r.stored.shared);
+            };
+            forward = rw (ahead, back) (round_more A B _ _ lists p item first last (length items) store.there r.stored.shared out r.forward lead_there lead_back ends);
+            backward = rw (ahead, back) (round_more B A _ _ lists p item last first (length items) store.there r.stored.shared out r.backward lead_back lead_there turned);
           })
         where
           turned : ((first ≡ item) × (last ≡ item)) ⊎ AreEnds B A (items_at lists p) last first

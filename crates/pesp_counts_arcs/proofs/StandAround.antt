@@ -17,7 +17,7 @@ use Rattle.pesp_domains.specs.Domains.{Joins, other, own}
 use Rattle.pesp_counts_arcs.specs.declared.end.End.{End}
 use Rattle.pesp_counts_arcs.specs.Ends.{end_at, ends_of, passes}
 use Rattle.pesp_counts_arcs.specs.Links.{AreHoused, AreUnlisted, IsEndFor, IsEndOf, IsEndOfPlace, IsListed, JoinsBy, KeepOthers, Links, LookAt, StandFor, end_number, opposite}
-use Rattle.pesp_counts_arcs.specs.Lists.{AreShared}
+use Rattle.pesp_counts_arcs.specs.Lists.{AreShared, AreStored}
 use Rattle.pesp_counts_arcs.specs.Places.{ArePlaces, Places, place_of}
 use Rattle.pesp_counts_arcs.specs.Shared.{Shared}
 use Rattle.pesp_counts_arcs.proofs.StandEdits.{went_other, went_some}
@@ -279,12 +279,12 @@ module _ (I : Network) (before : Links) (ends : List End) (n q : ℕ) (span : Bo
 -- ---- an activity less
 
 pub housed_less : (events activities activities' : Places) (ends : List End) (at at' : Shared) (n q : ℕ) → AreHoused events activities ends at → ArePlaces activities' → ((m : ℕ) → place_of activities' m ≡ (if m == n then None else place_of activities m)) → place_of activities n ≡ Some q
-    → AreUnlisted at.lists at'.lists q → at'.items ≡ at.items → AreShared at'.items at'.lists → AreHoused events activities' ends at'
-housed_less events activities activities' ends at at' n q h paired went is unlisted items shared =
+    → AreUnlisted at.lists at'.lists q → at'.items ≡ at.items → AreStored at'.items at'.lists → AreHoused events activities' ends at'
+housed_less events activities activities' ends at at' n q h paired went is unlisted items stored =
     record {
       are_events = h.are_events;
       are_activities = paired;
-      listed_in = shared;
+      listed_in = stored;
       items = (let few = h.items in omega (arith, few, items));
       event_room = λ e p is_at. let low = h.event_room e p is_at in omega (arith, low, unlisted.many);
       activity_room = λ m r is_at. h.activity_room m r (left m r is_at);

@@ -19,7 +19,7 @@ use Rattle.pesp_domains.specs.Domains.{own}
 use Rattle.pesp_counts_arcs.specs.declared.end.End.{End}
 use Rattle.pesp_counts_arcs.specs.Ends.{ends_of}
 use Rattle.pesp_counts_arcs.specs.Links.{AreHoused, Links, LookSame, StandFor}
-use Rattle.pesp_counts_arcs.specs.Lists.{AreShared}
+use Rattle.pesp_counts_arcs.specs.Lists.{AreShared, AreStored}
 use Rattle.pesp_counts_arcs.specs.Places.{ArePlaces, Places, place_of}
 use Rattle.pesp_counts_arcs.specs.Shared.{Shared}
 use Rattle.pesp_counts_arcs.proofs.ListLaws.{shared_same}
@@ -35,8 +35,8 @@ shared_ends events activities ends at h =
           let w = h.owned p k i in
           let room = h.activity_room w.0 w.1 w.2 in
           elim w.3 [ inl tail ↦ omega (arith, tail, room) | inr head ↦ omega (arith, head, room) ];
-      once = h.listed_in.once;
-      apart = h.listed_in.apart;
+      once = h.listed_in.shared.once;
+      apart = h.listed_in.shared.apart;
     }
 
 -- ---- places
@@ -144,13 +144,13 @@ pub look_itself : (events activities : Places) (ends : List End) (at : Shared) �
 look_itself events activities ends at h = look_same events events activities activities ends at at.lists h h.are_events h.are_activities (λ e. refl) (λ n. refl) (λ p. refl)
 
 -- more lists, and events in their reach
-pub housed_events : (events events' activities : Places) (ends : List End) (at at' : Shared) → AreHoused events activities ends at → ArePlaces events' → at'.items ≡ at.items → ((p : ℕ) → ends_of at'.lists p ≡ ends_of at.lists p) → AreShared at'.items at'.lists
+pub housed_events : (events events' activities : Places) (ends : List End) (at at' : Shared) → AreHoused events activities ends at → ArePlaces events' → at'.items ≡ at.items → ((p : ℕ) → ends_of at'.lists p ≡ ends_of at.lists p) → AreStored at'.items at'.lists
     → ((e p : ℕ) → place_of events' e ≡ Some p → p < length at'.lists) → AreHoused events' activities ends at'
-housed_events events events' activities ends at at' h paired items lists shared room =
+housed_events events events' activities ends at at' h paired items lists stored room =
     record {
       are_events = paired;
       are_activities = h.are_activities;
-      listed_in = shared;
+      listed_in = stored;
       items = (let few = h.items in omega (arith, few, items));
       event_room = room;
       activity_room = h.activity_room;

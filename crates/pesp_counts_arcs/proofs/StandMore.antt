@@ -13,7 +13,7 @@ use Rattle.pesp_domains.specs.Domains.{own}
 use Rattle.pesp_counts_arcs.specs.declared.end.End.{End}
 use Rattle.pesp_counts_arcs.specs.Ends.{end_at, ends_of}
 use Rattle.pesp_counts_arcs.specs.Links.{AreHoused, AreListedAt, IsEndFor, IsEndOf, IsEndOfPlace, Links, LookAt, StandFor, end_number}
-use Rattle.pesp_counts_arcs.specs.Lists.{AreShared}
+use Rattle.pesp_counts_arcs.specs.Lists.{AreShared, AreStored}
 use Rattle.pesp_counts_arcs.specs.Places.{ArePlaces, Places, number_at, place_of}
 use Rattle.pesp_counts_arcs.specs.Shared.{Shared}
 use Rattle.pesp_counts_arcs.proofs.StandAround.{looks_at, looks_by, made_joins, mate_by, stands_around}
@@ -47,12 +47,12 @@ unlisted_yet events activities ends at q h free p k i end =
     no_place activities w.0 q h.are_activities free (w.2 ∙ ap (λ r. Some r) one)
 
 -- more room for ends, and places of activities that are looked up as before
-pub housed_room : (events activities activities' : Places) (ends : List End) (at at' : Shared) → AreHoused events activities ends at → ArePlaces activities' → ((n : ℕ) → place_of activities' n ≡ place_of activities n) → length ends ≤ at'.items → at'.lists ≡ at.lists → AreShared at'.items at'.lists → AreHoused events activities' ends at'
-housed_room events activities activities' ends at at' h paired same items lists shared =
+pub housed_room : (events activities activities' : Places) (ends : List End) (at at' : Shared) → AreHoused events activities ends at → ArePlaces activities' → ((n : ℕ) → place_of activities' n ≡ place_of activities n) → length ends ≤ at'.items → at'.lists ≡ at.lists → AreStored at'.items at'.lists → AreHoused events activities' ends at'
+housed_room events activities activities' ends at at' h paired same items lists stored =
     record {
       are_events = h.are_events;
       are_activities = paired;
-      listed_in = shared;
+      listed_in = stored;
       items = items;
       event_room = λ e p is. subst (λ xs. p < length xs) (sym lists) (h.event_room e p is);
       activity_room = λ n q is. h.activity_room n q (sym (same n) ∙ is);
@@ -63,12 +63,12 @@ housed_room events activities activities' ends at at' h paired same items lists 
 
 -- an activity more, whose ends are listed
 pub housed_more : (events activities activities' : Places) (ends ends' : List End) (at at' : Shared) (n q a b : ℕ) → AreHoused events activities ends at → place_of activities n ≡ None → ArePlaces activities' → ((m : ℕ) → place_of activities' m ≡ (if m == n then Some q else place_of activities m))
-    → length ends ≤ length ends' → 2 * q + 1 < length ends' → length ends' ≤ at'.items → AreListedAt at.lists at'.lists q a b → AreShared at'.items at'.lists → AreHoused events activities' ends' at'
-housed_more events activities activities' ends ends' at at' n q a b h absent paired came more room items listed shared =
+    → length ends ≤ length ends' → 2 * q + 1 < length ends' → length ends' ≤ at'.items → AreListedAt at.lists at'.lists q a b → AreStored at'.items at'.lists → AreHoused events activities' ends' at'
+housed_more events activities activities' ends ends' at at' n q a b h absent paired came more room items listed stored =
     record {
       are_events = h.are_events;
       are_activities = paired;
-      listed_in = shared;
+      listed_in = stored;
       items = items;
       event_room = λ e p is. let low = h.event_room e p is in omega (arith, low, listed.many);
       activity_room = λ m r is.

@@ -9,7 +9,7 @@ use Rattle.pesp_domains.specs.Domains.{Joins, own}
 use Rattle.pesp_counts_arcs.specs.declared.end.End.{End}
 use Rattle.pesp_counts_arcs.specs.Ends.{end_at, passes}
 use Rattle.pesp_counts_arcs.specs.Links.{AreHoused, AreListedAt, AreUnlisted, IsEndOf, KeepOthers, Links, StandFor, end_number, opposite}
-use Rattle.pesp_counts_arcs.specs.Lists.{AreShared}
+use Rattle.pesp_counts_arcs.specs.Lists.{AreShared, AreStored}
 use Rattle.pesp_counts_arcs.specs.Places.{Places, place_of}
 use Rattle.pesp_counts_arcs.specs.Shared.{Shared}
 use Rattle.pesp_counts_arcs.proofs.StandAround.{looks_at, stands_changed}
@@ -17,12 +17,12 @@ use Rattle.pesp_counts_arcs.proofs.StandLaws.{by_side, joins_same, stands_for}
 use Rattle.pesp_counts_arcs.proofs.StandMore.{listed_by, new_or_old, was_listed}
 
 -- the ends of a number went from the lists, and came to others
-pub housed_moved : (events activities : Places) (ends ends' : List End) (at : Shared) (lists : List (List ℕ)) (at' : Shared) (n q a b : ℕ) → AreHoused events activities ends at → place_of activities n ≡ Some q → length ends' ≡ length ends → at'.items ≡ at.items → AreUnlisted at.lists lists q → AreListedAt lists at'.lists q a b → AreShared at'.items at'.lists → AreHoused events activities ends' at'
-housed_moved events activities ends ends' at lists at' n q a b h is many items unlisted listed shared =
+pub housed_moved : (events activities : Places) (ends ends' : List End) (at : Shared) (lists : List (List ℕ)) (at' : Shared) (n q a b : ℕ) → AreHoused events activities ends at → place_of activities n ≡ Some q → length ends' ≡ length ends → at'.items ≡ at.items → AreUnlisted at.lists lists q → AreListedAt lists at'.lists q a b → AreStored at'.items at'.lists → AreHoused events activities ends' at'
+housed_moved events activities ends ends' at lists at' n q a b h is many items unlisted listed stored =
     record {
       are_events = h.are_events;
       are_activities = h.are_activities;
-      listed_in = shared;
+      listed_in = stored;
       items = (let few = h.items in omega (arith, few, many, items));
       event_room = λ e p is_at. let low = h.event_room e p is_at in omega (arith, low, listed.many, unlisted.many);
       activity_room = λ m r is_at. let low = h.activity_room m r is_at in omega (arith, low, many);

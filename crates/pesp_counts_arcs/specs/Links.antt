@@ -10,7 +10,7 @@ use Rattle.pesp_domains.specs.declared.side.Side.TheVariants.{Tail, Head}
 use Rattle.pesp_domains.specs.Domains.{Joins, other, own}
 use Rattle.pesp_counts_arcs.specs.declared.end.End.{End}
 use Rattle.pesp_counts_arcs.specs.Ends.{end_at, ends_of, passes}
-use Rattle.pesp_counts_arcs.specs.Lists.{AreShared}
+use Rattle.pesp_counts_arcs.specs.Lists.{AreShared, AreStored}
 use Rattle.pesp_counts_arcs.specs.Places.{ArePlaces, Places, place_of}
 use Rattle.pesp_counts_arcs.specs.Shared.{Shared}
 
@@ -130,7 +130,7 @@ pub record AreUnlisted (before after : List (List ℕ)) (q : ℕ) : Type 0 where
 pub record AreHoused (events activities : Places) (ends : List End) (at : Shared) : Type 0 where
   pub are_events : ArePlaces events
   pub are_activities : ArePlaces activities
-  pub listed_in : AreShared at.items at.lists
+  pub listed_in : AreStored at.items at.lists
   pub items : length ends ≤ at.items
   pub event_room : (e p : ℕ) → place_of events e ≡ Some p → p < length at.lists
   pub activity_room : (n q : ℕ) → place_of activities n ≡ Some q → 2 * q + 1 < length ends

@@ -22,6 +22,12 @@ pub record AreShared (items : ℕ) (lists : List (List ℕ)) : Type 0 where
   pub once : (p : ℕ) → AllPairs (λ j k. j ≢ k) (items_at lists p)
   pub apart : (p q k : ℕ) → Contains (items_at lists p) k → Contains (items_at lists q) k → p ≡ q
 
+-- items and lists are fewer than 2 ^ 32 each, and each item is in one list at most
+pub record AreStored (items : ℕ) (lists : List (List ℕ)) : Type 0 where
+  pub few : items < 2 ^ 32
+  pub few_lists : length lists < 2 ^ 32
+  pub shared : AreShared items lists
+
 -- what stands after each item, and what before it
 abbrev pub afters : List Neighbours → List ℕ
 afters items = map (λ n. n.after) items
@@ -41,9 +47,8 @@ pub record LeadRound (there back : List ℕ) (lists : List (List ℕ)) : Type 0 
   pub stays : (p k : ℕ) → Contains (items_at lists p) k → Contains (items_at lists p) (slice_index_or there k 0)
   pub returns : (p k : ℕ) → Contains (items_at lists p) k → slice_index_or back (slice_index_or there k 0) 0 ≡ k
 
--- there are fewer than 2 ^ 32 items, each in one list at most, where those after it and before it stand too
+-- the items are stored, and those after one and before it stand in the same list
 pub record AreRings (items : List Neighbours) (lists : List (List ℕ)) : Type 0 where
-  pub few : length items < 2 ^ 32
-  pub shared : AreShared (length items) lists
+  pub stored : AreStored (length items) lists
   pub forward : LeadRound (afters items) (befores items) lists
   pub backward : LeadRound (befores items) (afters items) lists

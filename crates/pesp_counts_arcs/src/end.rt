@@ -12,9 +12,9 @@ use pesp_domains::{remainder, width_of};
 #[derive(Clone, Copy, Debug, Default, PartialEq, Eq)]
 pub struct End {
     /// The place of the event at the other end.
-    pub looks_at: usize,
+    pub looks_at: u32,
     /// The other end.
-    pub mate: usize,
+    pub mate: u32,
     pub first: u16,
     pub width: u16,
 }
@@ -29,7 +29,7 @@ pub struct Ranges {
 
 impl End {
     /// The end of an activity of this span at the event that it leads from.
-    pub fn tail(period: Period, span: Span, looks_at: usize, mate: usize) -> End
+    pub fn tail(period: Period, span: Span, looks_at: u32, mate: u32) -> End
         ensures looks { result.looks_at ≡ looks_at }
         ensures mate { result.mate ≡ mate }
         ensures first { result.first < period }
@@ -48,7 +48,7 @@ impl End {
     }
 
     /// The end of an activity of this span at the event that it leads to.
-    pub fn head(period: Period, span: Span, looks_at: usize, mate: usize) -> End
+    pub fn head(period: Period, span: Span, looks_at: u32, mate: u32) -> End
         ensures looks { result.looks_at ≡ looks_at }
         ensures mate { result.mate ≡ mate }
         ensures first { result.first < period }

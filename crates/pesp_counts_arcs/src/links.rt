@@ -8,7 +8,7 @@ ghost use Rattle.pesp_instance.specs.Network.{Network};
 ghost use Rattle.pesp_domains.specs.declared.side.Side.TheVariants as side;
 ghost use Rattle.pesp_counts_arcs.specs.Ends.{end_at, ends_of};
 ghost use Rattle.pesp_counts_arcs.specs.Links.{AreListedAt, AreUnlisted, IsChangedAt, IsEndFor, IsEndOfPlace, KeepOthers, LookAt, LookSame, StandFor, no_links};
-ghost use Rattle.pesp_counts_arcs.specs.Lists.{AreShared};
+ghost use Rattle.pesp_counts_arcs.specs.Lists.{AreStored};
 ghost use Rattle.pesp_counts_arcs.specs.Places.{place_of};
 
 mod numbers;
@@ -61,6 +61,17 @@ impl Links {
             ends: Vec::new(alloc),
             at: Lists::new(alloc),
         }
+    }
+
+    /// Makes room for so many events and activities, which have no places yet.
+    pub fn make_room(&mut self, events: usize, activities: usize) -> Result<(), AllocError>
+        ensures { self.new ≡ self.old }
+    {
+        let ends = activities.saturating_mul(2);
+        self.events.make_room(events)?;
+        self.activities.make_room(activities)?;
+        self.at.make_room(events, ends)?;
+        self.ends.reserve(ends)
     }
 
     /// The place of an event.
@@ -152,8 +163,8 @@ impl Links {
         let tail_at = self.events.place(activity.from.get()).unwrap();
         let head_at = self.events.place(activity.to.get()).unwrap();
         let tail = 2 * place;
-        self.ends[tail] = End::tail(period, activity.span, head_at, tail + 1);
-        self.ends[tail + 1] = End::head(period, activity.span, tail_at, tail);
+        self.ends[tail] = End::tail(period, activity.span, head_at as u32, tail as u32 + 1);
+        self.ends[tail + 1] = End::head(period, activity.span, tail_at as u32, tail as u32);
         self.at.add(tail_at, tail);
         self.at.add(head_at, tail + 1);
         Ok(place)
@@ -194,9 +205,9 @@ impl Links {
     {
         if let Some(place) = self.activity(id) {
             let tail = self.tail_at(place);
-            let (tail_at, head_at) = self.events_of(place);
-            self.ends[tail] = End::tail(period, span, head_at, tail + 1);
-            self.ends[tail + 1] = End::head(period, span, tail_at, tail);
+            let (head_at, tail_at) = (self.ends[tail].looks_at, self.ends[tail + 1].looks_at);
+            self.ends[tail] = End::tail(period, span, head_at, tail as u32 + 1);
+            self.ends[tail + 1] = End::head(period, span, tail_at, tail as u32);
         }
     }
 
@@ -223,8 +234,8 @@ impl Links {
             let to_at = self.event(to).unwrap();
             self.at.remove(tail_at, tail);
             self.at.remove(head_at, tail + 1);
-            self.ends[tail].looks_at = to_at;
-            self.ends[tail + 1].looks_at = from_at;
+            self.ends[tail].looks_at = to_at as u32;
+            self.ends[tail + 1].looks_at = from_at as u32;
             self.at.add(from_at, tail);
             self.at.add(to_at, tail + 1);
         }
@@ -235,12 +246,11 @@ impl Links {
 fn make_ends(ends: &mut Vec<End>, at: &mut Lists, place: usize) -> Result<(), AllocError>
     requires { length (ends.old).items ≤ (at.old).items }
     ensures ok { OnOk result (2 * place + 1 < length (ends.new).items) }
-    ensures small { length (ends.new).items < 2 ^ 63 }
     ensures items { length (ends.new).items ≤ (at.new).items }
     ensures ends { (k : ℕ) → end_at (ends.new).items k ≡ end_at (ends.old).items k }
     ensures more { length (ends.old).items ≤ length (ends.new).items }
     ensures lists { (at.new).lists ≡ (at.old).lists }
-    ensures shared { AreShared (at.new).items (at.new).lists }
+    ensures stored { AreStored (at.new).items (at.new).lists }
     ensures err { OnErr result ((ends.new).items ≡ (ends.old).items) }
 {
     // What saturates is more than there can be memory for.

@@ -4,7 +4,7 @@
 ghost use Rattle.std.specs.Prelude.{◌≡◌, ℕ, ◌^◌, ◌<◌, ◌≤◌, ◌==◌, not, [], ◌∷◌, filter, length, slice_set, OnOk, OnErr};
 ghost use Rattle.std.specs.List.{Contains};
 ghost use Rattle.std.specs.Iterator.{YieldsFirst, item_count};
-ghost use Rattle.pesp_counts_arcs.specs.Lists.{AreShared, afters, befores, first_of, items_at, last_of};
+ghost use Rattle.pesp_counts_arcs.specs.Lists.{AreStored, afters, befores, first_of, items_at, last_of};
 
 use std::alloc::{AllocError, Global};
 use std::marker::Model;
@@ -27,7 +27,7 @@ pub struct Neighbours {
 /// Lists, each a ring with a head, so that an item goes out of one in constant time.
 #[derive(Drop)]
 pub struct Lists {
-    /// The head of each list. No item is in two lists, or twice in one.
+    /// The head of each list. They are fewer than 2^32. No item is in two lists, or twice in one.
     heads: Vec<Head>,
     /// What stands around each item. They are fewer than 2^32, so that an item and a count are
     /// numbers of 32 bits.
@@ -124,38 +124,46 @@ impl Lists {
         }
     }
 
+    /// Makes room for so many lists and items, which do not come yet.
+    pub fn make_room(&mut self, lists: usize, items: usize) -> Result<(), AllocError>
+        ensures { self.new ≡ self.old }
+    {
+        self.heads.reserve(lists)?;
+        self.items.reserve(items)
+    }
+
     /// Makes sure of room for so many items. Without the memory for it, or
     /// for 2^32 and more, nothing changes.
     pub fn grow_items(&mut self, items: usize) -> Result<(), AllocError>
         ensures items { OnOk result (items ≤ (self.new).items) }
-        ensures small { (self.new).items < 2 ^ 63 }
         ensures more { (self.old).items ≤ (self.new).items }
         ensures lists { (self.new).lists ≡ (self.old).lists }
-        ensures shared { AreShared (self.new).items (self.new).lists }
+        ensures stored { AreStored (self.new).items (self.new).lists }
         ensures err { OnErr result (self.new ≡ self.old) }
     {
-        if items <= self.items.len() {
-            return Ok(());
+        if self.items.len() < items {
+            if items > u32::MAX as usize {
+                return Err(AllocError);
+            }
+            self.items.resize(items, Neighbours::default())?;
         }
-        if items > u32::MAX as usize {
-            return Err(AllocError);
-        }
-        self.items.resize(items, Neighbours::default())?;
         Ok(())
     }
 
-    /// Makes sure of so many lists. Those that come are empty; without the memory for them, nothing
-    /// changes.
+    /// Makes sure of so many lists. Those that come are empty. Without the memory for them, or for
+    /// 2^32 and more, nothing changes.
     pub fn grow_lists(&mut self, lists: usize) -> Result<(), AllocError>
         ensures many { OnOk result (lists ≤ length (self.new).lists) }
-        ensures small { length (self.new).lists < 2 ^ 63 }
         ensures more { length (self.old).lists ≤ length (self.new).lists }
         ensures items { (self.new).items ≡ (self.old).items }
         ensures lists { (p : ℕ) → items_at (self.new).lists p ≡ items_at (self.old).lists p }
-        ensures shared { AreShared (self.new).items (self.new).lists }
+        ensures stored { AreStored (self.new).items (self.new).lists }
         ensures err { OnErr result (self.new ≡ self.old) }
     {
         if self.heads.len() < lists {
+            if lists > u32::MAX as usize {
+                return Err(AllocError);
+            }
             self.heads.resize(lists, Head { first: 0, count: 0 })?;
         }
         Ok(())
@@ -169,7 +177,7 @@ impl Lists {
         ensures items { (self.new).items ≡ (self.old).items }
         ensures lists { (self.new).lists
             ≡ slice_set (self.old).lists list (item ∷ items_at (self.old).lists list) }
-        ensures shared { AreShared (self.new).items (self.new).lists }
+        ensures stored { AreStored (self.new).items (self.new).lists }
     {
         let head = self.heads[list];
         let item = item as u32;
@@ -190,7 +198,7 @@ impl Lists {
         ensures lists { (self.new).lists
             ≡ slice_set (self.old).lists list
             (filter (λ k. not (k == item)) (items_at (self.old).lists list)) }
-        ensures shared { AreShared (self.new).items (self.new).lists }
+        ensures stored { AreStored (self.new).items (self.new).lists }
     {
         let head = self.heads[list];
         let around = self.items[item];

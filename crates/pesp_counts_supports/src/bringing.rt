@@ -184,8 +184,8 @@ impl Supports {
         ensures probes { LooksAt ((self.old).period - 1) self.old self.new back.old back.new }
     {
         let near = links.end(number);
-        let far = links.end(near.mate);
-        let place = near.looks_at;
+        let far = links.end(near.mate as usize);
+        let place = near.looks_at as usize;
         let ranges = touched(came, near, self.period.get());
         if lacks_some(&self.rows[place], ranges) {
             let ranges = admitted_at(instance, links, place).unwrap_or(ranges);

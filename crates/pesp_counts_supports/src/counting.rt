@@ -34,7 +34,7 @@ impl Supports {
     {
         let period = self.period.get();
         let base = self.counts.base(number, period);
-        let row = &self.counted[end.looks_at];
+        let row = &self.counted[end.looks_at as usize];
         sum_beyond(row, row, true, period, &mut self.sums);
         self.counts.fill_range(base, base + period as usize, 0);
         self.move_range(number, end, Way::In, 0, period);

@@ -137,10 +137,11 @@ impl Supports {
         ensures probes { (self.new).probes ≤ (self.old).probes + (self.old).period }
     {
         let near = links.end(number);
-        let far = links.end(near.mate);
+        let mate = near.mate as usize;
+        let far = links.end(mate);
         let ranges = touched(moved, near, self.period.get());
-        self.move_range(near.mate, far, way, ranges.start, ranges.end);
-        self.move_range(near.mate, far, way, 0, ranges.wrapped);
+        self.move_range(mate, far, way, ranges.start, ranges.end);
+        self.move_range(mate, far, way, 0, ranges.wrapped);
     }
 
     /// Moves the counts at all ends that look at a place, but for the spared ones, by what moves there.

@@ -109,8 +109,9 @@ impl Supports {
     {
         let end = links.end(number);
         let ranges = touched(left, end, self.period.get());
-        self.sift_range(end.looks_at, end.mate, ranges.start..ranges.end);
-        self.sift_range(end.looks_at, end.mate, 0..ranges.wrapped);
+        let (place, mate) = (end.looks_at as usize, end.mate as usize);
+        self.sift_range(place, mate, ranges.start..ranges.end);
+        self.sift_range(place, mate, 0..ranges.wrapped);
     }
 
     /// Takes those of a range of residues at a place out that have no partner at an end.

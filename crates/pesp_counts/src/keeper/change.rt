@@ -101,18 +101,14 @@ impl Change {
           recounted = None;
         } }
     {
-        match links.event(event) {
-            Some(place) => Change {
-                loosened: if loosens {
-                    Starts::At([place])
-                } else {
-                    Starts::Nowhere
-                },
-                limited: Some(PlacedEvent { event, place }),
-                recounted: None,
-            },
-            None => Change::none(),
+        let mut change = Change::none();
+        if let Some(place) = links.event(event) {
+            change.limited = Some(PlacedEvent { event, place });
+            if loosens {
+                change.loosened = Starts::At([place]);
+            }
         }
+        change
     }
 
     /// That of an activity that changes, of which is known whether it joins pairs anew.
@@ -127,18 +123,12 @@ impl Change {
           recounted = Some q;
         } }
     {
-        match links.activity(id) {
-            Some(place) => Change {
-                loosened: if loosens {
-                    let (from, to) = links.events_of(place);
-                    Starts::AtBoth([from, to])
-                } else {
-                    Starts::Nowhere
-                },
-                limited: None,
-                recounted: Some(place),
-            },
-            None => Change::none(),
+        let mut change = Change::none();
+        change.recounted = links.activity(id);
+        if let (true, Some(place)) = (loosens, change.recounted) {
+            let (from, to) = links.events_of(place);
+            change.loosened = Starts::AtBoth([from, to]);
         }
+        change
     }
 }

@@ -150,6 +150,10 @@ pub fn house(
     ensures room { KeepsRoom counted.old counted.new }
     ensures restored { counted.new.restored.items ≡ counted.old.restored.items }
 {
+    // Room for all at once, and not for one after another.
+    counted
+        .links
+        .make_room(instance.event_count(), instance.activity_count())?;
     pushed.reserve(instance.event_count())?;
     house_events(alloc, instance, counted)?;
     house_activities(instance, &mut counted.links, &mut counted.supports)

@@ -10,7 +10,7 @@ ghost use Rattle.pesp_counts.specs.Changes.{Follows, HaveFollowed, IsBefore, IsC
 ghost use Rattle.pesp_counts.specs.Keeping.{KeepsRoom, adds};
 
 use super::Pushed;
-use super::change::{Change, Starts};
+use super::change::Change;
 use super::counted::{Counted, house_activity, house_event};
 use super::propagating::propagate;
 use pesp_base::{Activity, EventId, Period};
@@ -72,11 +72,8 @@ pub fn add_activity(
         ..
     } = counted;
     house_activity(instance.period(), links, supports, activity)?;
-    let change = Change {
-        loosened: Starts::Nowhere,
-        limited: None,
-        recounted: links.activity(activity.id),
-    };
+    let mut change = Change::none();
+    change.recounted = links.activity(activity.id);
     propagate(&change, instance, links, supports, back);
     Ok(())
 }
@@ -128,13 +125,10 @@ pub fn take_back(instance: &mut Instance, edit: &Edit)
     ensures { (I : Network) → IsNetwork I → edited I edit.now ≡ Ok instance.old → instance.new ≡ I }
 {
     // Nothing stands on what was added, so none of these is refused.
-    match *edit {
-        Edit::AddEvent(event) => {
-            let _ = instance.apply(&Edit::DropEvent(event));
-        }
-        Edit::AddActivity(activity) => {
-            let _ = instance.apply(&Edit::DropActivity(activity.id));
-        }
-        _ => {}
-    }
+    let undoing = match *edit {
+        Edit::AddEvent(event) => Edit::DropEvent(event),
+        Edit::AddActivity(activity) => Edit::DropActivity(activity.id),
+        _ => return,
+    };
+    let _ = instance.apply(&undoing);
 }

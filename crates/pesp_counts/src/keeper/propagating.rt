@@ -58,11 +58,11 @@ fn recount(links: &Links, supports: &mut Supports, recounted: Option<usize>)
     if let Some(place) = recounted {
         let tail = links.tail_at(place);
         let end = links.end(tail);
-        let head = end.mate;
+        let head = end.mate as usize;
         let mate = links.end(head);
         supports.recount(tail, end);
         supports.recount(head, mate);
-        supports.sift(mate.looks_at, tail);
-        supports.sift(end.looks_at, head);
+        supports.sift(mate.looks_at as usize, tail);
+        supports.sift(end.looks_at as usize, head);
     }
 }

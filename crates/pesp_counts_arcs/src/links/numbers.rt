@@ -36,7 +36,8 @@ impl Links {
         ensures to { result.1 ≡ (end_at (self.now).ends (2 * place)).looks_at }
     {
         let tail = self.tail_at(place);
-        (self.ends[tail + 1].looks_at, self.ends[tail].looks_at)
+        let (from, to) = (self.ends[tail + 1].looks_at, self.ends[tail].looks_at);
+        (from as usize, to as usize)
     }
 
     /// The number of the end at the tail of the activity at a place.

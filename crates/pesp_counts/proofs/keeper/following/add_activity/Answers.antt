@@ -24,12 +24,13 @@ propagate-requires-clause-ready c =
     let (I, w) = c.requires.before in
     let J = c.args.instance.now in
     let ok = c.in_ok-house_activity.ensures in
-    added_ready I J c.args.activity.now c.args.counted.now.links c.house_activity.new.links c.args.counted.now.supports c.house_activity.new.supports c.activity.result ok.changed.0 w (ok.ok I J w.made w.settled.fits) ok.changed.1 ok.changed.2 c.house_activity.ensures.grown c.activity.ensures
+    rw c.none-change.ensures
+    (added_ready I J c.args.activity.now c.args.counted.now.links c.house_activity.new.links c.args.counted.now.supports c.house_activity.new.supports c.activity-change.result ok.changed.0 w (ok.ok I J w.made w.settled.fits) ok.changed.1 ok.changed.2 c.house_activity.ensures.grown c.activity-change.ensures)
 
 pub returns-clause-ok : goal.returns-clause-ok
 returns-clause-ok c =
     (λ I w.
     let J = c.args.instance.now in
     let ok = c.in_ok-house_activity.ensures in
-    added_followed I J c.args.activity.now c.args.counted.now.links c.house_activity.new.links c.args.counted.now.supports c.house_activity.new.supports c.activity.result ok.changed.0 w (ok.ok I J w.made w.settled.fits) ok.changed.1 ok.changed.2 c.house_activity.ensures.grown c.activity.ensures
-    c.propagate.new.supports c.propagate.new.back.items c.period.ensures.network c.propagate.ensures.back c.propagate.ensures.worked)
+    added_followed I J c.args.activity.now c.args.counted.now.links c.house_activity.new.links c.args.counted.now.supports c.house_activity.new.supports c.activity-change.result ok.changed.0 w (ok.ok I J w.made w.settled.fits) ok.changed.1 ok.changed.2 c.house_activity.ensures.grown c.activity-change.ensures
+    c.propagate.new.supports c.propagate.new.back.items c.period.ensures.network (rw c.none-change.ensures at c.propagate.ensures.back) c.propagate.ensures.worked)

@@ -4,11 +4,11 @@ use Rattle.pesp_instance.specs.Edited.{edited}
 use Rattle.pesp_domains.proofs.Edits.{undone}
 use Rattle.pesp_counts.proofs.Housed.{undone_activity}
 use Rattle.pesp_counts.proofs.keeper.following.take_back.Goals as goal
+use Rattle.pesp_counts.proofs.keeper.following.take_back.Goals.{in-AddEvent, in-AddActivity}
 
-pub returns-in-AddEvent : goal.returns-in-AddEvent
-returns-in-AddEvent c I network made =
-    undone I c.args.instance.now c.apply.new.self c.in-AddEvent.event c.apply.result network (ap (edited I) (sym c.in-AddEvent.is) ∙ made) c.apply.ensures.ok c.apply.ensures.err
-
-pub returns-in-AddActivity : goal.returns-in-AddActivity
-returns-in-AddActivity c I network made =
-    undone_activity I c.args.instance.now c.apply-in-AddActivity.new.self c.in-AddActivity.activity c.apply-in-AddActivity.result network (ap (edited I) (sym c.in-AddActivity.is) ∙ made) c.apply-in-AddActivity.ensures.ok c.apply-in-AddActivity.ensures.err
+pub returns : goal.returns
+returns c I network made =
+    elim c.match-edit.branch [
+      | in-AddEvent w ↦ undone I c.args.instance.now c.apply.new.self w.in-AddEvent.event c.apply.result network (ap (edited I) (sym w.in-AddEvent.is) ∙ made) (rw w.undoing-is at c.apply.ensures.ok) (rw w.undoing-is at c.apply.ensures.err)
+      | in-AddActivity w ↦ undone_activity I c.args.instance.now c.apply.new.self w.in-AddActivity.activity c.apply.result network (ap (edited I) (sym w.in-AddActivity.is) ∙ made) (rw w.undoing-is at c.apply.ensures.ok) (rw w.undoing-is at c.apply.ensures.err)
+    ]

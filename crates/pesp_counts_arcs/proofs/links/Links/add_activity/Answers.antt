@@ -37,7 +37,7 @@ invariant_of-self-then-is_err c =
     let ends = on_err c.make_ends.result c.if-is_err.ensures.value c.make_ends.ensures.err in
     rw ends
     (housed_room inside.events inside.activities c.remove.new.self inside.ends.items inside.at c.make_ends.new.at c.self.invariant c.remove.ensures.paired as_before
-    (rw ends at c.make_ends.ensures.items) c.make_ends.ensures.lists c.make_ends.ensures.shared)
+    (rw ends at c.make_ends.ensures.items) c.make_ends.ensures.lists c.make_ends.ensures.stored)
 
 pub returns-then-is_err-clause-err : goal.returns-then-is_err-clause-err
 returns-then-is_err-clause-err c =
@@ -91,7 +91,7 @@ invariant_of-self-2 c =
     let few = c.make_ends.ensures.items in
     let items = c.add-2.ensures.items ∙ c.add.ensures.items in
     housed_more inside.events inside.activities c.insert.new.self inside.ends.items (made put) inside.at c.add-2.new.self c.args.activity.now.id c.in_ok-place.place _ _ c.self.invariant absent c.insert.ensures.paired came
-    (omega (arith, more, long)) (omega (arith, room, long)) (omega (arith, few, long, items)) (listed put) c.add-2.ensures.shared
+    (omega (arith, more, long)) (omega (arith, room, long)) (omega (arith, few, long, items)) (listed put) c.add-2.ensures.stored
 
 pub returns-clause-ok : goal.returns-clause-ok
 returns-clause-ok c I J period ok stand =

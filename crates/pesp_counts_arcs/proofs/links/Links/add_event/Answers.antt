@@ -28,7 +28,7 @@ invariant_of-self-then-is_err c =
     let inside = c.self.inside in
     let as_before = same (goal.at.invariant_of-self-then-is_err c).After-remove in
     let more = c.grow_lists.ensures.more in
-    housed_events inside.events c.remove.new.self inside.activities inside.ends.items inside.at c.grow_lists.new.self c.self.invariant c.remove.ensures.paired c.grow_lists.ensures.items c.grow_lists.ensures.lists c.grow_lists.ensures.shared
+    housed_events inside.events c.remove.new.self inside.activities inside.ends.items inside.at c.grow_lists.new.self c.self.invariant c.remove.ensures.paired c.grow_lists.ensures.items c.grow_lists.ensures.lists c.grow_lists.ensures.stored
     (λ e p is. let low = c.self.invariant.event_room e p (sym (as_before e) ∙ is) in omega (arith, low, more))
 
 pub returns-then-is_err-clause-err : goal.returns-then-is_err-clause-err
@@ -42,7 +42,7 @@ pub returns-clause-room : goal.returns-clause-room
 returns-clause-room c =
     let place : ℕ = c.in_ok-place.place in
     let many = on_ok c.grow_lists.result c.if-is_err.ensures.value c.grow_lists.ensures.many in
-    let small = c.grow_lists.ensures.small in
+    let small = c.grow_lists.ensures.stored.few_lists in
     let next = c.saturating_add.ensures in
     omega (arith, many, small, next)
 
@@ -50,7 +50,7 @@ pub invariant_of-self-else-is_err : goal.invariant_of-self-else-is_err
 invariant_of-self-else-is_err c =
     let inside = c.self.inside in
     let came = rw c.get.ensures.value at c.in_ok-place.ensures.places in
-    housed_events inside.events c.insert.new.self inside.activities inside.ends.items inside.at c.grow_lists.new.self c.self.invariant c.insert.ensures.paired c.grow_lists.ensures.items c.grow_lists.ensures.lists c.grow_lists.ensures.shared
+    housed_events inside.events c.insert.new.self inside.activities inside.ends.items inside.at c.grow_lists.new.self c.self.invariant c.insert.ensures.paired c.grow_lists.ensures.items c.grow_lists.ensures.lists c.grow_lists.ensures.stored
     (in_reach inside.events c.insert.new.self c.args.event c.in_ok-place.place _ _ came c.self.invariant.event_room c.grow_lists.ensures.more (returns-clause-room c))
 
 pub returns-clause-ok : goal.returns-clause-ok

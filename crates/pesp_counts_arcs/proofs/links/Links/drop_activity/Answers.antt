@@ -18,7 +18,7 @@ remove-requires-in-Some c =
     let tail = rw (sym c.self.view_is) at (tail_listed c.requires.0 _ c.args.id c.in-Some.place at c.requires.1) in
     let head = rw (sym c.self.view_is) at (head_listed c.requires.0 _ c.args.id c.in-Some.place at c.requires.1) in
     rw (c.remove.ensures.lists, c.tail_at-tail.ensures, c.events_of-from_at.ensures.from, c.events_of-from_at.ensures.to, sym c.self.view_is)
-    (still_there c.self.inside.at.lists c.self.inside.at.items c.in-Some.place _ _ c.self.invariant.listed_in tail head)
+    (still_there c.self.inside.at.lists c.self.inside.at.items c.in-Some.place _ _ c.self.invariant.listed_in.shared tail head)
 
 gone : (c : After-remove-in-Some-2) → AreUnlisted c.self.inside.at.lists c.remove-in-Some.new.self.lists c.in-Some.place
 gone c =
@@ -26,14 +26,14 @@ gone c =
     let tail = rw (sym c.self.view_is) at (tail_listed c.requires.0 _ c.args.id c.in-Some.place at c.requires.1) in
     let head = rw (sym c.self.view_is) at (head_listed c.requires.0 _ c.args.id c.in-Some.place at c.requires.1) in
     rw (c.remove-in-Some.ensures.lists, c.remove.ensures.lists, c.tail_at-tail.ensures, c.events_of-from_at.ensures.from, c.events_of-from_at.ensures.to, sym c.self.view_is)
-    (unlisted c.self.inside.at.lists c.self.inside.at.items c.in-Some.place _ _ c.self.invariant.listed_in tail head)
+    (unlisted c.self.inside.at.lists c.self.inside.at.items c.in-Some.place _ _ c.self.invariant.listed_in.shared tail head)
 
 pub invariant_of-self : goal.invariant_of-self
 invariant_of-self c =
     let inside = c.self.inside in
     let at = rw (sym c.self.view_is) at (sym c.activity.ensures ∙ c.in-Some.is) in
     let went = rw c.get.ensures.value at c.remove-in-Some-2.ensures.places in
-    housed_less inside.events inside.activities c.remove-in-Some-2.new.self inside.ends.items inside.at c.remove-in-Some.new.self c.args.id c.in-Some.place c.self.invariant c.remove-in-Some-2.ensures.paired went at (gone (goal.at.invariant_of-self c).After-remove-in-Some-2) (c.remove-in-Some.ensures.items ∙ c.remove.ensures.items) c.remove-in-Some.ensures.shared
+    housed_less inside.events inside.activities c.remove-in-Some-2.new.self inside.ends.items inside.at c.remove-in-Some.new.self c.args.id c.in-Some.place c.self.invariant c.remove-in-Some-2.ensures.paired went at (gone (goal.at.invariant_of-self c).After-remove-in-Some-2) (c.remove-in-Some.ensures.items ∙ c.remove.ensures.items) c.remove-in-Some.ensures.stored
 
 pub returns-in-Some-clause-stand : goal.returns-in-Some-clause-stand
 returns-in-Some-clause-stand c I J ok stand =

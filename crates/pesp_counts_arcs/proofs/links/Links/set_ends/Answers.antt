@@ -39,7 +39,7 @@ remove-requires-in-Some c =
     let tail = rw (sym c.self.view_is) at (tail_listed c.requires.stood.0 _ c.args.id c.in-Some.place at c.requires.stood.1) in
     let head = rw (sym c.self.view_is) at (head_listed c.requires.stood.0 _ c.args.id c.in-Some.place at c.requires.stood.1) in
     rw (c.remove.ensures.lists, c.tail_at-tail.ensures, c.events_of-tail_at.ensures.from, c.events_of-tail_at.ensures.to, sym c.self.view_is)
-    (still_there c.self.inside.at.lists c.self.inside.at.items c.in-Some.place _ _ c.self.invariant.listed_in tail head)
+    (still_there c.self.inside.at.lists c.self.inside.at.items c.in-Some.place _ _ c.self.invariant.listed_in.shared tail head)
 
 gone : (c : After-remove-in-Some) → AreUnlisted c.self.inside.at.lists c.remove-in-Some.new.self.lists c.in-Some.place
 gone c =
@@ -47,7 +47,7 @@ gone c =
     let tail = rw (sym c.self.view_is) at (tail_listed c.requires.stood.0 _ c.args.id c.in-Some.place at c.requires.stood.1) in
     let head = rw (sym c.self.view_is) at (head_listed c.requires.stood.0 _ c.args.id c.in-Some.place at c.requires.stood.1) in
     rw (c.remove-in-Some.ensures.lists, c.remove.ensures.lists, c.tail_at-tail.ensures, c.events_of-tail_at.ensures.from, c.events_of-tail_at.ensures.to, sym c.self.view_is)
-    (unlisted c.self.inside.at.lists c.self.inside.at.items c.in-Some.place _ _ c.self.invariant.listed_in tail head)
+    (unlisted c.self.inside.at.lists c.self.inside.at.items c.in-Some.place _ _ c.self.invariant.listed_in.shared tail head)
 
 pub add-requires-clause-free : goal.add-requires-clause-free
 add-requires-clause-free c p i = (gone (goal.at.add-requires-clause-free c).After-remove-in-Some).gone p _ i (inl c.tail_at-tail.ensures)
@@ -75,7 +75,7 @@ invariant_of-self c =
     let put = (goal.at.invariant_of-self c).After-add-in-Some in
     let at = rw (sym c.self.view_is) at (sym c.activity.ensures ∙ c.in-Some.is) in
     housed_moved inside.events inside.activities inside.ends.items (turned put) inside.at c.remove-in-Some.new.self.lists c.add-in-Some.new.self c.args.id c.in-Some.place _ _ c.self.invariant at (wrote put).0.many
-    (c.add-in-Some.ensures.items ∙ c.add.ensures.items ∙ c.remove-in-Some.ensures.items ∙ c.remove.ensures.items) less (listed put less) c.add-in-Some.ensures.shared
+    (c.add-in-Some.ensures.items ∙ c.add.ensures.items ∙ c.remove-in-Some.ensures.items ∙ c.remove.ensures.items) less (listed put less) c.add-in-Some.ensures.stored
 
 pub returns-in-Some-clause-stand : goal.returns-in-Some-clause-stand
 returns-in-Some-clause-stand c I J ok stand =

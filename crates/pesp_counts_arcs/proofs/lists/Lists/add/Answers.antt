@@ -25,12 +25,12 @@ few : (items : List Neighbours) (heads : List Head) (list item : ℕ) (head : He
 few items heads list item head o low out =
     let lists : List (List ℕ) = lists_of (afters items) heads in
     let more : List (List ℕ) = slice_set lists list (item ∷ items_at lists list) in
-    let shared = shared_more lists list item o.there (length items) low out o.rings.shared in
+    let shared = shared_more lists list item o.there (length items) low out o.rings.stored.shared in
     let most = short (length items) (items_at more list) (shared.within list) (shared.once list) in
     let at : items_at more list ≡ item ∷ items_at lists list = get_or-set_same lists list (item ∷ items_at lists list) [] o.there in
     let long = ap length at in
     let walk = ap length (walked items heads list head o) in
-    let all = o.rings.few in
+    let all = o.rings.stored.few in
     omega (arith, most, long, walk, length-steps (afters items) head.first head.count, all)
 
 -- the neighbours as they were written
@@ -83,5 +83,5 @@ returns-clause-lists c =
     ∙ lists_more _ _ _ _ (store at) c.args.item (low at) (out at) c.join-2.new.items (ahead put) (back put)
     ∙ ap (λ (s : Shared). slice_set s.lists c.args.list (c.args.item ∷ items_at s.lists c.args.list)) c.self.view_is
 
-pub returns-clause-shared : goal.returns-clause-shared
-returns-clause-shared c = let rings = invariant_of-self c in rings.shared
+pub returns-clause-stored : goal.returns-clause-stored
+returns-clause-stored c = let rings = invariant_of-self c in rings.stored

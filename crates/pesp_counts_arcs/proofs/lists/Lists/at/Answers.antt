@@ -12,4 +12,4 @@ invariant_of-result c k i =
     let heads = c.self.inside.heads.items in
     let is : c.unwrap_or_default-head.result ≡ slice_index_or heads c.args.list no_head = search rules in
     let walk = ap (λ (h : Head). steps next h.first h.count) is ∙ sym (items_any next heads c.args.list) in
-    c.self.invariant.shared.within c.args.list k (subst (λ xs. Contains xs k) walk i)
+    c.self.invariant.stored.shared.within c.args.list k (subst (λ xs. Contains xs k) walk i)

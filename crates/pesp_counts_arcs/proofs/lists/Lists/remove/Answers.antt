@@ -17,10 +17,10 @@ store c = opened _ _ _ _ c.self.invariant (list_there _ c.args.list c.args.item 
 
 -- what stands around the item
 after_is : (c : After-index-around) → c.index-around.result.now.after ≡ slice_index_or (afters c.self.inside.items.items) c.args.item 0
-after_is c = field_read (λ n. n.after) _ c.args.item _ (c.self.invariant.shared.within c.args.list c.args.item (there_is c)) c.index-around.ensures
+after_is c = field_read (λ n. n.after) _ c.args.item _ (c.self.invariant.stored.shared.within c.args.list c.args.item (there_is c)) c.index-around.ensures
 
 before_is : (c : After-index-around) → c.index-around.result.now.before ≡ slice_index_or (befores c.self.inside.items.items) c.args.item 0
-before_is c = field_read (λ n. n.before) _ c.args.item _ (c.self.invariant.shared.within c.args.list c.args.item (there_is c)) c.index-around.ensures
+before_is c = field_read (λ n. n.before) _ c.args.item _ (c.self.invariant.stored.shared.within c.args.list c.args.item (there_is c)) c.index-around.ensures
 
 -- the neighbours as they were written
 ahead : (c : After-join) → let items = c.self.inside.items.items in let item = c.args.item in
@@ -47,18 +47,18 @@ front c after =
 pub index-around-requires : goal.index-around-requires
 index-around-requires c =
     let there = subst (λ (s : Shared). Contains (items_at s.lists c.args.list) c.args.item) (sym c.self.view_is) c.requires in
-    let low = c.self.invariant.shared.within c.args.list c.args.item there in
+    let low = c.self.invariant.stored.shared.within c.args.list c.args.item there in
     omega (arith, low, c.self.inside.items.ok.0)
 
 pub join-requires-clause-before : goal.join-requires-clause-before
 join-requires-clause-before c =
     let at = (goal.at.join-requires-clause-before c).After-index-around in
-    rw (before_is at, c.deref_mut.ensures.value) (c.self.invariant.shared.within c.args.list _ (c.self.invariant.backward.stays c.args.list c.args.item (there_is at)))
+    rw (before_is at, c.deref_mut.ensures.value) (c.self.invariant.stored.shared.within c.args.list _ (c.self.invariant.backward.stays c.args.list c.args.item (there_is at)))
 
 pub join-requires-clause-after : goal.join-requires-clause-after
 join-requires-clause-after c =
     let at = (goal.at.join-requires-clause-after c).After-index-around in
-    rw (after_is at, c.deref_mut.ensures.value) (c.self.invariant.shared.within c.args.list _ (c.self.invariant.forward.stays c.args.list c.args.item (there_is at)))
+    rw (after_is at, c.deref_mut.ensures.value) (c.self.invariant.stored.shared.within c.args.list _ (c.self.invariant.forward.stays c.args.list c.args.item (there_is at)))
 
 pub invariant_of-self : goal.invariant_of-self
 invariant_of-self c =
@@ -75,5 +75,5 @@ returns-clause-lists c =
     (lists_less _ _ _ _ (store at) c.join.new.items c.args.item c.if-head-item.first (there_is at) (ahead put (before_is at) (after_is at)) (back put (before_is at) (after_is at)) (front (goal.at.returns-clause-lists c).After-join (after_is at))
     ∙ ap (λ (s : Shared). slice_set s.lists c.args.list (all_but c.args.item (items_at s.lists c.args.list))) c.self.view_is)
 
-pub returns-clause-shared : goal.returns-clause-shared
-returns-clause-shared c = let rings = invariant_of-self c in rings.shared
+pub returns-clause-stored : goal.returns-clause-stored
+returns-clause-stored c = let rings = invariant_of-self c in rings.stored
