@@ -8,9 +8,6 @@ use std::alloc::{AllocError, Global};
 use std::collections::BTreeMap;
 use std::marker::Model;
 
-/// How many guesses there are at first.
-const FIRST_ROOM: usize = 16;
-
 /// A place for each number that has one, which it keeps as long as it is there.
 #[derive(Drop)]
 pub struct Places {
@@ -46,12 +43,11 @@ impl Places {
         }
     }
 
-    /// Makes room for so many numbers in all.
+    /// Makes room for so many numbers, which have no places yet.
     pub fn make_room(&mut self, numbers: usize) -> Result<(), AllocError>
         ensures { self.new ≡ self.old }
     {
-        self.numbers
-            .reserve(numbers.saturating_sub(self.numbers.len()))?;
+        self.numbers.reserve(numbers)?;
         make_guesses(&mut self.guesses, numbers)
     }
 
@@ -152,7 +148,7 @@ fn make_guesses(guesses: &mut Vec<u32>, count: usize) -> Result<(), AllocError>
     ensures stay { StayGuessed (guesses.old).items (guesses.new).items }
 {
     if guesses.is_empty() {
-        let room = count.max(FIRST_ROOM);
+        let room = count.max(16);
         guesses.resize(room.checked_next_power_of_two().ok_or(AllocError)?, 0)?;
     }
     while guesses.len() < count {

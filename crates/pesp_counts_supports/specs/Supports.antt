@@ -1,5 +1,5 @@
 -- Counts, rows and the trail, and what the passes over them do.
-use Rattle.std.specs.Prelude.{◌≡◌, ◌≢◌, ℕ, zero, suc, ◌+◌, ◌*◌, ◌%◌, cond, ◌<◌, ◌≤◌, Bool, false, ◌==◌, ◌&&◌, ◌||◌, not, IsTrue, List, ◌++◌, length, slice_index_or, AllPairs, All, sum_by}
+use Rattle.std.specs.Prelude.{◌≡◌, ◌≢◌, ℕ, zero, suc, ◌+◌, ◌*◌, ◌%◌, cond, ◌<◌, ◌≤◌, Bool, false, ◌==◌, ◌&&◌, ◌||◌, not, IsTrue, List, [], ◌++◌, length, slice_index_or, AllPairs, All, sum_by}
 use Rattle.std.specs.List.{list_any}
 use Rattle.std.specs.List.{Contains}
 use Rattle.pesp_domains.specs.Sweeps.{Pairs}
@@ -19,6 +19,10 @@ pub record Supports : Type 0 where
   pub room : ℕ
   pub sums : List ℕ
   pub probes : ℕ
+
+-- no row and no count
+abbrev pub no_supports : ℕ → Supports
+no_supports period = record { period = period; counts = []; counted = []; rows = []; trail = []; room = 0; sums = []; probes = 0 }
 
 -- how many places there are at most
 abbrev pub most_places : ℕ

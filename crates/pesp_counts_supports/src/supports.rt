@@ -4,7 +4,7 @@ ghost use Rattle.std.specs.Prelude.{◌≡◌, ◌<◌, ◌≤◌, ◌*◌, ◌+
 ghost use Rattle.pesp_domains.specs.Sweeps.{Of, limited};
 ghost use Rattle.pesp_counts_arcs.specs.Ends.{AreLinked, end_at, ends_of, passes};
 ghost use Rattle.pesp_counts_supports.specs.Counts.{ArePending, KeepsClosed, count_at, has_at, supporters};
-ghost use Rattle.pesp_counts_supports.specs.Supports.{AreExact, AreLevel, AreOut, Fit, HaveSameShape, IsRoomier, IsTaken, Keeps, is_in};
+ghost use Rattle.pesp_counts_supports.specs.Supports.{AreExact, AreLevel, AreOut, Fit, HaveSameShape, IsRoomier, IsTaken, Keeps, is_in, no_supports};
 
 use crate::Placed;
 use crate::counts::Counts;
@@ -51,16 +51,7 @@ impl Model for Supports {
 impl Supports {
     /// No row and no count.
     pub fn new(alloc: Global, period: Period) -> Supports
-        ensures { result ≡ record {
-          period = period;
-          counts = [];
-          counted = [];
-          rows = [];
-          trail = [];
-          room = 0;
-          sums = [];
-          probes = 0;
-        } }
+        ensures { result ≡ no_supports period }
     {
         Supports {
             period,
