@@ -29,6 +29,8 @@ fn sum_on(sums: &mut [u16], period: u16, many: u16)
 }
 
 /// Makes the sums of the residues that the one row holds, of all or of those that the other lacks, and tells how many they are.
+// Each call says by a constant which, so that the choice is none of the loop.
+#[inline(always)]
 pub(crate) fn sum_beyond(row: &Row, other: &Row, all: bool, period: u16, sums: &mut [u16]) -> u16
     requires period { period ≤ greatest_period }
     requires some { 0 < period }
