@@ -25,6 +25,11 @@ def from_one_event(rows: int) -> str:
     return text_of((name, 1, 2 + name % (MOST_EVENTS - 1), 0, 59, 1) for name in range(rows))
 
 
+def alike_rows(rows: int) -> str:
+    """Numbers in fourteen kinds, each with the same last 17 bits: all but fourteen lose their guess to another."""
+    return text_of((name % 7_629 * 131_072 + name // 7_629, 1, 1, 0, 59, 1) for name in range(rows))
+
+
 def reversed_rows(rows: int) -> str:
     numbers = Numbers(rows)
     times = [numbers.below(PERIOD) for _ in range(events_of(rows))]
@@ -49,7 +54,7 @@ FILES: Dict[str, Tuple[Callable[[int], str], Optional[str]]] = {
     "comments": (lambda size: "#\n" * (size // 2), NOTHING),
 }
 # A file of so many rows; the events have no time, so that the check is short.
-NETWORKS = {"at one event": at_one_event, "from one event": from_one_event, "numbers descending": reversed_rows}
+NETWORKS = {"at one event": at_one_event, "from one event": from_one_event, "ending alike": alike_rows, "numbers descending": reversed_rows}
 # A line given so many times to the network of one activity, and the reply to each.
 COMMANDS = {
     "": "",
