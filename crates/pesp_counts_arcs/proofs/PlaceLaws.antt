@@ -204,15 +204,6 @@ AreFound-guessed numbers before after entries number kept is guesses by_bits fre
       ];
 }
 
--- nothing is found where there is nothing
-pub AreFound-none : AreFound (record { numbers = [] }) [] []
-AreFound-none = record {
-  are_places = record { paired = λ n p. (λ is. absurd (cc), λ is. absurd (cc)) };
-  by_bits = inl refl;
-  found = λ n p is. absurd (cc);
-  mapped = λ n p is. absurd (cc);
-}
-
 -- a number without a place is not in the map
 pub other_of-absent : (places : Places) (guesses : List ℕ) (entries : List (ℕ × ℕ)) (number : ℕ) → AreFound places guesses entries → place_of places number ≡ None → other_of entries number ≡ None
 other_of-absent places guesses entries number is absent =
