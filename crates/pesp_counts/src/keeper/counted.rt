@@ -151,10 +151,9 @@ pub fn house(
     ensures restored { counted.new.restored.items ≡ counted.old.restored.items }
 {
     // Room for all at once, and not for one after another.
-    counted
-        .links
-        .make_room(instance.event_count(), instance.activity_count())?;
-    pushed.reserve(instance.event_count())?;
+    let events = instance.event_count();
+    counted.links.make_room(events, instance.activity_count())?;
+    pushed.reserve(events)?;
     house_events(alloc, instance, counted)?;
     house_activities(instance, &mut counted.links, &mut counted.supports)
 }
