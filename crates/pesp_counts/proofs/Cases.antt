@@ -70,7 +70,7 @@ narrower_span = refl
 
 -- activity 2 has place 0, and activity 1 place 1
 abbrev linked : Links
-linked = record no_links { activities = record { places = (1, 1) ∷ (2, 0) ∷ []; numbers = Some 2 ∷ Some 1 ∷ [] } }
+linked = record no_links { activities = record { numbers = Some 2 ∷ Some 1 ∷ [] } }
 
 recounts_set : recounted_by linked (do_.SetSpan 2 (span (pos 3) (pos 6))) ≡ Some 0
 recounts_set = refl
