@@ -96,6 +96,11 @@ impl<T: Clone> Vec<T> {
         Ok(())
     }
 
+    pub fn extend_from_within(&mut self, places: std::ops::RangeFull) -> Granted<()> {
+        self.0.extend_from_within(places);
+        Ok(())
+    }
+
     pub fn resize(&mut self, length: usize, value: T) -> Granted<()> {
         self.0.resize(length, value);
         Ok(())
@@ -182,6 +187,10 @@ impl<K: Ord, V> BTreeMap<K, V> {
         BTreeMap(std::collections::BTreeMap::new())
     }
 
+    pub fn from_iter(_: Global, pairs: Vec<(K, V)>) -> Granted<BTreeMap<K, V>> {
+        Ok(BTreeMap(pairs.into_iter().collect()))
+    }
+
     pub fn insert(&mut self, key: K, value: V) -> Granted<Option<V>> {
         Ok(self.0.insert(key, value))
     }
@@ -239,8 +248,17 @@ impl<T> Slab<T> {
         Slab { entries: std::vec::Vec::new(), vacant: std::vec::Vec::new() }
     }
 
-    pub fn reserve(&mut self, _: usize) -> Granted<()> {
+    pub fn with_capacity(_: Global, room: usize) -> Granted<Slab<T>> {
+        Ok(Slab { entries: std::vec::Vec::with_capacity(room), vacant: std::vec::Vec::new() })
+    }
+
+    pub fn reserve(&mut self, room: usize) -> Granted<()> {
+        self.entries.reserve(room);
         Ok(())
+    }
+
+    pub fn len(&self) -> usize {
+        self.entries.len() - self.vacant.len()
     }
 
     pub fn get(&self, key: usize) -> Option<&T> {

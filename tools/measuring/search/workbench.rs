@@ -45,13 +45,15 @@ fn activity_of(row: &[i64]) -> Option<Activity> {
 
 fn opened(period: &str, activities: &str, fixed: Option<&str>) -> Option<Workbench> {
     let mut instance = Instance::new(Global, Period::new(period.parse().ok()?)?);
+    let mut given = library::Vec::new(Global);
     for row in rows_of(activities)? {
         let activity = activity_of(&row)?;
         for event in [activity.from, activity.to] {
             let _ = instance.apply(&Edit::AddEvent(event));
         }
-        instance.apply(&Edit::AddActivity(activity)).ok()?;
+        given.push(activity).ok()?;
     }
+    let mut instance = instance.with_activities(given).ok()??;
     for row in fixed.map_or(Some(Default::default()), rows_of)? {
         instance
             .apply(&Edit::Fix(EventId::new(row[0] as u32)?, row[1] as u16))
