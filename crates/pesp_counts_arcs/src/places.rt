@@ -139,7 +139,7 @@ fn keep_guess(numbers: &Slab<u32>, guesses: &mut [u32], number: u32) -> bool
     true
 }
 
-/// Makes sure of as many guesses. They are copied behind themselves, so that what is guessed for a
+/// Makes sure of so many guesses. They are copied behind themselves, so that what is guessed for a
 /// number stays.
 fn make_guesses(guesses: &mut Vec<u32>, count: usize) -> Result<(), AllocError>
     requires { AreByBits (guesses.old).items }

@@ -63,7 +63,8 @@ impl Instance {
         ensures filled { IfOk result (λ found. MatchOption found
             ((J : Network) → IsFilled self activities.items J → ⊥)
             (IsFilled self activities.items)) }
-        ensures err { OnErr result (0 < length activities.items) }
+        ensures err { OnErr result ((self.activities ≡ []) × (0 < length activities.items)
+            × (length activities.items ≤ limits.max_activities self.period)) }
     {
         if self.activities.len() != 0 {
             return Ok(None);
