@@ -28,7 +28,7 @@ use Rattle.pesp_search.specs.Optima.{IsOptimum}
 use Rattle.pesp_tension.specs.Answers.{cost_in, cost_of, first_missing, time_at, where_timed}
 use Rattle.pesp_tension.specs.Timetables.{Times, set_time, time_of, with_time, without_time}
 use Rattle.pesp_domains.proofs.Edits.{accepted, effect_is}
-use Rattle.pesp_bench.specs.Costing.{AreTimesOf, IsCosted, WasCosted, cost_edited, cost_of_number, missing_after}
+use Rattle.pesp_bench.specs.Costing.{AreTimesOf, IsCosted, cost_edited, cost_of_number, missing_after}
 use Rattle.pesp_bench.specs.State.{times_after}
 use Rattle.pesp_bench.proofs.Changed.{sum_by-filter, sum_by-put_in}
 use Rattle.pesp_bench.proofs.Entries.{key, length_put, length_replaced, length_without, other_put, room, without_none}
@@ -233,20 +233,32 @@ moves_change I m n change keeps network =
     let same = ap (sum_by (cost_in m)) (others_stay id_of n change keeps I.activities) in
     omega (arith, old, new, same)
 
+-- the number of an added activity was none
+pub absent : (I J : Network) (a : Activity) → edited I (AddActivity a) ≡ Ok J → activity_of I a.id ≡ None
+absent I J a is = none_from (activity_of I a.id) (not_refused (is_some (activity_of I a.id)) _ _ (effect I (AddActivity a)) J is)
+
+-- and is the activity's then
+pub added : (I : Network) (a : Activity) → activity_of (effect I (AddActivity a)) a.id ≡ Some a
+added I a = with_number-put_in id_of a.id a I.activities ∙ (rw (eq-eqb a.id a.id refl) refl)
+
+-- a dropped one has it no more
+pub gone : (I : Network) (n : ℕ) → activity_of (effect I (DropActivity n)) n ≡ None
+gone I n = with_number-take_out id_of n n I.activities ∙ (rw (eq-eqb n n refl) refl)
+
 -- an activity more
 moves_added : (I J : Network) (m : Times) (a : Activity) → IsNetwork I → edited I (AddActivity a) ≡ Ok J → Moves I m (AddActivity a)
 moves_added I J m a network is =
-    let absent : with_number id_of a.id I.activities ≡ None = none_from (activity_of I a.id) (not_refused (is_some (activity_of I a.id)) _ _ (effect I (AddActivity a)) J is) in
-    let there : with_number id_of a.id (put_in id_of a I.activities) ≡ Some a = with_number-put_in id_of a.id a I.activities ∙ (rw (eq-eqb a.id a.id refl) refl) in
-    let sum = sum_by-put_in id_of (cost_in m) a I.activities (activities_rise I network) absent in
-    rw (absent, there) (omega (arith, sum))
+    let none : with_number id_of a.id I.activities ≡ None = absent I J a is in
+    let there : with_number id_of a.id (put_in id_of a I.activities) ≡ Some a = added I a in
+    let sum = sum_by-put_in id_of (cost_in m) a I.activities (activities_rise I network) none in
+    rw (none, there) (omega (arith, sum))
 
 -- an activity fewer
 moves_dropped : (I : Network) (m : Times) (n : ℕ) → IsNetwork I → Moves I m (DropActivity n)
 moves_dropped I m n network =
-    let gone : with_number id_of n (take_out id_of n I.activities) ≡ None = with_number-take_out id_of n n I.activities ∙ (rw (eq-eqb n n refl) refl) in
+    let none : with_number id_of n (take_out id_of n I.activities) ≡ None = gone I n in
     let sum = sum_by-others id_of (cost_in m) n I.activities (activities_rise I network) in
-    rw gone (omega (arith, sum))
+    rw none (omega (arith, sum))
 
 -- a dropped event is the end of no activity
 unused : (I J : Network) (e : ℕ) → edited I (DropEvent e) ≡ Ok J → around I e ≡ []
@@ -273,34 +285,25 @@ moves I J m (SetSpan n span) network is = moves_change I m n (λ a. record a { s
 moves I J m (SetWeight n weight) network is = moves_change I m n (λ a. record a { weight = weight }) (λ a. refl) network
 moves I J m (SetEnds n from to) network is = moves_change I m n (λ a. record a { from = from; to = to }) (λ a. refl) network
 
--- what the edited activity costs is a part of the cost
-number_part : (I : Network) (m : Times) (n : ℕ) → IsNetwork I → cost_of_number I m n ≤ cost_of I m
-number_part I m n network = let sum = sum_by-others id_of (cost_in m) n I.activities (activities_rise I network) in omega (arith, sum)
-
-pub edited_part : (I : Network) (m : Times) (edit : Edit) → IsNetwork I → cost_edited I m edit ≤ cost_of I m
-edited_part I m (AddEvent e) network = omega arith
-edited_part I m (DropEvent e) network = omega arith
-edited_part I m (Fix e t) network = omega arith
-edited_part I m (SetWindow e first length) network = omega arith
-edited_part I m (Unfix e) network = omega arith
-edited_part I m (AddActivity a) network = number_part I m a.id network
-edited_part I m (DropActivity n) network = number_part I m n network
-edited_part I m (SetSpan n span) network = number_part I m n network
-edited_part I m (SetWeight n weight) network = number_part I m n network
-edited_part I m (SetEnds n from to) network = number_part I m n network
+-- what an activity costs is a part of the cost
+pub found_part : (I : Network) (m : Times) (n : ℕ) (a : Activity) (cost : ℕ) → IsNetwork I → activity_of I n ≡ Some a → cost ≡ cost_in m a → cost ≤ cost_of I m
+found_part I m n a cost network found is =
+    let sum = sum_by-others id_of (cost_in m) n I.activities (activities_rise I network) in
+    let share : option_map_or (cost_in m) (activity_of I n) 0 ≡ cost_in m a = ap (λ o. option_map_or (cost_in m) o 0) found in
+    omega (arith, sum, share, is)
 
 -- a dropped event is one of them
 dropped_event : (I J : Network) (e : ℕ) → edited I (DropEvent e) ≡ Ok J → IsTrue (has_event I e)
 dropped_event I J e is = there_is (has_event I e) (not_refused (not (has_event I e)) _ _ (effect I (DropEvent e)) J is)
 
 -- how many events have no time then
-lacks : (I J : Network) (m : Times) (edit : Edit) (missing : ℕ) → IsNetwork I → edited I edit ≡ Ok J → AreTimesOf I m → missing + length m.entries ≡ length I.events
+number_left : (I J : Network) (m : Times) (edit : Edit) (missing : ℕ) → IsNetwork I → edited I edit ≡ Ok J → AreTimesOf I m → missing + length m.entries ≡ length I.events
     → missing_after edit m missing + length (times_after edit m).entries ≡ length (effect I edit).events
-lacks I J m (AddEvent e) missing network is times all =
+number_left I J m (AddEvent e) missing network is times all =
     let absent : with_number number e I.events ≡ None = none_from (with_number number e I.events) (not_refused (has_event I e) _ _ (effect I (AddEvent e)) J is) in
     let long = length-put_in number (new_event e) I.events absent in
     omega (arith, long, all)
-lacks I J m (DropEvent e) missing network is times all = by (time_of m e) refl
+number_left I J m (DropEvent e) missing network is times all = by (time_of m e) refl
   where
     has : IsTrue (has_event I e)
     has = dropped_event I J e is
@@ -316,28 +319,21 @@ lacks I J m (DropEvent e) missing network is times all = by (time_of m e) refl
         let l = room_left I m e network times has at in
         let same = ap length (without_none e m.entries at) in
         omega (arith, l, same, one, all)
-lacks I J m (Fix e t) missing network is times all = all ∙ sym (length-change_in number e _ I.events)
-lacks I J m (SetWindow e first length) missing network is times all = all ∙ sym (length-change_in number e _ I.events)
-lacks I J m (Unfix e) missing network is times all = all ∙ sym (length-change_in number e _ I.events)
-lacks I J m (AddActivity a) missing network is times all = all
-lacks I J m (DropActivity n) missing network is times all = all
-lacks I J m (SetSpan n span) missing network is times all = all
-lacks I J m (SetWeight n weight) missing network is times all = all
-lacks I J m (SetEnds n from to) missing network is times all = all
-
--- a dropped event without a time is one of those that have none
-pub some_lacks : (J : Network) (m : Times) (edit : Edit) (share cost missing e : ℕ) → WasCosted J m edit share cost missing → edit ≡ DropEvent e → time_of m e ≡ None → 0 < missing
-some_lacks J m edit share cost missing e was drops none =
-    let has = dropped_event was.before J e (rw drops at was.makes) in
-    let l = room_left was.before m e was.network was.times has none in
-    omega (arith, l, was.costed.lacking)
+number_left I J m (Fix e t) missing network is times all = all ∙ sym (length-change_in number e _ I.events)
+number_left I J m (SetWindow e first length) missing network is times all = all ∙ sym (length-change_in number e _ I.events)
+number_left I J m (Unfix e) missing network is times all = all ∙ sym (length-change_in number e _ I.events)
+number_left I J m (AddActivity a) missing network is times all = all
+number_left I J m (DropActivity n) missing network is times all = all
+number_left I J m (SetSpan n span) missing network is times all = all
+number_left I J m (SetWeight n weight) missing network is times all = all
+number_left I J m (SetEnds n from to) missing network is times all = all
 
 -- after an edit
-pub after_edit : (J : Network) (m : Times) (edit : Edit) (share cost missing after new : ℕ) → WasCosted J m edit share cost missing
-    → after ≡ cost_edited J m edit → new + share ≡ cost + after → IsCosted J (times_after edit m) new (missing_after edit m missing)
-after_edit J m edit share cost missing after new was is moved =
-    let I : Network = was.before in
-    let at : J ≡ effect I edit = effect_is I J edit was.makes in
-    let here : after ≡ cost_edited (effect I edit) m edit = is ∙ ap (λ n. cost_edited n m edit) at in
-    let all = moves I J m edit was.network was.makes in
-    rw at (record { costs = omega (arith, all, here, moved, was.shares, was.costed.costs); lacking = lacks I J m edit missing was.network was.makes was.times was.costed.lacking })
+pub after_edit : (I J : Network) (m : Times) (edit : Edit) (cost missing before after new left : ℕ) → IsNetwork I → AreTimesOf I m → IsCosted I m cost missing → edited I edit ≡ Ok J
+    → (before ≡ cost_edited I m edit) × (after ≡ cost_edited J m edit) → new + before ≡ cost + after → left ≡ missing_after edit m missing → IsCosted J (times_after edit m) new left
+after_edit I J m edit cost missing before after new left network times costed makes are moved lacks =
+    let at : J ≡ effect I edit = effect_is I J edit makes in
+    let here : after ≡ cost_edited (effect I edit) m edit = are.1 ∙ ap (λ n. cost_edited n m edit) at in
+    let all = moves I J m edit network makes in
+    let some = number_left I J m edit missing network makes times costed.lacking in
+    rw at (record { costs = omega (arith, all, here, moved, are.0, costed.costs); lacking = omega (arith, some, lacks) })

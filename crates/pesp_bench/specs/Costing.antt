@@ -1,10 +1,10 @@
 -- The cost of the working timetable and the number of events without a time, as they are kept.
-use Rattle.std.specs.Prelude.{◌≡◌, ℕ, ◌+◌, ◌-◌, ◌<◌, if◌then◌else◌, is_none, [], length, None, Ok}
+use Rattle.std.specs.Prelude.{◌≡◌, ℕ, ◌+◌, ◌-◌, ◌<◌, if◌then◌else◌, is_none, [], length, None}
 use Rattle.std.specs.Option.{option_map_or}
+use Rattle.pesp_base.specs.declared.activity.Activity.{Activity}
 use Rattle.pesp_instance.specs.declared.edit.Edit.{Edit}
 use Rattle.pesp_instance.specs.declared.edit.Edit.TheVariants.{AddEvent, DropEvent, Fix, SetWindow, Unfix, AddActivity, DropActivity, SetSpan, SetWeight, SetEnds}
-use Rattle.pesp_instance.specs.Edited.{edited}
-use Rattle.pesp_instance.specs.Network.{IsNetwork, Network, activity_of}
+use Rattle.pesp_instance.specs.Network.{Network, activity_of}
 use Rattle.pesp_tension.specs.Answers.{cost_in, cost_of, time_at}
 use Rattle.pesp_tension.specs.Timetables.{Times, time_of}
 use Rattle.pesp_bench.specs.State.{IsState}
@@ -41,6 +41,19 @@ cost_edited I m (Fix e t) = 0
 cost_edited I m (SetWindow e first length) = 0
 cost_edited I m (Unfix e) = 0
 
+-- what an activity costs that an edit of its number dropped or changed
+abbrev pub cost_changed : Times → Edit → Activity → ℕ
+cost_changed m (SetSpan n span) a = cost_in m (record a { span = span })
+cost_changed m (SetWeight n weight) a = cost_in m (record a { weight = weight })
+cost_changed m (SetEnds n from to) a = cost_in m (record a { from = from; to = to })
+cost_changed m (DropActivity n) a = 0
+cost_changed m (AddActivity b) a = 0
+cost_changed m (AddEvent e) a = 0
+cost_changed m (DropEvent e) a = 0
+cost_changed m (Fix e t) a = 0
+cost_changed m (SetWindow e first length) a = 0
+cost_changed m (Unfix e) a = 0
+
 -- how many events have no time after an accepted edit, where so many had none before it
 abbrev pub missing_after : Edit → Times → ℕ → ℕ
 missing_after (AddEvent e) m missing = missing + 1
@@ -53,12 +66,3 @@ missing_after (DropActivity n) m missing = missing
 missing_after (SetSpan n span) m missing = missing
 missing_after (SetWeight n weight) m missing = missing
 missing_after (SetEnds n from to) m missing = missing
-
--- the instance was made by the edit, and before it the cost and the number were the timetable's, and so much the cost of the edited activity
-pub record WasCosted (J : Network) (m : Times) (edit : Edit) (share cost missing : ℕ) : Type 0 where
-  pub before : Network
-  pub network : IsNetwork before
-  pub makes : edited before edit ≡ Ok J
-  pub times : AreTimesOf before m
-  pub costed : IsCosted before m cost missing
-  pub shares : share ≡ cost_edited before m edit

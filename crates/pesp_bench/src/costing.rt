@@ -1,28 +1,28 @@
 //! What the working timetable costs, and how many events have no time: kept through each change, and not computed again.
 
-ghost use Rattle.std.specs.Prelude.{◌≡◌, ℕ, ◌≤◌, ◌<◌, ◌+◌, ◌*◌, ◌-◌, ◌^◌, [], IfErr, IfSome, IsSome, IsTrue, None, Ok, OnErr, OnOk, sum_by};
+ghost use Rattle.std.specs.Prelude.{◌≡◌, ◌≤◌, ◌<◌, ◌+◌, ◌*◌, ◌-◌, ◌^◌, [], IfErr, IfSome, IsSome, IsTrue, None, Ok, OnErr, OnOk, sum_by};
 ghost use Rattle.pesp_base.specs.Limits.{greatest_period, greatest_weight, max_activities};
 ghost use Rattle.pesp_base.specs.Tensions.{slack_of};
-ghost use Rattle.pesp_instance.specs.declared.edit.Edit.TheVariants.{DropEvent};
-ghost use Rattle.pesp_instance.specs.Network.{IsNetwork, around, has_event};
+ghost use Rattle.pesp_instance.specs.Edited.{edited};
+ghost use Rattle.pesp_instance.specs.Network.{IsNetwork, Network, around, has_event};
 ghost use Rattle.pesp_tension.specs.Answers.{cost_in, cost_of, where_timed};
 ghost use Rattle.pesp_tension.specs.Timetables.{IsSetRefusal, set_time, time_of, without_time};
-ghost use Rattle.pesp_bench.specs.Costing.{AreTimesOf, IsCosted, WasCosted, cost_edited, cost_of_number, missing_after};
+ghost use Rattle.pesp_bench.specs.Costing.{AreTimesOf, IsCosted, cost_changed, cost_edited, missing_after};
 ghost use Rattle.pesp_bench.specs.State.{times_after};
 
 use crate::moved::costs_around;
-use pesp_base::{Activity, ActivityId, EventId, Period, Refusal, slack};
+use pesp_base::{Activity, EventId, Period, Refusal, Span, Weight, slack};
 use pesp_instance::{Edit, Instance};
 use pesp_tension::{EventTime, Timetable, cost};
 
-/// Weight times slack of an activity from one residue to another.
-pub(crate) fn cost_between(activity: &Activity, period: Period, from: u16, to: u16) -> u64
+/// Weight times slack from one residue to another.
+pub(crate) fn cost_between(weight: Weight, span: Span, period: Period, from: u16, to: u16) -> u64
     requires { (from < period) × (to < period) }
-    ensures value { result ≡ activity.now.weight * slack_of period activity.now.span from to }
+    ensures value { result ≡ weight * slack_of period span from to }
     ensures small { result ≤ greatest_weight * (greatest_period - 1) }
 {
-    let slack = slack(period, activity.span, from, to);
-    u64::from(activity.weight.get()) * u64::from(slack)
+    let slack = slack(period, span, from, to);
+    u64::from(weight.get()) * u64::from(slack)
 }
 
 /// Weight times slack of an activity. An end without a time counts as one at 0.
@@ -32,7 +32,7 @@ pub(crate) fn cost_at(activity: &Activity, times: &Timetable) -> u64
 {
     let from = times.get(activity.from).unwrap_or(0);
     let to = times.get(activity.to).unwrap_or(0);
-    cost_between(activity, times.period(), from, to)
+    cost_between(activity.weight, activity.span, times.period(), from, to)
 }
 
 /// What all activities cost: the one walk over the network.
@@ -61,47 +61,66 @@ fn cost_around(instance: &Instance, times: &Timetable, event: EventId) -> u64
     cost
 }
 
-/// What the activity of a number costs; 0 where there is none.
-fn cost_of_number(instance: &Instance, times: &Timetable, id: ActivityId) -> u64
-    ensures value { result ≡ cost_of_number instance.now times.now id }
-    ensures small { result ≤ greatest_weight * (greatest_period - 1) }
+/// What the activity that an edit drops or changes costs before it and after it.
+fn costs_changed(activity: &Activity, times: &Timetable, edit: &Edit) -> (u64, u64)
+    ensures before { result.0 ≡ cost_in times.now activity.now }
+    ensures after { result.1 ≡ cost_changed times.now edit.now activity.now }
+    ensures small { result.1 ≤ greatest_weight * (greatest_period - 1) }
 {
-    match instance.activity(id) {
-        Some(activity) => cost_at(activity, times),
-        None => 0,
-    }
+    let period = times.period();
+    let from = times.get(activity.from).unwrap_or(0);
+    let to = times.get(activity.to).unwrap_or(0);
+    let before = cost_between(activity.weight, activity.span, period, from, to);
+    let after = match *edit {
+        Edit::SetSpan(_, span) => cost_between(activity.weight, span, period, from, to),
+        Edit::SetWeight(_, weight) => cost_between(weight, activity.span, period, from, to),
+        Edit::SetEnds(_, from, to) => {
+            let from = times.get(from).unwrap_or(0);
+            let to = times.get(to).unwrap_or(0);
+            cost_between(activity.weight, activity.span, period, from, to)
+        }
+        _ => 0,
+    };
+    (before, after)
 }
 
-/// What the activity that is edited costs; 0 where none is, or it is not there.
-pub(crate) fn cost_edited(instance: &Instance, times: &Timetable, edit: &Edit) -> u64
-    ensures value { result ≡ cost_edited instance.now times.now edit.now }
-    ensures small { result ≤ greatest_weight * (greatest_period - 1) }
+/// What the activity that is edited costs before the edit and after it, by the instance before it: 0 where there is
+/// none. The one look for it.
+fn costs_edited(instance: &Instance, times: &Timetable, edit: &Edit) -> (u64, u64)
+    ensures value { (J : Network) → edited instance.now edit.now ≡ Ok J
+        → (result.0 ≡ cost_edited instance.now times.now edit.now)
+        × (result.1 ≡ cost_edited J times.now edit.now) }
+    ensures part { result.0 ≤ cost_of instance.now times.now }
+    ensures small { result.1 ≤ greatest_weight * (greatest_period - 1) }
 {
     match *edit {
-        Edit::AddActivity(activity) => cost_of_number(instance, times, activity.id),
+        Edit::AddActivity(activity) => (0, cost_at(&activity, times)),
         Edit::DropActivity(id)
         | Edit::SetSpan(id, _)
         | Edit::SetWeight(id, _)
-        | Edit::SetEnds(id, ..) => cost_of_number(instance, times, id),
+        | Edit::SetEnds(id, ..) => match instance.activity(id) {
+            Some(activity) => costs_changed(activity, times, edit),
+            None => (0, 0),
+        },
         Edit::AddEvent(_)
         | Edit::DropEvent(_)
         | Edit::Fix(..)
         | Edit::SetWindow(..)
-        | Edit::Unfix(_) => 0,
+        | Edit::Unfix(_) => (0, 0),
     }
 }
 
 /// How many events have no time after an edit, where so many had none before it.
 fn missing_after(missing: usize, times: &Timetable, edit: &Edit) -> usize
-    requires more { missing < 2 ^ 64 - 1 }
-    requires fewer { (e : ℕ) → edit.now ≡ DropEvent e → time_of times.now e ≡ None → 0 < missing }
+    requires { missing < 2 ^ 64 - 1 }
     ensures { result ≡ missing_after edit.now times.now missing }
 {
     match *edit {
         Edit::AddEvent(_) => missing + 1,
         Edit::DropEvent(event) => {
             if times.get(event).is_none() {
-                missing - 1
+                // An event that is not there has no time either.
+                missing.saturating_sub(1)
             } else {
                 missing
             }
@@ -203,19 +222,18 @@ impl KeptCost {
         self.missing += 1;
     }
 
-    /// After an edit, before which the activity that is edited cost so much. A dropped event loses its time after this.
-    pub(crate) fn edited(
-        &mut self,
-        before: u64,
-        instance: &Instance,
-        times: &Timetable,
-        edit: &Edit,
-    )
-        requires { WasCosted instance.now times.now edit.now before self.old.cost self.old.missing }
-        ensures { IsCosted instance.now (times_after edit.now times.now) self.new.cost
-            self.new.missing }
+    /// What is kept after an edit, by the instance before it. A dropped event loses its time after this.
+    pub(crate) fn edited(&self, instance: &Instance, times: &Timetable, edit: &Edit) -> KeptCost
+        requires network { IsNetwork instance.now }
+        requires times { AreTimesOf instance.now times.now }
+        requires costed { IsCosted instance.now times.now self.now.cost self.now.missing }
+        ensures { (J : Network) → edited instance.now edit.now ≡ Ok J
+            → IsCosted J (times_after edit.now times.now) result.cost result.missing }
     {
-        self.replace(before, cost_edited(instance, times, edit));
-        self.missing = missing_after(self.missing, times, edit);
+        let costs = costs_edited(instance, times, edit);
+        KeptCost {
+            cost: self.cost - costs.0 + costs.1,
+            missing: missing_after(self.missing, times, edit),
+        }
     }
 }

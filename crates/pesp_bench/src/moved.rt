@@ -37,8 +37,8 @@ fn costs_of(activity: &Activity, times: &Timetable, event: EventId, own: (u16, u
     let period = times.period();
     let from = times_at(times, event, own, activity.from);
     let to = times_at(times, event, own, activity.to);
-    let before = cost_between(activity, period, from.0, to.0);
-    let after = cost_between(activity, period, from.1, to.1);
+    let before = cost_between(activity.weight, activity.span, period, from.0, to.0);
+    let after = cost_between(activity.weight, activity.span, period, from.1, to.1);
     (before, after)
 }
 

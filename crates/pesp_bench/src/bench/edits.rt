@@ -7,7 +7,6 @@ ghost use Rattle.pesp_bench.specs.Kept.{IsKeptBy};
 ghost use Rattle.pesp_bench.specs.State.{IsTimeRefusal, edited_state, timed_state, times_after, untimed_state};
 
 use crate::Bench;
-use crate::costing::cost_edited;
 use crate::kept::{forget, keeps};
 use pesp_base::{EventId, Refusal};
 use pesp_domains::Keeper;
@@ -39,10 +38,9 @@ impl<K: Keeper> Bench<K> {
         ensures unchanged { OnErr result (self.new ≡ self.old) }
     {
         let is_kept = keeps(self.keeper.instance(), edit, &self.known);
-        let before = cost_edited(self.keeper.instance(), &self.times, edit);
+        let kept = self.kept.edited(self.keeper.instance(), &self.times, edit);
         self.keeper.apply(edit)?;
-        let instance = self.keeper.instance();
-        self.kept.edited(before, instance, &self.times, edit);
+        self.kept = kept;
         clear_dropped(&mut self.times, edit);
         if !is_kept {
             forget(&mut self.known, &mut self.candidate);

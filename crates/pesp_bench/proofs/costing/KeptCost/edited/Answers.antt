@@ -1,27 +1,18 @@
 -- The cost moves by what the edited activity costs.
-use Rattle.std.proofs.Common.{◌≡◌, ◌∙◌, ap, arith, subst, sym}
-use Rattle.pesp_bench.specs.Costing.{IsCosted, missing_after}
-use Rattle.pesp_bench.specs.State.{times_after}
-use Rattle.pesp_bench.proofs.CostMoves.{after_edit, cost_small, edited_part, some_lacks}
+use Rattle.std.proofs.Common.{arith}
+use Rattle.pesp_bench.proofs.CostMoves.{after_edit, cost_small}
 use Rattle.pesp_bench.proofs.costing.KeptCost.edited.Goals as goal
 
-pub replace-requires-clause-part : goal.replace-requires-clause-part
-replace-requires-clause-part c =
-    let part = edited_part c.requires.before c.args.times.now c.args.edit.now c.requires.network in
-    omega (arith, part, c.requires.shares, c.requires.costed.costs)
+pub overflow_sub-result : goal.overflow_sub-result
+overflow_sub-result c = omega (arith, c.costs_edited-costs.ensures.part, c.requires.costed.costs)
 
-pub replace-requires-clause-room : goal.replace-requires-clause-room
-replace-requires-clause-room c =
-    let small = cost_small c.requires.before c.args.times.now c.requires.network c.requires.times.period in
-    omega (arith, small, c.cost_edited.ensures.small, c.requires.costed.costs)
-
-pub missing_after-self-requires-clause-fewer : goal.missing_after-self-requires-clause-fewer
-missing_after-self-requires-clause-fewer c = λ e drops none.
-    let some = some_lacks c.args.instance.now c.args.times.now c.args.edit.now c.args.before c.args.self.now.cost c.args.self.now.missing e c.requires drops none in
-    omega (arith, some, c.replace.ensures.missing)
+pub overflow_add-result : goal.overflow_add-result
+overflow_add-result c =
+    let small = cost_small c.args.instance.now c.args.times.now c.requires.network c.requires.times.period in
+    omega (arith, small, c.costs_edited-costs.ensures.small, c.requires.costed.costs)
 
 pub returns : goal.returns
-returns c =
-    let left : c.missing_after-self.result ≡ missing_after c.args.edit.now c.args.times.now c.args.self.now.missing = c.missing_after-self.ensures ∙ ap (missing_after c.args.edit.now c.args.times.now) c.replace.ensures.missing in
-    subst (IsCosted c.args.instance.now (times_after c.args.edit.now c.args.times.now) c.replace.new.self.cost) (sym left)
-    (after_edit c.args.instance.now c.args.times.now c.args.edit.now c.args.before c.args.self.now.cost c.args.self.now.missing c.cost_edited.result c.replace.new.self.cost c.requires c.cost_edited.ensures.value c.replace.ensures.cost)
+returns c J makes =
+    let costs = c.costs_edited-costs.result in
+    after_edit c.args.instance.now J c.args.times.now c.args.edit.now c.args.self.now.cost c.args.self.now.missing costs.0 costs.1 _ c.missing_after.result
+    c.requires.network c.requires.times c.requires.costed makes (c.costs_edited-costs.ensures.value J makes) (omega (arith, c.costs_edited-costs.ensures.part, c.requires.costed.costs)) c.missing_after.ensures
