@@ -337,3 +337,8 @@ after_edit I J m edit cost missing before after new left network times costed ma
     let all = moves I J m edit network makes in
     let some = number_left I J m edit missing network makes times costed.lacking in
     rw at (record { costs = omega (arith, all, here, moved, are.0, costed.costs); lacking = omega (arith, some, lacks) })
+
+-- and so of the same instance before it and the same times
+pub costed_then : (H I J : Network) (m n : Times) (edit : Edit) (cost missing : ℕ) → H ≡ I → ((K : Network) → edited H edit ≡ Ok K → IsCosted K (times_after edit m) cost missing) → edited I edit ≡ Ok J
+    → n ≡ times_after edit m → IsCosted J n cost missing
+costed_then H I J m n edit cost missing same costed makes times = rw times (costed J (ap (λ K. edited K edit) same ∙ makes))

@@ -3,10 +3,9 @@ use Rattle.std.proofs.Common.{◌≡◌, ◌↔◌, ◌∙◌, IfSome, IsTrue, O
 use Rattle.std.proofs.lemmas.Bool.{false≢true}
 use Rattle.pesp_instance.specs.Edited.{edited}
 use Rattle.pesp_instance.specs.Network.{IsNetwork, Network}
-use Rattle.pesp_bench.specs.Costing.{IsCosted}
 use Rattle.pesp_bench.specs.Kept.{IsKeptBy, Keeps}
-use Rattle.pesp_bench.specs.State.{IsState, times_after}
-use Rattle.pesp_bench.proofs.CostMoves.{costed_so}
+use Rattle.pesp_bench.specs.State.{IsState}
+use Rattle.pesp_bench.proofs.CostMoves.{costed_then}
 use Rattle.pesp_bench.proofs.Stands.{kept_by}
 use Rattle.pesp_bench.proofs.States.{after_edit}
 use Rattle.pesp_bench.proofs.bench.Bench.apply.Goals as goal
@@ -19,15 +18,12 @@ invariant_of-self-then-not-is_kept g c =
     let told : IfSome c.self.inside.known (λ answer. IsTrue c.keeps-is_kept.result ↔ Keeps before c.args.edit.now answer) =
     (subst (λ I. (J : Network) → edited I c.args.edit.now ≡ Ok J → IfSome c.self.inside.known (λ answer. IsTrue c.keeps-is_kept.result ↔ Keeps I c.args.edit.now answer)) c.instance.ensures c.keeps-is_kept.ensures.value) after c.in_ok-apply.ensures.ok
     in
-    let costed : IsCosted after (times_after c.args.edit.now c.self.inside.times) c.edited-kept.result.cost c.edited-kept.result.missing =
-    (subst (λ I. (J : Network) → edited I c.args.edit.now ≡ Ok J → IsCosted J (times_after c.args.edit.now c.self.inside.times) c.edited-kept.result.cost c.edited-kept.result.missing) c.instance-2.ensures c.edited-kept.ensures) after c.in_ok-apply.ensures.ok
-    in
     let kept : IsKeptBy before c.args.edit.now c.self.inside.known c.forget.new.known =
     kept_by before c.args.edit.now c.self.inside.known c.forget.new.known c.keeps-is_kept.result told (λ is. absurd (false≢true (sym c.if-not-is_kept.true ∙ is))) (λ _. c.forget.ensures)
     in (
       subst (λ n. IsState after (g.K.Keeper.pushes c.apply.new.self) n c.forget.new.known) (sym c.clear_dropped.ensures)
           (after_edit before after c.args.edit.now (g.K.Keeper.pushes c.self.inside.keeper) (g.K.Keeper.pushes c.apply.new.self) c.self.inside.times c.self.inside.known c.forget.new.known c.self.invariant.0 network c.in_ok-apply.ensures.ok c.apply.ensures.pushes kept),
-      costed_so after after (times_after c.args.edit.now c.self.inside.times) c.clear_dropped.new.times c.edited-kept.result.cost c.edited-kept.result.missing refl c.clear_dropped.ensures costed,
+      costed_then _ _ _ c.self.inside.times _ c.args.edit.now _ _ c.instance-2.ensures c.edited-kept.ensures c.in_ok-apply.ensures.ok c.clear_dropped.ensures,
     )
 
 pub invariant_of-self-else-not-is_kept : goal.invariant_of-self-else-not-is_kept
@@ -38,13 +34,10 @@ invariant_of-self-else-not-is_kept g c =
     let told : IfSome c.self.inside.known (λ answer. IsTrue c.keeps-is_kept.result ↔ Keeps before c.args.edit.now answer) =
     (subst (λ I. (J : Network) → edited I c.args.edit.now ≡ Ok J → IfSome c.self.inside.known (λ answer. IsTrue c.keeps-is_kept.result ↔ Keeps I c.args.edit.now answer)) c.instance.ensures c.keeps-is_kept.ensures.value) after c.in_ok-apply.ensures.ok
     in
-    let costed : IsCosted after (times_after c.args.edit.now c.self.inside.times) c.edited-kept.result.cost c.edited-kept.result.missing =
-    (subst (λ I. (J : Network) → edited I c.args.edit.now ≡ Ok J → IsCosted J (times_after c.args.edit.now c.self.inside.times) c.edited-kept.result.cost c.edited-kept.result.missing) c.instance-2.ensures c.edited-kept.ensures) after c.in_ok-apply.ensures.ok
-    in
     let kept : IsKeptBy before c.args.edit.now c.self.inside.known c.self.inside.known =
     kept_by before c.args.edit.now c.self.inside.known c.self.inside.known c.keeps-is_kept.result told (λ _. refl) (λ out. absurd (false≢true (sym out ∙ c.if-not-is_kept.false)))
     in (
       subst (λ n. IsState after (g.K.Keeper.pushes c.apply.new.self) n c.self.inside.known) (sym c.clear_dropped.ensures)
           (after_edit before after c.args.edit.now (g.K.Keeper.pushes c.self.inside.keeper) (g.K.Keeper.pushes c.apply.new.self) c.self.inside.times c.self.inside.known c.self.inside.known c.self.invariant.0 network c.in_ok-apply.ensures.ok c.apply.ensures.pushes kept),
-      costed_so after after (times_after c.args.edit.now c.self.inside.times) c.clear_dropped.new.times c.edited-kept.result.cost c.edited-kept.result.missing refl c.clear_dropped.ensures costed,
+      costed_then _ _ _ c.self.inside.times _ c.args.edit.now _ _ c.instance-2.ensures c.edited-kept.ensures c.in_ok-apply.ensures.ok c.clear_dropped.ensures,
     )
