@@ -9,7 +9,7 @@ ghost use Rattle.pesp_shell.specs.Checked.{IsCheck, IsCheckFault, check_text, jo
 ghost use Rattle.pesp_shell.specs.Opening.{files};
 
 use crate::RunFault;
-use crate::opening::read;
+use crate::opening::instance_and_timetable;
 use pesp_base::{Period, Refusal};
 use pesp_instance::Instance;
 use pesp_shell_replies::{put_cost, put_refusal, put_tensions, put_violations};
@@ -39,8 +39,11 @@ fn put_refusals(text: &mut Vec<u8>, refusal: &Refusal) -> Result<(), AllocError>
     put_refusal(text, *refusal)
 }
 
-/// The three replies, which are of one walk over the activities.
-fn told_check(
+/// The replies to `tensions`, `violations` and `cost` of an instance by a timetable of its period, from
+/// one walk over the activities.
+///
+/// An event without a time makes each reply that of refusal 11. The one error is want of memory.
+pub fn three_replies(
     alloc: Global,
     instance: &Instance,
     timetable: &Timetable,
@@ -74,8 +77,8 @@ pub fn check(
     ensures fault { IfErr result (IsCheckFault
         (files period activities.now (option_copied fixed.entry) (option_copied times.entry))) }
 {
-    let (instance, timetable) = read(alloc, period, activities, fixed, times)?;
-    match told_check(alloc, &instance, &timetable) {
+    let (instance, timetable) = instance_and_timetable(alloc, period, activities, fixed, times)?;
+    match three_replies(alloc, &instance, &timetable) {
         Ok(text) => Ok(text),
         Err(AllocError) => Err(RunFault::Memory { line: 0 }),
     }

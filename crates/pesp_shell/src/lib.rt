@@ -10,12 +10,12 @@ mod run_fault;
 mod session;
 
 pub use arguments::Settings;
-pub use checking::check;
-pub use opening::open;
+pub use checking::{check, three_replies};
+pub use opening::{instance_and_timetable, open, workbench_of};
 pub use options::settings;
 pub use pesp_shell_commands::{Command, ParseFault, ReplayFault, ReplayKind, parse, replay};
 pub use pesp_shell_io::{ByteSink, ByteSource, Failed, Noted};
 pub use pesp_shell_replies::{reply, reply_to_line};
 pub use pesplib_reader::{FaultKind, ReadFault};
 pub use run_fault::{RunFault, Source};
-pub use session::run;
+pub use session::{run, serve};

@@ -44,6 +44,28 @@ fn answer_all<K: Keeper, R: ByteSource, W: ByteSink>(
     end(lines, source, sink)
 }
 
+/// Answers the commands of a stream over a workbench, as [`run`] does over the one that its files open.
+///
+/// Nothing asks for the files here, so their bytes may be let go before. Faults in order: out of memory at
+/// line 0; then those of lines and devices, as `run` has them.
+pub fn serve<K: Keeper, R: ByteSource, W: ByteSink>(
+    alloc: Global,
+    mut bench: Bench<K>,
+    reader: &mut R,
+    writer: &mut W,
+) -> Result<(), RunFault>
+    requires reader { R.failed reader.old ≡ false }
+    requires writer { W.failed writer.old ≡ false }
+    ensures { (f : Files) → IsOpening f (work_of bench)
+        → IsRun f (R.left reader.old) (R.left reader.new) (W.written writer.old) (W.written writer.new)
+        (marks (R.at_end reader.new) (R.failed reader.new) (W.failed writer.new) (W.passed_on writer.new)) result }
+{
+    let Ok(mut lines) = LineReader::new(alloc) else {
+        return Err(RunFault::Memory { line: 0 });
+    };
+    answer_all(alloc, &mut bench, &mut lines, reader, writer)
+}
+
 /// Runs the commands of a stream over the instance and the timetable of the files.
 ///
 /// The reply to a line is whole before its first byte is written, and is written before more of the
@@ -67,9 +89,6 @@ pub fn run<K: Keeper, R: ByteSource, W: ByteSink>(
         (R.left reader.old) (R.left reader.new) (W.written writer.old) (W.written writer.new)
         (marks (R.at_end reader.new) (R.failed reader.new) (W.failed writer.new) (W.passed_on writer.new)) result }
 {
-    let mut bench = open::<K>(alloc, period, activities, fixed, times)?;
-    let Ok(mut lines) = LineReader::new(alloc) else {
-        return Err(RunFault::Memory { line: 0 });
-    };
-    answer_all(alloc, &mut bench, &mut lines, reader, writer)
+    let bench = open::<K>(alloc, period, activities, fixed, times)?;
+    serve(alloc, bench, reader, writer)
 }

@@ -54,7 +54,7 @@ fn work<P: Paths, R: ByteSource, W: ByteSink>(
 {
     let settings = settings(alloc, words)?;
     let files = read_files(alloc, paths, &settings)?;
-    answer_files(alloc, &settings, &files, source, sink)?;
+    answer_files(alloc, &settings, files, source, sink)?;
     Ok(())
 }
 

@@ -3,8 +3,8 @@ use Rattle.std.proofs.Common.{refl}
 use Rattle.pesp_shell.proofs.OpeningLemmas.{one_period}
 use Rattle.pesp_shell.proofs.checking.check.Goals as goal
 
-pub told_check-requires : goal.told_check-requires
-told_check-requires c =
+pub three_replies-requires : goal.three_replies-requires
+three_replies-requires c =
     let (I, fixed, stand, same) = c.in_ok-instance.ensures.ok in
     one_period _ c.in_ok-instance.instance I fixed c.in_ok-instance.timetable stand same
 

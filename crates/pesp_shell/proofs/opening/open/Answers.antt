@@ -4,8 +4,8 @@ use Rattle.pesp_shell.specs.Opening.{opened}
 use Rattle.pesp_shell.proofs.OpeningLemmas.{one_period}
 use Rattle.pesp_shell.proofs.opening.open.Goals as goal
 
-pub bench_of-requires : goal.bench_of-requires
-bench_of-requires g c =
+pub workbench_of-requires : goal.workbench_of-requires
+workbench_of-requires g c =
     let (I, fixed, stand, same) = c.in_ok-instance.ensures.ok in
     sym (one_period _ c.in_ok-instance.instance I fixed c.in_ok-instance.timetable stand same)
 

@@ -1,7 +1,7 @@
 -- Each event has a time and the assessment is told, or one has none and that is told three times.
 use Rattle.pesp_shell.proofs.CheckLemmas.{check_refused, check_timed}
-use Rattle.pesp_shell.proofs.checking.told_check.Goals as goal
-use Rattle.pesp_shell.proofs.checking.told_check.Goals.{in-Ok+in_ok-put_assessment-in-Ok, in-Err+in_ok-put_refusals-in-Err}
+use Rattle.pesp_shell.proofs.checking.three_replies.Goals as goal
+use Rattle.pesp_shell.proofs.checking.three_replies.Goals.{in-Ok+in_ok-put_assessment-in-Ok, in-Err+in_ok-put_refusals-in-Err}
 
 pub returns : goal.returns
 returns c =

@@ -6,7 +6,7 @@ use Rattle.pesp_shell.specs.declared.run_fault.Source.TheVariants as source
 use Rattle.pesplib_reader.specs.Reading.{times_read}
 use Rattle.pesplib_reader.specs.Taking.{IsReadFault}
 use Rattle.pesp_shell.proofs.Given.{given_or}
-use Rattle.pesp_shell.proofs.opening.read.Goals as goal
+use Rattle.pesp_shell.proofs.opening.instance_and_timetable.Goals as goal
 
 pub returns-in-Err-read_times-clause-fault : goal.returns-in-Err-read_times-clause-fault
 returns-in-Err-read_times-clause-fault c =
