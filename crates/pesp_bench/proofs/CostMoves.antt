@@ -24,6 +24,7 @@ use Rattle.pesp_instance.specs.Edited.{changed, edited, effect}
 use Rattle.pesp_instance.specs.Network.{IsActivity, IsNetwork, Network, activity_of, around, has_event, is_end_of, new_event}
 use Rattle.pesp_instance.proofs.Numbers.{activity_number as id_of, event_number as number}
 use Rattle.pesp_instance.proofs.Rising.{All-found, Rises, Rises-change_in, Rises-from_increasing, length-change_in, length-put_in, take_out-above, with_number-put_in, with_number-take_out}
+use Rattle.pesp_search.proofs.Costs.{sum_same}
 use Rattle.pesp_search.specs.Optima.{IsOptimum}
 use Rattle.pesp_tension.specs.Answers.{cost_in, cost_of, first_missing, time_at, where_timed}
 use Rattle.pesp_tension.specs.Timetables.{Times, set_time, time_of, with_time, without_time}
@@ -31,7 +32,7 @@ use Rattle.pesp_domains.proofs.Edits.{accepted, effect_is}
 use Rattle.pesp_bench.specs.Costing.{AreTimesOf, IsCosted, cost_edited, cost_of_number, missing_after}
 use Rattle.pesp_bench.specs.State.{times_after}
 use Rattle.pesp_bench.proofs.Changed.{sum_by-filter, sum_by-put_in}
-use Rattle.pesp_bench.proofs.Entries.{key, length_put, length_replaced, length_without, other_put, room, without_none}
+use Rattle.pesp_bench.proofs.Entries.{found_without, key, length_put, length_replaced, length_without, other_put, own_put, room, without_none}
 use Rattle.pesp_bench.proofs.KeptAnswers.{activities_rise, events_rise, not_refused, other_time}
 use Rattle.pesp_bench.proofs.Stands.{rest_of, there_is}
 
@@ -172,12 +173,29 @@ after_set I m n e t cost missing before after new left had network times costed 
         let same = length_replaced e t m.entries (ascend I m times) (ap is_some some) in
         omega (arith, same, fewer, costed.lacking)
 
+-- an event without a time counts as one at 0
+at_zero : (m : Times) (e q : ℕ) → Rises key m.entries → time_at (with_time m e 0) q ≡ time_at (without_time m e) q
+at_zero m e q rises =
+    (elim (q == e) as (λ b. (q == e) ≡ b → time_at (with_time m e 0) q ≡ time_at (without_time m e) q) [
+      | true ↦ λ same. rw (eqb-true q e same) (ap (λ o. unwrap_or o 0) (own_put e 0 m.entries) ∙ sym (ap (λ o. unwrap_or o 0) (none (time_of (without_time m e) e) refl)))
+      | false ↦ λ differs.
+          let apart : q ≡ e → ⊥ = λ at. false≢true (sym differs ∙ eq-eqb q e at) in
+          ap (λ o. unwrap_or o 0) (other_put e 0 q m.entries apart ∙ sym (other_time e q m.entries apart))
+    ]) refl
+  where
+    none : (o : Option ℕ) → time_of (without_time m e) e ≡ o → time_of (without_time m e) e ≡ None
+    none None at = at
+    none (Some t) at = absurd ((found_without e e m.entries rises (ap is_some at)).0 refl)
+
+costs_at_zero : (m : Times) (e : ℕ) → Rises key m.entries → (a : Activity) → cost_in (with_time m e 0) a ≡ cost_in (without_time m e) a
+costs_at_zero m e rises a = rw (at_zero m e a.from rises, at_zero m e a.to rises) refl
+
 -- after an event lost its time
-pub after_clear : (I : Network) (m n : Times) (e cost missing before after new left : ℕ) → IsCosted I m cost missing → IsSome (time_of m e) → n ≡ without_time m e
-    → before ≡ sum_by (cost_in m) (around I e) → after ≡ sum_by (cost_in n) (around I e) → new + before ≡ cost + after → left ≡ missing + 1 → IsCosted I n new left
-after_clear I m n e cost missing before after new left costed some at was is moved lacks =
+pub after_clear : (I : Network) (m n : Times) (e cost missing before after new left : ℕ) → AreTimesOf I m → IsCosted I m cost missing → IsSome (time_of m e) → n ≡ without_time m e
+    → before ≡ sum_by (cost_in m) (around I e) → after ≡ sum_by (cost_in (with_time m e 0)) (around I e) → new + before ≡ cost + after → left ≡ missing + 1 → IsCosted I n new left
+after_clear I m n e cost missing before after new left times costed some at was is moved lacks =
     let moves = moves_around I m (without_time m e) e refl (λ q apart. other_time e q m.entries apart) in
-    let here : after ≡ sum_by (cost_in (without_time m e)) (around I e) = is ∙ ap (λ k. sum_by (cost_in k) (around I e)) at in
+    let here : after ≡ sum_by (cost_in (without_time m e)) (around I e) = is ∙ sum_same (cost_in (with_time m e 0)) (cost_in (without_time m e)) (around I e) (λ k d l. costs_at_zero m e (ascend I m times) (get_or (around I e) k d)) in
     let fewer = length_without e m.entries some in
     rw at (record { costs = omega (arith, moves, was, here, moved, costed.costs); lacking = omega (arith, fewer, lacks, costed.lacking) })
 

@@ -46,21 +46,6 @@ fn cost_of_all(instance: &Instance, times: &Timetable) -> u64
     cost
 }
 
-/// What the activities with the event as an end cost, a loop once.
-fn cost_around(instance: &Instance, times: &Timetable, event: EventId) -> u64
-    ensures value { result ≡ sum_by (cost_in times.now) (around instance.now event) }
-    ensures small { result ≤ greatest_weight * (greatest_period - 1)
-        * max_activities instance.now.period }
-    ensures network { IsNetwork instance.now }
-{
-    let mut cost = 0;
-    for activity in instance.around(event) {
-        let share = cost_at(activity, times);
-        cost += share;
-    }
-    cost
-}
-
 /// What the activity that an edit drops or changes costs before it and after it.
 fn costs_changed(activity: &Activity, times: &Timetable, edit: &Edit) -> (u64, u64)
     ensures before { result.0 ≡ cost_in times.now activity.now }
@@ -84,8 +69,8 @@ fn costs_changed(activity: &Activity, times: &Timetable, edit: &Edit) -> (u64, u
     (before, after)
 }
 
-/// What the activity that is edited costs before the edit and after it, by the instance before it: 0 where there is
-/// none. The one look for it.
+/// What the activity that is edited costs before the edit and after it, 0 where there is none, by the instance before
+/// it: looked up once.
 fn costs_edited(instance: &Instance, times: &Timetable, edit: &Edit) -> (u64, u64)
     ensures value { (J : Network) → edited instance.now edit.now ≡ Ok J
         → (result.0 ≡ cost_edited instance.now times.now edit.now)
@@ -102,11 +87,7 @@ fn costs_edited(instance: &Instance, times: &Timetable, edit: &Edit) -> (u64, u6
             Some(activity) => costs_changed(activity, times, edit),
             None => (0, 0),
         },
-        Edit::AddEvent(_)
-        | Edit::DropEvent(_)
-        | Edit::Fix(..)
-        | Edit::SetWindow(..)
-        | Edit::Unfix(_) => (0, 0),
+        _ => (0, 0),
     }
 }
 
@@ -117,14 +98,8 @@ fn missing_after(missing: usize, times: &Timetable, edit: &Edit) -> usize
 {
     match *edit {
         Edit::AddEvent(_) => missing + 1,
-        Edit::DropEvent(event) => {
-            if times.get(event).is_none() {
-                // An event that is not there has no time either.
-                missing.saturating_sub(1)
-            } else {
-                missing
-            }
-        }
+        // An event that is not there has no time either, and then none may be missing.
+        Edit::DropEvent(event) if times.get(event).is_none() => missing.saturating_sub(1),
         _ => missing,
     }
 }
@@ -216,13 +191,16 @@ impl KeptCost {
         ensures times { times.new ≡ without_time times.old event }
         ensures costed { IsCosted instance.now times.new self.new.cost self.new.missing }
     {
-        let before = cost_around(instance, times, event);
+        // An event without a time counts as one at 0.
+        let own = (times.get(event).unwrap_or(0), 0);
+        let costs = costs_around(instance, times, event, own);
         times.clear(event);
-        self.replace(before, cost_around(instance, times, event));
+        self.replace(costs.0, costs.1);
         self.missing += 1;
     }
 
-    /// What is kept after an edit, by the instance before it. A dropped event loses its time after this.
+    /// What is kept after an edit that is accepted, by the instance before it. A dropped event loses its time after
+    /// this.
     pub(crate) fn edited(&self, instance: &Instance, times: &Timetable, edit: &Edit) -> KeptCost
         requires network { IsNetwork instance.now }
         requires times { AreTimesOf instance.now times.now }

@@ -1,7 +1,6 @@
 -- The event has the times that are given, and every other event the one that it has.
-use Rattle.std.proofs.Common.{◌≡◌, ap, subst, sym, unwrap_or, ◌∙◌}
+use Rattle.std.proofs.Common.{ap, sym, unwrap_or, ◌∙◌}
 use Rattle.std.proofs.lemmas.Bool.{eq-eqb, eqb-true, false≢true}
-use Rattle.pesp_tension.specs.Answers.{time_at}
 use Rattle.pesp_bench.proofs.Entries.{other_put, own_put}
 use Rattle.pesp_bench.proofs.moved.times_at.Goals as goal
 
