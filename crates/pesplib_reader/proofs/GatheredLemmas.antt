@@ -1,6 +1,7 @@
 -- Rows without faults by themselves, whose activities are gathered and put in at once.
 use Rattle.std.proofs.Common.{◌≡◌, ℕ, ◌≤◌, cond, true, false, List, [], ◌∷◌, ◌++◌, length, Option, Some, None, Result, Ok, Err, IfOk, is_some, if◌then◌else◌, refl, sym, ap, subst, ◌∙◌, arith}
 use Rattle.std.proofs.lemmas.Bool.{le-ltb, lt-leb}
+use Rattle.std.specs.Option.{MatchOption}
 use Rattle.std.specs.Result.{result_ok}
 use Rattle.pesp_base.specs.declared.activity.Activity.{Activity}
 use Rattle.pesp_base.specs.Limits.{max_activities, max_events}
@@ -13,12 +14,14 @@ use Rattle.pesp_instance.specs.Filled.{ArePut, IsFilled}
 use Rattle.pesp_instance.specs.Network.{Network, has_event, new_event}
 use Rattle.pesp_instance.proofs.Made.{length-ArePut}
 use Rattle.pesp_instance.proofs.Rising.{length-put_in}
-use Rattle.pesplib_reader.specs.Reading.{activities_read, activity_faults_after, activity_taken, instance_faults, with_activity, with_activity_row, with_ends, with_event}
-use Rattle.pesplib_reader.specs.Records.{Row, rows_of}
+use Rattle.pesplib_reader.specs.declared.records.Records.{Records}
+use Rattle.pesplib_reader.specs.Left.{IsReading, count_of, rows_left}
+use Rattle.pesplib_reader.specs.Reading.{activity_faults_after, activity_taken, instance_faults, with_activity, with_activity_row, with_ends, with_event}
+use Rattle.pesplib_reader.specs.Records.{Row, records_of, rows_of}
 use Rattle.pesplib_reader.specs.Rows.{activity_faults, activity_in}
 use Rattle.pesplib_reader.specs.Taking.{at_place, on_ok, row_taken, taken}
 use Rattle.pesplib_reader.proofs.InstanceLemmas.{taken_whole}
-use Rattle.pesplib_reader.proofs.TakingLemmas.{good_row, value_is}
+use Rattle.pesplib_reader.proofs.TakingLemmas.{IsReadTo, good_row, read_to, value_is}
 
 -- ---- the events that the ends of activities are
 
@@ -105,24 +108,31 @@ pub record IsGathered (period : ℕ) (front : List Row) (added : List Activity) 
 pub none_gathered : (period : ℕ) (I : Network) → I ≡ empty_network period → IsGathered period [] [] I
 none_gathered period I is = record { good = tt; ends = is }
 
-pub one_gathered : (period : ℕ) (front : List Row) (added more : List Activity) (I J : Network) (r : Row) → IsGathered period front added I → unless_refused (activity_faults r.fields) (activity_in r.fields) ≡ Ok (activity_in r.fields) → J ≡ with_ends I (activity_in r.fields) → more ≡ added ++ activity_in r.fields ∷ [] → IsGathered period (front ++ r ∷ []) more J
-one_gathered period front added more I J r so is same put =
-    let a = activity_in r.fields in
+pub one_gathered : (period : ℕ) (front : List Row) (added more : List Activity) (I J : Network) (r : Row) (a : Activity) → IsGathered period front added I → Ok a ≡ unless_refused (activity_faults r.fields) (activity_in r.fields) → J ≡ with_ends I a → more ≡ added ++ a ∷ [] → IsGathered period (front ++ r ∷ []) more J
+one_gathered period front added more I J r a so is same put =
     rw put (record {
-      good = AreGood-append front added r a so.good (sym is);
+      good = AreGood-append front added r a so.good is;
       ends = same ∙ ap (λ K. with_ends K a) so.ends ∙ with_ends-is (gathered period added) a ∙ ap (λ events. stored period events []) (sym (all_ends-append [] added a));
     })
 
--- all rows are taken where the activities of all are put in
-pub all_gathered : (period : ℕ) (bytes : List ℕ) (front : List Row) (added : List Activity) (I J : Network) → IsGathered period front added I → front ≡ rows_of bytes → IsFilled I added J → activities_read period bytes ≡ Ok J
-all_gathered period bytes front added I J so all filled =
+-- the rows so far are taken where the activities of all of them are put in
+taken_gathered : (period : ℕ) (front : List Row) (added : List Activity) (I J : Network) → IsGathered period front added I → IsFilled I added J → taken activity_faults_after with_activity_row (empty_network period) front ≡ Ok J
+taken_gathered period front added I J so filled =
     let is : J ≡ stored period (all_ends [] added) J.activities = filled.kept ∙ ap (λ (K : Network). record K { activities = J.activities }) so.ends in
     let few : length J.activities ≤ max_activities period = subst (λ (K : Network). length J.activities ≤ max_activities K.period) is filled.network.few_activities in
     let room : length (all_ends [] added) ≤ max_events period = subst (λ (K : Network). length K.events ≤ max_events K.period) is filled.network.few_events in
-    ap (taken activity_faults_after with_activity_row (empty_network period)) (sym all)
-    ∙ taken_all period [] [] front added J.activities so.good filled.put few room ∙ ap (λ (K : Network). Ok K) (sym is)
+    taken_all period [] [] front added J.activities so.good filled.put few room ∙ ap (λ (K : Network). Ok K) (sym is)
+
+pub gathered_to : (period : ℕ) (bytes : List ℕ) (front : List Row) (added : List Activity) (I J : Network) (s : Records) → IsGathered period front added I → IsFilled I added J → IsReading s → count_of s ≡ length (records_of bytes) → front ++ rows_left s ≡ rows_of bytes → IsReadTo activity_faults_after with_activity_row (empty_network period) bytes J s
+gathered_to period bytes front added I J s so filled reading count all =
+    read_to activity_faults_after with_activity_row (empty_network period) bytes front J s reading count all (taken_gathered period front added I J so filled)
 
 -- what holds of a value that came
 pub at_value : {X E : Type 0} (P : X → Type 0) (r : Result X E) (v : X) → result_ok r ≡ Some v → IfOk r P → P v
 at_value P (Ok x) v is holds = let same : x ≡ v = cc in subst P same holds
 at_value P (Err e) v is holds = absurd (cc)
+
+pub filled_by : {E : Type 0} (I : Network) (added : List Activity) (r : Result (Option Network) E) (found : Option Network) (J : Network) → result_ok r ≡ Some found → found ≡ Some J → IfOk r (λ o. MatchOption o ((K : Network) → IsFilled I added K → ⊥) (IsFilled I added)) → IsFilled I added J
+filled_by I added r found J is some filled =
+    let both = at_value (λ o. MatchOption o ((K : Network) → IsFilled I added K → ⊥) (IsFilled I added)) r found is filled in
+    subst (λ o. MatchOption o ((K : Network) → IsFilled I added K → ⊥) (IsFilled I added)) some both

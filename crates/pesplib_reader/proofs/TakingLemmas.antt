@@ -52,6 +52,15 @@ module _ {X : Type 0} (faults : X → List (List ℕ) → List (Option FaultKind
         | Err kind ↦ from.0
       ]
 
+  -- rows that stand for a value, and others after them
+  taken_on : (front rows : List Row) (x y : X) → taken faults add x front ≡ Ok y → taken faults add x (front ++ rows) ≡ taken faults add y rows
+  taken_on [] rows x y is = let same : x ≡ y = cc in ap (λ z. taken faults add z rows) same
+  taken_on (r ∷ front) rows x y is =
+      elim (row_taken faults add x r.fields) as (λ o. on_ok (λ z. taken faults add z front) (at_place r.place o) ≡ Ok y → on_ok (λ z. taken faults add z (front ++ rows)) (at_place r.place o) ≡ taken faults add y rows) [
+        | Ok z ↦ λ so. taken_on front rows z y so
+        | Err kind ↦ λ so. absurd (cc)
+      ] is
+
   none_after : (place : ℕ) (r : Row) (rows : List Row) (o : Result X FaultKind) → place ≤ r.place → AreFrom place rows → From place (on_ok (λ y. taken faults add y rows) (at_place r.place o))
   none_after place r rows (Ok y) le from = none_before place rows y from
   none_after place r rows (Err kind) le from = le
@@ -65,6 +74,10 @@ module _ {X : Type 0} (faults : X → List (List ℕ) → List (Option FaultKind
 
     pub begun : (s : Records) → IsReading s → rows_left s ≡ rows_of bytes → count_of s ≡ length (records_of bytes) → IsReadTo start s
     begun s reading rows count = record { reading = reading; stands = ap (taken faults add start) rows; count = count }
+
+    -- rows in front that stand for a value
+    pub read_to : (front : List Row) (x : X) (s : Records) → IsReading s → count_of s ≡ length (records_of bytes) → front ++ rows_left s ≡ rows_of bytes → taken faults add start front ≡ Ok x → IsReadTo x s
+    read_to front x s reading count all is = record { reading = reading; stands = sym (taken_on front (rows_left s) start x is) ∙ ap (taken faults add start) all; count = count }
 
     pub ended : (x : X) (s : Records) → IsReadTo x s → rows_left s ≡ [] → taken faults add start (rows_of bytes) ≡ Ok x
     ended x s h none = sym h.stands ∙ ap (taken faults add x) none

@@ -97,6 +97,17 @@ fn add_activity(instance: &mut Instance, activity: &Activity) -> Result<(), Faul
     }
 }
 
+/// The activity of a row, or the first fault that the row has by itself.
+fn activity_of_row(fields: &ByteRecord) -> Result<Activity, FaultKind>
+    ensures { result ≡ unless_refused
+        (activity_faults (trimmed_fields fields.now)) (activity_in (trimmed_fields fields.now)) }
+{
+    match activity_row(fields) {
+        Some(row) => row.activity(),
+        None => Err(FaultKind::FieldCount),
+    }
+}
+
 /// Takes the activity of a row.
 fn take_activity(instance: &mut Instance, fields: &ByteRecord) -> Result<(), FaultKind>
     requires { length instance.old.events ≤ limits.max_events instance.old.period }
@@ -107,30 +118,15 @@ fn take_activity(instance: &mut Instance, fields: &ByteRecord) -> Result<(), Fau
         (row_taken activity_faults_after with_activity_row instance.old
         (trimmed_fields fields.now))) }
 {
-    let Some(row) = activity_row(fields) else {
-        return Err(FaultKind::FieldCount);
-    };
-    let activity = row.activity()?;
+    let activity = activity_of_row(fields)?;
     add_activity(instance, &activity)
 }
 
-/// Gathers the activity of a row, and adds those of its ends that are new. Says whether it could: not where the row has
-/// a fault by itself, and not where an end finds no room.
-fn gather(instance: &mut Instance, activities: &mut Vec<Activity>, fields: &ByteRecord) -> bool
-    ensures good { result ≡ true
-        → unless_refused (activity_faults (trimmed_fields fields.now)) (activity_in (trimmed_fields fields.now))
-        ≡ Ok (activity_in (trimmed_fields fields.now)) }
-    ensures ends { result ≡ true
-        → instance.new ≡ with_ends instance.old (activity_in (trimmed_fields fields.now)) }
-    ensures gathered { result ≡ true
-        → activities.new.items ≡ activities.old.items ++ activity_in (trimmed_fields fields.now) ∷ [] }
+/// Gathers an activity, and adds those of its ends that are new. Says whether there was room for all three.
+fn gather(instance: &mut Instance, activities: &mut Vec<Activity>, activity: Activity) -> bool
+    ensures ends { result ≡ true → instance.new ≡ with_ends instance.old activity }
+    ensures gathered { result ≡ true → activities.new.items ≡ activities.old.items ++ activity ∷ [] }
 {
-    let Some(row) = activity_row(fields) else {
-        return false;
-    };
-    let Ok(activity) = row.activity() else {
-        return false;
-    };
     if add_event(instance, activity.from).is_err() {
         return false;
     }
@@ -140,25 +136,35 @@ fn gather(instance: &mut Instance, activities: &mut Vec<Activity>, fields: &Byte
     activities.push(activity).is_ok()
 }
 
-/// The instance that a file of activities stands for, where no row has a fault and there is room to store all rows at
-/// once.
+/// The instance that a file of activities stands for, or the fault of the first row that has one by itself, where the
+/// rows before it have none. Nothing where a row falls by those before it, or where there is no room to store all of
+/// them at once.
 // What it holds is not on the stack while the other way is gone.
 #[inline(never)]
-fn read_at_once(alloc: Global, period: Period, bytes: &[u8]) -> Option<Instance>
-    ensures { IfSome result (λ instance. activities_read period bytes.now ≡ Ok instance) }
+fn read_at_once(alloc: Global, period: Period, bytes: &[u8]) -> Option<Result<Instance, ReadFault>>
+    ensures ok { IfSome result (λ told. IfOk told
+        (λ instance. activities_read period bytes.now ≡ Ok instance)) }
+    ensures fault { IfSome result (λ told. IfErr told
+        (IsReadFault bytes.now (activities_read period bytes.now))) }
 {
     let mut instance = Instance::new(alloc, period);
     let mut activities = Vec::new(alloc);
     let mut records = Records::new(alloc, bytes);
     'rows: while records.next().ok()? {
-        if !gather(&mut instance, &mut activities, records.record()) {
-            return None;
+        match activity_of_row(records.record()) {
+            Ok(activity) => {
+                if !gather(&mut instance, &mut activities, activity) {
+                    return None;
+                }
+            }
+            Err(kind) => {
+                // No row before this one has a fault where all of them can be stored.
+                let _before = instance.with_activities(activities).ok()??;
+                return Some(Err(records.fault(kind)));
+            }
         }
     }
-    match instance.with_activities(activities) {
-        Ok(found) => found,
-        Err(_) => None,
-    }
+    Some(Ok(instance.with_activities(activities).ok()??))
 }
 
 /// The same row by row, or the fault of its first faulty row.
@@ -189,7 +195,7 @@ pub fn read_activities(alloc: Global, period: Period, bytes: &[u8]) -> Result<In
     ensures fault { IfErr result (IsReadFault bytes.now (activities_read period bytes.now)) }
 {
     match read_at_once(alloc, period, bytes) {
-        Some(instance) => Ok(instance),
+        Some(told) => told,
         None => read_one_by_one(alloc, period, bytes),
     }
 }

@@ -1,17 +1,17 @@
--- Each row without a fault is gathered, and all of them are put in at the end.
-use Rattle.std.proofs.Common.{◌≡◌, ◌++◌, ◌∷◌, [], true, false, Some, None, Ok, IfSome, length, refl, sym, ap, ◌∙◌, arith}
-use Rattle.std.proofs.lemmas.List.{append_assoc, append-nil}
-use Rattle.std.specs.Option.{MatchOption}
-use Rattle.pesp_instance.specs.Filled.{IsFilled}
-use Rattle.pesp_instance.specs.Network.{Network}
+-- Each row without a fault by itself is gathered, and all of them are put in at the end, or where a row has one.
+use Rattle.std.proofs.Common.{◌≡◌, ◌++◌, ◌∷◌, [], true, false, Err, length, refl, sym, ap, ◌∙◌, arith}
+use Rattle.std.proofs.lemmas.List.{append_assoc}
+use Rattle.pesp_base.specs.Refusals.{unless_refused}
+use Rattle.pesp_instance.specs.Edited.{empty_network}
 use Rattle.pesplib_reader.specs.Left.{IsNextRow, row_of, rows_left}
-use Rattle.pesplib_reader.specs.Reading.{activities_read}
-use Rattle.pesplib_reader.specs.Records.{rows_of}
-use Rattle.pesplib_reader.proofs.GatheredLemmas.{all_gathered, at_value, none_gathered, one_gathered}
+use Rattle.pesplib_reader.specs.Reading.{activity_faults_after, instance_faults, with_activity_row}
+use Rattle.pesplib_reader.specs.Rows.{activity_faults, activity_in}
+use Rattle.pesplib_reader.proofs.GatheredLemmas.{at_value, filled_by, gathered_to, none_gathered, one_gathered}
+use Rattle.pesplib_reader.proofs.TakingLemmas.{bad_row, ended, stopped_at}
 use Rattle.pesplib_reader.proofs.activities.read_at_once.Goals as goal
 
 pub rows-init : goal.rows-init
-rows-init c = (c.new-records.ensures.reading, [], c.new-records.ensures.rows, rw c.new-activities.ensures.items (none_gathered c.args.period c.new-instance.result c.new-instance.ensures.value))
+rows-init c = (c.new-records.ensures.reading, c.new-records.ensures.count, [], c.new-records.ensures.rows, rw c.new-activities.ensures.items (none_gathered c.args.period c.new-instance.result c.new-instance.ensures.value))
 
 pub next-requires : goal.next-requires
 next-requires c = c.rows.invariant.0
@@ -19,15 +19,13 @@ next-requires c = c.rows.invariant.0
 pub rows-preserved : goal.rows-preserved
 rows-preserved c =
     let more : IsNextRow c.rows.records c.next.new.self = at_value (λ found. found ≡ true → IsNextRow c.rows.records c.next.new.self) c.next.result c.in_ok-ok.field-0 (sym c.ok.ensures.value ∙ c.in_ok-ok.was) c.next.ensures.found c.if-branch.true in
-    let front = c.rows.invariant.1 in
-    let row = row_of c.next.new.self in
-    let good = rw c.record.ensures at (c.if-not-gather.ensures.good refl) in
-    let ends = rw c.record.ensures at (c.if-not-gather.ensures.ends refl) in
-    let gathered = rw c.record.ensures at (c.if-not-gather.ensures.gathered refl) in (
+    let front = c.rows.invariant.2 in
+    let row = row_of c.next.new.self in (
       more.reading,
+      more.count ∙ c.rows.invariant.1,
       front ++ row ∷ [],
-      append_assoc front (row ∷ []) (rows_left c.next.new.self) ∙ ap (λ rows. front ++ rows) (sym more.next) ∙ c.rows.invariant.2,
-      one_gathered c.args.period front c.rows.activities.items c.gather.new.activities.items c.rows.instance c.gather.new.instance row c.rows.invariant.3 good ends gathered,
+      append_assoc front (row ∷ []) (rows_left c.next.new.self) ∙ ap (λ rows. front ++ rows) (sym more.next) ∙ c.rows.invariant.3,
+      one_gathered c.args.period front c.rows.activities.items c.gather.new.activities.items c.rows.instance c.gather.new.instance row c.in-Ok.activity c.rows.invariant.4 (rw c.record.ensures at c.in-Ok.ensures) (c.if-not-gather.ensures.ends refl) (c.if-not-gather.ensures.gathered refl),
     )
 
 pub rows-smaller : goal.rows-smaller
@@ -35,12 +33,23 @@ rows-smaller c =
     let more : IsNextRow c.rows.records c.next.new.self = at_value (λ found. found ≡ true → IsNextRow c.rows.records c.next.new.self) c.next.result c.in_ok-ok.field-0 (sym c.ok.ensures.value ∙ c.in_ok-ok.was) c.next.ensures.found c.if-branch.true in
     omega (arith, ap (λ xs. length xs) more.next)
 
-pub returns-in-Ok : goal.returns-in-Ok
-returns-in-Ok c =
-    let front = c.rows.invariant.1 in
+-- the rows before this one are taken, and it falls by its own fault
+pub returns-in-Err-clause-fault : goal.returns-in-Err-clause-fault
+returns-in-Err-clause-fault c =
+    let more : IsNextRow c.rows.records c.next.new.self = at_value (λ found. found ≡ true → IsNextRow c.rows.records c.next.new.self) c.next.result c.in_ok-ok.field-0 (sym c.ok.ensures.value ∙ c.in_ok-ok.was) c.next.ensures.found c.if-branch.true in
+    let before = c.in_ok-_before-in-Err._before in
+    let filled = filled_by c.rows.instance c.rows.activities.items c.with_activities.result c.in_ok-ok-in-Err.field-0 before (sym c.ok-in-Err.ensures.value ∙ c.in_ok-ok-in-Err.was) c.in_ok-_before-in-Err.was c.with_activities.ensures.filled in
+    let taken = gathered_to c.args.period c.args.bytes.now c.rows.invariant.2 c.rows.activities.items c.rows.instance before c.rows.records c.rows.invariant.4 filled c.rows.invariant.0 c.rows.invariant.1 c.rows.invariant.3 in
+    let fields = (row_of c.next.new.self).fields in
+    let own : Err c.in-Err.kind ≡ unless_refused (activity_faults fields) (activity_in fields) = rw c.record.ensures at c.in-Err.ensures in
+    let falls = bad_row activity_faults (λ I fs. instance_faults I (activity_in fs)) with_activity_row before fields fields (activity_in fields) refl c.in-Err.kind own in
+    stopped_at activity_faults_after with_activity_row (empty_network c.args.period) c.args.bytes.now before c.rows.records c.next.new.self taken more c.in-Err.kind c.fault.result (rw falls refl) c.fault.ensures
+
+-- all rows are taken
+pub returns-clause-ok : goal.returns-clause-ok
+returns-clause-ok c =
     let none : rows_left c.rows.records ≡ [] = at_value (λ found. found ≡ false → rows_left c.rows.records ≡ []) c.next.result c.in_ok-ok.field-0 (sym c.ok.ensures.value ∙ c.in_ok-ok.was) c.next.ensures.none c.if-branch.false in
-    let all : front ≡ rows_of c.args.bytes.now = sym (append-nil front) ∙ ap (λ rows. front ++ rows) (sym none) ∙ c.rows.invariant.2 in
-    elim c.in-Ok.found as (λ o. MatchOption o ((J : Network) → IsFilled c.rows.instance c.rows.activities.items J → ⊥) (IsFilled c.rows.instance c.rows.activities.items) → IfSome o (λ J. activities_read c.args.period c.args.bytes.now ≡ Ok J)) [
-      | None ↦ λ filled. tt
-      | Some J ↦ λ filled. all_gathered c.args.period c.args.bytes.now front c.rows.activities.items c.rows.instance J c.rows.invariant.3 all filled
-    ] c.in-Ok.ensures.filled
+    let all = c.in_ok-branch.field-0 in
+    let filled = filled_by c.rows.instance c.rows.activities.items c.with_activities-2.result c.in_ok-ok-2.field-0 all (sym c.ok-2.ensures.value ∙ c.in_ok-ok-2.was) c.in_ok-branch.was c.with_activities-2.ensures.filled in
+    let taken = gathered_to c.args.period c.args.bytes.now c.rows.invariant.2 c.rows.activities.items c.rows.instance all c.rows.records c.rows.invariant.4 filled c.rows.invariant.0 c.rows.invariant.1 c.rows.invariant.3 in
+    ended activity_faults_after with_activity_row (empty_network c.args.period) c.args.bytes.now all c.rows.records taken none
