@@ -1,5 +1,5 @@
 -- What stands between two lines of a run, and how each of its ends follows.
-use Rattle.std.proofs.Common.{◌≡◌, ℕ, ◌+◌, ◌-◌, ◌<◌, ◌≤◌, Bool, false, List, [], ◌∷◌, ◌++◌, All, length, take, drop, slice_get, Option, Some, Result, Ok, Err, OnOk, IsTrue, refl, sym, ap, subst, ◌∙◌, arith, append_assoc, append-nil, length-append, take-append-drop}
+use Rattle.std.proofs.Common.{◌≡◌, ℕ, ◌+◌, ◌-◌, ◌<◌, ◌≤◌, Bool, false, List, [], ◌∷◌, ◌++◌, All, length, take, drop, slice_get, Option, Some, Result, Ok, Err, OnOk, IsTrue, inl, inr, refl, sym, ap, subst, ◌∙◌, arith, append_assoc, append-nil, length-append, take-append-drop}
 use Rattle.std.specs.Prelude.{IsSomeAnd}
 use Rattle.std.proofs.lemmas.Bool.{false≢true}
 use Rattle.std.proofs.lemmas.List.{take_at, get_or_at}
@@ -17,10 +17,8 @@ use Rattle.pesp_shell_replies.specs.Legal.{Work}
 use Rattle.pesp_shell_replies.specs.Transcripts.{Leads}
 use Rattle.pesp_shell.specs.declared.run_fault.RunFault.{RunFault}
 use Rattle.pesp_shell.specs.declared.run_fault.RunFault.TheVariants as fault
-use Rattle.pesp_shell.specs.declared.run_fault.Source.{Source}
-use Rattle.pesplib_reader.specs.declared.fault.ReadFault.{ReadFault}
-use Rattle.pesp_shell.specs.Opening.{Files, IsFirstFault, IsOpenFault, IsOpening}
-use Rattle.pesp_shell.specs.Runs.{Answers, IsRun, Marks, MayWant, NoneFailed}
+use Rattle.pesp_shell.specs.Opening.{Files, IsOpenFault}
+use Rattle.pesp_shell.specs.Runs.{Answers, IsRun, IsServed, Marks, MayWant, NoneFailed}
 use Rattle.pesp_shell.specs.Sessions.{MayAnswer, MayEndAfter}
 
 abbrev IsShort : List ℕ → Type 0
@@ -71,42 +69,29 @@ leads_on first mid last [] more output rest (none, same) leads =
 leads_on first mid last (line ∷ lines) more output rest (reply, next, tail, legal, leads, whole) later =
     (reply, next, tail ++ rest, legal, leads_on next mid last lines more tail rest leads later, ap (λ o. o ++ rest) whole ∙ append_assoc reply tail rest)
 
-stands : (f : Files) (first last : Work) (lines : List (List ℕ)) (output : List ℕ)
-    → IsOpening f first → length lines ≤ most_lines → All IsShort lines → Leads first lines output last → Answers f lines output
-stands f first last lines output opening few short leads = record { work = first; opening = opening; few = few; short = short; transcript = (last, leads) }
+stands : (first last : Work) (lines : List (List ℕ)) (output : List ℕ)
+    → length lines ≤ most_lines → All IsShort lines → Leads first lines output last → Answers first lines output
+stands first last lines output few short leads = record { few = few; short = short; transcript = (last, leads) }
 
 -- ---- before the first line
 
--- a file cannot be read
-pub not_read : (f : Files) (left written : Option (List ℕ)) (m : Marks) (source : Source) (found : ReadFault)
-    → NoneFailed m → IsFirstFault f source found → IsRun f left left written written m (Err (fault.File source found))
-not_read f left written m source found off first = record {
-  read = [];
-  output = [];
-  consumed = Consumes-nil left;
-  appended = Appends-nil written;
-  all = λ ok. absurd (false≢true ok);
-  ending = (off, first, refl);
-}
-
 -- memory is wanted before the first line
-pub not_begun : (f : Files) (first : Work) (left written : Option (List ℕ)) (m : Marks)
-    → NoneFailed m → IsOpening f first → IsRun f left left written written m (Err (fault.Memory 0))
-not_begun f first left written m off opening = record {
+pub not_begun : (first : Work) (left written : Option (List ℕ)) (m : Marks) → NoneFailed m → IsServed first left left written written m (Err (fault.Memory 0))
+not_begun first left written m off = record {
   read = [];
   output = [];
   consumed = Consumes-nil left;
   appended = Appends-nil written;
   all = λ ok. absurd (false≢true ok);
-  ending = (off, omega arith, (λ some. absurd (omega (arith, some))), stands f first first [] [] opening (omega arith) (All-nil IsShort) (refl, refl));
+  ending = (off, omega arith, (λ some. absurd (omega (arith, some))), stands first first [] [] (omega arith) (All-nil IsShort) (refl, refl));
 }
 
 -- the files open no work
 pub not_opened : (f : Files) (left written : Option (List ℕ)) (m : Marks) (ended : RunFault)
     → NoneFailed m → IsOpenFault f ended → IsRun f left left written written m (Err ended)
-not_opened f left written m (fault.File source found) off first = not_read f left written m source found off first
+not_opened f left written m (fault.File source found) off first = inr (off, Consumes-nil left, Appends-nil written, source, found, first, refl)
 not_opened f left written m (fault.Memory line) off (w, opening, first) =
-    subst (λ (n : ℕ). IsRun f left left written written m (Err (fault.Memory n))) (sym first) (not_begun f w left written m off opening)
+    subst (λ (n : ℕ). IsRun f left left written written m (Err (fault.Memory n))) (sym first) (inl (w, opening, not_begun w left written m off))
 not_opened f left written m fault.Read off none = absurd none
 not_opened f left written m fault.Write off none = absurd none
 not_opened f left written m (fault.LineTooLong line) off none = absurd none
@@ -163,7 +148,7 @@ module _ (first now : Work) (left left' written written' : Option (List ℕ)) (h
 
   -- ---- ends
 
-  module _ (f : Files) (opening : IsOpening f first) (m : Marks) (p : Progress first now left left' written written' held done) where
+  module _ (m : Marks) (p : Progress first now left left' written written' held done) where
     abbrev read : List ℕ
     read = as_lines p.lines ++ held
 
@@ -171,26 +156,26 @@ module _ (first now : Work) (left left' written written' : Option (List ℕ)) (h
     kept : (written'' : Option (List ℕ)) → Keeps written' written'' → Appends written written'' p.output
     kept written'' keeps = Appends-kept written written' written'' p.output p.appended keeps
 
-    so_far : done ≤ most_lines → Answers f p.lines p.output
-    so_far few = stands f first now p.lines p.output opening (omega (arith, few, p.count)) p.short p.leads
+    so_far : done ≤ most_lines → Answers first p.lines p.output
+    so_far few = stands first now p.lines p.output (omega (arith, few, p.count)) p.short p.leads
 
-    first_lines : (n : ℕ) (ls : List (List ℕ)) → n ≡ done → lines_of read ≡ p.lines ++ ls → done ≤ most_lines → Answers f (take n (lines_of read)) p.output
+    first_lines : (n : ℕ) (ls : List (List ℕ)) → n ≡ done → lines_of read ≡ p.lines ++ ls → done ≤ most_lines → Answers first (take n (lines_of read)) p.output
     first_lines n ls same e few =
-        subst (λ lines. Answers f lines p.output) (sym (ap (take n) e ∙ take_at p.lines ls n (omega (arith, same, p.count)))) (so_far few)
+        subst (λ lines. Answers first lines p.output) (sym (ap (take n) e ∙ take_at p.lines ls n (omega (arith, same, p.count)))) (so_far few)
 
     -- a read failed
-    pub unread : done ≤ most_lines → IsUncut is_line_feed held → IsTrue m.not_read → m.not_written ≡ false → IsRun f left left' written written' m (Err fault.Read)
+    pub unread : done ≤ most_lines → IsUncut is_line_feed held → IsTrue m.not_read → m.not_written ≡ false → IsServed first left left' written written' m (Err fault.Read)
     unread few uncut failed off = record {
       read = read;
       output = p.output;
       consumed = p.consumed;
       appended = p.appended;
       all = λ ok. absurd (false≢true ok);
-      ending = (failed, off, subst (λ lines. Answers f lines p.output) (sym (ended_lines-before p.lines held p.whole uncut)) (so_far few));
+      ending = (failed, off, subst (λ lines. Answers first lines p.output) (sym (ended_lines-before p.lines held p.whole uncut)) (so_far few));
     }
 
     -- the next line is too long
-    pub too_long : done + 1 ≤ most_lines → IsFront held fronts.TooLong → NoneFailed m → IsRun f left left' written written' m (Err (fault.LineTooLong (done + 1)))
+    pub too_long : done + 1 ≤ most_lines → IsFront held fronts.TooLong → NoneFailed m → IsServed first left left' written written' m (Err (fault.LineTooLong (done + 1)))
     too_long few (line, rest, e, uncut, long) off =
         let (more, lines, front) = lines_of-front line rest uncut (omega (arith, long)) in
         let all : lines_of read ≡ p.lines ++ ((line ++ more) ∷ lines) = lines_of-after p.lines held p.whole ∙ ap (λ bytes. p.lines ++ lines_of bytes) e ∙ ap (λ ls. p.lines ++ ls) front in
@@ -216,7 +201,7 @@ module _ (first now : Work) (left left' written written' : Option (List ℕ)) (h
     -- the next line, if there is one, is not answered
     pub faulted : (next : Work) (written'' : Option (List ℕ)) (some more : List (List ℕ)) (fault : RunFault)
         → done + 1 ≤ most_lines → lines_of held ≡ some ++ more → length some ≤ 1 → All IsShort some → m.not_read ≡ false
-        → MayAnswer now some (done + 1) next written' written'' m.not_written (Err fault) → IsRun f left left' written written'' m (Err fault)
+        → MayAnswer now some (done + 1) next written' written'' m.not_written (Err fault) → IsServed first left left' written written'' m (Err fault)
     faulted next written'' some more (fault.Memory line) few e one short reader (writer, same, asking, is, asks, keeps) =
         let all : lines_of read ≡ p.lines ++ (asking ∷ more) = all_lines some more p e ∙ ap (λ ls. p.lines ++ (ls ++ more)) is in
         let there : line - 1 < length (p.lines ++ (asking ∷ more)) = omega (arith, length-append p.lines (asking ∷ more), p.count, same) in
@@ -250,9 +235,9 @@ module _ (first now : Work) (left left' written written' : Option (List ℕ)) (h
             reader,
             length (p.lines ++ some),
             drop n replies,
-            subst (λ lines. Answers f lines ((p.output ++ take n replies) ++ drop n replies)) (sym (ap (take (length (p.lines ++ some))) all ∙ take_at (p.lines ++ some) more (length (p.lines ++ some)) refl))
-                (subst (Answers f (p.lines ++ some)) (sym whole)
-                (stands f first last (p.lines ++ some) (p.output ++ replies) opening (omega (arith, length-append p.lines some, p.count, one, few)) (All-append IsShort p.lines some p.short short)
+            subst (λ lines. Answers first lines ((p.output ++ take n replies) ++ drop n replies)) (sym (ap (take (length (p.lines ++ some))) all ∙ take_at (p.lines ++ some) more (length (p.lines ++ some)) refl))
+                (subst (Answers first (p.lines ++ some)) (sym whole)
+                (stands first last (p.lines ++ some) (p.output ++ replies) (omega (arith, length-append p.lines some, p.count, one, few)) (All-append IsShort p.lines some p.short short)
                 (leads_on first now last p.lines some p.output replies p.leads leads))),
           );
         }
@@ -265,7 +250,7 @@ module _ (first now : Work) (left left' written written' : Option (List ℕ)) (h
     pub finished : (next : Work) (written'' : Option (List ℕ)) (ended : Result (Unit {0}) RunFault)
         → done + 1 ≤ most_lines → IsUnended held → IsTrue m.at_end → IsAtEnd left' → m.not_read ≡ false
         → MayAnswer now (lines_of held) (done + 1) next written' written'' m.not_written ended → OnOk ended (IsTrue m.passed_on)
-        → IsRun f left left' written written'' m ended
+        → IsServed first left left' written written'' m ended
     finished next written'' (Ok done_) few unended at_end none reader (writer, replies, leads, appended) passed =
         let one = one_line held unended in
         let all : lines_of read ≡ p.lines ++ lines_of held = lines_of-after p.lines held p.whole in
@@ -279,8 +264,8 @@ module _ (first now : Work) (left left' written written' : Option (List ℕ)) (h
             (reader, writer),
             at_end,
             passed,
-            subst (λ lines. Answers f lines (p.output ++ replies)) (sym all)
-                (stands f first next (p.lines ++ lines_of held) (p.output ++ replies) opening (omega (arith, length-append p.lines (lines_of held), p.count, one.0, few)) (All-append IsShort p.lines (lines_of held) p.short one.1)
+            subst (λ lines. Answers first lines (p.output ++ replies)) (sym all)
+                (stands first next (p.lines ++ lines_of held) (p.output ++ replies) (omega (arith, length-append p.lines (lines_of held), p.count, one.0, few)) (All-append IsShort p.lines (lines_of held) p.short one.1)
                 (leads_on first now next p.lines (lines_of held) p.output replies p.leads leads)),
           );
         }
@@ -290,7 +275,7 @@ module _ (first now : Work) (left left' written written' : Option (List ℕ)) (h
 
     -- after the greatest number of lines
     pub ended : (written'' : Option (List ℕ)) (end : Result (Unit {0}) RunFault)
-        → done ≡ most_lines → Keeps written' written'' → MayEndAfter held left' m end → IsRun f left left' written written'' m end
+        → done ≡ most_lines → Keeps written' written'' → MayEndAfter held left' m end → IsServed first left left' written written'' m end
     ended written'' (Ok done_) full keeps (off, none, at_end, empty, passed) = record {
       read = read;
       output = p.output;
@@ -301,7 +286,7 @@ module _ (first now : Work) (left left' written written' : Option (List ℕ)) (h
         off,
         at_end,
         passed,
-        subst (λ lines. Answers f lines p.output) (sym (all_lines [] [] p (ap lines_of none) ∙ append-nil p.lines)) (so_far (omega (arith, full))),
+        subst (λ lines. Answers first lines p.output) (sym (all_lines [] [] p (ap lines_of none) ∙ append-nil p.lines)) (so_far (omega (arith, full))),
       );
     }
     ended written'' (Err fault.Read) full keeps (off, none, failed) = record {
@@ -313,7 +298,7 @@ module _ (first now : Work) (left left' written written' : Option (List ℕ)) (h
       ending = (
         failed,
         off,
-        subst (λ lines. Answers f lines p.output) (sym (ended_lines-before p.lines held p.whole (subst (IsUncut is_line_feed) (sym none) tt))) (so_far (omega (arith, full))),
+        subst (λ lines. Answers first lines p.output) (sym (ended_lines-before p.lines held p.whole (subst (IsUncut is_line_feed) (sym none) tt))) (so_far (omega (arith, full))),
       );
     }
     ended written'' (Err fault.Write) full keeps (off, none, failed) = record {
@@ -327,7 +312,7 @@ module _ (first now : Work) (left left' written written' : Option (List ℕ)) (h
         off,
         done,
         [],
-        subst (Answers f (take done (lines_of read))) (sym (append-nil p.output)) (first_lines done (lines_of held) refl (lines_of-after p.lines held p.whole) (omega (arith, full))),
+        subst (Answers first (take done (lines_of read))) (sym (append-nil p.output)) (first_lines done (lines_of held) refl (lines_of-after p.lines held p.whole) (omega (arith, full))),
       );
     }
     ended written'' (Err fault.TooManyLines) full keeps (off, some) = record {

@@ -1,9 +1,9 @@
 //! Runs of the workbench over a stream of commands.
 
-ghost use Rattle.std.specs.Prelude.{◌≡◌, ℕ, [], false, option_copied};
+ghost use Rattle.std.specs.Prelude.{◌≡◌, [], false, option_copied};
 ghost use Rattle.pesp_shell_replies.specs.Legal.{work_of};
-ghost use Rattle.pesp_shell.specs.Opening.{Files, IsOpening, files};
-ghost use Rattle.pesp_shell.specs.Runs.{IsRun, marks};
+ghost use Rattle.pesp_shell.specs.Opening.{files};
+ghost use Rattle.pesp_shell.specs.Runs.{IsRun, IsServed, marks};
 
 use crate::RunFault;
 use crate::answering::{answer, answer_last, end};
@@ -25,8 +25,8 @@ fn answer_all<K: Keeper, R: ByteSource, W: ByteSink>(
     requires empty { lines.old ≡ [] }
     requires reader { R.failed source.old ≡ false }
     requires writer { W.failed sink.old ≡ false }
-    ensures { (f : Files) → IsOpening f (work_of bench.old)
-        → IsRun f (R.left source.old) (R.left source.new) (W.written sink.old) (W.written sink.new)
+    ensures { IsServed (work_of bench.old)
+        (R.left source.old) (R.left source.new) (W.written sink.old) (W.written sink.new)
         (marks (R.at_end source.new) (R.failed source.new) (W.failed sink.new) (W.passed_on sink.new)) result }
 {
     for done in 0..MOST_LINES {
@@ -46,7 +46,7 @@ fn answer_all<K: Keeper, R: ByteSource, W: ByteSink>(
 
 /// Answers the commands of a stream over a workbench, as [`run`] does over the one that its files open.
 ///
-/// Nothing asks for the files here, so their bytes may be let go before. Faults in order: out of memory at
+/// Nothing asks for files here, so their bytes may be let go before. Faults in order: out of memory at
 /// line 0; then those of lines and devices, as `run` has them.
 pub fn serve<K: Keeper, R: ByteSource, W: ByteSink>(
     alloc: Global,
@@ -56,8 +56,8 @@ pub fn serve<K: Keeper, R: ByteSource, W: ByteSink>(
 ) -> Result<(), RunFault>
     requires reader { R.failed reader.old ≡ false }
     requires writer { W.failed writer.old ≡ false }
-    ensures { (f : Files) → IsOpening f (work_of bench)
-        → IsRun f (R.left reader.old) (R.left reader.new) (W.written writer.old) (W.written writer.new)
+    ensures { IsServed (work_of bench)
+        (R.left reader.old) (R.left reader.new) (W.written writer.old) (W.written writer.new)
         (marks (R.at_end reader.new) (R.failed reader.new) (W.failed writer.new) (W.passed_on writer.new)) result }
 {
     let Ok(mut lines) = LineReader::new(alloc) else {

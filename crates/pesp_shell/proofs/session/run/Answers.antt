@@ -1,6 +1,7 @@
 -- Where the files open no work, nothing is read or written; and over the work that they open, commands are served.
-use Rattle.std.proofs.Common.{◌≡◌, Err, sym, subst, rules}
+use Rattle.std.proofs.Common.{◌≡◌, Err, inl, sym, subst, rules}
 use Rattle.std.specs.Prelude.{option_copied}
+use Rattle.pesp_shell_replies.specs.Legal.{work_of}
 use Rattle.pesp_shell.specs.Opening.{files}
 use Rattle.pesp_shell.specs.Runs.{IsRun, marks}
 use Rattle.pesp_shell.proofs.SessionLemmas.{not_opened}
@@ -16,4 +17,4 @@ returns-in_err-bench g c =
     (not_opened f (g.R.ByteSource.left c.args.reader.now) (g.W.ByteSink.written c.args.writer.now) m c.in_err-bench.field-0.0 (c.requires.reader, c.requires.writer) c.in_err-bench.ensures.fault)
 
 pub returns : goal.returns
-returns g c = c.serve.ensures (files c.args.period c.args.activities.now (option_copied c.args.fixed) (option_copied c.args.times)) c.in_ok-bench.ensures.opening
+returns g c = inl (work_of c.in_ok-bench.bench, c.in_ok-bench.ensures.opening, c.serve.ensures)

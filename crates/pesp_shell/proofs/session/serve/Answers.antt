@@ -6,9 +6,9 @@ use Rattle.pesp_shell.proofs.SessionLemmas.{not_begun}
 use Rattle.pesp_shell.proofs.session.serve.Goals as goal
 
 pub returns-in_default : goal.returns-in_default
-returns-in_default g c = λ f opening. not_begun f (work_of c.args.bench) (g.R.ByteSource.left c.args.reader.now) (g.W.ByteSink.written c.args.writer.now)
+returns-in_default g c = not_begun (work_of c.args.bench) (g.R.ByteSource.left c.args.reader.now) (g.W.ByteSink.written c.args.writer.now)
     (marks (g.R.ByteSource.at_end c.args.reader.now) (g.R.ByteSource.failed c.args.reader.now) (g.W.ByteSink.failed c.args.writer.now) (g.W.ByteSink.passed_on c.args.writer.now))
-    (c.requires.reader, c.requires.writer) opening
+    (c.requires.reader, c.requires.writer)
 
 -- by search, and named so that a wrong body is refused here at once
 pub returns : goal.returns

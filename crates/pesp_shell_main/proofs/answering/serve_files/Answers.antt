@@ -1,5 +1,6 @@
 -- Where the files open no work, nothing is read or written; and over the work that they open, commands are served.
-use Rattle.std.proofs.Common.{◌≡◌, Err, sym, subst, rules}
+use Rattle.std.proofs.Common.{◌≡◌, Err, inl, sym, subst, rules}
+use Rattle.pesp_shell_replies.specs.Legal.{work_of}
 use Rattle.pesp_shell.specs.Runs.{IsRun, marks}
 use Rattle.pesp_shell.proofs.SessionLemmas.{not_opened}
 use Rattle.pesp_shell_main.specs.Wiring.{files_of}
@@ -15,4 +16,4 @@ returns-in_err-bench g c =
     subst (IsRun f left left written written m) (sym same) (not_opened f left written m c.in_err-bench.field-0.0 (c.requires.reader, c.requires.writer) c.in_err-bench.ensures.fault)
 
 pub returns : goal.returns
-returns g c = c.serve.ensures (files_of c.args.settings.now.period c.args.files) c.in_ok-bench.ensures.opening
+returns g c = inl (work_of c.in_ok-bench.bench, c.in_ok-bench.ensures.opening, c.serve.ensures)
