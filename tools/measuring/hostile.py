@@ -7,7 +7,7 @@ from typing import Callable, Dict, List, Optional, Sequence, Tuple
 
 from measuring.counting import count, peak, run
 from measuring.network import PERIOD, Numbers, activity_rows, events_of, text_of
-from tests.limits import MOST_EVENTS
+from tests.limits import GREATEST_PERIOD, MOST_EVENTS, most_activities
 
 BYTES = [600_000, 6_000_000, 60_000_000]
 ROWS = [1_000, 10_000, 100_000]
@@ -34,6 +34,16 @@ def reversed_rows(rows: int) -> str:
     numbers = Numbers(rows)
     times = [numbers.below(PERIOD) for _ in range(events_of(rows))]
     return text_of(sorted(activity_rows(numbers, rows, times), reverse=True))
+
+
+def too_many_rows(size: int) -> str:
+    """More rows than the greatest period allows, where so many bytes hold as many."""
+    return text_of((name, 1, 1, 0, 59, 1) for name in range(size // len("000000; 1; 1; 0; 59; 1\n")))
+
+
+def repeated_rows(rows: int) -> str:
+    """The last row has the number of the first."""
+    return text_of((name % (rows - 1), 1, 1, 0, 59, 1) for name in range(rows))
 
 
 def fixed_rows(rows: int) -> str:
@@ -106,6 +116,13 @@ def measure_files(program: Path, folder: Path, sizes: Sequence[int]) -> None:
 
         table.measure(name, prepare, int(bool(wanted and wanted.startswith(FAULT))))
 
+    def prepare_rows(size: int) -> Prepared:
+        path.write_text(too_many_rows(size))
+        fault = f"pespbench: activities file, record {most_activities(GREATEST_PERIOD) + 1}: too many activities\n"
+        return ["--period", GREATEST_PERIOD, "--check", path], None, fault
+
+    table.measure("too many rows", prepare_rows, 1)
+
 
 def measure_networks(program: Path, folder: Path, sizes: Sequence[int]) -> None:
     path, fixed = folder / "hostile", folder / "hostile.fixed"
@@ -126,6 +143,11 @@ def measure_networks(program: Path, folder: Path, sizes: Sequence[int]) -> None:
         fault = f"pespbench: fixed file, record {events_of(size) + 1}: event is repeated\n"
         return ["--check", "--fixed", fixed, path], None, fault
 
+    def prepare_repeated(size: int) -> Prepared:
+        path.write_text(repeated_rows(size))
+        return ["--check", path], None, f"pespbench: activities file, record {size}: activity number is repeated\n"
+
+    table.measure("a number repeated", prepare_repeated, 1)
     table.measure("and fixed times", prepare_fixed, 1)
 
 

@@ -1,8 +1,8 @@
 -- Rows without faults by themselves, whose activities are gathered and put in at once.
-use Rattle.std.proofs.Common.{◌≡◌, ℕ, ◌≤◌, cond, true, false, List, [], ◌∷◌, ◌++◌, length, Option, Some, None, Result, Ok, Err, IfOk, is_some, if◌then◌else◌, refl, sym, ap, subst, ◌∙◌, arith}
+use Rattle.std.proofs.Common.{◌≡◌, ℕ, ◌≤◌, cond, true, false, List, [], ◌∷◌, ◌++◌, length, Option, Some, None, Result, Ok, Err, IfOk, IfErr, is_some, if◌then◌else◌, refl, sym, ap, subst, ◌∙◌, arith}
 use Rattle.std.proofs.lemmas.Bool.{le-ltb, lt-leb}
 use Rattle.std.specs.Option.{MatchOption}
-use Rattle.std.specs.Result.{result_ok}
+use Rattle.std.specs.Result.{result_err, result_ok}
 use Rattle.pesp_base.specs.declared.activity.Activity.{Activity}
 use Rattle.pesp_base.specs.Limits.{max_activities, max_events}
 use Rattle.pesp_base.specs.Numbered.{put_in, with_number}
@@ -131,6 +131,11 @@ gathered_to period bytes front added I J s so filled reading count all =
 pub at_value : {X E : Type 0} (P : X → Type 0) (r : Result X E) (v : X) → result_ok r ≡ Some v → IfOk r P → P v
 at_value P (Ok x) v is holds = let same : x ≡ v = cc in subst P same holds
 at_value P (Err e) v is holds = absurd (cc)
+
+-- what holds of an error that came
+pub at_error : {X E : Type 0} (P : E → Type 0) (r : Result X E) (e : E) → result_err r ≡ Some e → IfErr r P → P e
+at_error P (Ok x) e is holds = absurd (cc)
+at_error P (Err f) e is holds = let same : f ≡ e = cc in subst P same holds
 
 pub filled_by : {E : Type 0} (I : Network) (added : List Activity) (r : Result (Option Network) E) (found : Option Network) (J : Network) → result_ok r ≡ Some found → found ≡ Some J → IfOk r (λ o. MatchOption o ((K : Network) → IsFilled I added K → ⊥) (IsFilled I added)) → IsFilled I added J
 filled_by I added r found J is some filled =

@@ -136,9 +136,9 @@ fn gather(instance: &mut Instance, activities: &mut Vec<Activity>, activity: Act
     activities.push(activity).is_ok()
 }
 
-/// The instance that a file of activities stands for, or the fault of the first row that has one by itself, where the
-/// rows before it have none. Nothing where a row falls by those before it, or where there is no room to store all of
-/// them at once.
+/// The instance that a file of activities stands for, or the fault of the first row that has one by itself or is one
+/// too many, where the rows before it have none. Nothing where a row falls otherwise by those before it, or where there
+/// is no room to store all of them at once.
 // What it holds is not on the stack while the other way is gone.
 #[inline(never)]
 fn read_at_once(alloc: Global, period: Period, bytes: &[u8]) -> Option<Result<Instance, ReadFault>>
@@ -147,19 +147,21 @@ fn read_at_once(alloc: Global, period: Period, bytes: &[u8]) -> Option<Result<In
     ensures fault { IfSome result (λ told. IfErr told
         (IsReadFault bytes.now (activities_read period bytes.now))) }
 {
+    let limit = max_activities(period);
     let mut instance = Instance::new(alloc, period);
     let mut activities = Vec::new(alloc);
     let mut records = Records::new(alloc, bytes);
     'rows: while records.next().ok()? {
         match activity_of_row(records.record()) {
-            Ok(activity) => {
+            Ok(activity) if activities.len() < limit => {
                 if !gather(&mut instance, &mut activities, activity) {
                     return None;
                 }
             }
-            Err(kind) => {
-                // No row before this one has a fault where all of them can be stored.
-                let _before = instance.with_activities(activities).ok()??;
+            _ => {
+                // The rows before this one are stored, and it is taken after them.
+                let mut before = instance.with_activities(activities).ok()??;
+                let kind = take_activity(&mut before, records.record()).err()?;
                 return Some(Err(records.fault(kind)));
             }
         }

@@ -1,13 +1,12 @@
--- Each row without a fault by itself is gathered, and all of them are put in at the end, or where a row has one.
-use Rattle.std.proofs.Common.{◌≡◌, ◌++◌, ◌∷◌, [], true, false, Err, length, refl, sym, ap, ◌∙◌, arith}
+-- Each row without a fault by itself is gathered, and all of them are put in at the end, or where a row has one or is one too many.
+use Rattle.std.proofs.Common.{◌≡◌, ◌++◌, ◌∷◌, [], true, false, length, refl, sym, ap, ◌∙◌, arith}
 use Rattle.std.proofs.lemmas.List.{append_assoc}
-use Rattle.pesp_base.specs.Refusals.{unless_refused}
 use Rattle.pesp_instance.specs.Edited.{empty_network}
 use Rattle.pesplib_reader.specs.Left.{IsNextRow, row_of, rows_left}
-use Rattle.pesplib_reader.specs.Reading.{activity_faults_after, instance_faults, with_activity_row}
-use Rattle.pesplib_reader.specs.Rows.{activity_faults, activity_in}
-use Rattle.pesplib_reader.proofs.GatheredLemmas.{at_value, filled_by, gathered_to, none_gathered, one_gathered}
-use Rattle.pesplib_reader.proofs.TakingLemmas.{bad_row, ended, stopped_at}
+use Rattle.pesplib_reader.specs.Reading.{activity_faults_after, with_activity_row}
+use Rattle.pesplib_reader.specs.Taking.{IsTakeFault, row_taken}
+use Rattle.pesplib_reader.proofs.GatheredLemmas.{at_error, at_value, filled_by, gathered_to, none_gathered, one_gathered}
+use Rattle.pesplib_reader.proofs.TakingLemmas.{ended, stopped_at}
 use Rattle.pesplib_reader.proofs.activities.read_at_once.Goals as goal
 
 pub rows-init : goal.rows-init
@@ -33,17 +32,17 @@ rows-smaller c =
     let more : IsNextRow c.rows.records c.next.new.self = at_value (λ found. found ≡ true → IsNextRow c.rows.records c.next.new.self) c.next.result c.in_ok-ok.field-0 (sym c.ok.ensures.value ∙ c.in_ok-ok.was) c.next.ensures.found c.if-branch.true in
     omega (arith, ap (λ xs. length xs) more.next)
 
--- the rows before this one are taken, and it falls by its own fault
-pub returns-in-Err-clause-fault : goal.returns-in-Err-clause-fault
-returns-in-Err-clause-fault c =
+-- the rows before this one are taken, and it falls after them
+pub returns-in_default-clause-fault : goal.returns-in_default-clause-fault
+returns-in_default-clause-fault c =
     let more : IsNextRow c.rows.records c.next.new.self = at_value (λ found. found ≡ true → IsNextRow c.rows.records c.next.new.self) c.next.result c.in_ok-ok.field-0 (sym c.ok.ensures.value ∙ c.in_ok-ok.was) c.next.ensures.found c.if-branch.true in
-    let before = c.in_ok-_before-in-Err._before in
-    let filled = filled_by c.rows.instance c.rows.activities.items c.with_activities.result c.in_ok-ok-in-Err.field-0 before (sym c.ok-in-Err.ensures.value ∙ c.in_ok-ok-in-Err.was) c.in_ok-_before-in-Err.was c.with_activities.ensures.filled in
+    let before = c.in_ok-before-in_default.before in
+    let filled = filled_by c.rows.instance c.rows.activities.items c.with_activities.result c.in_ok-ok-in_default.field-0 before (sym c.ok-in_default.ensures.value ∙ c.in_ok-ok-in_default.was) c.in_ok-before-in_default.was c.with_activities.ensures.filled in
     let taken = gathered_to c.args.period c.args.bytes.now c.rows.invariant.2 c.rows.activities.items c.rows.instance before c.rows.records c.rows.invariant.4 filled c.rows.invariant.0 c.rows.invariant.1 c.rows.invariant.3 in
-    let fields = (row_of c.next.new.self).fields in
-    let own : Err c.in-Err.kind ≡ unless_refused (activity_faults fields) (activity_in fields) = rw c.record.ensures at c.in-Err.ensures in
-    let falls = bad_row activity_faults (λ I fs. instance_faults I (activity_in fs)) with_activity_row before fields fields (activity_in fields) refl c.in-Err.kind own in
-    stopped_at activity_faults_after with_activity_row (empty_network c.args.period) c.args.bytes.now before c.rows.records c.next.new.self taken more c.in-Err.kind c.fault.result (rw falls refl) c.fault.ensures
+    let kind = c.in_ok-kind-in_default.kind in
+    let falls : IsTakeFault (row_taken activity_faults_after with_activity_row before (row_of c.next.new.self).fields) kind =
+    at_error (IsTakeFault (row_taken activity_faults_after with_activity_row before (row_of c.next.new.self).fields)) c.take_activity.result kind (sym c.err.ensures.value ∙ c.in_ok-kind-in_default.was) (rw c.record-in_default.ensures at c.take_activity.ensures.fault) in
+    stopped_at activity_faults_after with_activity_row (empty_network c.args.period) c.args.bytes.now before c.rows.records c.next.new.self taken more kind c.fault.result falls c.fault.ensures
 
 -- all rows are taken
 pub returns-clause-ok : goal.returns-clause-ok
