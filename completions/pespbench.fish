@@ -1,5 +1,5 @@
 complete -c pespbench -l period -x -a '10 15 20 30 60 120 1440' -d 'the period, 2 to 1440'
 complete -c pespbench -l fixed -r -F -d 'the file of fixed times'
 complete -c pespbench -l times -r -F -d 'the file of times'
-complete -c pespbench -l check -d 'tell what the times violate and cost, and end'
+complete -c pespbench -l check -d 'print tensions, violations and cost, and end'
 complete -c pespbench -s h -l help -d 'print help'

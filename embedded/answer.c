@@ -1,6 +1,6 @@
-/* Answers commands over files, as pespbench does: the same replies, the same line for a fault, the same exit status.
+/* Answers commands over files, like pespbench: the same replies, the same line for a fault, the same exit status.
  *
- * usage: answer PERIOD ACTIVITIES FIXED TIMES <COMMANDS, where a file that is not there is `-` */
+ * usage: answer PERIOD ACTIVITIES FIXED TIMES <COMMANDS, with `-` for a missing file */
 #include "pespbench.h"
 
 #include <signal.h>
@@ -133,5 +133,8 @@ int main(int count, char **words) {
     if (fwrite(out.at, 1, told.length, stdout) != told.length || fflush(stdout) != 0) fail("replies cannot be written");
     if (told.status == PESP_DONE && ferror(stdin)) told.status = PESP_NOT_READ;
     tell(&told);
+    free(out.at);
+    free(commands.at);
+    for (int place = 0; place < 3; place += 1) free(files[place].at);
     return told.status == PESP_DONE ? 0 : 1;
 }

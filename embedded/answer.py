@@ -1,9 +1,9 @@
 #!/usr/bin/env python3
-"""Answers commands over files, as pespbench does: the same replies, the same line for a fault, the same exit status.
+"""Answers commands over files, like pespbench: the same replies, the same line for a fault, the same exit status.
 
-usage: answer.py LIBRARY PERIOD ACTIVITIES FIXED TIMES <COMMANDS, where a file that is not there is `-`
+usage: answer.py LIBRARY PERIOD ACTIVITIES FIXED TIMES <COMMANDS, with `-` for a missing file
 
-LIBRARY is the library as a shared one. pespbench.h says what the numbers mean.
+LIBRARY is the shared library. pespbench.h explains the numbers.
 """
 
 import ctypes

@@ -1,6 +1,6 @@
-//! Answers commands over files, as pespbench does: the same replies, the same line for a fault, the same exit status.
+//! Answers commands over files, like pespbench: the same replies, the same line for a fault, the same exit status.
 //!
-//! usage: answer PERIOD ACTIVITIES FIXED TIMES <COMMANDS, where a file that is not there is `-`
+//! usage: answer PERIOD ACTIVITIES FIXED TIMES <COMMANDS, with `-` for a missing file
 
 #[allow(dead_code)]
 #[path = "rust/src/raw.rs"]

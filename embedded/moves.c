@@ -1,5 +1,5 @@
 /* A local search over a session: opens an activities file and a timetable for it, tries to move one event after another,
- * and makes a move where the cost does not rise.
+ * and makes each move that does not raise the cost.
  *
  * usage: moves PERIOD ACTIVITIES TIMES MOVES, where each event of the activities has a time in TIMES */
 #include "pespbench.h"

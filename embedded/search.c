@@ -1,5 +1,5 @@
-/* A search over a session that tells how good its timetable is: opens an activities file and goes on by calls of the same
- * size, until the optimum is known or a second is over.
+/* A search over a session that reports the quality of its timetable: opens an activities file and searches by calls of equal
+ * size, until the optimum is known or a second has passed.
  *
  * usage: search PERIOD ACTIVITIES */
 #include "pespbench.h"

@@ -2,9 +2,9 @@
 
 usage: pespbench .. <COMMANDS | PYTHONPATH=python python3 examples/draw.py [TIMES] >page.svg
 
-The commands are `dump`, and of `domains`, `tensions`, `violations`, `cost` and `optimum` those that are to be seen.
-TIMES is a file of times; without it the times are those of the last `optimum` or `try`. A reply that is a refusal or a
-fault is told on standard error, and the rest is drawn.
+The commands are `dump`, and those of `domains`, `tensions`, `violations`, `cost` and `optimum` to be drawn. TIMES is a
+file of times; without it the times are those of the last `optimum` or `try`. A refusal or a fault goes to standard error,
+and the rest is drawn.
 """
 
 import sys
@@ -21,7 +21,7 @@ STRIP, DOMAIN, SPAN, FIXED = "#edf0f3", "#9cc4e8", "#a9d6a5", "#d98200"
 
 
 class Told:
-    """What the replies tell."""
+    """The contents of the replies."""
 
     def __init__(self):
         self.network = self.cost = None
@@ -51,7 +51,7 @@ def bounded(value, least, most):
 
 
 def read(text):
-    """What replies tell, with a network at a period that there is."""
+    """The contents of replies, with a network at a valid period."""
     told = Told()
     for reply in replies_of(text):
         try:
@@ -73,7 +73,7 @@ class Page:
         self.lines, self.top = [], 8
 
     def x(self, place):
-        """Where a place of the period lies, from 0 to the period."""
+        """The position of a time, from 0 to the period."""
         return self.left + WIDTH * place / self.period
 
     def box(self, start, end, color, inset=3):
@@ -90,7 +90,7 @@ class Page:
         self.lines.append(f'<circle cx="{x:.1f}" cy="{self.top + ROW / 2:.1f}" r="5.5" fill="{INK}" stroke="#fff"/>')
 
     def cross(self, x):
-        """The mark of what is violated or not possible, in the place of the dot."""
+        """The mark of a violation or an impossible time, instead of the dot."""
         y = self.top + ROW / 2
         path = f"M{x - 5:.1f} {y - 5:.1f}l10 10m0 -10l-10 10"
         self.lines.append(f'<path d="{path}" stroke="#fff" stroke-width="6"/>')
@@ -100,7 +100,7 @@ class Page:
         self.cross(x) if is_wrong else self.dot(x)
 
     def ring(self, x):
-        """The mark of a fixed time, which shows round the dot of a time."""
+        """The mark of a fixed time, around the dot of a time."""
         place = f'cx="{x:.1f}" cy="{self.top + ROW / 2:.1f}" r="8"'
         self.lines.append(f'<circle {place} fill="none" stroke="{FIXED}" stroke-width="2.5"/>')
 
@@ -110,7 +110,7 @@ class Page:
         self.lines.append(f'<rect {shape} fill="none" stroke="{FIXED}" stroke-width="2.5"/>')
 
     def axis(self):
-        """Numbers over the strips, and thin lines through those that come."""
+        """Numbers above the strips that follow."""
         step = next(step for step in (1, 2, 5, 10) if self.period / step <= 12 or step == 10)
         for place in range(0, self.period, step):
             self.text(self.x(place + 0.5), place, PALE, "middle")
@@ -130,7 +130,7 @@ class Page:
 
 
 class Event:
-    """A row of the first part: where an event can be, and where it is."""
+    """A row of the first part: an event's possible times, and its time."""
 
     def __init__(self, told, event):
         self.window, self.period = told.network.windows[event], told.network.period
@@ -144,7 +144,7 @@ class Event:
         self.note = ", ".join(filter(None, notes))
 
     def hold(self):
-        """How its window is told."""
+        """The text of its window."""
         if self.window is None:
             return ""
         first, length = self.window.first, self.window.length
@@ -162,7 +162,7 @@ class Event:
         page.top += ROW
 
     def draw_window(self, page):
-        """A ring for a fixed time; for another window a band, in two where it goes on at the start of the period."""
+        """A ring for a fixed time; for another window a band, in two pieces if it wraps around the period."""
         if self.window is None:
             return
         first = bounded(self.window.first, 0, self.period - 1)

@@ -1,4 +1,4 @@
-"""Asks many variants of one network side by side: which spans, two minutes longer, give it a timetable?
+"""Evaluates many variants of one network in parallel: which spans, two minutes longer, give it a timetable?
 
 usage: PYTHONPATH=python python3 examples/on_a_cluster.py [FOLDER]
        PYTHONPATH=python python3 examples/on_a_cluster.py FOLDER tcp://SCHEDULER:8786
@@ -18,14 +18,14 @@ def over_dask(scheduler):
 
 
 def over_mpi():
-    """The processes of an MPI job, which have them too."""
+    """The processes of an MPI job, with the same package and program."""
     from mpi4py.futures import MPIPoolExecutor
 
     return MPIPoolExecutor()
 
 
 def main(folder="examples/two-changes", where=None):
-    """Without a place to go to, the variants are answered by the processors of this machine."""
+    """Without a cluster, the processors of this machine evaluate the variants."""
     executor = None if where is None else over_mpi() if where == "mpi" else over_dask(where)
     with Bench.load(folder) as bench:
         names = Names(bench.labels, bench.network.activities)

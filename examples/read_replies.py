@@ -1,4 +1,4 @@
-"""Reads the replies to a check. The exit status is 1 where something is violated or a time is missing.
+"""Reads the replies to a check. The exit status is 1 if something is violated or a time is missing.
 
 usage: pespbench --check .. | PYTHONPATH=python python3 examples/read_replies.py
 """

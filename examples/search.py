@@ -1,4 +1,4 @@
-"""Looks for the best timetable of an hourly line within ten seconds through the Python package, and tells what it has as it goes.
+"""Searches for the best timetable of an hourly line for ten seconds with the Python package, and reports its progress.
 
 usage: PYTHONPATH=python python3 examples/search.py [PROGRAM [ACTIVITIES]]
 """

@@ -1,4 +1,4 @@
-"""Drives the program through the Python package, and looks for the shortest changes that still fit on an hourly line.
+"""Drives the program with the Python package, and searches for the shortest possible changes on an hourly line.
 
 usage: PYTHONPATH=python python3 examples/session.py [PROGRAM [ACTIVITIES]]
 """
@@ -9,7 +9,7 @@ from pespbench import Bench, Infeasible
 
 
 def main(program="pespbench", network="examples/hourly-line/activities"):
-    """How short can both changes at Benton be, where the branch train turns at Dale within 8 minutes?"""
+    """How short can both changes at Benton be if the branch train turns at Dale within 8 minutes?"""
     with Bench.open(network, program=program) as bench:
         bench.fix(1, 3)
         bench.span(42, 6, 8)

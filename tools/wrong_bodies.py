@@ -1,7 +1,7 @@
 """The two shelves of wrong bodies of each crate, and how those of the second one are tried.
 
-The gate tries `must-fail/` itself. Those of `wrong-bodies/` are tried in its place on a copy of the tree, by the gate's
-own `rt ci NAME`, which keeps on the machine what it has proved and tried.
+The gate tries `must-fail/` itself. Those of `wrong-bodies/` are tried in its place on a copy of the tree, as the gate tries
+its own, by `rt must-fail NAME`. It tries a crate that is not proved too, and so `rt check` goes before it.
 """
 
 import contextlib
@@ -9,14 +9,14 @@ import pathlib
 import re
 import shutil
 import subprocess
-from typing import Dict, List, NamedTuple, Sequence, Tuple
+from typing import Dict, List, NamedTuple, Sequence, Set, Tuple
 
 FIRST, SECOND = "must-fail", "wrong-bodies"
 # The toolchain's line on an edit; what is in brackets after the first words takes from what a refusal shows.
 LINE = re.compile(r"(?:rt: )?must-fail (?P<crate>\w+)/(?P<name>[\w.-]+\.edit): (?P<told>.*)")
 REFUSED = "refused, as it must be"
-# Its line on a crate that it does not prove, or on one below it.
-UNPROVED = re.compile(r"rt: \w+( NOT PROVED.*|: its tests are NOT PROVED)")
+# What of a crate's `out` a check goes on from: what it has proved, and the libraries that it stands on.
+KEPT = ("incremental", "rlib")
 
 
 class Missing(Exception):
@@ -77,17 +77,21 @@ def crates_of(top: pathlib.Path, names: Sequence[str]) -> List[str]:
 
 
 def copy_tree(top: pathlib.Path, to: pathlib.Path, crate: str) -> None:
-    """Copies what the gate reads of the crate, with its second shelf where it looks for the first."""
-    shutil.copytree(top / "crates", to / "crates", ignore=shutil.ignore_patterns("out", FIRST, SECOND))
+    """Copies what a check of the crate reads and what earlier ones kept, with its second shelf where the first is looked for."""
+
+    def not_read(folder: str, names: List[str]) -> Set[str]:
+        return {*names} - {*KEPT} if pathlib.Path(folder).name == "out" else {*names} & {FIRST, SECOND}
+
+    shutil.copytree(top / "crates", to / "crates", ignore=not_read)
     for name in ["crates.txt", "HANDLES"]:
         shutil.copy(top / name, to / name)
     shutil.copytree(top / "crates" / crate / SECOND, to / "crates" / crate / FIRST)
 
 
-def called(words: Sequence[str], folder: pathlib.Path) -> List[str]:
-    """The lines that a command of the toolchain wrote."""
+def called(words: Sequence[str], folder: pathlib.Path) -> Tuple[int, List[str]]:
+    """The status of a command of the toolchain, and the lines that it wrote."""
     done = subprocess.run(words, cwd=folder, stdin=subprocess.DEVNULL, stdout=subprocess.PIPE, stderr=subprocess.STDOUT)
-    return done.stdout.decode(errors="replace").splitlines()
+    return done.returncode, done.stdout.decode(errors="replace").splitlines()
 
 
 def told_of(lines: Sequence[str]) -> Dict[str, str]:
@@ -112,10 +116,11 @@ def try_crate(top: pathlib.Path, room: pathlib.Path, crate: str) -> Dict[str, st
     A crate that is not proved would refuse whatever is tried, so none of its edits is.
     """
     copy_tree(top, room, crate)
-    lines = called(["rt", "ci", crate], room)
-    told = told_of(lines)
-    unproved = [line for line in lines if UNPROVED.fullmatch(line)]
-    silent = f"NOT TRIED: {unproved[0]}" if unproved else "NOT TRIED: no word of it"
+    status, lines = called(["rt", "check"], room / "crates" / crate)
+    told: Dict[str, str] = {}
+    silent = f"NOT TRIED: the crate is not proved: {lines[-1] if lines else 'no word of it'}"
+    if status == 0:
+        told, silent = told_of(called(["rt", "must-fail", crate], room)[1]), "NOT TRIED: no word of it"
     return {path.name: told.get(path.name, silent) for path in edits(top, SECOND, crate)}
 
 

@@ -8,7 +8,7 @@ import { eventName, labelOf } from './names.js';
 import { doStep, redraw, session } from './session.js';
 import { shown } from './shown.js';
 
-const KINDS = ['run', 'dwell', 'change', 'turn', 'headway'];
+const KINDS = ['run', 'dwell', 'change', 'turn', 'headway'], OF_ONE_STATION = ['dwell', 'change', 'turn', 'turnaround', 'transfer'];
 let from = null, opened = null, drawn = '';
 
 // A number above all that are taken.
@@ -34,11 +34,20 @@ const beginHere = () => {
 
 const valueOf = id => minutesTyped(find(id).value);
 
+// What is wrong about a kind between two events; '' where nothing is.
+const faultOf = kind => {
+  const [one, other] = [from, shown.chosen].map(event => labelOf(event).station), isApart = one && other && one !== other;
+  return isApart && OF_ONE_STATION.includes(kind) ? `A ${kind} is at one station, and this leads from ${one} to ${other}. Choose another event or another kind, as “walk”.` : '';
+};
+
 const add = () => {
+  const fault = faultOf(find('added-kind').value.trim());
+  if (fault) return say(fault, true);
   const { kinds } = shown.labels, number = freeNumber(shown.view.network.activities.keys(), kinds.keys());
   const kind = find('added-kind').value.trim(), words = [number, from, shown.chosen, valueOf('added-least'), valueOf('added-most')];
   const labels = kind ? { ...shown.labels, kinds: new Map([...kinds, [number, kind]]) } : shown.labels;
   if (doStep([`add activity ${words.join(' ')} ${find('added-weight').value.trim()}`], { labels })) leave();
+  return null;
 };
 
 const leave = () => {

@@ -1,33 +1,38 @@
-// What is violated in a netgraph: the way of a run and the ring of a station in red, with the minutes had and wanted.
+// What is violated in a netgraph: the way of a run and the ring of a station in red, with the minutes had and wanted where no other
+// red text lies, and else with a mark.
 
+import { isApart, PARTS, spotsOf } from './apart.js';
 import { conflictsOf, shortConflicts, toldConflicts } from './conflicts.js';
 import { drawing, setAttribute } from './elements.js';
 import { labelOf } from './names.js';
 
-const PARTS = { start: 0, middle: 0.5, end: 1 }, LETTER = 8;
+const LETTER = 8, MARK = '✕', UPRIGHT = { origin: [0, 0], turn: 0 };
 
-// What is red where something is violated, and its label.
-export const makeAlarm = (shape, place) => ({ shape, label: drawing('text', { class: 'broken', ...place }), x: place.x, drawn: '' });
+// What is red where something is violated, and its label, in a frame that may be turned.
+export const makeAlarm = (shape, place, frame = UPRIGHT) => ({ shape, label: drawing('text', { class: 'broken', ...place }), place, frame, drawn: '' });
 
-const draw = (alarm, conflicts) => {
-  const text = shortConflicts(conflicts).replace(' run', ''), { shape, label } = alarm;
-  if (alarm.drawn === text) return;
-  alarm.drawn = text;
+// A label of a station lies within the drawing. Its length is about so much: to ask for it costs a layout.
+const fitting = ({ label, place, frame }, length) => {
+  if (frame !== UPRIGHT) return place;
+  const { x, width } = label.ownerSVGElement.viewBox.baseVal, before = length * PARTS[place['text-anchor']];
+  return { ...place, x: Math.max(x + before, Math.min(place.x, x + width - length + before)) };
+};
+
+const draw = (alarm, conflicts, taken) => {
+  const whole = shortConflicts(conflicts).replace(' run', ''), length = LETTER * whole.length, { shape, label } = alarm, place = fitting(alarm, length);
+  const spots = whole ? spotsOf(place, alarm.frame, length) : [], text = isApart(spots, taken) ? whole : MARK, drawn = `${text} ${whole}`;
+  taken.push(...text === whole ? spots : spotsOf(alarm.place, alarm.frame, LETTER));
+  if (alarm.drawn === drawn) return;
+  alarm.drawn = drawn;
   shape.classList.toggle('broken', Boolean(text));
   label.replaceChildren(text, drawing('title', {}, toldConflicts(conflicts)));
   setAttribute(label, 'data-activity', text ? conflicts[0].number : null);
-  if (label.parentNode === label.ownerSVGElement) fit(label, alarm.x, LETTER * text.length);
-};
-
-// A label of a station lies within the drawing. Its length is about so much: to ask for it costs a layout.
-const fit = (label, at, length) => {
-  const { x, width } = label.ownerSVGElement.viewBox.baseVal, before = length * PARTS[label.getAttribute('text-anchor')];
-  label.setAttribute('x', Math.max(x + before, Math.min(at, x + width - length + before)));
+  setAttribute(label, 'x', text === whole ? place.x : alarm.place.x);
 };
 
 // Draws what is new of alarms, of lanes by the events that leave on them, and of stations; `drawn` are those that are red.
 export const drawAlarms = (view, { lanes, stations, drawn }) => {
-  const found = new Map([...drawn].map(alarm => [alarm, []]));
+  const found = new Map([...drawn].map(alarm => [alarm, []])), taken = [];
   drawn.clear();
   for (const conflict of conflictsOf(view).all) {
     const { first, last } = conflict.activity, [from, to] = [first, last].map(event => labelOf(event).station);
@@ -37,5 +42,5 @@ export const drawAlarms = (view, { lanes, stations, drawn }) => {
     found.get(alarm).push(conflict);
     drawn.add(alarm);
   }
-  for (const [alarm, conflicts] of found) draw(alarm, conflicts);
+  for (const [alarm, conflicts] of found) draw(alarm, conflicts, taken);
 };

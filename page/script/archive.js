@@ -1,8 +1,13 @@
-// A folder in one file: archives of the kind zip, written without compression, and read with or without it.
+// A folder in one file: archives of the kind zip, written without compression, and read with or without it. What one has is counted
+// before any of it is unpacked.
 
 // A file has no more bytes than the program reads of one, and all files of an archive together have four times as many.
 export const MOST_BYTES = 67108864;
-const MOST_UNPACKED = 4 * MOST_BYTES;
+export const MOST_UNPACKED = 4 * MOST_BYTES;
+export const MOST_FILES = 1000;
+// The marks of a file, of its entry and of the end, and the bytes of the longest end.
+const FILE = 0x04034b50, ENTRY = 0x02014b50, END = 0x06054b50, LONGEST_END = 22 + 65535;
+const AT_ONCE = 64;
 
 const TABLE = Uint32Array.from({ length: 256 }, (_, byte) => {
   let value = byte;
@@ -10,9 +15,10 @@ const TABLE = Uint32Array.from({ length: 256 }, (_, byte) => {
   return value;
 });
 
-export const checksum = bytes => {
-  let value = ~0;
-  for (const byte of bytes) value = TABLE[(value ^ byte) & 255] ^ (value >>> 8);
+// The checksum of bytes, or of those after others that have one.
+export const checksum = (bytes, before = 0) => {
+  let value = ~before;
+  for (let place = 0; place < bytes.length; place += 1) value = TABLE[(value ^ bytes[place]) & 255] ^ (value >>> 8);
   return ~value >>> 0;
 };
 
@@ -30,57 +36,110 @@ export const zipOf = files => {
     // Version, names in UTF-8, stored, midnight of 1 January 1980, then the checksum, both sizes and the name's length.
     const sizes = [[checksum(bytes), 4], [bytes.length, 4], [bytes.length, 4], [named.length, 2], [0, 2]];
     const common = packed([20, 2], [0x800, 2], [0, 2], [0, 2], [33, 2], ...sizes);
-    push(parts, packed([0x04034b50, 4]), common, named, bytes);
-    push(listed, packed([0x02014b50, 4], [20, 2]), common, packed([0, 2], [0, 2], [0, 2], [0, 4], [offset, 4]), named);
+    push(parts, packed([FILE, 4]), common, named, bytes);
+    push(listed, packed([ENTRY, 4], [20, 2]), common, packed([0, 2], [0, 2], [0, 2], [0, 4], [offset, 4]), named);
     offset += 4 + common.length + named.length + bytes.length;
   }
   const count = Object.keys(files).length, size = listed.reduce((sum, part) => sum + part.length, 0);
-  const end = packed([0x06054b50, 4], [0, 2], [0, 2], [count, 2], [count, 2], [size, 4], [offset, 4], [0, 2]);
+  const end = packed([END, 4], [0, 2], [0, 2], [count, 2], [count, 2], [size, 4], [offset, 4], [0, 2]);
   return new Blob([...parts, ...listed, end], { type: 'application/zip' });
 };
 
-// What was packed, or null where that is longer than it may be: no more than that is ever unpacked.
-export const inflated = async (bytes, most = MOST_BYTES) => {
-  const reader = new Blob([bytes]).stream().pipeThrough(new DecompressionStream('deflate-raw')).getReader(), parts = [];
-  for (let length = 0, part = await reader.read(); !part.done; part = await reader.read()) {
-    parts.push(part.value);
+// The bytes of a stream as a blob, with their number and their checksum; null where they are more than they may be: no more than
+// that is ever unpacked.
+const gathered = async (stream, most) => {
+  const reader = stream.getReader(), blobs = [], parts = [];
+  let length = 0, sum = 0;
+  for (let part = await reader.read(); !part.done; part = await reader.read()) {
     length += part.value.length;
     if (length > most) {
       await reader.cancel();
       return null;
     }
+    sum = checksum(part.value, sum);
+    parts.push(part.value);
+    if (parts.length === AT_ONCE) blobs.push(new Blob(parts.splice(0)));
   }
-  return new Uint8Array(await new Blob(parts).arrayBuffer());
+  return { blob: new Blob([...blobs, ...parts]), length, sum };
 };
 
-// Where each file of an archive stands in it, and how it is packed. Raises Error where it is no archive of the kind zip.
-const entriesOf = buffer => {
-  const view = new DataView(buffer), entries = [];
-  let end = buffer.byteLength - 22;
-  while (end >= 0 && view.getUint32(end, true) !== 0x06054b50) end -= 1;
-  if (end < 0) throw new Error('it is no archive of the kind zip');
-  let place = view.getUint32(end + 16, true);
-  for (let count = view.getUint16(end + 10, true); count > 0; count -= 1) {
-    const [method, named, extra, comment] = [10, 28, 30, 32].map(at => view.getUint16(place + at, true));
-    const start = view.getUint32(place + 42, true), name = new TextDecoder().decode(new Uint8Array(buffer, place + 46, named));
-    const begin = start + 30 + view.getUint16(start + 26, true) + view.getUint16(start + 28, true);
-    if (!name.endsWith('/')) entries.push({ name, method, bytes: new Uint8Array(buffer, begin, view.getUint32(place + 20, true)) });
-    place += 46 + named + extra + comment;
+// What was packed.
+export const inflated = (blob, most) => gathered(blob.stream().pipeThrough(new DecompressionStream('deflate-raw')), most);
+
+const fault = what => new Error(what);
+const damagedAt = name => fault(`${name} is damaged`);
+
+const viewOf = async (blob, start, end) => new DataView(await blob.slice(Math.max(0, start), end).arrayBuffer());
+
+// The list of what an archive has. Raises Error where it is none.
+const listOf = async file => {
+  const end = await viewOf(file, file.size - LONGEST_END, file.size);
+  let place = end.byteLength - 22;
+  while (place >= 0 && end.getUint32(place, true) !== END) place -= 1;
+  if (place < 0) throw fault('it is no archive of the kind zip');
+  const start = end.getUint32(place + 16, true);
+  return { count: end.getUint16(place + 10, true), list: await viewOf(file, start, start + end.getUint32(place + 12, true)) };
+};
+
+// An entry of the list, and where the next one begins; null where there is none.
+const entryAt = (list, place) => {
+  if (place + 46 > list.byteLength || list.getUint32(place, true) !== ENTRY) return null;
+  const [method, named, extra, comment] = [10, 28, 30, 32].map(at => list.getUint16(place + at, true));
+  const [sum, packedLength, length, start] = [16, 20, 24, 42].map(at => list.getUint32(place + at, true)), next = place + 46 + named + extra + comment;
+  if (next > list.byteLength) return null;
+  const name = new TextDecoder().decode(new Uint8Array(list.buffer, place + 46, named));
+  return { name, method, sum, packedLength, length, start, next };
+};
+
+// The files of an archive, counted and added up before one is unpacked. Raises Error where they are more, or longer, than may be.
+const entriesOf = async (file, { files, bytes }) => {
+  const { count, list } = await listOf(file), entries = [];
+  let unpacked = 0, packedTogether = 0;
+  for (let place = 0, each = 0; each < count; each += 1) {
+    const entry = entryAt(list, place);
+    if (!entry) throw fault(`its list is damaged after ${entries.length.toLocaleString('en')} files`);
+    place = entry.next;
+    if (entry.name.endsWith('/')) continue;
+    unpacked += entry.length;
+    packedTogether += entry.packedLength;
+    entries.push(entry);
+    if (entries.length > files) throw fault(`there are more than ${MOST_FILES.toLocaleString('en')}`);
   }
+  if (unpacked > bytes) throw fault(`its files have more than ${MOST_UNPACKED.toLocaleString('en')} bytes together`);
+  // Files that share bytes would be more to read than the archive is long.
+  if (packedTogether > file.size) throw fault('its list is damaged');
   return entries;
 };
 
-// The files of an archive: each a name with its bytes, or with null where they are more than a file may have. Raises Error
-// where it is none, or one of another kind, and where its files together are too long.
-export const unzip = async buffer => {
-  const files = [];
-  let left = MOST_UNPACKED;
-  for (const { name, method, bytes } of entriesOf(buffer)) {
-    if (method !== 0 && method !== 8) throw new Error(`${name} is packed in a way that is not known here`);
-    const unpacked = method ? await inflated(bytes) : bytes;
-    left -= unpacked ? unpacked.length : MOST_BYTES;
-    if (left < 0) throw new Error(`its files have more than ${MOST_UNPACKED.toLocaleString('en')} bytes together`);
-    files.push([name, unpacked]);
+// What stands in an archive for a file. Raises Error.
+const packedOf = async (file, { name, method, start, packedLength }) => {
+  if (method !== 0 && method !== 8) throw fault(`${name} is packed in a way that is not known here`);
+  const head = await viewOf(file, start, start + 30);
+  if (head.byteLength < 30 || head.getUint32(0, true) !== FILE) throw damagedAt(name);
+  const begin = start + 30 + head.getUint16(26, true) + head.getUint16(28, true);
+  if (begin + packedLength > file.size) throw damagedAt(name);
+  return file.slice(begin, begin + packedLength);
+};
+
+const unpackedOf = async (file, entry) => {
+  // Nothing has no checksum, and need not be looked for.
+  if (!entry.length && !entry.packedLength && !entry.sum) return { blob: new Blob([]), length: 0, sum: 0 };
+  const blob = await packedOf(file, entry);
+  try {
+    return entry.method ? await inflated(blob, entry.length) : await gathered(blob.stream(), entry.length);
+  } catch (broken) {
+    throw damagedAt(entry.name);
   }
-  return files;
+};
+
+// The files of an archive: each a name with its blob, or with null where it has more bytes than a file may have; and their bytes
+// together. Raises Error where it is no archive, or is damaged, or its files are more or longer together than `room` says.
+export const unzip = async (file, room = { files: MOST_FILES, bytes: MOST_UNPACKED }) => {
+  const files = [], entries = await entriesOf(file, room);
+  for (const entry of entries) {
+    const { name, length, sum } = entry, unpacked = length > MOST_BYTES ? null : await unpackedOf(file, entry);
+    if (length <= MOST_BYTES && (!unpacked || unpacked.length !== length || unpacked.sum !== sum)) throw damagedAt(name);
+    files.push([name, unpacked && unpacked.blob]);
+  }
+  return { files, length: entries.reduce((all, { length }) => all + length, 0) };
 };

@@ -2,16 +2,20 @@
 // long files of lines. A search is stopped between two steps of the Worker, which keeps it to be gone on with; all else by ending it.
 
 import { find, lead, say } from './elements.js';
-import { programNow } from './program.js';
 import { markNow, present, session } from './session.js';
+import { startWorker } from './workers.js';
 
 const WORDS = {
   search: { busy: 'Searching …', stopped: 'the search was stopped', left: 'the search has ended with it' },
   why: { busy: 'Looking for what cannot be met together …', stopped: 'stopped', left: 'the search for a conflict has ended with it' },
   gains: { busy: 'Asking what would help …', stopped: 'stopped; what was found is listed', left: 'asking what would help has ended with it' },
+  near: { busy: 'Looking for the nearest timetable …', stopped: 'stopped', left: 'mending has ended with it' },
+  convert: { busy: 'Reading the files …', stopped: 'the opening was stopped, and nothing has changed', left: 'the opening has ended with it' },
   play: { busy: 'Doing the commands …', stopped: 'the opening was stopped, and nothing has changed', left: 'the opening has ended with it' },
 };
 const TICK = 1000;
+// What is asked of files, and not of the network that is shown; what they are to make takes its place.
+const OF_FILES = ['convert', 'play'];
 
 // `asked` is what the Worker does now, since the step `from`, who hears of it, and what had the keys when it began; null where it
 // does nothing.
@@ -24,25 +28,15 @@ export const hearAsked = listener => { hear = listener; };
 
 const stepNow = () => session.steps[session.place - 1] || session.opened;
 
-// The Worker has the modules of worker.js, which tools/page puts into a script of their own, the program's caller and the program.
-const start = () => {
-  const modules = document.querySelector('script[data-modules=worker]').textContent;
-  const text = new Blob(["'use strict';\n", PespModule.text, modules], { type: 'text/javascript' }), address = URL.createObjectURL(text);
-  worker = new Worker(address);
-  URL.revokeObjectURL(address);
-  worker.addEventListener('message', event => answered(event.data));
-  worker.addEventListener('error', event => answered({ fault: event.message, isDone: true }));
-  worker.postMessage({ program: programNow() });
-};
 
 // Asks something of the state that is shown. `tell` hears each answer, `fail` a fault, and `end` after how many seconds nothing
 // more comes.
 export const askFor = (question, { tell, fail = fault => say(fault, true), end = () => {} }) => {
   stopAsking();
-  if (!worker) start();
+  worker = worker || startWorker(answered);
   const id = performance.now(), mark = markNow();
   asked = { id, mark, kind: question.kind, from: stepNow(), focused: document.activeElement, tell, fail, end };
-  worker.postMessage({ id, mark, ...present(), ...question });
+  worker.postMessage({ id, mark, ...(OF_FILES.includes(question.kind) ? {} : present()), ...question });
   clock = setInterval(() => hear(), TICK);
   hear();
   lead(find('stop'));
@@ -85,7 +79,7 @@ const answered = told => {
 export const askedNow = () => asked && { kind: asked.kind, busy: WORDS[asked.kind].busy, seconds: seconds() };
 
 // What is opened takes the place of whatever is shown, so that any step ends it.
-const isIdle = () => asked.kind === 'play' ? asked.from !== stepNow() : asked.mark !== markNow();
+const isIdle = () => OF_FILES.includes(asked.kind) ? asked.from !== stepNow() : asked.mark !== markNow();
 
 // Ends what is asked of a network that is not there any more, and says so; '' where nothing is.
 export const leaveAsked = () => {
@@ -95,10 +89,20 @@ export const leaveAsked = () => {
   return left;
 };
 
-// What a base makes, as another one without lines; null where it was stopped. Rejected with the fault's text.
-export const play = played => new Promise((done, fail) => {
-  askFor({ kind: 'play', played }, { tell: ({ base }) => done(base), fail: fault => fail(new Error(fault)), end: () => done(null) });
+// What the Worker makes of files, as one member of its answer; null where it was stopped. Rejected with the fault's text.
+const made = (question, member) => new Promise((done, fail) => {
+  askFor(question, { tell: told => done(told[member]), fail: fault => fail(new Error(fault)), end: () => done(null) });
 });
+
+// What a base makes, as another one without lines.
+export const play = played => made({ kind: 'play', played }, 'base');
+
+// Long files of some kinds, each converted, with the words on that. The Worker ends with it, which gives its memory back.
+export const convertLong = async files => {
+  const converted = await made({ kind: 'convert', files }, 'converted');
+  if (worker && !asked) endWorker();
+  return converted;
+};
 
 // What has ended meanwhile has nothing to stop.
 export const startAsking = () => find('stop').addEventListener('click', () => {

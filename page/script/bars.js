@@ -3,7 +3,7 @@
 import { conflictsAt, isAlarming, isOutside, outsideText } from './conflicts.js';
 import { drawing, element, setAttribute, setText } from './elements.js';
 import { isFinger, makeHandle, minutesOfKey, tellHandle, unitAt } from './handles.js';
-import { beginMove, moveTrain, shiftText, wantsFromHere } from './moving.js';
+import { beginMove, isStaying, moveTrain, shiftText, wantsFromHere } from './moving.js';
 import { clock, trainName } from './names.js';
 import { choose } from './session.js';
 import { shown } from './shown.js';
@@ -36,7 +36,7 @@ const brokenOf = (view, { steps }, minutes) => steps.map((step, place) => view.v
   ? pathOf(minutes.slice(place, place + 2), view.network.period) : '').join('');
 
 const noteOf = (view, { events }) => {
-  if (!events.some(event => isAlarming(view, event))) return shiftText(view, events[0]);
+  if (!events.some(event => isAlarming(view, event))) return shiftText(view, events[0]) || (isStaying(events[0]) ? 'stays' : '');
   const outside = events.find(event => isOutside(view, event)), broken = new Set(events.flatMap(event => conflictsAt(view, event)));
   const told = outside !== undefined ? `✕ ${outsideText(view, outside)}` : broken.size ? `✕ ${broken.size} violated` : '';
   return [shiftText(view, events[0]), told].filter(Boolean).join(' ');

@@ -1,64 +1,80 @@
 // Files of other forms, brought into the one that the program and the page read: UTF-8, with semicolons or commas between
-// fields, and points in numbers. What was converted is told. The file itself stays as it is.
+// fields, and points in numbers. What was converted is told. The file itself stays as it is. Texts come and go in parts.
 
+import { encodingOf, textsIn } from './decoding.js';
 import { quoted } from './labels.js';
-import { recordAt, rowsIn } from './records.js';
+import { fieldsIn, recordAt, rowsOfParts } from './records.js';
 
 // How many columns of numbers a file has, and the first of them in which a decimal comma can stand.
 const COLUMNS = { activities: [6, 3], fixed: [2, 1], times: [2, 1], windows: [3, 1] };
 const OF_ROWS = [...Object.keys(COLUMNS), 'places', 'labels'];
-const LOOKED_AT = 200;
+const WORDS = { 'utf-16le': 'read as UTF-16', 'utf-16be': 'read as UTF-16', 'windows-1252': 'read as Windows-1252' };
+// No number is so long, and no row of numbers.
+const LONG = 1 << 20, LONGEST_ROW = 10000;
 
-const isUtf16 = (bytes, byte) => {
-  const some = bytes.subarray(0, LOOKED_AT), count = half => some.filter((each, place) => each === 0 && place % 2 === half).length;
-  return count(byte) > some.length / 4 && count(1 - byte) === 0;
+// What looks through a text for tabs between fields of its first row, which is neither blank nor a comment; beside commas and
+// semicolons they are blanks. It returns null where that is not known yet.
+const tabsFinder = () => {
+  let isRow = false, isComment = false, isFilled = false, isTab = false, isFound = false;
+  return letter => {
+    if (letter === '\n' || letter === '\r') {
+      if (isRow) return isFound;
+      [isComment, isFilled, isTab] = [false, false, false];
+    } else if (isComment) return null;
+    else if (!isRow && letter === '#') isComment = true;
+    else if (letter === ';') return false;
+    else if (letter === ',') [isRow, isFilled, isTab] = [true, false, false];
+    else if (letter === '\t') isTab = isFilled;
+    else if (letter.trim()) {
+      isFound = isFound || isTab;
+      [isRow, isFilled] = [true, true];
+    }
+    return null;
+  };
 };
 
-// How a text is written, where that is not UTF-8: by its mark, or by where zeros stand in it.
-const utf16Of = bytes => {
-  const mark = bytes[0] * 256 + bytes[1];
-  if (mark === 0xfffe || isUtf16(bytes, 1)) return 'utf-16le';
-  return mark === 0xfeff || isUtf16(bytes, 0) ? 'utf-16be' : '';
-};
+// No more letters of the first rows are looked at than these.
+const MOST_LOOKED_AT = 1 << 20;
 
-// The text, and the word on how it was read. What has zeros is no text, and is read as the program reads it: UTF-8 keeps
-// the digits, and a byte that is no UTF-8 is none of a number either.
-const decoded = bytes => {
-  const utf16 = utf16Of(bytes);
-  if (utf16) return [new TextDecoder(utf16).decode(bytes), 'read as UTF-16'];
-  try {
-    return [new TextDecoder('utf-8', { ignoreBOM: true, fatal: true }).decode(bytes), ''];
-  } catch (fault) {
-    if (bytes.includes(0)) return [new TextDecoder('utf-8', { ignoreBOM: true }).decode(bytes), ''];
-    return [new TextDecoder('windows-1252').decode(bytes), 'read as Windows-1252'];
+// Whether tabs stand between the fields of a text.
+const isTabbed = texts => {
+  const look = tabsFinder();
+  let looked = 0, last = null;
+  for (const text of texts) {
+    for (let place = 0; place < text.length && last === null; place += 1) last = look(text[place]);
+    looked += text.length;
+    if (last !== null || looked >= MOST_LOOKED_AT) break;
   }
+  return last === null ? look('\n') === true : last;
 };
 
-const FIRST_ROW = /^[ \t\uFEFF]*[^#\s\uFEFF].*/m;
+// What has been cut by tabs has semicolons, and may have commas.
+const CUT = { hasSemicolon: true, hasComma: true };
 
-// Whether tabs stand between fields; beside commas and semicolons they are blanks.
-const isTabbed = text => {
-  const [row] = text.includes('\t') && FIRST_ROW.exec(text) || [''];
-  return !row.includes(';') && row.split(',').some(part => part.trim().includes('\t'));
+// Whether semicolons stand in a text, and commas between digits.
+const marksIn = texts => {
+  let hasSemicolon = false, hasComma = false, before = '';
+  for (const text of texts) {
+    hasSemicolon = hasSemicolon || text.includes(';');
+    hasComma = hasComma || /[0-9],[0-9]/.test(before + text);
+    before = (before + text.slice(-2)).slice(-2);
+  }
+  return { hasSemicolon, hasComma };
 };
+
+// A field, or the beginning of one that is longer than any may be, and is refused with its mark.
+const shortened = field => field.length > LONGEST_ROW ? `${field.slice(0, LONGEST_ROW)}…` : field;
 
 // The row of a record; a blank one and a comment count as records too, and stay.
 const rowOf = (fields, change) => {
   while (fields.length && fields[fields.length - 1] === '') fields.pop();
   if (!fields.length) return ' ';
-  return fields[0].startsWith('#') ? '#' : change(fields).map(quoted).join(';');
+  return fields[0].startsWith('#') ? '#' : change(fields).map(field => quoted(shortened(field))).join(';');
 };
 
 // The text with semicolons, and other fields in each of its records, whose numbers stay.
-const rewritten = (given, separator, change = fields => fields) => {
-  const text = given.replace(/^\uFEFF/, ''), rows = [];
-  for (let place = 0; place < text.length;) {
-    const { fields, next } = recordAt(text, place, separator), isOfTwo = text.startsWith('\r\n', place);
-    // An empty line is no record.
-    if (next > place + (isOfTwo ? 2 : 1)) rows.push(rowOf(fields, change));
-    place = next;
-  }
-  return rows.join('\n') + '\n';
+const rewritten = function* (texts, separator, change = fields => fields) {
+  for (const records of fieldsIn(texts, separator)) yield records.map(fields => `${rowOf(fields, change)}\n`).join('');
 };
 
 const DECIMALS = /((?:^|[;\r\n])[ \t]*"?[+-]?[0-9]+),([0-9]+)(?="?[ \t]*(?:[;\r\n]|$))/g;
@@ -66,38 +82,105 @@ const DECIMALS = /((?:^|[;\r\n])[ \t]*"?[+-]?[0-9]+),([0-9]+)(?="?[ \t]*(?:[;\r\
 const OF_PLACES = /(;[ \t]*"?[+-]?[0-9]+),([0-9]+)(?="?[ \t]*(?:[;\r\n]|$))/g;
 
 // A comma before three digits may stand for thousands; nothing tells which it is.
-const isOfThousands = (whole, digits) => digits.length === 3 && /(?:^|[^0-9])[1-9][0-9]{0,2}$/.test(whole);
+const isOfThousands = (whole, digits) => digits.length === 3 && /(?:^|[^0-9])[1-9][0-9]{0,2}$/.test(whole.slice(-5));
 
-const withPoints = (text, isOfPlaces) => text.replace(isOfPlaces ? OF_PLACES : DECIMALS, (all, whole, digits) => {
-  if (!isOfPlaces && isOfThousands(whole, digits)) return all;
-  return whole + (/^0+$/.test(digits) ? '' : `.${digits}`);
-});
+const isOfZeros = digits => digits === '0' || /^0+$/.test(digits);
+
+// The text in parts, each of which but the first begins with one of the marks that end a field. One that is longer than any number
+// is cut.
+const fieldsTogether = function* (texts, marks) {
+  let rest = '';
+  for (const text of texts) {
+    let end = text.length - 1;
+    while (end >= 0 && !marks.includes(text[end])) end -= 1;
+    const isCut = end < 0 && rest.length > LONG, taken = isCut ? text.length : Math.max(0, end);
+    if (taken) yield rest + text.slice(0, taken);
+    rest = taken ? text.slice(taken) : rest + text;
+  }
+  yield rest;
+};
+
+// `tell` is called where a number has another form than before.
+const withPoints = function* (texts, isOfPlaces, tell) {
+  for (const text of fieldsTogether(texts, ';\r\n')) {
+    const made = text.replace(isOfPlaces ? OF_PLACES : DECIMALS, (all, whole, digits) => {
+      if (!isOfPlaces && isOfThousands(whole, digits)) return all;
+      return whole + (isOfZeros(digits) ? '' : `.${digits}`);
+    });
+    if (made !== text) tell();
+    yield made;
+  }
+};
+
+// Numbers in quotes, each without a decimal comma before zeros. What a part may have just begun goes to the next one.
+const withoutZeros = function* (texts, tell) {
+  let rest = '';
+  for (const text of texts) {
+    rest += text;
+    const made = [];
+    let end = 0;
+    for (const found of rest.matchAll(/"([+-]?[0-9]+),0+"/g)) {
+      made.push(rest.slice(end, found.index), found[1]);
+      end = found.index + found[0].length;
+    }
+    if (made.length) tell();
+    const begun = rest.lastIndexOf('"'), cut = begun >= end && rest.length - begun < LONG ? begun : rest.length;
+    made.push(rest.slice(end, cut));
+    yield made.join('');
+    rest = rest.slice(cut);
+  }
+  yield rest;
+};
+
+const WHOLES = /((?:^|[;,\r\n])[ \t]*"?[+-]?[0-9]+)[.]0+(?="?[ \t]*(?:[;,\r\n]|$))/g;
+const CLOCKS = /((?:^|[;,\r\n])[ \t]*"?)([0-9]{1,4}):([0-5][0-9])(?="?[ \t]*(?:[;,\r\n]|$))/g;
+
+// Numbers without points before zeros, and times of the clock as minutes; `tell` is called with the word on each that is there.
+const withMinutes = function* (texts, tell) {
+  for (const text of fieldsTogether(texts, ';,\r\n')) {
+    const whole = text.replace(WHOLES, '$1'), made = whole.replace(CLOCKS, (_, before, hours, minutes) => `${before}${60 * hours + Number(minutes)}`);
+    if (whole !== text) tell('zeros after points left out');
+    if (made !== whole) tell('times of the clock read as minutes');
+    yield made;
+  }
+};
+
+// Whether the first record is longer than a row of numbers is.
+const isLongRow = text => text.length > LONGEST_ROW && recordAt(text.slice(0, LONGEST_ROW), 0, ',').next > LONGEST_ROW;
+
+const isNumber = field => /^[+-]?[0-9]+$/.test(field);
 
 // The column whose decimal comma cuts it in two among commas, where it is the one that can be, in all rows; 0 where none is.
-const cutColumn = (text, [count, first]) => {
-  const isCut = ({ fields }) => fields.length === count + 1 && fields.every(field => /^[+-]?[0-9]+$/.test(field));
-  // A long file is not read to its end where its first rows tell.
-  if (!rowsIn(text.slice(0, LOOKED_AT)).slice(0, -1).every(isCut)) return 0;
-  const read = rowsIn(text), rows = read.map(({ fields }) => fields);
-  if (!rows.length || !read.every(isCut)) return 0;
-  const columns = [...Array(count).keys()].filter(column => column >= first && rows.every(row => /^0+$/.test(row[column + 1])));
-  return columns.length === 1 ? columns[0] : 0;
+const cutColumn = (texts, [count, first]) => {
+  const [head = ''] = texts();
+  if (isLongRow(head)) return 0;
+  let columns = null;
+  for (const fields of rowsOfParts(texts(), ',')) {
+    if (fields.length !== count + 1 || !fields.every(isNumber)) return 0;
+    columns = (columns || [...Array(count).keys()].slice(first)).filter(column => isOfZeros(fields[column + 1]));
+  }
+  return columns && columns.length === 1 ? columns[0] : 0;
 };
 
-const mended = (text, kind) => {
-  if (text.includes(';')) return withPoints(text, kind === 'places');
-  const column = kind in COLUMNS && cutColumn(text, COLUMNS[kind]);
-  if (column) return rewritten(text, ',', fields => fields.filter((_, place) => place !== column + 1 || fields.length === COLUMNS[kind][0]));
-  return kind in COLUMNS ? text.replace(/"([+-]?[0-9]+),0+"/g, '$1') : text;
+// The text with points in its numbers; null where none has a comma that can be one.
+const mended = (texts, kind, isCut, tell) => {
+  const { hasSemicolon, hasComma } = isCut ? CUT : marksIn(texts());
+  if (!hasComma) return null;
+  if (hasSemicolon) return withPoints(texts(), kind === 'places', tell);
+  if (!(kind in COLUMNS)) return null;
+  const column = cutColumn(texts, COLUMNS[kind]), [count] = COLUMNS[kind];
+  if (!column) return withoutZeros(texts(), tell);
+  tell();
+  return rewritten(texts(), ',', fields => fields.filter((_, place) => place !== column + 1 || fields.length === count));
 };
 
-// The text of a file of a kind, and what was converted to read it.
-export const converted = (kind, bytes) => {
-  const [given, word] = decoded(bytes), told = word ? [word] : [], isOfRows = OF_ROWS.includes(kind);
-  if (!isOfRows) return { text: given, told };
-  const isCut = isTabbed(given), text = isCut ? rewritten(given, '\t') : given;
+// Gives the text of a file of a kind to `write`, part by part, and returns what was converted to read it.
+export const convert = (kind, source, write) => {
+  const encoding = encodingOf(source), told = WORDS[encoding] ? [WORDS[encoding]] : [], isOfRows = OF_ROWS.includes(kind);
+  const given = () => textsIn(source, encoding), isCut = isOfRows && isTabbed(given()), texts = isCut ? () => rewritten(given(), '\t') : given;
   if (isCut) told.push('tabs taken as separators');
-  const hasCommas = kind !== 'labels' && /[0-9],[0-9]/.test(text), whole = hasCommas ? mended(text, kind) : text;
-  if (whole !== text) told.push('decimal commas read as points');
-  return { text: whole, told };
+  const words = new Set(), tell = (word = 'decimal commas read as points') => words.add(word);
+  const whole = (isOfRows && kind !== 'labels' && mended(texts, kind, isCut, tell)) || texts();
+  for (const text of kind in COLUMNS ? withMinutes(whole, tell) : whole) write(text);
+  return [...told, ...words];
 };

@@ -6,6 +6,7 @@ import { frameOf, gridOf, heightOf, looksOf, TURN, waysOf } from './frames.js';
 import { conflictMarks, marked, reachesOf, ringAt } from './marking.js';
 import { shiftText } from './moving.js';
 import { bareClock, labelOf, runsOf } from './names.js';
+import { firstRuns } from './nearby.js';
 import { drawPart, isSame, makePart } from './parts.js';
 import { chooseLine } from './session.js';
 import { shown } from './shown.js';
@@ -14,9 +15,9 @@ import { isTab } from './tabs.js';
 import { isForward, minutesOf } from './trains.js';
 import { minutesHad } from './viewing.js';
 
-const TURNS = ['', 'turn', 'turnaround'], MOST_TURNS = 200;
+const TURNS = ['', 'turn', 'turnaround'], MOST_TURNS = 200, MOST_OTHERS = 2000;
 // What is drawn among the stations, from below upwards.
-const AMONG = ['possible', 'others', 'turns', 'ways', 'broken', 'reaches'];
+const AMONG = ['possible', 'others', 'turns', 'old', 'ways', 'broken', 'reaches'];
 
 // The drawing on the screen.
 let kept = null;
@@ -32,7 +33,7 @@ const emptySheet = () => {
 const sceneOf = (view, line, before) => {
   const of = [line, view.lines, shown.labels, view.network.activities, view.network.period];
   if (before && isSame(before.of, of)) return before;
-  return { of, line, frame: frameOf(line, view.network), turns: turnsOf(view, line), others: othersOf(view, line) };
+  return { of, line, frame: frameOf(line, view.network), turns: turnsOf(view, line), ...firstRuns(othersOf(view, line), MOST_OTHERS) };
 };
 
 // The diagram of a line, and what it says of what is left out. Where times are missing, trains are not drawn, and what is still
@@ -45,8 +46,8 @@ export const diagramOf = (view, whole, chosen = null, sheet = emptySheet()) => {
     for (const [name, value] of Object.entries(looks.page)) setAttribute(page, name, value);
     for (const [name, value] of Object.entries(looks.clip)) setAttribute(clip, name, value);
   }
-  const left = drawSheet(view, sheet, chosen), waiting = view.tensions ? scene.turns.length : 0;
-  return { drawn: page, told: [told, left, elided(waiting, MOST_TURNS, 'turns')].filter(Boolean).join(' ') };
+  const left = drawSheet(view, sheet, chosen), [waiting, beside] = view.tensions ? [scene.turns.length, scene.runs] : [0, 0];
+  return { drawn: page, told: [told, left, elided(waiting, MOST_TURNS, 'turns'), elided(beside, MOST_OTHERS, 'runs of other lines')].filter(Boolean).join(' ') };
 };
 
 // Draws what is new in a drawing, and gives what it says of what is left out.
@@ -71,8 +72,9 @@ const drawTrains = (view, parts, scene) => {
   const own = timed(line.trains.map(train => ({ train }))), beside = timed(scene.others);
   const [ownMinutes, minutesBeside] = [own, beside].map(trains => trains.map(({ train, minutes }) => [train.events[0], ...minutes]).join(';'));
   drawPart(parts.others, [scene, minutesBeside, isDragged], () => beside.flatMap(each => other(frame, each)));
-  drawPart(parts.ways, [scene, ownMinutes], () => own.flatMap(({ train, minutes }) =>
-    waysOf(frame, minutes.map((minute, place) => [minute, heightOf(frame, train.events[place])]), line.color, 2.6)));
+  const wayOf = ({ train, minutes }, ...look) => minutes ? waysOf(frame, minutes.map((minute, place) => [minute, heightOf(frame, train.events[place])]), ...look) : [];
+  drawPart(parts.old, [scene, view.before], () => !view.before ? [] : line.trains.flatMap(train => wayOf({ train, minutes: minutesOf(view.before, train) }, 'var(--pale)', 1.8, '6 4')));
+  drawPart(parts.ways, [scene, ownMinutes], () => own.flatMap(each => wayOf(each, line.color, 2.6)));
   drawPart(parts.reaches, [scene, ownMinutes, isDragged], () => own.flatMap(({ train, minutes }) => reachesOf(frame, train, minutes, 14)));
 };
 

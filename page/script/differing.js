@@ -40,6 +40,19 @@ const movedBy = (old, now, period) => {
   return 2 * later <= period ? later : later - period;
 };
 
+// The same for all events of trains: what moves with a train's first moved event is told the way round that it went.
+const movesOf = (before, after, shared) => {
+  const { period } = after.network, moves = new Map(shared.map(event => [event, movedBy(before.times.get(event), after.times.get(event), period)]));
+  for (const { events } of after.trains) {
+    const lead = events.map(event => moves.get(event)).find(Boolean) || 0;
+    for (const event of events.filter(each => moves.has(each))) {
+      const minutes = moves.get(event), off = minutes - lead;
+      moves.set(event, 2 * off > period ? minutes - period : 2 * off < -period ? minutes + period : minutes);
+    }
+  }
+  return moves;
+};
+
 const signed = minutes => `${minutes > 0 ? '+' : '−'}${minutesText(Math.abs(minutes))}`;
 
 const timeOf = ({ times }, event) => times.has(event) ? clock(times.get(event)) : 'no time';
@@ -47,7 +60,7 @@ const timeOf = ({ times }, event) => times.has(event) ? clock(times.get(event)) 
 // The times that are other, or that all of them moved alike.
 const timeChanges = (before, after) => {
   const shared = [...after.times.keys()].filter(event => before.times.has(event));
-  const moves = new Map(shared.map(event => [event, movedBy(before.times.get(event), after.times.get(event), after.network.period)]));
+  const moves = movesOf(before, after, shared);
   const [first = 0] = moves.values();
   if (first && moves.size > 1 && [...moves.values()].every(each => each === first)) return [{ text: `all ${moves.size} times moved by ${signed(first)}` }];
   return both(before.times.keys(), after.times.keys()).filter(event => moves.get(event) !== 0).map(event => {

@@ -1,16 +1,22 @@
 // Drafts: what is not saved, kept in the browser where the planner says so, and offered when the page is opened the next time.
-// Each page writes one of its own, so that two open pages do not take each other's.
+// Each page writes one of its own, which it holds as long as it is open; of one that another page holds it opens a copy.
 
 import { element, find, say, sayMore, setText } from './elements.js';
 import { filesOf, isSaved } from './filing.js';
+import { namesHeld, takeHold, untilFree } from './holding.js';
+import { keepingKeys } from './keeping.js';
 import { labelsText, readLabels } from './labels.js';
-import { session, stepAgain } from './session.js';
+import { session } from './session.js';
 import { shown } from './shown.js';
 import { openTexts } from './texts.js';
 
 const CHOICE = 'pespbench-keep', KEY = 'pespbench-draft-', DELAY = 300, MOST_STEPS = 100000;
+// What a draft may have for its network; no file of commands is among them, which could search.
+const FILES = ['activities', 'fixed', 'windows', 'events', 'times', 'period', 'labels', 'places'];
+// A page that was left lets its draft go a little later.
+const PATIENCE = 250;
 const LINE = /^(add|drop|fix|window|unfix|span|weight|ends|time|untime) [^\r\n]{1,4000}$/;
-let own = '', waiting = 0, fault = '';
+let own = '', letOwnGo = null, waiting = 0, fault = '';
 
 // What the browser keeps by a key; a browser may refuse that as a whole, or lack the room.
 const store = {
@@ -64,7 +70,7 @@ export const draftsPanel = { update: keepSoon };
 const draftOf = key => {
   try {
     const { title, at, files, labels, steps, titles = [] } = JSON.parse(store.read(key));
-    const isWhole = [title, labels, ...titles, ...Object.values(files)].every(text => typeof text === 'string') && new Date(at).getTime() >= 0
+    const isWhole = Object.keys(files).every(name => FILES.includes(name)) && [title, labels, ...titles, ...Object.values(files)].every(text => typeof text === 'string') && new Date(at).getTime() >= 0
       && steps.length <= MOST_STEPS && steps.every(lines => lines.length && lines.every(line => LINE.test(line)));
     return isWhole ? { title, at, files, labels, steps: steps.map((lines, place) => ({ lines, title: titles[place] || '' })) } : null;
   } catch (damage) {
@@ -72,49 +78,80 @@ const draftOf = key => {
   }
 };
 
-const wordOf = ({ title, at, steps }) => {
+const wordOf = ({ title, at, steps }, isHeld) => {
   const when = new Date(at).toLocaleString('en-GB', { dateStyle: 'long', timeStyle: 'short' });
-  return `A draft of “${title || 'a network'}” of ${when}, ${steps.length === 1 ? '1 step' : `${steps.length} steps`}, is kept in this browser.`;
+  const told = `A draft of “${title || 'a network'}” of ${when}, ${steps.length === 1 ? '1 step' : `${steps.length} steps`}, is`;
+  return isHeld ? `${told} open in another page.` : `${told} kept in this browser.`;
 };
 
-// Shows a draft in the place of what is open, and goes on with it as the draft of this page.
-const openDraft = (key, button) => {
+// From now on the draft of this page is another one, which it holds.
+const goOnWith = (key, letGo) => {
+  if (letOwnGo) letOwnGo();
+  [own, letOwnGo] = [key, letGo];
+};
+
+// Shows a draft, whose steps are done with its own network; where one is refused nothing has changed. Raises Error.
+const show = draft => {
+  if (!draft) throw new Error('it cannot be read');
+  // Names alone are a step without lines.
+  const steps = draft.steps.length ? draft.steps : [{ lines: [], title: '' }];
+  openTexts(draft.files, draft.title, undefined, { steps, labels: readLabels(draft.labels) });
+};
+
+// Shows a draft in the place of what is open, and goes on with it as the draft of this page, or with a copy where another page
+// holds it.
+const openDraft = async (key, button) => {
+  const letGo = await takeHold(key), draft = draftOf(key);
   if (!isSaved() && !button.dataset.asked) {
+    if (letGo) letGo();
     button.dataset.asked = 'yes';
     setText(button, 'Open it, and lose what is not saved');
     return;
   }
-  const draft = draftOf(key);
   try {
-    openTexts(draft.files, draft.title);
-    // Names alone are a step without lines.
-    if (!stepAgain(draft.steps.length ? draft.steps : [{ lines: [], title: '' }], readLabels(draft.labels))) return;
-    own = key;
-    say(`the draft of “${draft.title}” is open, and not saved yet`);
+    show(draft);
+    if (letGo) goOnWith(key, letGo);
+    say(`the draft of “${draft.title}” is open${letGo ? '' : ' as one of its own'}, and not saved yet`);
   } catch (refusal) {
+    if (letGo) letGo();
     say(`The draft cannot be opened: ${refusal.message}.`, true);
   }
-  list();
+  await list();
 };
 
-const dropDraft = key => {
-  store.drop(key);
-  list();
-  say('the draft is dropped');
+const dropDraft = async key => {
+  const isHeld = (await namesHeld()).has(key);
+  if (!isHeld) store.drop(key);
+  await list();
+  say(isHeld ? 'The draft stays: another page has it open.' : 'the draft is dropped', isHeld);
 };
 
-const row = key => {
-  const draft = draftOf(key), drop = element('button', { onclick: () => dropDraft(key) }, 'Drop it');
+const row = (key, isHeld) => {
+  const draft = draftOf(key), drop = isHeld ? null : element('button', { onclick: () => dropDraft(key) }, 'Drop it');
   if (!draft) return element('p', {}, 'A draft in this browser cannot be read.', drop);
-  const open = element('button', { class: 'main', onclick: () => openDraft(key, open) }, 'Open it');
-  return element('p', {}, wordOf(draft), open, drop);
+  const open = element('button', { class: 'main', onclick: () => openDraft(key, open) }, isHeld ? 'Open a copy' : 'Open it');
+  return element('p', {}, wordOf(draft, isHeld), open, drop);
+};
+
+// The drafts that other pages hold now, each of which is listed anew once it is free.
+const awaited = new Set();
+const awaitFree = key => {
+  if (awaited.has(key)) return;
+  awaited.add(key);
+  untilFree(key).then(() => {
+    awaited.delete(key);
+    list();
+  });
 };
 
 // Lists the drafts of other pages.
-const list = () => {
-  const keys = store.keys().filter(key => key !== own);
-  find('drafts').replaceChildren(...keys.map(row));
-  find('drafts').hidden = !keys.length;
+const list = async () => {
+  const held = await namesHeld(), keys = store.keys().filter(key => key !== own);
+  keepingKeys(() => {
+    find('drafts').replaceChildren(...keys.map(key => row(key, held.has(key))));
+    find('drafts').hidden = !keys.length;
+  });
+  keys.filter(key => held.has(key)).forEach(awaitFree);
 };
 
 const choose = box => {
@@ -132,7 +169,12 @@ const choose = box => {
 const tell = () => setText(find('draft-told'), fault || (isKept()
   ? 'It stays on this machine until it is saved or dropped, and is offered when the page is opened again.' : ''));
 
-export const startDrafts = () => {
+const isSomeHeld = async () => {
+  const held = await namesHeld();
+  return store.keys().some(key => held.has(key));
+};
+
+export const startDrafts = async () => {
   const box = find('keep-draft');
   own = `${KEY}${Date.now()}-${Math.random().toString(36).slice(2, 8)}`;
   box.checked = isKept();
@@ -141,8 +183,10 @@ export const startDrafts = () => {
   window.addEventListener('pagehide', keep);
   document.addEventListener('visibilitychange', keep);
   find('saving').addEventListener('close', keep);
+  letOwnGo = await takeHold(own);
   try {
-    list();
+    if (await isSomeHeld()) await new Promise(done => { setTimeout(done, PATIENCE); });
+    await list();
   } catch (refusal) {
     // Nothing was ever kept where nothing can be.
   }

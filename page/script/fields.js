@@ -1,15 +1,20 @@
 // Fields for numbers. The program is given what is typed there, and says what it does not take.
 
 import { element } from './elements.js';
-import { lengthText } from './names.js';
+import { isOfHours, lengthText } from './names.js';
 
-const CLOCK = /^([+-]?)([0-9]*):([0-5][0-9])$/;
+const CLOCK = /^([+-]?)([0-9]*):([0-5][0-9])$/, FOUR_DIGITS = /^()(0[0-9])([0-5][0-9])$/, OF_A_DAY = /^()([0-2][0-9])([0-5][0-9])$/;
 
-// What is typed for minutes: `6:15` are 375 of them, `:07` is 7, and anything else stays as it is.
-export const minutesTyped = text => {
-  const found = CLOCK.exec(text.trim());
-  return found ? `${found[1]}${60 * Number(found[2]) + Number(found[3])}` : text.trim();
+const minutesIn = (text, forms) => {
+  const found = forms.map(form => form.exec(text)).find(Boolean);
+  return found ? `${found[1]}${60 * Number(found[2]) + Number(found[3])}` : text;
 };
+
+// What is typed for minutes: `6:15` and `0615` are 375 of them, `:07` is 7, and anything else stays as it is.
+export const minutesTyped = text => minutesIn(text.trim(), [CLOCK, FOUR_DIGITS]);
+
+// The same for a minute of the period: where it is told with the hour, four digits are hours and minutes, as `1815`.
+export const clockTyped = text => minutesIn(text.trim(), [CLOCK, isOfHours() ? OF_A_DAY : FOUR_DIGITS]);
 
 /** Whether what has the keys takes letters. @param {any} node */
 export const isField = node => node.matches('input, select, textarea');

@@ -2,10 +2,13 @@
 
 import { labelsText, placesText } from './labels.js';
 import { rowsOf, rowsText } from './network.js';
+import { trimmed } from './records.js';
 import { session } from './session.js';
 import { shown } from './shown.js';
 
 const FORBIDDEN = /[\\/:*?"<>|\u0000-\u001f\u007f]+/g;
+// Of a longer title no more is looked at.
+const MOST_OF_A_TITLE = 1000;
 const HEADERS = {
   activities: 'activity; from; to; lower; upper; weight', fixed: 'event; time', windows: 'event; first; length', events: 'event',
   times: 'event; time',
@@ -24,7 +27,8 @@ export const filesOf = (network, times, labels = shown.labels) => {
 };
 
 // The name that a folder and its archive have: what no system takes in a name of a file is left out.
-export const folderName = () => session.opened.title.replace(FORBIDDEN, '-').replace(/^[\s.-]+|[\s.-]+$/g, '').slice(0, 100).trim() || 'network';
+export const folderName = () => trimmed(session.opened.title.slice(0, MOST_OF_A_TITLE).replace(FORBIDDEN, '-'), code => /[\s.-]/.test(String.fromCharCode(code)))
+  .slice(0, 100).trim() || 'network';
 
 // The files of a folder, by their paths in it.
 export const folderFiles = files => Object.fromEntries(Object.entries(files).map(([name, text]) => [`${folderName()}/${name}`, text]));

@@ -2,12 +2,12 @@
 
 import { element } from './elements.js';
 
-let count = 0;
+const fields = [];
 
 // Fills a holder with a field; `search` gives what is found by a text, and how many more there are, and `take` is given what is
 // chosen. The field is returned.
 export const fillFinder = (holder, { label, hint, search, take }) => {
-  const name = `found-${count += 1}`, list = element('ul', { role: 'listbox', id: name, 'aria-label': 'found', hidden: true });
+  const name = `found-${fields.length + 1}`, list = element('ul', { role: 'listbox', id: name, 'aria-label': 'found', hidden: true });
   const input = element('input', { role: 'combobox', 'aria-expanded': 'false', 'aria-controls': name, 'aria-autocomplete': 'list',
     autocomplete: 'off', spellcheck: 'false', placeholder: hint, id: `${name}-field` });
   const finder = { input, list, name, take, search, found: [], at: 0 };
@@ -21,7 +21,17 @@ export const fillFinder = (holder, { label, hint, search, take }) => {
     if (option) choose(finder, Number(option.dataset.at));
   });
   holder.replaceChildren(element('label', { for: input.id }, label), input, list);
+  fields.push(finder);
   return input;
+};
+
+// What was typed is of a network that is not there any more.
+export const finderPanel = {
+  begin: () => fields.forEach(finder => {
+    finder.input.value = '';
+    look(finder);
+  }),
+  update: () => {},
 };
 
 const look = finder => {

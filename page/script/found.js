@@ -2,6 +2,7 @@
 // and beside the timetable that is shown.
 
 import { isSure } from './replies.js';
+import { turned } from './turning.js';
 import { countViolated } from './viewing.js';
 
 // By how much a cost may be above the best, in thousandths of that and upwards, and the most for which per cents say something.
@@ -54,7 +55,7 @@ export const tookText = ({ kind, nodes, seconds, isStopped }) => {
 };
 
 const isShown = ({ cost, times }, view) => cost === view.cost && times.size === view.times.size
-  && [...times].every(([event, time]) => view.times.get(event) === time);
+  && [...turned(times, view)].every(([event, time]) => view.times.get(event) === time);
 
 // What is found beside the timetable that is shown, where that meets everything, and what its button says; while a search runs, one
 // that is no better has none.

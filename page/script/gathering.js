@@ -1,26 +1,29 @@
-// The files that were dropped or chosen, each a name with its bytes: those below a folder and in an archive too.
+// The files that were dropped or chosen, each a name with its blob: those below a folder and in an archive too.
 
-import { MOST_BYTES, unzip } from './archive.js';
+import { MOST_BYTES, MOST_FILES, MOST_UNPACKED, unzip } from './archive.js';
 
-const MOST_FILES = 1000;
+const isArchive = ({ name }) => name.slice(-4).toLowerCase() === '.zip';
 
-// The names and bytes of a file, or of those in an archive; null for bytes where they are more than a file may have.
-const bytesIn = async file => {
-  const isArchive = /\.zip$/i.test(file.name);
-  if (file.size > MOST_BYTES && isArchive) throw new Error(`${file.name} has more than ${MOST_BYTES.toLocaleString('en')} bytes`);
-  if (file.size > MOST_BYTES) return [[file.name, null]];
-  const buffer = await file.arrayBuffer();
-  return isArchive ? unzip(buffer) : [[file.name, new Uint8Array(buffer)]];
+const checkCount = count => {
+  if (count > MOST_FILES) throw new Error(`there are more than ${MOST_FILES.toLocaleString('en')}`);
 };
 
-// All of them. Raises Error with what is shown.
-export const bytesOf = async given => {
-  const read = [];
+// All of them; null for a blob that has more bytes than a file may have. Raises Error with what is shown.
+export const blobsOf = async given => {
+  const found = [];
+  let left = MOST_UNPACKED;
+  checkCount(given.length);
   for (const file of given) {
-    read.push(...await bytesIn(file));
-    if (read.length > MOST_FILES) throw new Error(`there are more than ${MOST_FILES.toLocaleString('en')}`);
+    if (!isArchive(file)) found.push([file.name, file.size > MOST_BYTES ? null : file]);
+    else {
+      if (file.size > MOST_BYTES) throw new Error(`${file.name} has more than ${MOST_BYTES.toLocaleString('en')} bytes`);
+      const { files, length } = await unzip(file, { files: MOST_FILES - found.length, bytes: left });
+      left -= length;
+      found.push(...files);
+    }
+    checkCount(found.length);
   }
-  return read;
+  return found;
 };
 
 const named = (file, path) => new File([file], path);

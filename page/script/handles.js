@@ -1,6 +1,6 @@
 // What is dragged, by a pointer or by keys. A drag shows what each of its lines would make, and its last line is one step.
 
-import { element, setAttribute } from './elements.js';
+import { element, say, setAttribute } from './elements.js';
 import { doStep, preview, refresh } from './session.js';
 
 // So many pixels a pointer moves before it drags, so that a click changes nothing.
@@ -34,8 +34,9 @@ export const beginDrag = (start, linesAt, titleOf = () => '') => {
     if (frame) cancelAnimationFrame(frame);
     if (frame && isDone) look();
     if (last === null) return;
-    if (isDone && last.length) doStep(last, { title: titleOf() });
-    else refresh();
+    if (isDone && last.length) return doStep(last, { title: titleOf() });
+    refresh();
+    return say('Nothing has changed.');
   };
   /** @type {[string, any][]} */
   const listeners = [

@@ -8,6 +8,8 @@
 import { EVENTS, FileFault, numberIn, recordsOf } from './records.js';
 
 const WIDTHS = new Map([['event', 5], ['activity', 2]]);
+// The most letters of a name, and the most rows of either kind: more than a page can show, and than the program takes.
+const MOST_LETTERS = 1000, MOST_ROWS = 200000;
 
 export const noLabels = () => ({ events: new Map(), kinds: new Map() });
 
@@ -22,12 +24,19 @@ export const readLabels = text => {
   return labels;
 };
 
+const checkLengths = (name, record, fields) => {
+  const place = fields.findIndex(field => field.length > MOST_LETTERS);
+  if (place >= 0) throw new FileFault(name, record, `field ${place + 1} is longer than ${MOST_LETTERS.toLocaleString('en')} letters`);
+};
+
 const takeRow = (labels, part, record, fields) => {
   const fail = what => { throw new FileFault('labels', record, what); };
   if (!part) fail('there is no header `event; line; to; station; kind` or `activity; kind` above it');
   const number = numberIn('labels', record, 1, fields[0], EVENTS), taken = part === 'event' ? labels.events : labels.kinds;
   if (taken.has(number)) fail(`${part} is repeated`);
+  if (taken.size === MOST_ROWS) fail(`more than ${MOST_ROWS.toLocaleString('en')} rows of this kind`);
   if (fields.slice(WIDTHS.get(part)).some(field => field)) fail('wrong number of fields');
+  checkLengths('labels', record, fields);
   const [, first = '', to = '', station = '', kind = ''] = fields;
   taken.set(number, part === 'event' ? { line: first, to, station, kind } : first);
 };
@@ -43,7 +52,7 @@ export const labelsText = labels => {
   return rows.map(row => row.map(quoted).join(';') + '\n').join('');
 };
 
-const MEASURE = /^[+-]?([0-9]+[.]?[0-9]*|[.][0-9]+)([eE][+-]?[0-9]+)?$/;
+const MEASURE = /^[+-]?([0-9]+([.][0-9]*)?|[.][0-9]+)([eE][+-]?[0-9]+)?$/;
 
 // Where stations lie: `station; x; y`, x to the east and y to the north. Raises FileFault.
 export const readPlaces = text => {
@@ -53,6 +62,8 @@ export const readPlaces = text => {
     if (place.length === 2 && place[0] === 'x' && place[1] === 'y') continue;
     const isPlace = place.length === 2 && place.every(each => MEASURE.test(each) && Number.isFinite(Number(each)));
     if (!isPlace) throw new FileFault('places', number, 'wanted station; x; y');
+    checkLengths('places', number, fields);
+    if (places.size === MOST_ROWS) throw new FileFault('places', number, `more than ${MOST_ROWS.toLocaleString('en')} stations`);
     places.set(station, place.map(Number));
   }
   return places;

@@ -75,6 +75,7 @@ const tell = text => setText(find('lining-fault'), text);
 const show = () => {
   const stations = new Set([...shown.labels.events.values()].map(each => each.station));
   find('known-stations').replaceChildren(...[...stations].slice(0, 1000).map(station => element('option', { value: station })));
+  find('lining-form').reset();
   find('stops').replaceChildren(row(), row(), row());
   tell('');
   find('lining').showModal();
@@ -82,7 +83,10 @@ const show = () => {
 
 export const startLining = () => {
   find('add-line').addEventListener('click', show);
-  find('another-stop').addEventListener('click', () => find('stops').append(row()));
+  find('another-stop').addEventListener('click', () => {
+    find('stops').append(row());
+    find('stops').lastElementChild.querySelector('input').focus();
+  });
   find('lining-close').addEventListener('click', () => find('lining').close());
   find('lining-form').addEventListener('submit', event => {
     event.preventDefault();

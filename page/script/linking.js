@@ -7,13 +7,13 @@ import { session } from './session.js';
 
 const MARK = '#network=';
 // The most letters of a fragment, and the most bytes that it unpacks to.
-const MOST_LETTERS = 30000, MOST_UNPACKED = 4000000;
+const MOST_LETTERS = 30000, MOST_LINKED = 4000000;
 const NAMED = /^[^\n/]{1,100}\/(activities|fixed|windows|events|times|period|labels|places)$/;
 
-const checkOf = bytes => checksum(bytes).toString(16).padStart(8, '0');
+const wordOf = sum => sum.toString(16).padStart(8, '0');
 
 const lettersOf = bytes => btoa(Array.from(bytes, byte => String.fromCharCode(byte)).join(''))
-  .replace(/\+/g, '-').replace(/\//g, '_').replace(/=+$/, '');
+  .replace(/\+/g, '-').replace(/\//g, '_').replace(/=/g, '');
 
 const bytesOf = letters => Uint8Array.from(atob(letters.replace(/-/g, '+').replace(/_/g, '/')), letter => letter.charCodeAt(0));
 
@@ -28,9 +28,9 @@ const counted = number => number.toLocaleString('en');
 export const fragmentOf = async files => {
   if (!window.CompressionStream) throw new Error('This browser cannot pack a link.');
   const bytes = new TextEncoder().encode(JSON.stringify(files));
-  const fragment = bytes.length > MOST_UNPACKED ? '' : `${MARK}${checkOf(bytes)}.${lettersOf(await packed(bytes))}`;
+  const fragment = bytes.length > MOST_LINKED ? '' : `${MARK}${wordOf(checksum(bytes))}.${lettersOf(await packed(bytes))}`;
   if (fragment && fragment.length <= MOST_LETTERS) return fragment;
-  const size = fragment ? `${counted(fragment.length)} letters` : `more than ${counted(MOST_UNPACKED)} bytes`;
+  const size = fragment ? `${counted(fragment.length)} letters` : `more than ${counted(MOST_LINKED)} bytes`;
   throw new Error(`The network is too large for a link: ${size}, of ${counted(MOST_LETTERS)} letters. The folder has it whole.`);
 };
 
@@ -38,15 +38,15 @@ const DAMAGED = 'it is damaged, or not whole';
 
 // What the letters have that was packed. Raises Error.
 const unpacked = async (check, letters) => {
-  let bytes = null;
+  let found = null;
   try {
-    bytes = await inflated(bytesOf(letters), MOST_UNPACKED);
+    found = await inflated(new Blob([bytesOf(letters)]), MOST_LINKED);
   } catch (fault) {
     throw new Error(DAMAGED);
   }
-  if (!bytes) throw new Error(`it unpacks to more than ${counted(MOST_UNPACKED)} bytes`);
-  if (checkOf(bytes) !== check) throw new Error(DAMAGED);
-  return bytes;
+  if (!found) throw new Error(`it unpacks to more than ${counted(MOST_LINKED)} bytes`);
+  if (wordOf(found.sum) !== check) throw new Error(DAMAGED);
+  return found.blob;
 };
 
 // The files of a fragment. Raises Error with what it is not.
@@ -54,7 +54,7 @@ const filesOfFragment = async fragment => {
   if (fragment.length > MOST_LETTERS) throw new Error(`it has ${counted(fragment.length)} letters, and may have ${counted(MOST_LETTERS)}`);
   const [, check, letters] = /^#network=([0-9a-f]{8})\.([\w-]+)$/.exec(fragment) || [];
   if (!check) throw new Error(DAMAGED);
-  const files = filesIn(new TextDecoder().decode(await unpacked(check, letters)));
+  const files = filesIn(await (await unpacked(check, letters)).text());
   if (!files) throw new Error('it has no network of this page');
   return files;
 };
@@ -79,11 +79,12 @@ const forget = () => {
 
 export const linkingPanel = { update: () => linked && linked !== session.opened && forget() };
 
-// Opens what a link has, as its files are opened: at once where nothing is lost. A link that cannot be opened is refused by a word.
+// Opens what a link has, as its files are opened: at once where nothing is lost; names alone are asked for, since they change what is
+// open. A link that cannot be opened is refused by a word.
 const openLink = async link => {
   try {
     const files = await filesOfFragment(link.slice(link.indexOf(MARK)));
-    await offerFiles(files.map(([name, text]) => new File([text], name)));
+    await offerFiles(files.map(([name, text]) => new File([text], name)), { isOfLink: true });
     return true;
   } catch (fault) {
     say(`The link cannot be opened: ${fault.message}.`, true);

@@ -1,10 +1,12 @@
 // Two lists: what the working timetable violates, and the steps that made the state shown.
 
 import { conflictsOf } from './conflicts.js';
-import { element, elided, find, say } from './elements.js';
+import { element, elided, find, say, setText } from './elements.js';
 import { showRow } from './events.js';
 import { activityName, clock, eventName, windowText } from './names.js';
+import { mend } from './proposing.js';
 import { askSession, doStep, goTo, session, titleOf } from './session.js';
+import { shown } from './shown.js';
 import { showActivity } from './spans.js';
 import { isTab } from './tabs.js';
 
@@ -19,7 +21,8 @@ const updateViolated = view => {
       ...[...violations.events].map(event => () => violatedEvent(event, view))];
     const told = elided(listed.length, MOST_VIOLATED, 'that are violated');
     if (told) items.push(element('p', { class: 'quiet' }, told));
-    items.push(...listed.slice(0, MOST_VIOLATED).map(make => make()));
+    if (listed.length && !view.isTried) items.push(element('button', { type: 'button', class: 'main', onclick: mend }, 'Mend all of it'));
+    if (listed.length) items.push(element('div', {}, ...listed.slice(0, MOST_VIOLATED).map(make => make())));
     if (!items.length) items.push(element('p', { class: 'quiet' }, 'The working timetable meets everything.'));
   }
   find('view-violated').replaceChildren(...items);
@@ -35,7 +38,11 @@ const violatedEvent = (event, view) => item(() => showRow(event), eventName(even
 
 export const violatedPanel = { update: updateViolated };
 
-const updateLines = () => {
+// The state that the reply below the steps is of.
+let replied = null;
+
+const updateLines = view => {
+  if (replied !== view) setText(find('replied'), '');
   if (!isTab('lines')) return;
   const { steps, place } = session;
   const items = steps.map((step, each) => element('li', { class: each < place ? '' : 'undone' },
@@ -61,6 +68,7 @@ const typed = event => {
   }
   try {
     const [reply] = askSession([line]);
+    replied = shown.view;
     find('replied').textContent = `> ${line}\n${reply.join('\n')}`;
   } catch (fault) {
     say(fault.message, true);

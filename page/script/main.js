@@ -5,11 +5,13 @@ import { startAsking } from './asking.js';
 import { changingPanel } from './changing.js';
 import { choosingPanel, startChoosing } from './choosing.js';
 import { corridorPanel } from './corridor.js';
+import { costingPanel, startCosting } from './costing.js';
 import { diagramPanel, startDiagram } from './diagram.js';
 import { draftsPanel, startDrafts } from './drafts.js';
 import { find, tellReady } from './elements.js';
 import { eventsPanel } from './events.js';
 import { factsPanel } from './facts.js';
+import { finderPanel } from './finder.js';
 import { findingPanel, startFinding } from './finding.js';
 import { gainsPanel, startGains } from './gains.js';
 import { startHanding } from './handing.js';
@@ -24,6 +26,7 @@ import { netgraphPanel } from './netgraph.js';
 import { openStory, startOpening } from './opening.js';
 import { startPrinting } from './printing.js';
 import { startProgram } from './program.js';
+import { proposingPanel, startProposing } from './proposing.js';
 import { openReport, readReport, reportGiven } from './report.js';
 import { startSaving } from './saving.js';
 import { searchingPanel, startSearching } from './searching.js';
@@ -40,14 +43,14 @@ import { startVariants, variantsPanel } from './variants.js';
 
 // In the order in which they are drawn.
 const PANELS = [
-  eventsPanel, factsPanel, spansPanel, movingPanel, changingPanel, addingPanel, headPanel, diagramPanel, tablesPanel, netgraphPanel,
-  variantsPanel, findingPanel, corridorPanel, trafficPanel, stationsPanel, choosingPanel, violatedPanel, stepsPanel, searchingPanel,
+  eventsPanel, factsPanel, spansPanel, costingPanel, movingPanel, changingPanel, addingPanel, headPanel, diagramPanel, tablesPanel, netgraphPanel,
+  variantsPanel, findingPanel, finderPanel, corridorPanel, trafficPanel, stationsPanel, choosingPanel, violatedPanel, stepsPanel, searchingPanel, proposingPanel,
   tellingPanel, gainsPanel, linkingPanel, draftsPanel,
 ];
 
 const STARTS = [
-  startHead, startTabs, startStrips, startDiagram, startChoosing, startLines, startLining, startVariants, startHelps, startLegend,
-  startFinding, startStations, startAsking, startSearching, startTelling, startGains, startPrinting, startOpening, startSaving,
+  startHead, startTabs, startStrips, startDiagram, startCosting, startChoosing, startLines, startLining, startVariants, startHelps, startLegend,
+  startFinding, startStations, startAsking, startSearching, startProposing, startTelling, startGains, startPrinting, startOpening, startSaving,
   startHanding,
 ];
 
@@ -67,7 +70,7 @@ const start = async () => {
   if (told) openReport(told);
   else openStory(stories[0]);
   startLinks();
-  startDrafts();
+  await startDrafts();
   tellReady();
 };
 

@@ -5,7 +5,7 @@ import { conflictsOf, isOutside, outsideText, toldConflicts } from './conflicts.
 import { drawing, elided } from './elements.js';
 import { heightOf, waysOf } from './frames.js';
 
-const MOST_BROKEN = 200, LETTER = 7.4, ROW = 13, TRIES = [0, -1, 1, -2, 2, -3, 3];
+const MOST_BROKEN = 200, LETTER = 7.4, ROW = 13, TRIES = [0, -1, 1, -2, 2, -3, 3], MARK = '✕';
 // What is red of a train is seen above its way, and what takes hold of the train there is hit.
 const UNDER = { 'pointer-events': 'none' };
 
@@ -39,7 +39,7 @@ const boxOf = text => {
   return { x: x + SIDES[text.getAttribute('text-anchor') || 'start'] * width, base, width };
 };
 
-/** A label where no other one lies, or at the last place that was tried.
+/** A label where no other one lies, or just a mark where there is no such place.
  * @param {any} frame
  * @param {any[]} boxes
  * @param {number[]} at
@@ -50,7 +50,8 @@ const labelOf = (frame, boxes, [minute, y], text, more) => {
   const x = Math.min(frame.right - width / 2, Math.max(frame.left + width / 2, middle));
   const bases = TRIES.map(row => Math.max(ROW, y - 6 + row * ROW));
   const isFree = base => !boxes.some(box => Math.abs(box.x - x) < (box.width + width) / 2 && Math.abs(box.base - base) < ROW);
-  const base = bases.find(isFree) || y - 6;
+  const base = bases.find(isFree);
+  if (base === undefined) return drawing('text', { class: 'broken', x: middle, y, 'text-anchor': 'middle', ...more }, MARK);
   boxes.push({ x, base, width });
   return drawing('text', { class: 'broken', x, y: base, 'text-anchor': 'middle', ...more }, text);
 };

@@ -6,11 +6,33 @@ import { element, find, say } from './elements.js';
 import { minutesField, minutesTyped } from './fields.js';
 import { beginDrag } from './handles.js';
 import { eventName, labelOf, lengthText, minutesText, trainName } from './names.js';
-import { choose, doStep, timesNow } from './session.js';
+import { choose, doStep, redraw, timesNow } from './session.js';
 import { shown } from './shown.js';
 import { trainAt } from './trains.js';
 
-let moved = null;
+// What is moved now or was last, and the first events of the trains that stay where others are mended.
+let moved = null, staying = new Set();
+
+const firstOf = event => {
+  const found = trainAt(event);
+  return found ? found.train.events[0] : null;
+};
+
+export const isStaying = event => staying.has(firstOf(event));
+
+export const stayingEvents = () => shown.view.trains.filter(({ events }) => isStaying(events[0])).flatMap(({ events }) => events);
+
+const stay = isKept => {
+  if (isKept) staying.add(firstOf(shown.chosen));
+  else staying.delete(firstOf(shown.chosen));
+  redraw();
+};
+
+// So many minutes within half a period either way; a train that is moved by a period is where it was.
+const withinPeriod = minutes => {
+  const { period } = shown.view.network, later = ((minutes % period) + period) % period;
+  return 2 * later <= period && !(2 * later === period && minutes < 0) ? later : later - period;
+};
 
 const begun = (event, isFromHere) => {
   const { train, place } = trainAt(event), from = isFromHere ? place : 0;
@@ -41,7 +63,7 @@ export const beginMove = (start, event, width, isFromHere) => {
   begun(event, isFromHere);
   beginDrag(start, x => {
     choose(event);
-    moved.minutes = Math.round((x - start.clientX) / width);
+    moved.minutes = withinPeriod(Math.round((x - start.clientX) / width));
     return lines();
   }, title);
 };
@@ -50,7 +72,7 @@ export const beginMove = (start, event, width, isFromHere) => {
 export const moveTrain = (event, minutes, isFromHere) => {
   if (!trainAt(event)) return say('The labels name no train of this event.', true);
   begun(event, isFromHere);
-  moved.minutes = minutes;
+  moved.minutes = withinPeriod(minutes);
   const made = lines();
   if (made.length) doStep(made, { title: title() });
   else say(`${title()}: no time changes`, true);
@@ -72,12 +94,17 @@ const form = () => {
     go(1);
   };
   return element('form', { class: 'fact', onsubmit: submit }, element('label', { for: 'move-by' }, 'move its train by'), count, 'minutes',
-    button(-1, 'earlier'), button(1, 'later'), element('label', {}, element('input', { type: 'checkbox', id: 'from-here' }), ' from here on'));
+    button(-1, 'earlier'), button(1, 'later'), element('label', {}, element('input', { type: 'checkbox', id: 'from-here' }), ' from here on'),
+    element('label', {}, element('input', { type: 'checkbox', id: 'train-stays', onchange: event => stay(event.target.checked) }), ' it stays where others are mended'));
 };
 
 export const movingPanel = {
+  begin: () => { staying = new Set(); },
   build: () => {
     if (!find('move-by')) find('move').append(form());
   },
-  update: () => { find('move').hidden = !trainAt(shown.chosen); },
+  update: () => {
+    find('move').hidden = !trainAt(shown.chosen);
+    find('train-stays').checked = isStaying(shown.chosen);
+  },
 };

@@ -48,7 +48,7 @@ export const stepOf = period => [1, 2, 5, 10, 15, 30, 60, 120, 240].find(step =>
 const twoDigits = number => String(number).padStart(2, '0');
 
 // Above an hour all is told with the hour.
-const isOfHours = () => shown.view.network.period > 60;
+export const isOfHours = () => shown.view.network.period > 60;
 
 const hours = minutes => `${Math.floor(minutes / 60)}:${twoDigits(minutes % 60)}`;
 

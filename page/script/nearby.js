@@ -37,3 +37,13 @@ export const nearby = (lines, chosen) => {
   const cut = tracks.map(track => ({ ...track, lanes: track.lanes.slice(0, MOST_LANES) }));
   return { stations: drawn, tracks: cut, told: told.filter(Boolean).join(' ') };
 };
+
+// The first of some trains with their places on a line, of which at most so many are drawn, and how many places there are.
+export const firstRuns = (all, most) => {
+  const runs = all.reduce((sum, { places }) => sum + places.length, 0), others = [];
+  for (let place = 0, left = most; place < all.length && left > 0; place += 1) {
+    others.push({ ...all[place], places: all[place].places.slice(0, left) });
+    left -= all[place].places.length;
+  }
+  return { others, runs };
+};

@@ -2,6 +2,7 @@
 // at each step its numbers alone are set.
 
 import { drawAlarms, makeAlarm } from './alarms.js';
+import { beside } from './apart.js';
 import { isAlarming } from './conflicts.js';
 import { drawing, find, findAll, setText } from './elements.js';
 import { lengthsOf } from './frames.js';
@@ -82,14 +83,15 @@ const drawLane = (track, lane, offset) => {
   const along = [(last[0] - first[0]) / length, (last[1] - first[1]) / length];
   // Within this frame the track runs from 0 to its length along the x axis, so that texts lie along it.
   const isTurned = along[0] < -1e-9, sign = isTurned ? -1 : 1, turn = Math.atan2(along[1], along[0]) * 180 / Math.PI + (isTurned ? 180 : 0);
-  const origin = `translate(${(first[0] - along[1] * offset).toFixed(1)} ${(first[1] + along[0] * offset).toFixed(1)}) rotate(${turn.toFixed(1)})`;
+  const start = [first[0] - along[1] * offset, first[1] + along[0] * offset];
+  const origin = `translate(${start[0].toFixed(1)} ${start[1].toFixed(1)}) rotate(${turn.toFixed(1)})`;
   // No farther from its ring than leaves room for the name of the line in the middle.
   const rings = [track.one, track.other].map(station => graph.radius.get(station));
   const most = (length - rings[0] - rings[1]) / 2 - 17 - numberWidth() * mostNumbers([lane]);
   const begins = [track.one, track.other].map((station, end) => Math.min(clearOf(station, track, offset), rings[end] + Math.max(5, most)));
   const leaving = [...lane.leaving.values()].flat(), middle = sign * (length + begins[0] - begins[1]) / 2;
   const way = drawing('path', { d: `M0 0H${(sign * length).toFixed(1)}`, stroke: lane.line.color, 'stroke-width': 3 });
-  const alarm = makeAlarm(way, { x: middle, y: -11, 'text-anchor': 'middle' });
+  const alarm = makeAlarm(way, { x: middle, y: -11, 'text-anchor': 'middle' }, { origin: start, turn: turn * Math.PI / 180 });
   for (const event of leaving) alarms.lanes.set(event, alarm);
   return drawing('g', { transform: origin, 'data-event': leaving.length ? leaving[0] : null }, way,
     ...pill(middle, lane.line), alarm.label, ...numbersAt(lane, track.one, sign, sign * begins[0]),
@@ -179,16 +181,6 @@ const roomOf = (station, { x, base, anchor }) => {
 const spanOf = (name, x, anchor) => {
   const width = 0.7 * NAME * Math.min(LETTERS, name.length), left = x - width * { start: 0, middle: 0.5, end: 1 }[anchor];
   return [left, left + width];
-};
-
-/** The distance of a spot from the straight way between two places.
- * @param {number[]} spot
- * @param {number[]} start
- * @param {number[]} end */
-const beside = ([x, y], start, end) => {
-  const length = Math.hypot(end[0] - start[0], end[1] - start[1]) || 1e-9, along = [(end[0] - start[0]) / length, (end[1] - start[1]) / length];
-  const at = Math.min(length, Math.max(0, (x - start[0]) * along[0] + (y - start[1]) * along[1]));
-  return Math.hypot(x - start[0] - along[0] * at, y - start[1] - along[1] * at);
 };
 
 const update = view => {

@@ -20,6 +20,21 @@ export const readNetwork = reply => {
   return network;
 };
 
+// The parts into which joined events divide all events.
+export const partsOf = (events, joins) => {
+  const parts = new Map([...events].map(event => [event, [event]]));
+  for (const { first, last } of joins) {
+    let [larger, smaller] = [parts.get(first), parts.get(last)];
+    if (larger === smaller) continue;
+    if (larger.length < smaller.length) [larger, smaller] = [smaller, larger];
+    for (const event of smaller) {
+      larger.push(event);
+      parts.set(event, larger);
+    }
+  }
+  return new Set(parts.values());
+};
+
 // The events that some activity names.
 const namedEvents = network => {
   const named = new Set();

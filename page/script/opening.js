@@ -3,11 +3,15 @@
 
 import { addLabels } from './adding.js';
 import { MOST_BYTES } from './archive.js';
-import { converted } from './converting.js';
+import { convertLong } from './asking.js';
+import { convert } from './converting.js';
+import { sourceOf, textsIn } from './decoding.js';
 import { element, find, say, setText } from './elements.js';
 import { isSaved } from './filing.js';
-import { bytesOf, droppedFiles } from './gathering.js';
+import { sheetsAmong } from './forms.js';
+import { blobsOf, droppedFiles } from './gathering.js';
 import { helpFor } from './helping.js';
+import { session } from './session.js';
 import { stories } from './stories.js';
 import { openTexts } from './texts.js';
 
@@ -17,9 +21,12 @@ const KINDS = {
 };
 // The first of these that stands in a file's name says what the file is.
 const WORDS = Object.entries({
-  activit: 'activities', fixed: 'fixed', timetable: 'times', times: 'times', label: 'labels', place: 'places', window: 'windows', period: 'period',
-  event: 'events', line: 'lines', script: 'lines', command: 'lines', journal: 'lines',
+  activit: 'activities', fixed: 'fixed', timetable: 'times', times: 'times', label: 'labels', place: 'places', window: 'windows', event: 'events',
+  period: 'period', line: 'lines', script: 'lines', command: 'lines', journal: 'lines',
 });
+// More bytes than these are converted by the Worker, where that can be stopped.
+const MOST_AT_ONCE = 2000000;
+const NAMES_ALONE = 'The link has names alone: they take the place of those that the same events and activities have here.';
 let files = [];
 
 const kindOf = name => {
@@ -41,21 +48,26 @@ const show = () => {
 
 const hide = () => find('opening').open && find('opening').close();
 
+const isOpenedAtOnce = ({ isAsked, isOfLink }) => {
+  const kinds = files.map(file => file.kind);
+  // Names alone are added to what is open, and lose nothing.
+  if (kinds.join() === 'labels') return !isOfLink;
+  return !isAsked && isSaved() && kinds.includes('period') && !kinds.includes('nothing') && new Set(kinds).size === kinds.length;
+};
+
 // Lists files with what each is; they are opened at once where names and the period tell all and nothing is lost.
-export const offerFiles = async (given, isAsked = false) => {
+export const offerFiles = async (given, { isAsked = false, isOfLink = false } = {}) => {
   tellOpening('');
   try {
-    files = (await bytesOf(await given)).map(([name, bytes]) => ({ name, kind: kindOf(name), bytes }));
+    files = (await blobsOf(await given)).map(([name, blob]) => ({ name, kind: kindOf(name), blob }));
   } catch (fault) {
     files = [];
     tellOpening(`The files cannot be read: ${fault.message}.`);
   }
-  const kinds = files.map(file => file.kind);
-  const isClear = kinds.length > 0 && !kinds.includes('nothing') && new Set(kinds).size === kinds.length && kinds.includes('period');
   list();
-  // Names alone are added to what is open, and lose nothing.
-  if ((isClear && !isAsked && isSaved()) || kinds.join() === 'labels') openListed();
-  else show();
+  if (isOpenedAtOnce({ isAsked, isOfLink })) return openListed();
+  if (isOfLink && files.length && isOfNames(files)) tellOpening('', NAMES_ALONE);
+  return show();
 };
 
 const list = () => find('opening-files').replaceChildren(...files.map(file => {
@@ -64,41 +76,89 @@ const list = () => find('opening-files').replaceChildren(...files.map(file => {
   return element('li', {}, element('span', {}, file.name), ' ', select);
 }));
 
-const isOfNames = texts => Object.keys(texts).join() === 'labels';
+const isOfNames = some => some.map(({ kind }) => kind).join() === 'labels';
 
-// The texts of what is listed, by their kinds, in the form that is read here; each file is told what was converted.
-const textsListed = () => {
-  const texts = {};
-  for (const file of files.filter(each => each.kind !== 'nothing')) {
-    const { name, kind, bytes } = file;
-    if (kind in texts) throw new Error(`${name}: another file is ${KINDS[kind]} already`);
-    if (!bytes) throw new Error(`${kind} file is too long: it has more than ${MOST_BYTES.toLocaleString('en')} bytes`);
-    Object.assign(file, converted(kind, bytes));
-    texts[kind] = file.text;
-  }
-  if (texts.activities === undefined && texts.lines === undefined && !isOfNames(texts)) throw new Error('a file of activities, or of commands, is wanted');
-  return texts;
+// The files that are to be opened. Raises Error where they cannot be.
+const wanted = async () => {
+  const found = files.filter(({ kind }) => kind !== 'nothing'), kinds = found.map(({ kind }) => kind);
+  const hasNetwork = kinds.includes('activities') || kinds.includes('lines'), [sheet] = await sheetsAmong(hasNetwork ? found : files);
+  if (sheet) throw new Error(`${sheet} is a spreadsheet in its own form, which is not read here`);
+  found.forEach(({ name, kind, blob }, place) => {
+    if (kinds.indexOf(kind) < place) throw new Error(`${name}: another file is ${KINDS[kind]} already`);
+    if (!blob) throw new Error(`${kind} file is too long: it has more than ${MOST_BYTES.toLocaleString('en')} bytes`);
+  });
+  if (!hasNetwork && !isOfNames(found)) throw new Error('a file of activities, or of commands, is wanted');
+  return found;
 };
 
-const openListed = async () => {
-  const title = files.length ? folderOf(files[0].name) : '', listed = files;
+const bytesOf = async ({ name, blob }) => {
   try {
-    const texts = textsListed(), period = Number(find('opening-period').value);
-    const opening = isOfNames(texts) ? addLabels(texts.labels) : openTexts(texts, title, period);
-    hide();
-    if (await opening !== false) say(openedWord(listed.filter(file => file.kind !== 'nothing')));
+    return new Uint8Array(await blob.arrayBuffer());
   } catch (fault) {
-    tellOpening(fault.message, helpFor(fault.message, kind => listed.find(file => file.kind === kind)));
+    throw new Error(`${name} cannot be read: ${fault.message}`);
+  }
+};
+
+// What the program alone reads stays bytes, which are text part by part where help is wanted: each other form of it takes as much memory
+// again. A mark stays, which the program reads too.
+const readBytes = bytes => ({ content: bytes, texts: () => textsIn(sourceOf(bytes), 'utf-8'), has: letter => bytes.includes(letter.charCodeAt(0)) });
+const readText = text => ({ content: text, texts: () => [text], has: letter => text.includes(letter) });
+
+const convertShort = (file, bytes) => {
+  const texts = [];
+  file.told = convert(file.kind, sourceOf(bytes), text => texts.push(text));
+  file.read = readText(texts.join(''));
+};
+
+// The same of long files; false where it was stopped.
+const convertByWorker = async found => {
+  hide();
+  const made = await convertLong(found.map(({ kind, blob }) => ({ kind, blob })));
+  if (!made) return false;
+  for (const [place, { blob, told }] of made.entries()) {
+    const file = found[place], bytes = new Uint8Array(await blob.arrayBuffer());
+    Object.assign(file, { told, read: file.kind === 'activities' ? readBytes(bytes) : readText(new TextDecoder('utf-8', { ignoreBOM: true }).decode(bytes)) });
+  }
+  return true;
+};
+
+// Gives each file its text in the form that is read here, and what was converted.
+const convertAll = async found => {
+  if (found.reduce((sum, { blob }) => sum + blob.size, 0) > MOST_AT_ONCE) return convertByWorker(found);
+  for (const file of found) convertShort(file, await bytesOf(file));
+  return true;
+};
+
+const openConverted = (found, title, period) => {
+  const texts = Object.fromEntries(found.map(({ kind, read }) => [kind, read.content]));
+  return isOfNames(found) ? addLabels(texts.labels) : openTexts(texts, title, period);
+};
+
+// Opens what is listed, where nothing else was done while it was read.
+const openListed = async () => {
+  const title = files.length ? folderOf(files[0].name) : '', { opened, place } = session, period = Number(find('opening-period').value);
+  let found = [];
+  try {
+    found = await wanted();
+    if (!await convertAll(found)) return;
+    if (session.opened !== opened || session.place !== place) return show();
+    const opening = openConverted(found, title, period);
+    hide();
+    if (await opening !== false) say(openedWord(found));
+  } catch (fault) {
+    tellOpening(fault.message, helpFor(fault.message, kind => (found.find(file => file.kind === kind) || {}).read));
     show();
+  } finally {
+    for (const file of found) delete file.read;
   }
 };
 
 const baseOf = ({ name }) => name.split('/').pop();
 
 // The folder of files is told as the title.
-const openedWord = listed => [
-  `opened: ${listed.map(baseOf).join(', ')}`,
-  ...listed.filter(file => file.told.length).map(file => `${baseOf(file)}: ${file.told.join(', ')}`),
+const openedWord = found => [
+  `opened: ${found.map(baseOf).join(', ')}`,
+  ...found.filter(file => file.told.length).map(file => `${baseOf(file)}: ${file.told.join(', ')}`),
 ].join(' — ');
 
 const folderOf = name => name.includes('/') ? name.split('/').slice(-2)[0] : name;
@@ -120,7 +180,7 @@ export const startOpening = () => {
     find(name).addEventListener('change', event => {
       const given = [...event.target.files].map(file => new File([file], file.webkitRelativePath || file.name));
       event.target.value = '';
-      if (given.length) offerFiles(given, true);
+      if (given.length) offerFiles(given, { isAsked: true });
     });
   }
   find('opening-form').addEventListener('submit', event => {

@@ -2,7 +2,7 @@
 // the run, and each part that the set's activities join and no window holds is held at 0 somewhere: such a part can be turned
 // as a whole, so this takes no timetable away from which another could not be turned.
 
-import { rowsText, windowLine } from './network.js';
+import { partsOf, rowsText, windowLine } from './network.js';
 import { readFound } from './replies.js';
 import { run } from './running.js';
 
@@ -50,21 +50,6 @@ const baseOf = ({ network, preferred }, members) => {
     period, fixed: '', times: '', activities: rowsText(rows.map(row => [row.number, row.first, row.last, row.lower, row.upper, 0])),
     setup: [...windows].map(([event, { first, length }]) => windowLine(event, first, length)),
   };
-};
-
-// The parts into which joined events divide all events.
-const partsOf = (events, joins) => {
-  const parts = new Map([...events].map(event => [event, [event]]));
-  for (const { first, last } of joins) {
-    let [larger, smaller] = [parts.get(first), parts.get(last)];
-    if (larger === smaller) continue;
-    if (larger.length < smaller.length) [larger, smaller] = [smaller, larger];
-    for (const event of smaller) {
-      larger.push(event);
-      parts.set(event, larger);
-    }
-  }
-  return new Set(parts.values());
 };
 
 // Whether a domain is empty with the members alone: then they are infeasible, and else nothing is said.

@@ -1,48 +1,133 @@
-// Files of the page's own (labels, places, windows, events, the period), cut into records as docs/FORMATS.md says.
+// Files of the page's own (labels, places, windows, events, the period), cut into records as docs/FORMATS.md says. Each letter is
+// looked at once, whoever wrote the file.
 
-const FIELD = /^[ \t]+|[ \t]+$/g;
+// No file has so many columns. Of more fields the last with something in it is kept, so that their number stays as wrong.
+const MOST_FIELDS = 100;
+const MOST_OF_A_FIELD = 100000;
+const RETURN = 13, FEED = 10, QUOTE = 34, TAB = 9, BLANK = 32;
+
+const isBlank = code => code === BLANK || code === TAB;
+
+// A part of a text without the letters at its ends that are of some kind.
+export const trimmed = (text, isLeft = isBlank, from = 0, to = text.length) => {
+  let start = from, end = to;
+  while (start < end && isLeft(text.charCodeAt(start))) start += 1;
+  while (end > start && isLeft(text.charCodeAt(end - 1))) end -= 1;
+  return text.slice(start, end);
+};
+
+// The place of the quote that ends a field in quotes, or the end of the text.
+const endOfQuotes = (text, start) => {
+  let place = start;
+  for (; place < text.length; place += 1) {
+    if (text.charCodeAt(place) !== QUOTE) continue;
+    if (text.charCodeAt(place + 1) !== QUOTE) break;
+    place += 1;
+  }
+  return place;
+};
+
+// What stands between quotes, where each quote is written as two of them. Of more than any field may have, the beginning is kept with
+// a mark by which it is refused.
+const unquoted = (text, start, end) => {
+  const isLong = end - start > MOST_OF_A_FIELD, inside = text.slice(start, isLong ? start + MOST_OF_A_FIELD : end).replace(/""/g, '"');
+  return isLong ? `${inside}…` : inside;
+};
+
+const endOfField = (text, start, separator) => {
+  let place = start;
+  for (; place < text.length; place += 1) {
+    const code = text.charCodeAt(place);
+    if (code === separator || code === FEED || code === RETURN) break;
+  }
+  return place;
+};
 
 // The fields of the record that begins at a place, and where the next one begins.
 export const recordAt = (text, start, separator) => {
-  const fields = [];
+  const fields = [], code = separator.charCodeAt(0);
   for (let place = start; ;) {
-    let field = '';
-    if (text[place] === '"') {
-      for (place += 1; place < text.length; place += 1) {
-        if (text[place] !== '"') field += text[place];
-        else if (text[place + 1] === '"') field += text[place += 1];
-        else break;
-      }
-      place += 1;
-    }
-    const begin = place;
-    while (place < text.length && text[place] !== separator && text[place] !== '\n' && text[place] !== '\r') place += 1;
-    fields.push((field + text.slice(begin, place)).replace(FIELD, ''));
-    if (text[place] !== separator) return { fields, next: place + (text.startsWith('\r\n', place) ? 2 : 1) };
-    place += 1;
+    const isQuoted = text.charCodeAt(place) === QUOTE, last = isQuoted ? endOfQuotes(text, place + 1) : place;
+    const begin = isQuoted ? last + 1 : place, end = endOfField(text, begin, code);
+    const field = isQuoted ? trimmed(unquoted(text, place + 1, last) + text.slice(begin, end)) : trimmed(text, isBlank, begin, end);
+    if (fields.length < MOST_FIELDS) fields.push(field);
+    else if (field) fields[MOST_FIELDS - 1] = field;
+    if (text.charCodeAt(end) !== code) return { fields, next: end + (text.startsWith('\r\n', end) ? 2 : 1) };
+    place = end + 1;
   }
 };
 
-// The records that are neither blank nor comments, each with its number. Where a first field is a name, one in quotes begins
-// no comment, whatever it begins with.
-export const recordsOf = (text, isNamed = false) => {
-  const whole = text.replace(/^\uFEFF/, ''), separator = whole.includes(';') ? ';' : ',', records = [];
+const isEmpty = (text, start, next) => next <= start + (text.startsWith('\r\n', start) ? 2 : 1);
+
+// Whether a record has data, that is neither blanks alone nor a comment. What follows its last separator is no field where that is
+// empty.
+const hasData = (fields, isQuoted = false) => {
+  if (fields[fields.length - 1] === '') fields.pop();
+  return fields.length > 0 && (isQuoted || !fields[0].startsWith('#'));
+};
+
+// The records that have data, one after another, each with its number. Where a first field is a name, one in quotes begins no
+// comment, whatever it begins with.
+export const recordsOf = function* (text, isNamed = false) {
+  const whole = text.replace(/^\uFEFF/, ''), separator = whole.includes(';') ? ';' : ',';
   let number = 0;
   for (let place = 0; place < whole.length;) {
     const { fields, next } = recordAt(whole, place, separator);
-    if (next > place + 1 && !(next === place + 2 && whole.startsWith('\r\n', place))) {
+    if (!isEmpty(whole, place, next)) {
       number += 1;
-      if (fields[fields.length - 1] === '') fields.pop();
-      const isComment = fields.length && fields[0].startsWith('#') && !(isNamed && whole[place] === '"');
-      if (fields.length && !isComment) records.push({ number, fields });
+      if (hasData(fields, isNamed && whole[place] === '"')) yield { number, fields };
     }
     place = next;
   }
-  return records;
 };
 
+// The fields of the records of a text that comes in parts, of as many at a time as are whole; an empty line is no record.
+export const fieldsIn = function* (texts, separator) {
+  let rest = '', least = 0, isBegun = false;
+  const taken = isEnd => {
+    const found = [];
+    let start = 0;
+    while (start < rest.length) {
+      const { fields, next } = recordAt(rest, start, separator);
+      // A line feed may still follow what ends it.
+      if (next >= rest.length && !isEnd) break;
+      if (!isEmpty(rest, start, next)) found.push(fields);
+      start = next;
+    }
+    rest = rest.slice(start);
+    least = 2 * rest.length;
+    return found;
+  };
+  for (const text of texts) {
+    rest += isBegun ? text : text.replace(/^\uFEFF/, '');
+    isBegun = isBegun || text !== '';
+    // What is not whole is looked at again where there is twice as much of it.
+    if (rest.length > least) yield taken(false);
+  }
+  yield taken(true);
+};
+
+// The fields of rows in it that have data, but for a header.
+export const rowsOfParts = function* (texts, separator) {
+  let isFirst = true;
+  for (const some of fieldsIn(texts, separator)) {
+    for (const fields of some.filter(each => hasData(each))) {
+      if (!isFirst || !isHeader(fields)) yield fields;
+      isFirst = false;
+    }
+  }
+};
+
+const isHeader = fields => /^[A-Za-z]/.test(fields[0]);
+
 // The rows: a first record that begins with a letter is the header.
-export const rowsIn = text => recordsOf(text).filter(({ fields }, place) => place || !/^[A-Za-z]/.test(fields[0]));
+export const rowsIn = function* (text) {
+  let isFirst = true;
+  for (const record of recordsOf(text)) {
+    if (!isFirst || !isHeader(record.fields)) yield record;
+    isFirst = false;
+  }
+};
 
 // What a file of the page's own is not.
 export class FileFault extends Error {
@@ -57,6 +142,9 @@ export const EVENTS = [0, 999999999];
 /** @type {[number, number]} */
 export const RESIDUES = [0, 65535];
 
+// The program takes no more at any period.
+const MOST_EVENTS = 20000;
+
 // The number that a field has, in limits. Raises FileFault.
 export const numberIn = (name, record, place, text, [least, most]) => {
   if (!/^[+-]?[0-9]+$/.test(text)) throw new FileFault(name, record, `field ${place} is not a number`);
@@ -67,12 +155,13 @@ export const numberIn = (name, record, place, text, [least, most]) => {
 
 // The rows of a file of numbers, an event first, each column with its limits. Raises FileFault.
 export const numbersIn = (name, text, columns) => {
-  const seen = new Set();
-  return rowsIn(text).map(({ number, fields }) => {
+  const rows = new Map();
+  for (const { number, fields } of rowsIn(text)) {
     if (fields.length !== columns.length) throw new FileFault(name, number, 'wrong number of fields');
     const row = fields.map((field, place) => numberIn(name, number, place + 1, field, columns[place]));
-    if (seen.has(row[0])) throw new FileFault(name, number, 'event is repeated');
-    seen.add(row[0]);
-    return row;
-  });
+    if (rows.has(row[0])) throw new FileFault(name, number, 'event is repeated');
+    if (rows.size === MOST_EVENTS) throw new FileFault(name, number, 'too many events');
+    rows.set(row[0], row);
+  }
+  return [...rows.values()];
 };

@@ -7,6 +7,7 @@ import { isSure } from './replies.js';
 import { doStep, markNow } from './session.js';
 import { shown } from './shown.js';
 import { timeLines } from './times.js';
+import { turned } from './turning.js';
 import { countViolated } from './viewing.js';
 
 // The most that a search can be asked for.
@@ -60,7 +61,7 @@ const clockText = (asked, isSearching) => {
   return isOfNow() ? tookText(found) : '';
 };
 
-const BUTTONS = ['optimum', 'try', 'ask-why', 'ask-gains'];
+const BUTTONS = ['optimum', 'try', 'ask-why', 'ask-gains', 'mend'];
 
 const tellButtons = asked => {
   const isOpen = isOfNow() && !isSure(found) && !asked;
@@ -87,8 +88,8 @@ const tell = () => {
 
 // Times are set by lines of their own, so that nothing is searched again when these lines are given once more.
 const adopt = () => {
-  const { cost, kind, times } = found;
-  if (doStep(timeLines(times))) say(`adopted: ${kind === 'optimum' ? 'the optimum' : 'the best that was found'}, cost ${cost.toLocaleString('en')}`);
+  const { cost, kind } = found;
+  if (doStep(timeLines(turned(found.times, shown.view)), { isFound: true })) say(`adopted: ${kind === 'optimum' ? 'the optimum' : 'the best that was found'}, cost ${cost.toLocaleString('en')}`);
   lead(find(askedNow() ? 'stop' : 'optimum'));
 };
 

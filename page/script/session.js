@@ -3,9 +3,10 @@
 
 import { say } from './elements.js';
 import { follow, neededBefore } from './following.js';
+import { keepingKeys } from './keeping.js';
 import { noLabels } from './labels.js';
 import { labelOf } from './names.js';
-import { look, openFirst, openSession, prepared, RunFault } from './running.js';
+import { does, look, openFirst, openSession, prepared, RunFault } from './running.js';
 import { beginShown, setChosen, setChosenLine, setLabels, setView, shown } from './shown.js';
 import { linesOf, trainsOf } from './trains.js';
 import { isInfeasible } from './viewing.js';
@@ -35,14 +36,35 @@ let last = 0;
 export const markNow = () => state.place ? state.steps[state.place - 1].mark : state.opened.mark;
 const markAfter = (network, before, mark) => network === before ? mark : last += 1;
 
-// Opens a base with its labels and places, and shows it. Raises RunFault, and then nothing has changed.
-export const openBase = (base, { title = '', labels = noLabels(), places = new Map() } = {}) => {
-  const { session: opened, network, times } = openFirst(base);
-  settled = prepared(opened, () => ({ network, times, ...look(opened, network) }));
+const NO_STEPS = { steps: [], labels: null };
+
+// What steps that were done before make of what a session has, which does them, each with its lines and its title, and all with the
+// same names. Raises RunFault where a line is refused.
+const doneAgain = (opened, first, { steps, labels }, mark) => {
+  let [now, at] = [first, mark];
+  const made = steps.map(({ lines, title }) => {
+    does(opened, lines);
+    const after = follow(now, lines);
+    at = markAfter(after.network, now.network, at);
+    now = { network: after.network, times: after.times };
+    return { lines, back: after.back, mark: at, title, labels };
+  });
+  return { steps: made, now };
+};
+
+// Opens a base with its labels and places, does what was done with it before, and shows it. Raises RunFault, and then nothing has
+// changed.
+export const openBase = (base, { title = '', labels = noLabels(), places = new Map(), again = NO_STEPS } = {}) => {
+  const { session: opened, network, times } = openFirst(base), mark = last += 1;
+  const { steps, told: made } = prepared(opened, () => {
+    const { now, ...done } = doneAgain(opened, { network, times }, again, mark);
+    return { ...done, told: { ...now, ...look(opened, now.network) } };
+  });
+  settled = made;
   close();
   kept = opened;
-  Object.assign(state, { opened: { base, times, title, labels, network, mark: last += 1 }, steps: [], place: 0 });
-  beginShown(labels, places);
+  Object.assign(state, { opened: { base, times, title, labels, network, mark }, steps, place: steps.length });
+  beginShown(steps.length ? again.labels : labels, places);
   panels.forEach(({ begin }) => begin && begin());
   show({ ...settled });
 };
@@ -109,9 +131,9 @@ const tries = more => toldWith(() => {
 
 const isTried = more => Boolean(tried) && tried.lines.length === more.length && tried.lines.every((line, place) => line === more[place]);
 
-// Shows what some lines would make, as a step of a drag; a title says in a planner's words what they do.
-export const preview = (more, title = '') => {
-  if (tries(more)) show({ ...told, title, isTried: true });
+// Shows what some lines would make, as a step of a drag, or above what is `before` it; a title says in a planner's words what they do.
+export const preview = (more, title = '', before = null) => {
+  if (tries(more)) show({ ...told, title, before, isTried: true });
 };
 
 // What was tried is of the present step from now on.
@@ -120,37 +142,19 @@ const settle = () => {
 };
 
 // Does some lines as one step, with other names or without, which can be undone; false where a line is refused, and then
-// nothing has changed. A title says in a planner's words what they do.
-export const doStep = (more, { title = '', labels = shown.labels } = {}) => {
+// nothing has changed. A title says in a planner's words what they do; what `isFound` is a timetable that was found.
+export const doStep = (more, { title = '', labels = shown.labels, isFound = false } = {}) => {
   if (!isTried(more) && !tries(more)) {
     refresh();
     return false;
   }
-  const made = { ...tried, mark: markAfter(told.network, settled.network, markNow()), title, labels };
+  const made = { ...tried, mark: markAfter(told.network, settled.network, markNow()), title, labels, isFound };
   settle();
   state.steps.splice(state.place, Infinity, made);
   state.place += 1;
   setLabels(labels);
   say(title || (more.length > 1 ? `${more.length} commands` : titleOf(made)));
   show({ ...told, title });
-  return true;
-};
-
-// Does steps that were done before, each with its lines and title as it was one; false where a line is refused, and then none of
-// them is done.
-export const stepAgain = (steps, labels) => {
-  if (!tries(steps.flatMap(({ lines }) => lines))) return false;
-  let before = settled, mark = markNow();
-  state.steps = steps.map(({ lines, title }) => {
-    const after = follow(before, lines);
-    mark = markAfter(after.network, before.network, mark);
-    before = after;
-    return { lines, back: after.back, mark, title, labels };
-  });
-  state.place = steps.length;
-  setLabels(labels);
-  settle();
-  show({ ...told });
   return true;
 };
 
@@ -188,6 +192,13 @@ export const goTo = place => go(place, `${place} of ${state.steps.length} steps 
 // All lines since the network was opened, of the steps that are done.
 export const journal = () => state.steps.slice(0, state.place).flatMap(step => step.lines);
 
+// The events that a planner has moved since a timetable was found or the network was changed.
+export const eventsMoved = () => {
+  const isMove = ({ lines, isFound }) => !isFound && lines.every(line => line.startsWith('time '));
+  const done = state.steps.slice(0, state.place), other = done.map(isMove).lastIndexOf(false);
+  return new Set(done.slice(other + 1).flatMap(({ lines }) => lines.map(line => Number(line.split(' ')[1]))));
+};
+
 // The replies to questions, of which the state knows nothing. Raises RunFault.
 export const askSession = questions => {
   leaveTried();
@@ -211,10 +222,10 @@ const show = view => {
   redraw(isBuilt);
 };
 
-export const redraw = (isBuilt = false) => panels.forEach(panel => {
+export const redraw = (isBuilt = false) => keepingKeys(() => panels.forEach(panel => {
   if (isBuilt && panel.build) panel.build(shown.view);
   panel.update(shown.view);
-});
+}));
 
 // The domains when some time was last possible, for the events that have none now.
 const lastDomains = view => {

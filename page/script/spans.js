@@ -74,6 +74,7 @@ const makeCard = ({ number, first, last }) => {
   const fields = element('div', { class: 'fields' }, element('label', {}, 'from ', field(card, 'least', `${name}: least minutes`)),
     element('label', {}, 'to ', field(card, 'most', `${name}: most minutes`)),
     element('label', {}, 'weight ', field(card, 'weight', `${name}: cost of a minute of slack`, numberField)),
+    element('button', { class: 'small', type: 'button', 'data-price': number, title: 'what each length costs', hidden: activity.lower === activity.upper }, 'Prices'),
     element('button', { class: 'drop', onclick: () => dropActivity(number) }, `Drop ${kindOf(number)} ${number}`));
   const title = element('button', { class: 'link', title: 'show the event at its other end', onclick: () => showRow(other) }, name);
   card.node = element('div', { class: 'card', 'data-activity': number }, element('div', { class: 'title' }, title, card.told), card.track, fields);

@@ -13,16 +13,20 @@ export const spread = (places, tracks, radius, size) => {
   return spreading.places;
 };
 
-// The places at a scale at which they fit into a size, stretched up to a half more one way where that fills it.
+// How far numbers are from the least, as parts of a length of which half is given, so that nothing overflows.
+const partsOf = (numbers, least, half) => numbers.map(each => half ? (each / 2 - least / 2) / half : 0);
+
+// The places at a scale at which they fit into a size, stretched up to a half more one way where that fills it. They are parts of the
+// longer way first, so that none is too far or too near for what is worked out with them.
 const fitted = (places, [width, height]) => {
-  const xs = [...places.values()].map(([x]) => x), ys = [...places.values()].map(([, y]) => y);
-  const [left, top] = [Math.min(...xs), Math.min(...ys)], [wide, high] = [Math.max(...xs) - left, Math.max(...ys) - top];
+  const axes = [0, 1].map(axis => [...places.values()].map(place => place[axis])), leasts = axes.map(numbers => Math.min(...numbers));
+  const halves = axes.map((numbers, axis) => Math.max(...numbers) / 2 - leasts[axis] / 2), longer = Math.max(...halves);
+  const [xs, ys] = axes.map((numbers, axis) => partsOf(numbers, leasts[axis], longer)), [wide, high] = [xs, ys].map(parts => Math.max(...parts));
   let across = wide ? width / wide : 1, down = high ? height / high : 1;
   const scale = Math.min(wide ? across : down, high ? down : across);
-  across = Math.min(across, 1.5 * scale);
-  down = Math.min(down, 1.5 * scale);
+  [across, down] = [across, down].map(each => Math.min(each, 1.5 * scale));
   // Stations in one place, or on one line, are kept apart by their order.
-  return new Map([...places].map(([name, [x, y]], place) => [name, [(x - left) * across + place * 0.01, (y - top) * down + place * 0.01]]));
+  return new Map([...places.keys()].map((name, place) => [name, [xs[place] * across + place * 0.01, ys[place] * down + place * 0.01]]));
 };
 
 const start = (places, tracks, radius) => {

@@ -4,6 +4,8 @@ import { labelOf } from './names.js';
 import { trainPart } from './trains.js';
 
 const MOST_STRETCH = 120;
+// So many stops of trains are drawn with all stations of a line.
+const MOST_STOPS = 5000;
 
 // More stations than these are not all drawn, in a diagram or in a netgraph.
 export const MOST_STATIONS = 349;
@@ -20,10 +22,13 @@ export const piecesOf = (train, stations) => {
   return pieces.map(({ start, end }) => trainPart(train, start, end));
 };
 
+const isSmall = ({ stations, trains }) => stations.length <= MOST_STRETCH
+  || (stations.length <= MOST_STATIONS && trains.reduce((sum, { events }) => sum + events.length, 0) <= MOST_STOPS);
+
 // The line, with the word that says what is left out.
 export const stretchOf = (line, chosen) => {
   const { stations } = line;
-  if (stations.length <= MOST_STATIONS) return { line, told: '' };
+  if (isSmall(line)) return { line, told: '' };
   const middle = Math.max(0, stations.indexOf(labelOf(chosen).station));
   const first = Math.min(Math.max(0, middle - MOST_STRETCH / 2), stations.length - MOST_STRETCH);
   const kept = stations.slice(first, first + MOST_STRETCH), known = new Set(kept);

@@ -1,6 +1,7 @@
 // Hands of the events: what is dragged, clicked and typed on their strips.
 
 import { addHere } from './adding.js';
+import { isOutside } from './conflicts.js';
 import { find } from './elements.js';
 import { eventBeside, rowAt, showRow } from './events.js';
 import { beginDrag, isFinger, minutesOfKey, moveOf, unitAt } from './handles.js';
@@ -97,6 +98,9 @@ export const letGo = (event, isTime) => {
   if (isTime ? shown.view.times.has(event) : shown.view.network.windows.has(event)) doStep([`${isTime ? 'untime' : 'unfix'} ${event}`]);
 };
 
+// A diamond that lies in a frame hides what a hand means there.
+const isHeldThere = event => shown.view.network.windows.has(event) && !isOutside(shown.view, event);
+
 export const startStrips = () => {
   const panel = find('rows');
   panel.addEventListener('pointerdown', begin);
@@ -107,7 +111,7 @@ export const startStrips = () => {
     else if (row) choose(row.event);
   });
   panel.addEventListener('dblclick', event => {
-    const row = rowAt(event.target);
-    if (row && row.strip.contains(event.target)) letGo(row.event, event.target.dataset.grip === 'now');
+    const row = rowAt(event.target), isTime = event.target.dataset.grip === 'now';
+    if (row && row.strip.contains(event.target)) letGo(row.event, isTime && !isHeldThere(row.event));
   });
 };

@@ -118,12 +118,13 @@ const update = view => {
 
 export const tellingPanel = { update };
 
-const ask = () => {
+// Asks why, with some events held at minutes.
+export const askWhy = held => {
   showTab('why');
-  const asked = { kind: 'why', members: keptMembers(), canLower: find('can-lower').checked };
+  const asked = { kind: 'why', members: [...keptMembers(), ...held.map(([number]) => memberKey({ of: 'event', number }))], canLower: find('can-lower').checked, held };
   askFor(asked, { tell: ({ why }) => showWhy(why), end: () => lead(document.querySelector('#reasons .mend')) });
 };
 
 export const startTelling = () => {
-  for (const name of ['ask-why', 'ask-mends']) find(name).addEventListener('click', ask);
+  for (const name of ['ask-why', 'ask-mends']) find(name).addEventListener('click', () => askWhy([]));
 };

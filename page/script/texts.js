@@ -2,33 +2,43 @@
 
 import { play } from './asking.js';
 import { noLabels, readLabels, readPlaces } from './labels.js';
-import { EVENTS, numbersIn, RESIDUES, rowsIn } from './records.js';
+import { EVENTS, numberIn, numbersIn, RESIDUES, rowsIn } from './records.js';
 import { openBase } from './session.js';
 import { isAdopt, timesOfFile } from './times.js';
 
 // Edits and lines about times; a file of lines may have questions too, which make nothing.
 const MAKES = /^\s*(add|drop|fix|window|unfix|span|weight|ends|time|untime|adopt)\s?/;
-const MOST_OF_A_LINE = 4096;
+const BLANK = 32, MOST_OF_A_LINE = 4096, MOST_LINES = 1000000;
 // So many lines are played at once; more of them, and a search, where they can be stopped.
 const MOST_AT_ONCE = 1000;
 
 const periodOf = text => {
-  const rows = rowsIn(text);
-  const isOne = rows.length === 1 && rows[0].fields.length === 1 && /^[0-9]+$/.test(rows[0].fields[0]);
+  const rows = rowsIn(text), [first, second] = [rows.next().value, rows.next().value];
+  const isOne = first && !second && first.fields.length === 1 && /^[0-9]+$/.test(first.fields[0]);
   if (!isOne) throw new Error('period file: it is no file of one period');
-  return Number(rows[0].fields[0]);
+  return numberIn('period', first.number, 1, first.fields[0], EVENTS);
 };
 
+const isLong = line => line.length > MOST_OF_A_LINE || (line.length > MOST_OF_A_LINE / 3 && new TextEncoder().encode(line).length > MOST_OF_A_LINE);
+
 const linesOf = text => {
-  const lines = text.split('\n'), length = line => line.length > MOST_OF_A_LINE / 3 ? new TextEncoder().encode(line).length : 0;
-  const long = lines.findIndex(line => length(line) > MOST_OF_A_LINE);
-  if (long >= 0) throw new Error(`lines file: line ${long + 1} is longer than ${MOST_OF_A_LINE} bytes`);
-  return lines.map(line => line.trim()).filter(line => MAKES.test(line));
+  const made = [];
+  for (let start = 0, number = 1; start < text.length; number += 1) {
+    const feed = text.indexOf('\n', start), end = feed < 0 ? text.length : feed, line = text.slice(start, end);
+    if (number > MOST_LINES) throw new Error(`lines file: it has more than ${MOST_LINES.toLocaleString('en')} lines`);
+    if (isLong(line)) throw new Error(`lines file: line ${number} is longer than ${MOST_OF_A_LINE} bytes`);
+    if (MAKES.test(line)) made.push(line.trim());
+    start = end + 1;
+  }
+  return made;
 };
+
+// Whether nothing but blanks stands in a text, or in the bytes of one.
+const isBlank = given => typeof given === 'string' ? !given.trim() : !given.some(byte => byte > BLANK);
 
 // What a run begins with that has the network of these files.
 const baseOf = ({ activities = '', fixed = '', times = '', events = '', windows = '' }, period, lines) => {
-  if (activities && !activities.trim()) throw new Error('activities file: there is nothing in it but blanks');
+  if (activities.length && isBlank(activities)) throw new Error('activities file: there is nothing in it but blanks');
   const alone = numbersIn('events', events, [EVENTS]).flat();
   const held = numbersIn('windows', windows, [EVENTS, RESIDUES, RESIDUES]);
   const setup = [...alone.map(event => `add event ${event}`), ...held.map(row => `window ${row.join(' ')}`), ...lines];
@@ -38,14 +48,15 @@ const baseOf = ({ activities = '', fixed = '', times = '', events = '', windows 
 };
 
 // Opens the texts of files by their kinds. Raises RunFault, FileFault and Error with the words that are shown. Where many
-// lines are played, or one that searches, a promise is given for it, of false where that is stopped.
-export const openTexts = (texts, title, period = 60) => {
+// lines are played, or one that searches, a promise is given for it, of false where that is stopped. `again` has steps that are done
+// once more, as openBase takes them.
+export const openTexts = (texts, title, period = 60, again = undefined) => {
   const given = texts.period === undefined ? period : periodOf(texts.period);
   if (!(given >= 2 && given <= 1440)) throw new Error(`period ${given}: it has to be from 2 to 1440`);
   const lines = linesOf(texts.lines || ''), base = baseOf(texts, given, lines);
   const labels = texts.labels === undefined ? noLabels() : readLabels(texts.labels);
   const places = texts.places === undefined ? new Map() : readPlaces(texts.places);
-  const open = made => openBase(made, { title, labels, places });
+  const open = made => openBase(made, { title, labels, places, again });
   if (lines.length <= MOST_AT_ONCE && !lines.some(isAdopt)) return open(base);
   return play(base).then(played => {
     if (played) open(played);

@@ -15,6 +15,10 @@ export const timeLines = times => [...times].map(([event, time]) => `time ${even
 
 // The times that the file of times gives to the events that are there when it is read.
 export const timesOfFile = ({ times, period }, events) => {
-  const known = new Set(events), rows = rowsIn(times).map(({ fields }) => fields.map(Number));
-  return ascending(rows.filter(([event]) => known.has(event)).map(([event, time]) => [event, ((time % period) + period) % period]));
+  const known = new Set(events), found = new Map();
+  for (const { fields } of rowsIn(times)) {
+    const [event, time] = fields.map(Number);
+    if (known.has(event)) found.set(event, ((time % period) + period) % period);
+  }
+  return ascending(found);
 };

@@ -51,7 +51,7 @@ const forget = name => {
 const take = name => {
   const { view } = kept.get(name), [wanted, now] = [view, shown.view].map(({ network }) => minutesText(network.period));
   if (!isOfPeriod(view)) return say(`${name} repeats after ${wanted}, and what is open after ${now}: open its files.`, true);
-  return doStep(linesTo(view), { title: `${name} is taken over`, labels: view.labels });
+  return doStep(linesTo(view), { title: `${name} is taken over`, labels: view.labels, isFound: true });
 };
 
 const button = (text, onclick, more = {}) => element('button', { type: 'button', onclick, ...more }, text);

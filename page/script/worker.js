@@ -1,7 +1,13 @@
-// What the Worker does, so that the page stays usable: searches, why there is no timetable, what would help, and long files of lines.
+// What a Worker does, so that the page stays usable: searches, why there is no timetable, what would help, what minutes cost, and long
+// files of lines.
 
+import { MOST_BYTES } from './archive.js';
 import { findWhy } from './conflict.js';
+import { convert } from './converting.js';
+import { sourceOfBlob } from './decoding.js';
+import { tellNearest } from './nearest.js';
 import { baseOf, readNetwork } from './network.js';
+import { tellPrices } from './pricing.js';
 import { canPrime, primedSession } from './priming.js';
 import { startProgram } from './program.js';
 import { isSure, readFound } from './replies.js';
@@ -71,8 +77,10 @@ const search = async (asked, tell, isLeft) => {
   }
 };
 
+// With some events held at minutes beside what holds others.
 const why = (asked, tell) => {
   const network = readNetwork(sessionOf(asked).ask('dump'));
+  for (const [event, first] of asked.held) network.windows.set(event, { first, length: 1 });
   tell({ why: findWhy(network, { kept: new Set(asked.members), canLower: asked.canLower }), isDone: true });
 };
 
@@ -83,6 +91,27 @@ const play = ({ played }, tell) => {
   session.close();
   tell({ base: baseOf(network, times), isDone: true });
 };
+
+// So many bytes go to a blob at once, which the browser keeps outside of the page.
+const OF_A_BLOB = 1 << 22;
+
+// A long file in the form that is read here, and the words on that.
+const convertedFile = ({ kind, blob }) => {
+  const encoder = new TextEncoder(), blobs = [];
+  let length = 0, waiting = 0, parts = [];
+  const told = convert(kind, sourceOfBlob(blob), text => {
+    const bytes = encoder.encode(text);
+    [length, waiting] = [length + bytes.length, waiting + bytes.length];
+    if (length > MOST_BYTES) throw new Error(`${kind} file is too long: converted it has more than ${MOST_BYTES.toLocaleString('en')} bytes`);
+    parts.push(bytes);
+    if (waiting < OF_A_BLOB) return;
+    blobs.push(new Blob(parts));
+    [waiting, parts] = [0, []];
+  });
+  return { blob: new Blob([...blobs, ...parts]), told };
+};
+
+const convertFiles = ({ files }, tell) => tell({ converted: files.map(convertedFile), isDone: true });
 
 // A search may look at so many cases before it is told what it has come to.
 const MOST_OF_A_GAIN = 100000;
@@ -122,10 +151,19 @@ const gains = (asked, tell) => {
   }
 };
 
+// What it leaves is the network of before, without a search.
+const prices = async (asked, tell, isLeft) => {
+  const session = sessionOf(asked);
+  kept = { ...kept, isBegun: false, isOpen: false };
+  await tellPrices(session, asked, tell, { isLeft, hear });
+};
+
+const near = (asked, tell) => tellNearest(readNetwork(sessionOf(asked).ask('dump')), asked, tell, hear);
+
 // Takes the place of a search that is stopped.
 const rest = () => {};
 
-const WORK = { search, why, play, gains, rest };
+const WORK = { search, why, convert: convertFiles, play, gains, prices, near, rest };
 
 // Does what was asked; `tell` is called with each answer, and `isLeft` says whether something else is asked.
 const work = async (asked, tell, isLeft) => {

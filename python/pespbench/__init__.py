@@ -1,4 +1,4 @@
-"""A client of pespbench, the workbench for periodic railway timetables, and what a planner does with it.
+"""A client of pespbench, the workbench for periodic railway timetables, with tools for planners.
 
     from pespbench import Bench
 
@@ -7,21 +7,28 @@
         print(bench.domain(2).runs(), bench.optimum())
 """
 
-from pespbench.answers import Answer, Domain, Found, Infeasible, Optimum, Stopped, Tension, Violations
-from pespbench.client import Bench
-from pespbench.engines import Engine
-from pespbench.faults import BadReply, Ended, Fault, FileFault, NoLibrary, NotKept, PespbenchError, Refused
-from pespbench.labels import EventLabel, Labels
-from pespbench.network import Activity, Network, Window
-from pespbench.parts import optimum_in_parts
-from pespbench.progress import Progress
-from pespbench.searching import Search
-from pespbench.variants import variants
-from pespbench.wording import Names
-from pespbench.workers import Lost
+from pespbench.leaving import is_command, leave_at_interrupts
+
+if is_command():
+    leave_at_interrupts()
+
+from pespbench.answers import Answer, Domain, Found, Infeasible, Optimum, Stopped, Tension, Violations  # noqa: E402
+from pespbench.client import Bench  # noqa: E402
+from pespbench.engines import Engine  # noqa: E402
+from pespbench.faults import BadReply, Ended, Fault, FileFault, NoLibrary, NotKept, PespbenchError, Refused  # noqa: E402
+from pespbench.labels import EventLabel, Labels  # noqa: E402
+from pespbench.network import Activity, Network, Window  # noqa: E402
+from pespbench.parts import optimum_in_parts  # noqa: E402
+from pespbench.progress import Progress  # noqa: E402
+from pespbench.searching import Search  # noqa: E402
+from pespbench.tables import ActivityRow  # noqa: E402
+from pespbench.variants import variants  # noqa: E402
+from pespbench.version import VERSION as __version__  # noqa: E402
+from pespbench.wording import Names  # noqa: E402
+from pespbench.workers import Lost  # noqa: E402
 
 __all__ = [
-    "Activity", "Answer", "BadReply", "Bench", "Domain", "Ended", "Engine", "EventLabel", "Fault", "FileFault", "Found",
+    "Activity", "ActivityRow", "Answer", "BadReply", "Bench", "Domain", "Ended", "Engine", "EventLabel", "Fault", "FileFault", "Found",
     "Infeasible", "Labels", "Lost", "Names", "Network", "NoLibrary", "NotKept", "Optimum", "PespbenchError", "Progress",
-    "Refused", "Search", "Stopped", "Tension", "Violations", "Window", "optimum_in_parts", "variants",
+    "Refused", "Search", "Stopped", "Tension", "Violations", "Window", "__version__", "optimum_in_parts", "variants",
 ]

@@ -11,10 +11,12 @@ from importlib import import_module
 from typing import List, NoReturn, Optional
 
 from pespbench.ending import INTERRUPTS, status_of, terminated
-from pespbench.faults import PespbenchError, WrongWords
+from pespbench.faults import PespbenchError, WrongWords, text_of
+from pespbench.leaving import leave_at_interrupts, raise_interrupts
 from pespbench.terminal import complain, shown
+from pespbench.version import VERSION
 
-MODULES = ["shell", "search", "why", "helps", "report", "compare", "lintim", "drawn"]
+MODULES = ["shell", "asking", "search", "why", "helps", "report", "compare", "lintim", "gtfs", "models", "drawn"]
 
 
 class Parser(argparse.ArgumentParser):
@@ -31,20 +33,27 @@ def main(words: Optional[List[str]] = None) -> int:
     It is 0, or 1 for a fault that is told on standard error, 2 for wrong words, and 128 with the number of the signal where
     one ended it.
     """
-    parser = Parser(prog="python3 -m pespbench", description="What a planner does with pespbench.")
+    parser = Parser(prog="python3 -m pespbench", description="Commands of pespbench for planners.")
+    parser.add_argument("--version", action="version", version=f"pespbench-py {VERSION}")
     subparsers = parser.add_subparsers(required=True, metavar="SUBCOMMAND")
     for name in MODULES:
         import_module(f"pespbench.{name}").add_parser(subparsers)
     chosen = parser.parse_args(words)
+    is_leaving = False
     try:
+        is_leaving = raise_interrupts()
         with terminated():
             return int(chosen.run(chosen))
     except (PespbenchError, OSError) as fault:
-        complain(str(fault))
+        complain(text_of(fault))
         return 2 if isinstance(fault, WrongWords) else 1
     except INTERRUPTS as interrupt:
         return status_of(interrupt)
+    finally:
+        if is_leaving:
+            leave_at_interrupts()
 
 
 if __name__ == "__main__":
+    leave_at_interrupts()
     sys.exit(main())

@@ -3,7 +3,8 @@
 from __future__ import annotations
 
 from dataclasses import dataclass, field
-from typing import Dict, List, Mapping, Optional, Sequence, Tuple, Union
+from types import MappingProxyType
+from typing import ClassVar, Dict, Iterator, List, Mapping, Optional, Sequence, Tuple, Union
 
 
 def runs(numbers: Sequence[int]) -> List[Tuple[int, int]]:
@@ -24,6 +25,9 @@ class Domain:
     event: int
     residues: Tuple[int, ...]
 
+    def __iter__(self) -> Iterator[int]:
+        return iter(self.residues)
+
     def runs(self) -> str:
         """The residues as text, as in `0-3, 42-53, 58`; `none` where there is none."""
         return ", ".join(str(a) if a == b else f"{a}-{b}" for a, b in runs(self.residues)) or "none"
@@ -41,6 +45,9 @@ class Tension:
     tension: int
     slack: int
 
+    def __iter__(self) -> Iterator[int]:
+        return iter((self.activity, self.tension, self.slack))
+
     def text(self) -> str:
         """The line of the program, without its end."""
         return f"{self.activity} {self.tension} {self.slack}"
@@ -56,10 +63,20 @@ class Violations:
     def __len__(self) -> int:
         return len(self.activities) + len(self.events)
 
+    def __iter__(self) -> Iterator[Tuple[str, int]]:
+        """Each as its word and number: `activity`, then `event`."""
+        yield from (("activity", number) for number in self.activities)
+        yield from (("event", number) for number in self.events)
+
     def text(self) -> str:
         """The reply of the program."""
         lines = [f"violations {len(self)}", *(f"activity {number}" for number in self.activities)]
         return "".join(f"{line}\n" for line in [*lines, *(f"event {number}" for number in self.events)])
+
+
+# Each result of a search has the same four fields. `cost` and `times` are those of its timetable, or None and empty if there is
+# none; no timetable costs less than `lower_bound`, which is None if no bound is known; and `is_proved` says whether the search
+# ended, so that nothing else can be found.
 
 
 @dataclass(frozen=True)
@@ -68,6 +85,16 @@ class Optimum:
 
     cost: int
     times: Mapping[int, int]
+    is_proved: ClassVar[bool] = True
+
+    @property
+    def lower_bound(self) -> int:
+        """The cost itself."""
+        return self.cost
+
+    def __iter__(self) -> Iterator[Tuple[int, int]]:
+        """Each event with its time."""
+        return iter(self.times.items())
 
     def text(self) -> str:
         """The reply of the program."""
@@ -77,6 +104,15 @@ class Optimum:
 @dataclass(frozen=True)
 class Infeasible:
     """No timetable meets everything."""
+
+    cost: ClassVar[None] = None
+    times: ClassVar[Mapping[int, int]] = MappingProxyType({})
+    lower_bound: ClassVar[None] = None
+    is_proved: ClassVar[bool] = True
+
+    def __iter__(self) -> Iterator[Tuple[int, int]]:
+        """No event has a time."""
+        return iter(())
 
     def text(self) -> str:
         """The reply of the program."""
@@ -88,11 +124,17 @@ class Stopped:
     """A search came to its limit. It says nothing of whether there are other timetables, or better ones.
 
     `cost` and `times` are those of the best timetable that it had found, which meets everything; they are None and empty
-    where it had found none.
+    where it had found none. Searches of `Bench.search` set `lower_bound`, as far as the engine reports it. Comparisons ignore it.
     """
 
     cost: Optional[int] = None
     times: Mapping[int, int] = field(default_factory=dict)
+    lower_bound: Optional[int] = field(default=None, compare=False)
+    is_proved: ClassVar[bool] = False
+
+    def __iter__(self) -> Iterator[Tuple[int, int]]:
+        """Each event with its time."""
+        return iter(self.times.items())
 
     def is_below(self, cost: Optional[int]) -> bool:
         """Whether there is a timetable, and it is cheaper than a cost, or than none."""
@@ -109,11 +151,6 @@ def _timetable(word: str, cost: int, times: Mapping[int, int]) -> str:
 
 
 Found = Union[Optimum, Infeasible, Stopped]
-
-
-def cost_of(found: Found) -> Optional[int]:
-    """What the timetable costs that a search found, or None where it found none."""
-    return None if isinstance(found, Infeasible) else found.cost
 
 
 Answer = Union[None, int, str, Domain, Dict[int, Domain], Dict[int, Tension], Violations, Optimum, Infeasible, Stopped]

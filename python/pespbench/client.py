@@ -14,10 +14,12 @@ from pespbench.curing import cured
 from pespbench.engines import Engine
 from pespbench.faults import Ended, Fault, Refused
 from pespbench.journal import journal_of
-from pespbench.kept import Kept
 from pespbench.labels import Labels
+from pespbench.patience import Patience
 from pespbench.searching import Search, Watcher, check_limits
 from pespbench.session import Cost, Outcome, Session
+from pespbench.tabled import Tabled
+from pespbench.tables import Given, network_of
 from pespbench.work import Work
 
 Path = Union[str, "os.PathLike[str]"]
@@ -25,16 +27,15 @@ Path = Union[str, "os.PathLike[str]"]
 PERIOD_COMMENT = re.compile("[ \t]*#[ \t]+period[ \t]+([0-9]{1,9})(?=[ \t\r]|$)")
 
 
-class Bench(Kept):
+class Bench(Tabled):
     """A network in a running program, or in the library in this process (`open`).
 
-    There is a method for each command (Commands). What was accepted is kept: where a search is killed (Ctrl-C, `search`),
-    or the program ends, the next use starts it again with all of that. A bench is for one thread at a time, and for a
-    `with` statement, which closes it.
+    There is a method for each command (Commands). Accepted changes are kept: if a search is killed (Ctrl-C, `search`), or the
+    program ends, the next use restarts it with all of them. One thread at a time uses a bench; a `with` statement closes it.
 
-    Over the library (pespbench.in_process) all answers are the same, and a move takes microseconds. Ctrl-C is heard in a
-    search at once and in any other call after its answer, within about a second. A search that is given up cannot be stopped
-    there: the bench goes on without it, and it takes a processor until it has come to its end, or this process ends.
+    With the library (pespbench.in_process) all answers are the same, and a move takes microseconds. Ctrl-C interrupts a search
+    at once, and any other call after its answer, within about a second. An abandoned search cannot be stopped there: the bench
+    continues without it, and it uses a processor until it ends, or this process does.
     """
 
     @classmethod
@@ -50,25 +51,30 @@ class Bench(Kept):
         engine: Union[str, Engine] = "program",
         library: Optional[Path] = None,
         journal: Union[int, str] = "all",
+        patience: Optional[float] = None,
     ) -> "Bench":
-        """Opens files as the program reads them; `activities` may be None, for a network without events.
+        """Opens files like the program; `activities` may be None, for a network without events.
 
-        `engine` is what answers. With "program", `program` is what is run; where it is None, that is the program of the
-        environment's PESPBENCH, else `pespbench` on the path. With "library", the library answers in this process: the file or
-        folder `library`, else the first that is found (find_library of pespbench.library says where).
+        `engine` answers the commands. "program" runs `program`; if that is None, the program of the environment's PESPBENCH,
+        else `pespbench` on the path. "module" runs the page's module under Node instead, of which nothing is proved. "library"
+        uses the library in this process: the file or folder `library`, else the first that find_library of pespbench.library
+        finds.
 
-        `journal` says which of the accepted changes are kept for `undo` and `journal`: "all", the last so many, or "none"; 0 is
-        none. A trial keeps its own while it lasts. What an ended engine is opened again with rests on no journal.
+        `journal` says which accepted changes are kept for `undo` and `journal`: "all", a number of the last ones, or "none"; 0
+        is none. A trial keeps its own while it lasts. Restarting an ended engine needs no journal.
 
-        The times are read here too, so their file has to be one that can be read twice. Raises Ended where the files or the
-        period are not taken, FileNotFoundError where there is no program, NoLibrary where there is no library, WrongWords for
-        another engine or journal, and of the labels OSError and FileFault.
+        `patience` is the number of seconds, at least five, to wait for an answer other than a search's; lines and files extend
+        it. A program that does not answer until then is abandoned, and Ended is raised. If it is None, the wait has no limit.
+
+        The times are read here too, so their file must be readable twice. Raises Ended if the program refuses the files or the
+        period, FileNotFoundError without a program, NoLibrary without a library, WrongWords for another engine or journal, and
+        OSError and FileFault for the labels.
         """
-        kept, answering = journal_of(journal), Engine.of(engine, program, library)
+        kept, answering, period = journal_of(journal), Engine.of(engine, program, library), index(period)
         named = labels if labels is None or isinstance(labels, Labels) else Labels.read(labels)
         paths = {"activities": activities, "fixed": fixed, "times": times}
         try:
-            session = Session.opened(answering, period, paths, kept)
+            session = Session.opened(answering, period, paths, kept, Patience(patience))
         except Ended as ended:
             raise cured(ended, paths) from None
         bench = cls(session, named)
@@ -92,22 +98,58 @@ class Bench(Kept):
         engine: Union[str, Engine] = "program",
         library: Optional[Path] = None,
         journal: Union[int, str] = "all",
+        patience: Optional[float] = None,
     ) -> "Bench":
-        """Opens the network that the lines of a script make, as `dump` gives them.
+        """Opens the network of a script, such as that of `dump`.
 
-        The period is that of its comment `# period T lines N` where none is given, and else 60. Raises Refused or Fault for
-        the first line that is not accepted, Ended for a period that the program does not take, and what `open` raises of the
-        engine, of the journal and of the labels.
+        The default period is that of its comment `# period T lines N`, or else 60. Raises Refused or Fault for the first line
+        that is not accepted, Ended for a period that the program refuses, and what `open` raises for the engine, the journal
+        and the labels.
         """
         lines = script.split("\n")
         if period is None:
             told = filter(None, map(PERIOD_COMMENT.match, lines))
             period = next((int(found[1]) for found in told), 60)
         bench = cls.open(
-            None, period=period, labels=labels, program=program, engine=engine, library=library, journal=journal
+            None, period=period, labels=labels, program=program, engine=engine, library=library, journal=journal, patience=patience
         )  # fmt: skip
         try:
             bench._all(line for line in lines if line.split() and not line.split()[0].startswith("#"))
+            bench._session.journal.clear()
+        except BaseException:
+            bench.close()
+            raise
+        return bench
+
+    @classmethod
+    def of(
+        cls,
+        given: Given,
+        *,
+        period: Optional[int] = None,
+        times: Optional[Mapping[int, int]] = None,
+        labels: Union[Path, Labels, None] = None,
+        program: Optional[Path] = None,
+        engine: Union[str, Engine] = "program",
+        library: Optional[Path] = None,
+        journal: Union[int, str] = "all",
+        patience: Optional[float] = None,
+    ) -> "Bench":
+        """Opens a Network, rows of activities, or a DataFrame of such rows, as `rows` gives them.
+
+        A row is an Activity, six numbers, or has columns `activity`, `from_event`, `to_event`, `lower`, `upper` and `weight`,
+        and perhaps `kind`; more are left alone. The period is that of a Network where none is given, and else 60. Raises
+        TypeError, KeyError and ValueError for rows that are none, and what `from_script` and `set_times` raise.
+        """
+        network, kinds = network_of(given, period)
+        bench = cls.from_script(
+            network.text(), labels=labels, program=program, engine=engine, library=library, journal=journal, patience=patience
+        )  # fmt: skip
+        try:
+            bench.labels.activities = {**kinds.activities, **bench.labels.activities}
+            wanted = dict({} if times is None else times)
+            if wanted:
+                bench.set_times(wanted)
             bench._session.journal.clear()
         except BaseException:
             bench.close()
@@ -127,35 +169,42 @@ class Bench(Kept):
         engine: Union[str, Engine] = "program",
         library: Optional[Path] = None,
         journal: Union[int, str] = "all",
+        patience: Optional[float] = None,
     ) -> "Bench":
-        """Opens what `save` has written; what is given is taken in place of the folder's own.
+        """Opens a folder that `save` has written; arguments replace the folder's own files.
 
         Raises OSError, FileFault, and what `open` raises.
         """
         from pespbench.folders import load
 
         answering = Engine.of(engine, program, library)
-        return load(folder, answering, period, {"fixed": fixed, "times": times, "labels": labels}, journal)
+        given = {"fixed": fixed, "times": times, "labels": labels}
+        return load(folder, answering, period, given, {"journal": journal, "patience": patience})
 
     def save(self, folder: Path) -> None:
-        """Writes network, times, labels and places to a folder, which is made where it is not there. Raises OSError.
+        """Writes network, times, labels and places to a folder, which is created if missing. Raises OSError.
 
-        All is written, or all stays as it was (pespbench.writing). Its files `activities`, `fixed` and `times` are such as `pespbench --check` reads.
+        Everything is written, or nothing changes (pespbench.writing). `pespbench --check` reads its files `activities`, `fixed`
+        and `times`.
         """
         from pespbench.folders import save
 
         save(self, folder)
 
     def set_times(self, times: Mapping[int, int]) -> None:
-        """Makes these the working timetable, in one write; events that are left out have no time then.
+        """Makes these the working timetable, in one write; events that are left out then have no time.
 
-        All is done or nothing. Raises Refused for an event that is not there (2) and for a time that is not below the period
-        (4), and what each command raises.
+        Either all times are set, or none. Raises Refused for a missing event (2) and for a time that is not below the period (4),
+        ValueError for no times, as in the result of a search that found no timetable, TypeError for a value that is no whole
+        number, and what each command raises.
         """
+        wanted = {index(event): index(time) for event, time in dict(times).items()}
+        if not wanted and self._session.work.network.windows:
+            raise ValueError("no times are given, as a search gives them that found no timetable; untime takes one away")
         journal = self._session.journal
         with journal.held() as mark:
             try:
-                self._all(Work.change_to(self._session.work.times, times))
+                self._all(Work.change_to(self._session.work.times, wanted))
             except BaseException:
                 self._session.take_back(mark)
                 raise
@@ -164,12 +213,12 @@ class Bench(Kept):
     # The two that a local search asks most often: they go the shortest way where it ends well, and else as all others.
 
     def time(self, event: int, time: int) -> None:
-        """The event is at `time`, which is below the period, in the working timetable."""
+        """Sets the event's time, below the period, in the working timetable."""
         if not (type(event) is int and type(time) is int and self._session.set_time(event, time)):
             super().time(event, time)
 
     def cost(self) -> int:
-        """What the working timetable costs: weight times slack, over all activities. Raises Refused (11) where a time is missing."""
+        """The cost of the working timetable: weight times slack, over all activities. Raises Refused (11) if a time is missing."""
         cost = self._session.cost()
         return super().cost() if cost is None else cost
 
@@ -182,41 +231,54 @@ class Bench(Kept):
     def many(self, commands: Iterable[str]) -> List[Outcome]:
         """The answers to command lines, which are written while replies are read.
 
-        A refusal or a fault is a value of the list here, and the rest goes on. Raises ValueError, before anything is sent,
-        for a line that has no reply, and Ended and BadReply; what was accepted before that is kept.
+        A refusal or a fault is a value of the list here, and the other lines are still sent. Raises ValueError, before anything
+        is sent, for a line that has no reply, TypeError for one text instead of many, and Ended and BadReply; changes accepted
+        before that are kept.
         """
+        if isinstance(commands, str):
+            raise TypeError("commands are many texts, and not one str")
         return list(self._session.outcomes([checked(command) for command in commands]))
 
     def moves(self, moves: Iterable[Tuple[int, int]]) -> List[Cost]:
-        """Sets times, each an event with its time, and gives the cost after each: `time` and `cost` for each, but sooner.
+        """Sets times, each an event with its time, and returns the cost after each: like `time` and `cost` for each, but faster.
 
-        As in `many`, a refusal or a fault is a value of the list, of the move or of its cost, and the rest goes on; each move
-        that is accepted is a change of its own. Raises TypeError, before anything is set, for what is no whole number, and
-        Ended and BadReply; what was accepted before that is kept.
+        As in `many`, a refusal or a fault is a value of the list, of the move or of its cost, and the other moves are still
+        made; each accepted move is a separate change. Raises TypeError, before anything is set, for a value that is not a whole
+        number, and Ended and BadReply; changes accepted before that are kept.
         """
         return list(self._session.moves([(index(event), index(time)) for event, time in moves]))
 
     def standing(self) -> Stopped:
-        """The working timetable with its cost where it meets everything; else a cost of None, and no times."""
+        """The working timetable with its cost if it meets everything; otherwise a cost of None, and no times."""
         if len(self._session.work.times) < len(self.network.windows) or len(self.violations()):
             return Stopped()
         return Stopped(self.cost(), self.times)
 
-    def search(self, seconds: float, nodes: int = 1_000, watch: Optional[Watcher] = None) -> Search:
-        """A search for the optimum within a time, that tells what it has as it goes: `for progress in bench.search(10.0)`.
+    def search(self, seconds: float, nodes: int = 1_000, watch: Optional[Watcher] = None, bounds: bool = False) -> Search:
+        """A search for the optimum with a time limit, which reports its progress: `for progress in bench.search(10.0)`.
 
-        It begins with the working timetable, where that meets everything; goes step by step (Search says how), with `nodes`
-        nodes in the first; and ends where the optimum is known, or that there is no timetable (`found` of the last Progress is
-        Infeasible, as `optimum` answers it), or where the time is over, or where the caller stops. A lower bound is told as it
-        goes by the library alone; at a gap of 0 it goes on until the first of the cheapest timetables is known.
+        It starts with the working timetable, if that meets everything; it runs in steps (see Search), with `nodes` nodes in the
+        first; and it ends when the optimum is known, or that there is no timetable (`found` of the last Progress is Infeasible,
+        as `optimum` returns it), or the time is over, or the caller stops. Only the library reports a lower bound on the way:
+        with `bounds`, the library beside a program searches instead of it, and NoLibrary is raised if there is none. At a gap of
+        0 the search continues until the first of the cheapest timetables is known.
 
-        `bench.search(10.0).found()` gives what it comes to at the end. Over the library another search of the same network
-        goes on from there, as Search says. `watch` is called with each Progress, too. At Ctrl-C KeyboardInterrupt is raised,
-        and what was found is `progress` of the search; another one begins anew. Network, working timetable and journal stay as
-        they are. Raises ValueError for seconds that are not from 0 to 1,000,000, or nodes from 1 to 10**12.
+        `bench.search(10.0).found()` returns the result at the end. With the library another search of the same network resumes
+        from there (see Search). `watch` is also called with each Progress. Ctrl-C raises KeyboardInterrupt, and `progress` of the
+        search has the result so far; another search restarts. Network, working timetable and journal do not change. Raises
+        ValueError for seconds outside 0 to 1,000,000, or nodes outside 1 to 10**12.
         """
+        nodes = index(nodes)
         check_limits(seconds, nodes)
-        return Search(self._session, self.standing(), seconds, nodes, watch)
+        with self._session.waiting(seconds):
+            standing = self.standing()
+        session = self._session.in_library() if bounds else self._session
+        return Search(session, standing, seconds, nodes, watch)
+
+    def _repr_html_(self) -> str:
+        from pespbench.showing import bench_html
+
+        return bench_html(self)
 
     def _all(self, commands: Iterable[str]) -> None:
         """Does commands, of which none may be refused. Raises the first refusal or fault."""

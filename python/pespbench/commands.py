@@ -12,6 +12,8 @@ MOST_NODES = 1_000_000_000_000
 GREATEST_BOUND = 1_000_000
 
 TWO_WORDS = ("add", "drop")
+# What may take long.
+SEARCHES = ("optimum", "try", "adopt")
 # Beside `adopt`, these are the commands that change the network or the working timetable.
 CHANGES = {
     "add event", "drop event", "fix", "window", "unfix", "add activity", "drop activity", "span", "weight", "ends", "time", "untime",
@@ -19,7 +21,9 @@ CHANGES = {
 
 
 def checked(command: str) -> str:
-    """A command line that has just one reply. Raises ValueError for any other text."""
+    """A command line that has just one reply. Raises ValueError for any other text, and TypeError for what is no text."""
+    if not isinstance(command, str):
+        raise TypeError(f"a command is a str, and not {type(command).__name__}")
     words = command.split()
     if "\n" in command or not words or words[0].startswith("#"):
         raise ValueError("one command a line; blank lines and comments have no reply")

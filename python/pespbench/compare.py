@@ -9,6 +9,7 @@ from typing import Iterator, Mapping, Optional
 from pespbench.answers import Tension, Violations
 from pespbench.client import Bench
 from pespbench.faults import Refused
+from pespbench.forms import Table, add_form, in_form
 from pespbench.labels import Labels
 from pespbench.network import Activity, Network, Window
 from pespbench.opening import add_network, open_network
@@ -60,14 +61,25 @@ class Side:
 
 def compare(before: Side, after: Side) -> str:
     """What is other after the change than before, as lines of text."""
+    parts = compared(before, after)
+    return "\n".join("\n".join([title, *(f"  {row}" for row in rows or ["no change"])]) + "\n" for title, rows in parts.items())
+
+
+def compared(before: Side, after: Side) -> dict[str, list[str]]:
+    """The lines of each part of what is other."""
     names = Names(merged(before.labels, after.labels), {**before.network.activities, **after.network.activities})
-    parts = {
+    return {
         "Network": [*activity_changes(before.network, after.network, names), *event_changes(before.network, after.network, names)],
         "Times": list(moved_times(before, after, names)),
         "Cost by kind": list(cost_rows(before, after)),
         "Violations": [f"{violations_text(before)} before, {violations_text(after)} after"],
     }
-    return "\n".join("\n".join([title, *(f"  {row}" for row in rows or ["no change"])]) + "\n" for title, rows in parts.items())
+
+
+def table_of(before: Side, after: Side) -> Table:
+    """The same for other programs."""
+    facts = {"cost_before": before.cost, "cost": after.cost}
+    return Table("compare", facts, ["part", "text"], [[part.lower(), row] for part, rows in compared(before, after).items() for row in rows])
 
 
 def merged(before: Labels, after: Labels) -> Labels:
@@ -165,6 +177,7 @@ def add_parser(subparsers: argparse._SubParsersAction[argparse.ArgumentParser]) 
     parser.add_argument("--other-times", metavar="FILE", help="its times")
     parser.add_argument("--other-period", type=int, metavar="PERIOD", help="its period [default: that of --period]")
     parser.add_argument("--other-labels", metavar="FILE", help="its labels [default: those of --labels]")
+    add_form(parser)
     parser.set_defaults(run=run)
 
 
@@ -177,5 +190,5 @@ def run(words: argparse.Namespace) -> int:
     words.labels = words.labels if words.other_labels is None else words.other_labels
     with open_network(words) as bench:
         after = Side.of(bench)
-    tell(compare(before, after))
+    tell(in_form(words.form, table_of(before, after), compare(before, after)))
     return 0

@@ -15,7 +15,7 @@ from pespbench.records import Path, records
 UTF_16 = "The file is UTF-16. Save it as UTF-8, in a spreadsheet as “CSV UTF-8”."
 TABS = "Tabs stand between its fields. Save it with semicolons between them, or with commas."
 DECIMAL = "It has decimal commas. Write whole numbers, as 2, or with a point, as 2.0."
-FAULT = re.compile("pespbench: (activities|fixed|times) file, record ([0-9]+): ")
+FAULT = re.compile("pespbench: (activities|fixed|times) file, record ([0-9]{1,9}): ")
 WIDTHS = {"activities": 6, "fixed": 2, "times": 2}
 
 

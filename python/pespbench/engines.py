@@ -1,22 +1,27 @@
-"""What answers a bench: the program over its pipes, or the library in process. Here alone it is chosen."""
+"""The engines of a bench: the program over its pipes, the page's module under Node instead, or the library in process. Only this
+file chooses one."""
 
 from __future__ import annotations
 
 import importlib.util
 import os
+import shutil
 from dataclasses import dataclass
 from typing import Mapping, Optional, Union
 
+from pespbench.beside import place_of
 from pespbench.faults import NoLibrary, WrongWords
 from pespbench.process import Process, find_program
 from pespbench.transport import Transport
 
 Path = Union[str, "os.PathLike[str]"]
+# The script that Node runs, and its words.
+MODULE = [str(place_of(name)) for name in ("module/main.js", "pespbench.html", "module/module.js")]
 
 
 @dataclass(frozen=True)
 class Engine:
-    """What answers, `program` or `library`, and where it is; another process can be sent it."""
+    """What answers, `program`, `module` or `library`, and where it is; another process can be sent it."""
 
     name: str
     path: str
@@ -25,8 +30,8 @@ class Engine:
     def of(cls, name: Union[str, "Engine"], program: Optional[Path] = None, library: Optional[Path] = None) -> "Engine":
         """The engine of a name, or the one given.
 
-        Raises WrongWords for another name, or a library for a program, FileNotFoundError where there is no program, and
-        NoLibrary where there is no library, or no way to call it.
+        Raises WrongWords for another name, or a library for a program, FileNotFoundError where there is no program, or no Node
+        for the module, and NoLibrary where there is no library, or no way to call it.
         """
         if isinstance(name, Engine):
             return name
@@ -36,10 +41,15 @@ class Engine:
             from pespbench.library import find_library
 
             return cls(name, find_library(library, program))
-        if name != "program":
-            raise WrongWords(f"an engine is `program` or `library`, and not {name!r}")
+        if name not in ("program", "module"):
+            raise WrongWords(f"an engine is `program`, `module` or `library`, and not {name!r}")
         if library is not None:
             raise WrongWords("a library is for the engine `library`")
+        if name == "module":
+            node = shutil.which("node")
+            if node is None:
+                raise FileNotFoundError("there is no command node to run the page's module (apt install nodejs)")
+            return cls(name, node)
         return cls(name, find_program(program))
 
     def opened(self, period: int, files: Mapping[str, Optional[Path]]) -> Transport:
@@ -56,4 +66,4 @@ class Engine:
         options = [f"--{name}={os.fspath(path)}" for name, path in files.items() if name != "activities" and path is not None]
         activities = files.get("activities")
         words = [*options] if activities is None else [*options, "--", os.fspath(activities)]
-        return Process([self.path, f"--period={period}", *words])
+        return Process([self.path, *(MODULE if self.name == "module" else []), f"--period={period}", *words])

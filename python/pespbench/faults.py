@@ -1,21 +1,22 @@
-"""What is raised: by the program's refusals, by its end, and by files that are not as they have to be."""
+"""Exceptions: for the program's refusals, its end, and faulty files."""
 
 from __future__ import annotations
 
+import os
 from typing import Optional
 
 from pespbench.terminal import shown
 
 
 class PespbenchError(Exception):
-    """What the package raises of its own."""
+    """The base of the package's own exceptions."""
 
 
 class Refused(PespbenchError):
     """The program refused a command, and nothing has changed.
 
     `number` is that of the refusal (docs/FORMATS.md, *Refusals*); `event` and `activity` are those that the reply names, or
-    None. `str` gives the reply.
+    None. `str` is the reply.
     """
 
     def __init__(self, number: int, event: Optional[int], activity: Optional[int], text: str) -> None:
@@ -30,9 +31,9 @@ class Refused(PespbenchError):
 
 
 class Fault(PespbenchError):
-    """A line is no command, and nothing has changed.
+    """A line is not a command, and nothing has changed.
 
-    `word` is the place of the faulty word, counted from 1, or None where the reply names none. `str` gives the reply.
+    `word` is the place of the faulty word, counted from 1, or None if the reply names none. `str` is the reply.
     """
 
     def __init__(self, word: Optional[int], text: str) -> None:
@@ -47,9 +48,9 @@ class Fault(PespbenchError):
 class Ended(PespbenchError):
     """The program ended before it had answered.
 
-    `status` is its exit status, negative where a signal ended it; `text` is what it wrote to standard error. `cure` says what
-    a fault of a file comes from and what mends it, where that is known, and is empty else. What the bench had accepted is
-    kept: its next use starts the program again. The library tells the same status and text where the program would end.
+    `status` is its exit status, negative if a signal ended it; `text` is its standard error. `cure` names the cause of a fault
+    of a file and its remedy, if known, and is otherwise empty. Accepted changes are kept: the next use of the bench restarts
+    the program. The library reports the same status and text where the program would end.
     """
 
     def __init__(self, status: int, text: str, cure: str = "") -> None:
@@ -62,8 +63,12 @@ class Ended(PespbenchError):
         return with_cure(self.text or f"the program ended with status {self.status} and said nothing", self.cure)
 
 
+class GivenUp(Ended):
+    """The program did not answer in time, and was killed."""
+
+
 class BadReply(PespbenchError):
-    """The program wrote what is no reply of docs/FORMATS.md. `text` is the line."""
+    """The program wrote a line that is not a reply of docs/FORMATS.md. `text` is the line."""
 
     def __init__(self, text: str) -> None:
         super().__init__(text)
@@ -74,11 +79,11 @@ class BadReply(PespbenchError):
 
 
 class NoLibrary(PespbenchError):
-    """The library in process is not there, or cannot be used. `str` says where it was looked for, and what mends it."""
+    """The library in process is missing, or cannot be used. `str` names the places searched, and the remedy."""
 
 
 class NotKept(PespbenchError, ValueError):
-    """A change cannot be taken back, since the journal was to keep the last `most` alone, and it is an earlier one."""
+    """A change cannot be undone, because the journal keeps only the last `most`, and it is an earlier one."""
 
     def __init__(self, most: int) -> None:
         super().__init__(most)
@@ -90,14 +95,14 @@ class NotKept(PespbenchError, ValueError):
 
 
 class WrongWords(PespbenchError, ValueError):
-    """What was asked for is not there to be asked for. `str` says what."""
+    """A request for something that does not exist. `str` names it."""
 
 
 class FileFault(PespbenchError):
-    """A file is not as it has to be.
+    """A faulty file.
 
-    `path` is the file; `record` counts its records from 1, and is None for the whole file. `cure` says what the fault comes
-    from and what mends it, where that is known, and is empty else.
+    `path` is the file; `record` counts its records from 1, and is None for the whole file. `cure` names the cause and the
+    remedy, if known, and is otherwise empty.
     """
 
     def __init__(self, path: str, record: Optional[int], text: str, cure: str = "") -> None:
@@ -115,3 +120,21 @@ class FileFault(PespbenchError):
 def with_cure(text: str, cure: str) -> str:
     """What is wrong, and then what mends it, where that is known."""
     return f"{text}. {cure}" if cure else text
+
+
+# What the system's faults mean for the file that they name.
+MEANINGS = (
+    (FileNotFoundError, "there is no file {}"), (IsADirectoryError, "{} is a folder, and no file"), (NotADirectoryError, "{} is below what is no folder"),
+    (FileExistsError, "{} is there already"), (PermissionError, "{} may not be read or written"),
+)  # fmt: skip
+
+
+def text_of(fault: Exception) -> str:
+    """The text of a fault: one of the system's has no number, and the file that it names."""
+    if not isinstance(fault, OSError) or fault.strerror is None:
+        return str(fault)
+    if fault.filename is None:
+        return fault.strerror
+    name = os.fsdecode(fault.filename) if isinstance(fault.filename, (str, bytes, os.PathLike)) else str(fault.filename)
+    form = next((form for kind, form in MEANINGS if isinstance(fault, kind)), None)
+    return form.format(name) if form else f"{name}: {fault.strerror}"

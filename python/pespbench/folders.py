@@ -1,14 +1,14 @@
-"""A network in a folder of plain files, of which those that the program reads are read by its checks too.
+"""A network in a folder of plain files; `pespbench --check` reads those that the program reads.
 
-| File | What it has |
+| File | Contents |
 |---|---|
 | `period` | the period, a number |
-| `activities`, `times` | as the program reads them |
-| `fixed` | the fixed times of events that activities name, as the program reads them |
+| `activities`, `times` | in the program's format |
+| `fixed` | the fixed times of events that activities name, in the program's format |
 | `windows` | `event; first; length`: all other windows |
 | `events` | the events that no activity names |
-| `labels` | where there are labels (pespbench.labels) |
-| `places` | where there are places of stations (pespbench.places) |
+| `labels` | labels, if there are any (pespbench.labels) |
+| `places` | places of stations, if there are any (pespbench.places) |
 """
 
 from __future__ import annotations
@@ -39,10 +39,9 @@ def save(bench: "Bench", folder: AnyPath) -> None:
 def write_folder(
     folder: AnyPath, network: Network, times: Mapping[int, int], labels: Labels, places: Mapping[str, Place]
 ) -> None:
-    """Writes a folder, which is made where it is not there, whole or not at all (pespbench.writing). Raises OSError.
+    """Writes a folder, created if missing, whole or not at all (pespbench.writing). Raises OSError.
 
-    Of a network that was there before nothing stays: labels and places that this one lacks go, and other files stay as they
-    are.
+    Nothing of an earlier network remains: labels and places that this one lacks are removed; other files do not change.
     """
     named = {event for each in network.activities.values() for event in (each.from_event, each.to_event)}
     windows = {event: window for event, window in network.windows.items() if window is not None}
@@ -69,23 +68,25 @@ def load(
     engine: Union[str, Engine] = "program",
     period: Optional[int] = None,
     instead: Optional[Mapping[str, Union[AnyPath, Labels, None]]] = None,
-    journal: Union[int, str] = "all",
+    how: Optional[Mapping[str, Any]] = None,
 ) -> "Bench":
-    """Opens a folder that was saved; a period, and files of some names, are taken in place of the folder's own.
+    """Opens a saved folder; a period, and given files, replace the folder's own.
 
-    Only `activities` and `period` have to be there, and no period where one is given. Raises OSError, FileFault and Ended.
+    `how` has further arguments of `Bench.open`. Only `activities` and `period` must exist, and no period if one is given.
+    Raises OSError, FileFault and Ended.
     """
     from pespbench.client import Bench
 
     place = Path(folder)
     given: Dict[str, Any] = {name: path for name, path in (instead or {}).items() if path is not None}
-    there = {name: place / name for name in ("fixed", "times", "labels") if (place / name).exists()}
-    there.update(given)
-    known = period_of(place / "period") if period is None else period
-    bench = Bench.open(place / "activities", period=known, engine=engine, journal=journal, **there)
+    named = {name: path for name in ("fixed", "times", "labels") if name not in given and (path := own_file(place, name))}
+    there: Dict[str, Any] = {**named, **given}
+    known = period_of(own_file(place, "period") or place / "period") if period is None else period
+    activities = own_file(place, "activities") or place / "activities"
+    bench = Bench.open(activities, period=known, engine=engine, **(how or {}), **there)
     try:
-        if (place / "places").exists():
-            bench.places = read_places(place / "places")
+        places = own_file(place, "places")
+        bench.places = read_places(places) if places else {}
         _complete(bench, place, there.get("times"), given.get("fixed"))
         bench._session.journal.clear()
     except Refused as refusal:
@@ -97,8 +98,23 @@ def load(
     return bench
 
 
+def own_file(folder: AnyPath, name: str) -> Optional[Path]:
+    """The file of a folder, or None if missing. Raises FileFault for a link out of it, a device and a pipe.
+
+    The sender of a folder could otherwise make a link expose other files, or a pipe block forever.
+    """
+    path = Path(folder) / name
+    if not os.path.lexists(path):
+        return None
+    if Path(os.path.realpath(folder)) not in Path(os.path.realpath(path)).parents:
+        raise FileFault(os.fspath(path), None, "it is a link out of its folder")
+    if path.exists() and not path.is_file():
+        raise FileFault(os.fspath(path), None, "it is no file")
+    return path
+
+
 def period_of(path: Path) -> int:
-    """The period that a file tells. Raises OSError and FileFault."""
+    """The period in a file. Raises OSError and FileFault."""
     periods = [period for [period] in files.values(path, files.EVENT, "")]
     if len(periods) != 1:
         raise FileFault(os.fspath(path), None, "it is no file of one period")
@@ -110,8 +126,9 @@ def _complete(bench: "Bench", place: Path, timed: Optional[AnyPath], held: Optio
 
     Those of events that a file of fixed times holds that was given are left out.
     """
-    events = files.read_events(place / "events") if (place / "events").exists() else []
-    windows = files.read_windows(place / "windows") if (place / "windows").exists() else {}
+    listed, held_too = own_file(place, "events"), own_file(place, "windows")
+    events = files.read_events(listed) if listed else []
+    windows = files.read_windows(held_too) if held_too else {}
     times = {} if timed is None else files.read_times(timed)
     fixed = {} if held is None else files.read_times(held)
     commands = [f"add event {event}" for event in events]

@@ -12,6 +12,7 @@ from functools import partial
 from typing import Callable, Iterator, List, Mapping, Optional, Sequence, Tuple, TypeVar, Union
 
 from pespbench.answers import Found, Infeasible, Optimum, Stopped
+from pespbench.commands import SEARCHES
 from pespbench.faults import BadReply, Ended
 from pespbench.library import BEST_SO_FAR, DONE, FILES, NO_TIMETABLE, NOTHING_YET, OPTIMUM, Calls, Handle, Told, ToldFound, ended_by, fault
 from pespbench.transport import AfterMove, OutOfTime, Reached, Transport
@@ -21,8 +22,7 @@ Kind = TypeVar("Kind")
 # The program's (docs/FORMATS.md, *Limits*).
 LEAST_PERIOD, GREATEST_PERIOD = 2, 1_440
 LONGEST_FILE = 67_108_864
-# What may take long. The replies fit into the first room, so that none is searched for twice: 20,000 events with their times.
-SEARCHES = ("optimum", "try", "adopt")
+# The replies to searches fit into the first room, so that none is searched for twice: 20,000 events with their times.
 ROOM = 1 << 19
 # Seconds: so soon Ctrl-C is heard at the latest.
 LITTLE = 0.1
@@ -126,7 +126,7 @@ class InProcess(Transport):
             self._let_go()
         self._is_over.set()
 
-    def moved(self, moves: Sequence[Tuple[int, int]]) -> Iterator[AfterMove]:
+    def moved(self, moves: Sequence[Tuple[int, int]], deadline: Optional[float] = None) -> Iterator[AfterMove]:
         """Sets times, each by a call and its cost by another, without a reply to be read where it is accepted."""
         (ask, tell), at, told_at, cost_at = self._calls[1:3], self._at, self._told_at, self._cost_at
         room_at, length, told, cost = self._room_at, self._length, self._told, self._cost
@@ -138,7 +138,7 @@ class InProcess(Transport):
                 if told.status == DONE:
                     yield cost.value
                     continue
-            yield from super().moved([(event, time)])
+            yield from super().moved([(event, time)], deadline)
 
     def set_time(self, event: int, time: int) -> bool:
         """Sets a time where that is accepted; else nothing has changed."""

@@ -1,4 +1,4 @@
-"""What a bench knows without asking, and how it is taken back."""
+"""The local state of a bench, and undo."""
 
 from __future__ import annotations
 
@@ -26,7 +26,7 @@ class Kept(Commands):
         self.places: Dict[str, Place] = {}
 
     def close(self) -> None:
-        """Ends the program, or the session of the library. Each other method but those for what the client knows raises ValueError then."""
+        """Ends the program, or the session of the library. All methods except those of local state then raise ValueError."""
         self._session.close()
 
     def __enter__(self: Self) -> Self:
@@ -39,12 +39,12 @@ class Kept(Commands):
 
     @property
     def engine(self) -> Engine:
-        """What answers; another bench can be opened over the same."""
+        """The engine; another bench can be opened with the same."""
         return self._session.engine
 
     @property
     def program(self) -> str:
-        """The path of the program, or of the library where that answers."""
+        """The path of the program, or of the library if that is the engine."""
         return self._session.engine.path
 
     @property
@@ -54,7 +54,7 @@ class Kept(Commands):
 
     @property
     def network(self) -> Network:
-        """The network as the accepted commands left it. It changes with them; it is there to be read."""
+        """The network as the accepted commands left it. It changes with them; only read it."""
         return self._session.work.network
 
     @property
@@ -67,13 +67,13 @@ class Kept(Commands):
 
     @property
     def journal(self) -> List[str]:
-        """What was accepted since the bench was opened and not taken back, as command lines; the last of it, as `open` was told."""
+        """The accepted changes since opening that are not undone, as command lines; only the last ones, if `open` limits them."""
         return self._session.journal.commands()
 
     def undo(self) -> List[str]:
-        """Takes back the last accepted change, and gives its commands; `adopt` and `set_times` are one change each.
+        """Undoes the last accepted change, and returns its commands; `adopt` and `set_times` are one change each.
 
-        Raises ValueError where there is none, within a trial where it has none, and NotKept where the journal had to let it go.
+        Raises ValueError if there is none, or the trial has none, and NotKept if the journal had to drop it.
         """
         if len(self._session.journal) <= self._session.floor:
             raise ValueError("there is nothing to take back")
@@ -81,7 +81,7 @@ class Kept(Commands):
 
     @contextmanager
     def trial(self: Self) -> Iterator[Self]:
-        """What is accepted within the `with` statement is taken back at its end, whatever ends it."""
+        """Undoes all changes of the `with` statement at its end, whatever ends it."""
         session = self._session
         floor = session.floor
         with session.journal.held() as mark:

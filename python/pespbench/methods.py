@@ -1,22 +1,29 @@
-"""The commands of the program as methods: what they are given and what they answer."""
+"""The commands of the program as methods, with their arguments and answers."""
 
 from __future__ import annotations
 
+from dataclasses import astuple
+from operator import index
 from typing import Dict, Type, TypeVar, Union
 
 from pespbench.answers import Answer, Domain, Found, Infeasible, Optimum, Stopped, Tension, Violations
 from pespbench.faults import BadReply
-from pespbench.network import Activity, activity_command
+from pespbench.network import Activity
 
 Kind = TypeVar("Kind")
+
+
+def line(name: str, *numbers: int) -> str:
+    """A command line of whole numbers, those of numpy too. Raises TypeError for any other."""
+    return " ".join([name, *(str(index(number)) for number in numbers)])
 
 
 class Commands:
     """A method for each command, over `ask`.
 
     Events and activities are numbers from 0 to 999,999,999, times and bounds whole units of time. Each raises what `ask`
-    does: Refused where the program refuses the command, Fault where a number is outside its range, Ended where the program
-    ends, BadReply where it writes what is no reply.
+    does: Refused if the program refuses the command, Fault if a number is out of range, Ended if the program ends, BadReply if
+    it writes something else than a reply; and TypeError for a value that is no whole number.
     """
 
     def ask(self, command: str) -> Answer:
@@ -26,83 +33,83 @@ class Commands:
     # Edits.
 
     def add_event(self, event: int) -> None:
-        """Event `event` is there, with neither window nor time."""
-        self._do(f"add event {event}")
+        """Adds event `event`, with neither window nor time."""
+        self._do(line("add event", event))
 
     def drop_event(self, event: int) -> None:
-        """The event goes, with its window and its time. No activity may lead from it or to it."""
-        self._do(f"drop event {event}")
+        """Removes the event, with its window and its time. No activity may lead from it or to it."""
+        self._do(line("drop event", event))
 
     def fix(self, event: int, time: int) -> None:
-        """The event has to be at `time`, which is below the period; an earlier window is replaced."""
-        self._do(f"fix {event} {time}")
+        """Requires the event at `time`, below the period; replaces an earlier window."""
+        self._do(line("fix", event, time))
 
     def window(self, event: int, first: int, length: int) -> None:
-        """The event has to be at `first` or one of the `length` - 1 times after it, modulo the period."""
-        self._do(f"window {event} {first} {length}")
+        """Requires the event at `first` or one of the `length` - 1 times after it, modulo the period."""
+        self._do(line("window", event, first, length))
 
     def unfix(self, event: int) -> None:
-        """The event's window goes, of any length."""
-        self._do(f"unfix {event}")
+        """Removes the event's window, of any length."""
+        self._do(line("unfix", event))
 
     def add_activity(self, activity: Activity) -> None:
-        """The activity is there. Its ends have to be events already."""
-        self._do(activity_command(activity))
+        """Adds the activity. Its ends must be events already."""
+        self._do(line("add activity", *astuple(activity)))
 
     def drop_activity(self, activity: int) -> None:
-        """The activity goes."""
-        self._do(f"drop activity {activity}")
+        """Removes the activity."""
+        self._do(line("drop activity", activity))
 
     def span(self, activity: int, lower: int, upper: int) -> None:
-        """The activity takes `lower` to `upper` units of time now."""
-        self._do(f"span {activity} {lower} {upper}")
+        """Sets the activity's span to `lower` to `upper` units of time."""
+        self._do(line("span", activity, lower, upper))
 
     def weight(self, activity: int, weight: int) -> None:
-        """Each unit of time above the activity's lower bound costs `weight` now."""
-        self._do(f"weight {activity} {weight}")
+        """Sets the cost of each unit of time above the activity's lower bound."""
+        self._do(line("weight", activity, weight))
 
     def ends(self, activity: int, from_event: int, to_event: int) -> None:
-        """The activity leads from `from_event` to `to_event` now."""
-        self._do(f"ends {activity} {from_event} {to_event}")
+        """Makes the activity lead from `from_event` to `to_event`."""
+        self._do(line("ends", activity, from_event, to_event))
 
     # The working timetable.
 
     def time(self, event: int, time: int) -> None:
-        """The event is at `time`, which is below the period, in the working timetable."""
-        self._do(f"time {event} {time}")
+        """Sets the event's time, below the period, in the working timetable."""
+        self._do(line("time", event, time))
 
     def untime(self, event: int) -> None:
-        """The event has no time in the working timetable."""
-        self._do(f"untime {event}")
+        """Removes the event's time from the working timetable."""
+        self._do(line("untime", event))
 
     def adopt(self) -> Optimum:
-        """Makes the optimum the working timetable, and gives it. Raises Refused (12) where there is none."""
+        """Makes the optimum the working timetable, and returns it. Raises Refused (12) if there is none."""
         return self._is("adopt", Optimum)
 
     # Questions.
 
     def domain(self, event: int) -> Domain:
-        """When the event can still be."""
-        return self._is(f"domain {event}", Domain)
+        """The times that the event can still have."""
+        return self._is(line("domain", event), Domain)
 
     def domains(self) -> Dict[int, Domain]:
-        """When each event can still be, by event, ascending."""
+        """The times that each event can still have, by event, ascending."""
         return self._is("domains", dict)
 
     def tensions(self) -> Dict[int, Tension]:
-        """What each activity takes in the working timetable, by activity, ascending. Raises Refused (11) where a time is missing."""
+        """The tension and slack of each activity in the working timetable, ascending. Raises Refused (11) if a time is missing."""
         return self._is("tensions", dict)
 
     def violations(self) -> Violations:
-        """What the working timetable violates. Raises Refused (11) where a time is missing."""
+        """The violations of the working timetable. Raises Refused (11) if a time is missing."""
         return self._is("violations", Violations)
 
     def cost(self) -> int:
-        """What the working timetable costs: weight times slack, over all activities. Raises Refused (11) where a time is missing."""
+        """The cost of the working timetable: weight times slack, over all activities. Raises Refused (11) if a time is missing."""
         return self._is("cost", int)
 
     def optimum(self) -> Union[Optimum, Infeasible]:
-        """The first timetable of least cost. It may take long; Ctrl-C ends it, and nothing that was accepted is lost.
+        """The first timetable of least cost. It may take long; Ctrl-C ends it, and no accepted change is lost.
 
         Raises KeyboardInterrupt then.
         """
@@ -112,8 +119,8 @@ class Commands:
         raise BadReply(str(found))
 
     def attempt(self, nodes: int) -> Found:
-        """The optimum, looked for in at most `nodes` nodes of a search; `try` of the program."""
-        return found_by(self.ask(f"try {nodes}"))
+        """The optimum, within at most `nodes` nodes of a search; `try` of the program."""
+        return found_by(self.ask(line("try", nodes)))
 
     def dump(self) -> str:
         """The network as commands, below a line with the period and their number."""

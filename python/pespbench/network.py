@@ -1,4 +1,4 @@
-"""A network as the client knows it, and the working timetable: what each accepted command makes of them."""
+"""A network as the client knows it, and the working timetable, with the effect of each accepted command."""
 
 from __future__ import annotations
 
@@ -8,7 +8,7 @@ from typing import Dict, List, Mapping, Optional
 
 @dataclass(frozen=True)
 class Window:
-    """When an event has to be: at `first` or one of the times after it, `length` of them in all, modulo the period.
+    """The permitted times of an event: `first` and those after it, `length` in all, modulo the period.
 
     A length of 1 is a fixed time.
     """
@@ -23,7 +23,7 @@ class Window:
 
 @dataclass(frozen=True)
 class Activity:
-    """What lies between two events: it takes `lower` to `upper` units of time, up to whole periods.
+    """The time between two events: `lower` to `upper` units, up to whole periods.
 
     Each unit above `lower` costs `weight`.
     """
@@ -36,13 +36,13 @@ class Activity:
     weight: int = 0
 
     def slack(self, period: int, times: Mapping[int, int]) -> int:
-        """How far it is above its lower bound in a timetable, below the period. Raises KeyError where an end has no time."""
+        """Its distance above its lower bound in a timetable, below the period. Raises KeyError if an end has no time."""
         return (times[self.to_event] - times[self.from_event] - self.lower) % period
 
 
 @dataclass
 class Network:
-    """A network: the window of each event, or None, and the activities by number. Ask it, and leave changes to the bench."""
+    """A network: the window of each event, or None, and the activities by number. Only read it; the bench changes it."""
 
     period: int
     windows: Dict[int, Optional[Window]] = field(default_factory=dict)
@@ -53,12 +53,17 @@ class Network:
         """The events, ascending."""
         return sorted(self.windows)
 
+    def _repr_html_(self) -> str:
+        from pespbench.showing import network_html
+
+        return network_html(self)
+
     def copy(self) -> "Network":
-        """The same network, apart from what commands make of this one."""
+        """An independent copy of the network."""
         return Network(self.period, dict(self.windows), dict(self.activities))
 
     def script(self) -> List[str]:
-        """The commands that make the network from nothing, as `dump` has them, without its first line."""
+        """The commands that build the network from nothing, as in `dump`, without its first line."""
         lines = [f"add event {event}" for event in self.events]
         for event in self.events:
             window = self.windows[event]

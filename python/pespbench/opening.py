@@ -11,7 +11,7 @@ from pespbench.searching import MOST_SECONDS, SECONDS_TEXT
 
 def add_network(parser: argparse.ArgumentParser) -> None:
     """Adds NETWORK and its options to a subcommand's parser; each option is taken in place of what a folder has."""
-    parser.add_argument("network", metavar="NETWORK", help="a file of activities, or a folder that was saved")
+    parser.add_argument("network", metavar="NETWORK", help="a file of activities, or a saved folder")
     parser.add_argument("--period", type=int, help="the period, 2 to 1440 [default: 60; of a folder, its own]")
     parser.add_argument("--fixed", metavar="FILE", help="fixed times of events")
     parser.add_argument("--times", metavar="FILE", help="times of events")
@@ -21,11 +21,13 @@ def add_network(parser: argparse.ArgumentParser) -> None:
 
 def open_network(words: argparse.Namespace) -> Bench:
     """Opens the network that a command line names. Raises what Bench.open and Bench.load raise."""
-    files = {"fixed": words.fixed, "times": words.times, "labels": words.labels}
+    # A program that gives no answer is given up after the time that was asked for, where one was.
+    asked = getattr(words, "seconds", getattr(words, "search", None))
+    how = {"fixed": words.fixed, "times": words.times, "labels": words.labels, "program": words.program, "patience": asked}
     if os.path.isdir(words.network):
-        return Bench.load(words.network, period=words.period, program=words.program, **files)
+        return Bench.load(words.network, period=words.period, **how)
     period = 60 if words.period is None else words.period
-    return Bench.open(words.network, period=period, program=words.program, **files)
+    return Bench.open(words.network, period=period, **how)
 
 
 def seconds(text: str) -> float:

@@ -1,4 +1,4 @@
-"""The optimum in parts: spans are cut into ranges, and each choice of ranges is a smaller search of its own."""
+"""The optimum in parts: spans are split into ranges, and each choice of ranges is a smaller search."""
 
 from __future__ import annotations
 
@@ -65,15 +65,14 @@ def optimum_in_parts(
     progress: Optional[bool] = None,
     watch: Optional[Watch] = None,
 ) -> Union[Optimum, Infeasible]:
-    """The same optimum as `bench.optimum()`, found in up to `ranges` to the power of `spans` searches, side by side.
+    """The same optimum as `bench.optimum()`, found in up to `ranges` to the power of `spans` parallel searches.
 
     The slack of a range counts from its own lower bound, so a part's cost lacks its constant. A part whose constant alone is
-    above the best cost known is not begun: it has no timetable as cheap. One whose constant is that cost may have one that
-    comes first, so it is answered too. The working timetable is known from the first where it meets everything. `executor`,
-    `workers` and `progress` are as in `variants`, but that an executor is given as many parts at once as this machine has
-    processors where `workers` is None. A `watch` is told what the search comes to, in place of the bar, and so has the best
-    timetable where anything is raised. Raises Lost where what had a part in hand died twice, BadReply, and ValueError for
-    spans, ranges or workers below 1.
+    above the best known cost is not started: it has no timetable as cheap. One whose constant equals that cost may have an
+    earlier one, so it is searched too. The working timetable is known from the start if it meets everything. `executor`,
+    `workers` and `progress` are as in `variants`, except that an executor gets one part for each processor of this machine if
+    `workers` is None. A `watch` receives the state of the search, instead of the bar, and so has the best timetable if anything
+    is raised. Raises Lost if the processes of a part died twice, BadReply, and ValueError for spans, ranges or workers below 1.
     """
     if spans < 1 or ranges < 1:
         raise ValueError("there is at least one span, and one range of it")

@@ -12,15 +12,19 @@ from __future__ import annotations
 import math
 import os
 import re
+from fractions import Fraction
 from typing import Dict, Mapping, Tuple, Union
 
 from pespbench.curing import file_fault
 from pespbench.records import records
 
 Place = Tuple[float, float]
+# A drawing is sure of places up to so far from 0 that are not all nearer to each other; others are drawn over such a width.
+FARTHEST, NARROWEST, WIDTH = 1e9, 1e-6, 1_000
 HEADER = ["station", "x", "y"]
 SPECIAL = re.compile('[;"\n\r]|^[ \t#]|[ \t]$')
-NUMBER = re.compile("[+-]?([0-9]+[.]?[0-9]*|[.][0-9]+)([eE][+-]?[0-9]+)?")
+# Digits match in one way alone: what has two is tried again for each digit of a long field.
+NUMBER = re.compile("[+-]?([0-9]+([.][0-9]*)?|[.][0-9]+)([eE][+-]?[0-9]+)?")
 
 
 def read_places(path: Union[str, "os.PathLike[str]"]) -> Dict[str, Place]:
@@ -48,6 +52,21 @@ def measure(text: str) -> float:
     if not math.isfinite(value):
         raise ValueError(text)
     return value
+
+
+def on_a_map(places: Mapping[str, Place]) -> Dict[str, Place]:
+    """The same places, in a unit in which they can be drawn where theirs is too large or too small for that.
+
+    Those without a place on any map are left out.
+    """
+    known = {station: place for station, place in places.items() if all(map(math.isfinite, place))}
+    widest = max((max(each) - min(each) for each in zip(*((Fraction(x), Fraction(y)) for x, y in known.values()))), default=Fraction(0))
+    farthest = max((abs(axis) for place in known.values() for axis in place), default=0.0)
+    if farthest <= FARTHEST and (not widest or widest >= NARROWEST):
+        return known
+    west, south = (min(Fraction(place[axis]) for place in known.values()) for axis in (0, 1))
+    unit = (widest or 1) / WIDTH
+    return {station: (float((Fraction(x) - west) / unit), float((Fraction(y) - south) / unit)) for station, (x, y) in known.items()}
 
 
 def places_text(places: Mapping[str, Place]) -> str:

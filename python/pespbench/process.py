@@ -5,11 +5,12 @@ from __future__ import annotations
 import os
 import selectors
 import shutil
+import signal
 import subprocess
-import tempfile
 import time
 import weakref
-from typing import IO, Iterator, List, Optional, Sequence, Tuple, Union
+from contextlib import suppress
+from typing import Iterator, List, Optional, Sequence, Tuple, Union
 
 from pespbench.commands import MOST_LINES
 from pespbench.faults import BadReply, Ended
@@ -20,6 +21,8 @@ from pespbench.transport import OutOfTime, Transport
 PIECE = 65_536
 # How long a program may take to end that was told to, or has closed its output.
 PATIENCE = 2.0
+# So many bytes of what it writes to standard error are kept; the rest is read and dropped, so that it never fills a pipe.
+MOST_SAID = 8_192
 
 
 def find_program(program: Union[str, "os.PathLike[str]", None]) -> str:
@@ -39,18 +42,19 @@ class Process(Transport):
 
     def __init__(self, words: Sequence[str]) -> None:
         """Starts it. Raises OSError where it cannot be started."""
-        # What it says of its end goes to a file, which is never full as a pipe is.
-        self._errors = tempfile.TemporaryFile()
-        self._child = started(words, self._errors)
-        assert self._child.stdin is not None and self._child.stdout is not None
-        self._input, self._output = self._child.stdin, self._child.stdout
+        self._child = started(words)
+        assert self._child.stdin is not None and self._child.stdout is not None and self._child.stderr is not None
+        self._input, self._output, self._errors = self._child.stdin, self._child.stdout, self._child.stderr
         os.set_blocking(self._input.fileno(), False)
+        os.set_blocking(self._errors.fileno(), False)
         self._selector = selectors.PollSelector()
         self._selector.register(self._output, selectors.EVENT_READ)
+        self._selector.register(self._errors, selectors.EVENT_READ)
+        self._said = b""
         self._assembler = Assembler()
         self._lines = 0
         # One that nobody closed goes with its object, or with the interpreter.
-        self._let_go = weakref.finalize(self, let_go, self._child, self._selector, self._errors, os.getpid())
+        self._let_go = weakref.finalize(self, let_go, self._child, self._selector, os.getpid())
         _running.add(self)
 
     def replies(self, commands: Sequence[str], deadline: Optional[float] = None) -> Iterator[List[str]]:
@@ -75,7 +79,8 @@ class Process(Transport):
 
     def _want_silence(self) -> None:
         """Raises BadReply where there is something to read that nobody has asked for."""
-        data = os.read(self._output.fileno(), PIECE) if self._selector.select(0) else b""
+        is_ready = any(key.fileobj is self._output for key, _ in self._selector.select(0))
+        data = os.read(self._output.fileno(), PIECE) if is_ready else b""
         if data:
             raise BadReply(f"more than was asked for: {data.decode(errors='replace').strip()}")
 
@@ -91,12 +96,23 @@ class Process(Transport):
         finally:
             if rest:
                 self._selector.unregister(self._input)
+        if self._errors in ready and not self._listen():
+            self._selector.unregister(self._errors)
         data = b""
         if self._output in ready:
             data = os.read(self._output.fileno(), PIECE)
             if not data:
                 raise self._ended()
         return data, self._write(rest) if self._input in ready else rest
+
+    def _listen(self) -> bool:
+        """Reads a piece of standard error; whether there may be more."""
+        try:
+            piece = os.read(self._errors.fileno(), PIECE)
+        except BlockingIOError:
+            return True
+        self._said += piece[: MOST_SAID - len(self._said)]
+        return bool(piece)
 
     def _write(self, rest: memoryview) -> memoryview:
         """Writes what there is room for, and gives the rest."""
@@ -115,10 +131,11 @@ class Process(Transport):
         try:
             status = self._child.wait(PATIENCE)
         except subprocess.TimeoutExpired:
-            self._child.kill()
+            kill(self._child)
             status = self._child.wait()
-        self._errors.seek(0)
-        return Ended(status, self._errors.read().decode(errors="replace").strip())
+        # All that it said is in the pipe, which holds less than a piece, but where another process has it open too.
+        self._listen()
+        return Ended(status, self._said.decode(errors="replace").strip())
 
     def is_full(self, lines: int) -> bool:
         """Whether the program would end before so many lines more."""
@@ -139,7 +156,7 @@ class Process(Transport):
 
     def end(self) -> None:
         """Ends the program by force, and leaves all that leads to it as it is."""
-        self._child.kill()
+        kill(self._child)
 
 
 # What runs for this process; a worker that is ended ends these first.
@@ -152,15 +169,23 @@ def kill_all() -> None:
         process.end()
 
 
-def let_go(child: "subprocess.Popen[bytes]", selector: selectors.BaseSelector, errors: IO[bytes], owner: int) -> None:
+def kill(child: "subprocess.Popen[bytes]") -> None:
+    """Ends a program by force, with all that it has started and left in its session."""
+    if child.poll() is None:
+        with suppress(ProcessLookupError, PermissionError):
+            os.killpg(child.pid, signal.SIGKILL)
+        child.kill()
+
+
+def let_go(child: "subprocess.Popen[bytes]", selector: selectors.BaseSelector, owner: int) -> None:
     """Ends a program by force, and closes all that leads to it; a process that was forked leaves its parent's program alone."""
     if os.getpid() == owner:
-        child.kill()
+        kill(child)
         child.wait()
     else:
         # So nobody waits for it here, nor warns that it runs.
         child.returncode = 0
     selector.close()
-    for file in (child.stdin, child.stdout, errors):
+    for file in (child.stdin, child.stdout, child.stderr):
         if file is not None:
             file.close()

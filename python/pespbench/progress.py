@@ -1,20 +1,20 @@
-"""What a search for the best timetable has come to, as it goes on."""
+"""The state of a running search for the best timetable."""
 
 from __future__ import annotations
 
 from dataclasses import dataclass
 from typing import Mapping, Optional
 
-from pespbench.answers import Found, Infeasible, cost_of
+from pespbench.answers import Found
 
 
 @dataclass(frozen=True)
 class Progress:
-    """What a search has come to, `seconds` after it began.
+    """The state of a search, `seconds` after its start.
 
-    `found` is Optimum or Infeasible where all is known, and else Stopped, with the best timetable so far. No timetable that
-    meets everything costs less than `lower_bound`, which is None where the engine has told none. After the last one, which
-    `is_ended` marks, nothing more comes: all is known, or the time is over.
+    `found` is Optimum or Infeasible if everything is known, and otherwise Stopped, with the best timetable so far. No timetable
+    that meets everything costs less than `lower_bound`, which is None if the engine has returned none. `is_ended` marks the
+    last one: everything is known, or the time is over.
     """
 
     found: Found
@@ -24,19 +24,19 @@ class Progress:
 
     @property
     def cost(self) -> Optional[int]:
-        """What the best timetable so far costs, or None where there is none yet."""
-        return cost_of(self.found)
+        """The cost of the best timetable so far, or None if there is none yet."""
+        return self.found.cost
 
     @property
     def times(self) -> Optional[Mapping[int, int]]:
-        """The best timetable so far, or None where there is none yet."""
-        return None if isinstance(self.found, Infeasible) or self.found.cost is None else self.found.times
+        """The best timetable so far, or None if there is none yet."""
+        return None if self.cost is None else self.found.times
 
     @property
     def gap(self) -> Optional[float]:
-        """By how much of its cost the best timetable may be too dear at most: 0.05 for a twentieth, 0 where none is cheaper.
+        """The share of its cost by which the best timetable may exceed the optimum: 0.05 for a twentieth, 0 if none is cheaper.
 
-        It is None where there is no timetable yet, or no lower bound.
+        It is None if there is no timetable yet, or no lower bound.
         """
         if self.cost is None or self.lower_bound is None:
             return None

@@ -5,13 +5,17 @@ from __future__ import annotations
 import csv
 import io
 import os
-from typing import Iterator, List, Tuple, Union
+from contextlib import contextmanager
+from itertools import islice, repeat
+from typing import Iterable, Iterator, List, Tuple, Union
 
 from pespbench.faults import FileFault
 
 Path = Union[str, "os.PathLike[str]"]
 MARK = b"\xef\xbb\xbf"
 LONGEST_FILE = 67_108_864
+# So many records are cut before the first of them is given.
+AT_ONCE = 1_000
 
 
 def records(path: Path, encoding: str = "latin-1", has_names: bool = False) -> Iterator[Tuple[int, List[str]]]:
@@ -20,14 +24,7 @@ def records(path: Path, encoding: str = "latin-1", has_names: bool = False) -> I
     In a file that `has_names` in its first column, one in quotes is no comment. Raises OSError, and FileFault for a file that
     is too long.
     """
-    with open(path, "rb") as file:
-        data = file.read(LONGEST_FILE + 1)
-    if len(data) > LONGEST_FILE:
-        raise FileFault(os.fspath(path), None, "file is too long")
-    data = data[len(MARK) :] if data.startswith(MARK) else data
-    # Before Python 3.11 `csv` takes no null characters; another one that stands in no number serves as well.
-    text = data.replace(b"\0", b"\1").decode(encoding, errors="replace")
-    for number, (record, is_quoted) in enumerate(cut(text), 1):
+    for number, (record, is_quoted) in enumerate(cut(content(path), encoding, has_names), 1):
         fields = [field.strip(" \t") for field in record]
         if not fields[-1]:
             fields.pop()
@@ -35,22 +32,48 @@ def records(path: Path, encoding: str = "latin-1", has_names: bool = False) -> I
             yield number, fields
 
 
-def cut(text: str) -> List[Tuple[List[str], bool]]:
-    """The fields of each record that is no empty line, and whether the record begins with a quote."""
-    lines: List[str] = []
+def content(path: Path) -> bytes:
+    """The bytes of a file, without the mark of UTF-8. Raises OSError, and FileFault for a file that is too long."""
+    with open(path, "rb") as file:
+        data = file.read(LONGEST_FILE + 1)
+    if len(data) > LONGEST_FILE:
+        raise FileFault(os.fspath(path), None, "file is too long")
+    return data[len(MARK) :] if data.startswith(MARK) else data
+
+
+def cut(data: bytes, encoding: str, has_names: bool) -> Iterator[Tuple[List[str], bool]]:
+    """The fields of each record that is no empty line, and whether it begins with a quote, where files that `has_names` ask."""
+    # Before Python 3.11 `csv` takes no null characters; another one that stands in no number serves as well.
+    lines = io.TextIOWrapper(io.BytesIO(data.replace(b"\0", b"\1")), encoding, errors="replace", newline="")
+    delimiter = ";" if b";" in data else ","
+    rows = quoted(lines, delimiter) if has_names else zip(csv.reader(lines, delimiter=delimiter), repeat(False))
+    while True:
+        with long_fields():
+            some = list(islice(rows, AT_ONCE))
+        if not some:
+            return
+        yield from (row for row in some if row[0])
+
+
+def quoted(lines: Iterable[str], delimiter: str) -> Iterator[Tuple[List[str], bool]]:
+    """The fields of each record, and whether it begins with a quote."""
+    held: List[str] = []
 
     def pulled() -> Iterator[str]:
-        for line in io.StringIO(text, newline=""):
-            lines.append(line)
+        for line in lines:
+            held.append(line)
             yield line
 
-    found = []
+    for fields in csv.reader(pulled(), delimiter=delimiter):
+        yield fields, held[0].startswith('"')
+        held.clear()
+
+
+@contextmanager
+def long_fields() -> Iterator[None]:
+    """Within, a field may be as long as a file; the limit is one for all of this process."""
     usual = csv.field_size_limit(LONGEST_FILE)
     try:
-        for fields in csv.reader(pulled(), delimiter=";" if ";" in text else ","):
-            if fields:
-                found.append((fields, lines[0].startswith('"')))
-            lines.clear()
+        yield
     finally:
         csv.field_size_limit(usual)
-    return found

@@ -15,8 +15,11 @@ BEGINNINGS = {
     "optimum": {"optimum", "infeasible"}, "try": {"optimum", "infeasible", "stopped"}, "adopt": {"ok"},
     **dict.fromkeys(CHANGES, {"ok"}),
 }  # fmt: skip
-# Where in the first line the number of lines that follow stands.
+# Where in the first line the number of lines that follow stands, and how many these are at most.
 COUNT_PLACES = {"domains": 1, "tensions": 1, "violations": 1, "optimum": 2, "stopped": 2, "#": 4}
+MOST_ROWS = {"domains": 20_000, "tensions": 100_000, "violations": 120_000, "optimum": 20_000, "stopped": 20_000, "#": 140_000}
+# The bytes of a line and of a reply: those of domains have most, of 1,440 minutes, and of 2,400,000 in all.
+LONGEST_LINE, LONGEST_REPLY = 8_192, 16_777_216
 
 
 def following(first: str) -> int:
@@ -27,7 +30,7 @@ def following(first: str) -> int:
     if words[0] not in COUNT_PLACES or words == ["stopped", "none"]:
         return 0
     place = COUNT_PLACES[words[0]]
-    if place >= len(words) or not re.fullmatch("[0-9]{1,7}", words[place]):
+    if place >= len(words) or not re.fullmatch("[0-9]{1,7}", words[place]) or int(words[place]) > MOST_ROWS[words[0]]:
         raise BadReply(first)
     return int(words[place])
 
@@ -38,18 +41,31 @@ class Assembler:
     def __init__(self) -> None:
         self._held = b""
         self._lines: List[str] = []
-        self._wanted = 1
+        self._wanted, self._length = 1, 0
 
     def feed(self, data: bytes) -> Iterator[List[str]]:
-        """Takes bytes, and gives each reply that is whole by them. Raises BadReply where a line is no first line."""
+        """Takes bytes, and gives each reply that is whole by them.
+
+        Raises BadReply where a line is no first line, and for what is longer than a reply can be.
+        """
         *whole, self._held = (self._held + data).split(b"\n")
         for line in whole:
-            self._lines.append(line.decode(errors="replace"))
+            self._lines.append(self._text(line))
             if len(self._lines) == 1:
                 self._wanted = 1 + following(self._lines[0])
             if len(self._lines) == self._wanted:
-                reply, self._lines = self._lines, []
+                reply, self._lines, self._length = self._lines, [], 0
                 yield reply
+        if len(self._held) > LONGEST_LINE:
+            raise BadReply(self._held[:LONGEST_LINE].decode(errors="replace"))
+
+    def _text(self, line: bytes) -> str:
+        """A line. Raises BadReply for a character that no reply has, and for too many."""
+        self._length += len(line) + 1
+        text = line[: LONGEST_LINE + 1].decode(errors="replace")
+        if len(line) > LONGEST_LINE or self._length > LONGEST_REPLY or not line.isascii() or b"_" in line:
+            raise BadReply(text)
+        return text
 
     def is_within_reply(self) -> bool:
         """Whether a part of a reply is held."""
@@ -88,7 +104,7 @@ def answer_of(reply: Sequence[str]) -> Answer:
 
 
 def _named(what: str, text: str) -> Optional[int]:
-    found = re.search(rf"\b{what} (\d+)", text)
+    found = re.search(rf"\b{what} ([0-9]{{1,9}})\b", text)
     return int(found[1]) if found else None
 
 

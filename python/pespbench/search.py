@@ -4,14 +4,15 @@ from __future__ import annotations
 
 import argparse
 import sys
-from pathlib import Path
 from typing import Optional, Tuple
 
-from pespbench.answers import Found, Infeasible, Stopped, cost_of
+from pespbench.answers import Found, Stopped
 from pespbench.client import Bench
 from pespbench.ending import INTERRUPTS, status_of, uninterrupted
 from pespbench.faults import FileFault, PespbenchError
 from pespbench.files import read_times
+from pespbench.folders import own_file
+from pespbench.forms import add_form, in_form, table_of
 from pespbench.opening import add_network, open_network, seconds, whole
 from pespbench.parts import optimum_in_parts
 from pespbench.replies import text_of
@@ -22,15 +23,16 @@ from pespbench.wording import found_text
 
 def add_parser(subparsers: "argparse._SubParsersAction[argparse.ArgumentParser]") -> None:
     """Adds the subcommand."""
-    parser = subparsers.add_parser("search", help="look for the best timetable, and save it")
+    parser = subparsers.add_parser("search", help="search for the best timetable, and save it")
     add_network(parser)
-    parser.add_argument("--seconds", type=seconds, default=60.0, help="how long to look [default: 60]")
-    parser.add_argument("--parts", action="store_true", help="look in parts, over all processors, until the optimum is found")
-    parser.add_argument("--spans", type=whole, default=2, help="how many spans are cut [default: 2]")
-    parser.add_argument("--ranges", type=whole, default=3, help="into how many ranges each [default: 3]")
-    parser.add_argument("--workers", type=whole, help="how many programs run side by side [default: one for each processor]")
-    saved = "write the network with the best timetable that is known, at Ctrl-C too; never a dearer one than the folder has"
+    parser.add_argument("--seconds", type=seconds, default=60.0, help="how long to search [default: 60]")
+    parser.add_argument("--parts", action="store_true", help="search in parts, on all processors, until the optimum is found")
+    parser.add_argument("--spans", type=whole, default=2, help="the number of spans to split [default: 2]")
+    parser.add_argument("--ranges", type=whole, default=3, help="the number of ranges of each [default: 3]")
+    parser.add_argument("--workers", type=whole, help="the number of programs in parallel [default: one for each processor]")
+    saved = "write the network with the best known timetable, also at Ctrl-C; never a dearer one than the folder has"
     parser.add_argument("--save", metavar="FOLDER", help=saved)
+    add_form(parser)
     parser.set_defaults(run=run)
 
 
@@ -44,17 +46,17 @@ def run(words: argparse.Namespace) -> int:
             take_better(bench, bench.standing(), words.save)
         found, ended = looked_for(bench, words)
         with uninterrupted():
-            if words.save and not isinstance(found, Infeasible) and found.cost is not None:
+            if words.save and found.cost is not None:
                 found = take_better(bench, found, words.save)
                 bench.save(words.save)
-            tell(text_of("optimum", found))
+            tell(in_form(words.form, table_of(found), text_of("optimum", found)))
             if isinstance(found, Stopped):
                 write(f"{found_text(found)}\n", sys.stderr)
     if isinstance(ended, PespbenchError):
         raise ended
     if ended is not None:
         return status_of(ended)
-    return 1 if cost_of(found) is None else 0
+    return 1 if found.cost is None else 0
 
 
 def looked_for(bench: Bench, words: argparse.Namespace) -> Tuple[Found, Optional[BaseException]]:
@@ -76,9 +78,9 @@ def sought(bench: Bench, words: argparse.Namespace, watch: Watch) -> Found:
 def take_better(bench: Bench, found: Found, folder: str) -> Found:
     """Makes what was found the working timetable, or the one that a folder has, where that meets everything and is cheaper."""
     there = standing_in(bench, folder)
-    if there.is_below(cost_of(found)):
+    if there.is_below(found.cost):
         found = there
-    if not isinstance(found, Infeasible) and found.cost is not None:
+    if found.cost is not None:
         bench.set_times(found.times)
     return found
 
@@ -86,9 +88,12 @@ def take_better(bench: Bench, found: Found, folder: str) -> Found:
 def standing_in(bench: Bench, folder: str) -> Stopped:
     """The timetable of a folder with its cost in a bench, where it meets everything there."""
     try:
-        listed = read_times(Path(folder) / "times")
+        there = own_file(folder, "times")
+        listed = read_times(there) if there else {}
     except (OSError, FileFault):
         return Stopped()
+    if not all(event in listed for event in bench.network.events):
+        return Stopped()
     with bench.trial():
-        bench.set_times({event: listed[event] % bench.period for event in bench.network.events if event in listed})
+        bench.set_times({event: listed[event] % bench.period for event in bench.network.events})
         return bench.standing()

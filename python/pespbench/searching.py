@@ -1,8 +1,9 @@
-"""A search for the best timetable, step by step, with what it has come to after each."""
+"""A search for the best timetable, step by step, with its state after each."""
 
 from __future__ import annotations
 
 import time as clock
+from dataclasses import replace
 from typing import Callable, Iterator, Optional
 
 from pespbench.answers import Found, Optimum, Stopped
@@ -27,20 +28,19 @@ def check_limits(seconds: float, nodes: int) -> None:
 
 
 class Search:
-    """Goes on while it is iterated over, and gives its Progress after each step; `progress` is the last that was told.
+    """Runs while it is iterated over, and yields its Progress after each step; `progress` is the last one.
 
-    The time is looked at between steps, and goes on there. Over a library that has the call for searches a step goes on where
-    the one before it stopped, whichever search of the same session that was, as long as the engine was not opened anew and the
-    network is as it was, whatever times it was given. Such a step takes about a quarter of a second, and is let come to its end
-    where the time is over in it.
+    The time is checked between steps, and also passes there. With a library that has the call for searches, a step resumes the
+    previous one, even of another search of the same session, unless the engine was reopened or the network changed; changed
+    times do not matter. Such a step takes about a quarter of a second, and is completed even if the time ends during it.
 
-    Over the program, and where the library says that it does not go on, as with too many cycles, a step begins anew, with twice
-    as many nodes as the one before: so what is gone through again is at most as much as all before it. One is begun where more
-    time is left than the last one took, and given up where the time is over, by the library a second later.
+    With the program, and if the library cannot resume, as with too many cycles, a step restarts with twice the nodes of the
+    previous one: so at most as much as all earlier work is repeated. A step starts if more time is left than the last one took,
+    and is abandoned when the time is over, by the library a second later.
     """
 
     def __init__(self, session: Session, standing: Stopped, seconds: float, nodes: int, watch: Optional[Watcher]) -> None:
-        """A search of so many nodes at first, from a timetable that is known, or from none."""
+        """A search with a number of nodes in its first step, from a known timetable, or from none."""
         self._session, self._pace, self._watch = session, Pace(nodes), watch
         self._network = session.work.network.copy()
         self._began = clock.monotonic()
@@ -55,8 +55,13 @@ class Search:
         """What the next step comes to. Raises ValueError where the network is another one than at first, Ended and BadReply."""
         return next(self._rest)
 
+    def _repr_html_(self) -> str:
+        from pespbench.showing import search_html
+
+        return search_html(self.progress)
+
     def found(self) -> Found:
-        """What the search comes to at its end. Raises what a step raises."""
+        """The result of the search at its end. Raises what a step raises."""
         for _ in self:
             pass
         return self.progress.found
@@ -91,7 +96,9 @@ class Search:
         if isinstance(found, Optimum):
             bounds.append(found.cost)
         bound = max((each for each in bounds if each is not None), default=None)
-        is_ended = not (isinstance(found, Stopped) and self._has_room())
+        if isinstance(found, Stopped):
+            found = replace(found, lower_bound=bound)
+        is_ended = found.is_proved or not self._has_room()
         self.progress = Progress(found, bound, is_ended, clock.monotonic() - self._began)
         if self._watch is not None:
             self._watch(self.progress)

@@ -9,8 +9,10 @@ from pespbench.answers import Answer, Optimum
 from pespbench.commands import CHANGES, name_of, split
 from pespbench.engines import Engine, Path
 from pespbench.faults import BadReply, Fault, Refused
+from pespbench.fitting import fits, is_whole
 from pespbench.journal import Change, Journal
 from pespbench.methods import found_by
+from pespbench.patience import Patience, PATIENT
 from pespbench.replies import answer_of, is_reply_to
 from pespbench.transport import Reached, Transport
 from pespbench.work import Work, work_of
@@ -31,22 +33,43 @@ class Session:
         self.journal = Journal() if journal is None else journal
         # Changes below this place are not taken back: those from before a trial.
         self.floor = 0
+        # How long an answer is waited for that has no deadline.
+        self.patience = PATIENT
         self._transport = transport
         self._is_closed = False
 
     @classmethod
-    def opened(cls, engine: Engine, period: int, paths: Mapping[str, Optional[Path]], journal: Journal) -> "Session":
-        """Opens files, and asks what they have. Raises Ended where they are not taken."""
+    def opened(
+        cls, engine: Engine, period: int, paths: Mapping[str, Optional[Path]], journal: Journal, patience: Patience = PATIENT
+    ) -> "Session":
+        """Opens files, and asks what they have. Raises Ended where they are not taken, and BadReply."""
         transport = engine.opened(period, paths)
         try:
-            [reply] = transport.replies(["dump"])
-            if not isinstance(answer_of(reply), str):
-                raise BadReply(reply[0])
-            work = work_of(reply[1:], period)
+            with patience_with(engine, patience.seconds).of_files(paths.values()) as deadline:
+                [reply] = transport.replies(["dump"], deadline)
+            work = dumped(reply, period)
         except BaseException:
             transport.kill()
             raise
-        return cls(engine, work, transport, journal)
+        session = cls(engine, work, transport, journal)
+        session.patience = patience_with(engine, patience.seconds)
+        return session
+
+    @contextmanager
+    def waiting(self, seconds: float) -> Iterator[None]:
+        """Within, an answer that is no search is waited for so long at most, where no patience was given."""
+        before = self.patience
+        self.patience = patience_with(self.engine, seconds) if before.seconds is None else before
+        try:
+            yield
+        finally:
+            self.patience = before
+
+    def in_library(self) -> "Session":
+        """This session, or one over the library beside its program, with the same work. Raises NoLibrary where there is none."""
+        if self.engine.name == "library":
+            return self
+        return Session(Engine.of("library", program=self.engine.path), self.work)
 
     def open(self, lines: int) -> None:
         """Has an engine there with room for so many lines. Raises Ended and BadReply."""
@@ -81,7 +104,7 @@ class Session:
         if self._transport is None:
             transport = self.engine.opened(self.work.network.period, {})
             try:
-                sync(transport, self.work.script())
+                sync(transport, self.work.script(), self.patience)
             except BaseException:
                 transport.kill()
                 raise
@@ -117,14 +140,23 @@ class Session:
         # What is adopted is told by no reply but that of `optimum`, which is known then.
         lines = [line for command in commands for line in ([command, "optimum"] if command.split() == ["adopt"] else [command])]
         with self._whole():
-            replies = self._ready(len(lines)).replies(lines, deadline)
-            for command in commands:
-                outcome = outcome_of(command, next(replies))
-                if command.split() == ["adopt"]:
-                    outcome = self._adopted(outcome, outcome_of("optimum", next(replies)))
-                elif outcome is None and name_of(command) in CHANGES:
-                    self._accept(command)
-                yield outcome
+            transport = self._ready(len(lines))
+            with self.patience.of_lines(len(lines), deadline) as until:
+                replies = transport.replies(lines, until)
+                for command in commands:
+                    outcome = self._outcome(command, next(replies))
+                    if command.split() == ["adopt"]:
+                        outcome = self._adopted(outcome, self._outcome("optimum", next(replies)))
+                    elif outcome is None and name_of(command) in CHANGES:
+                        self._accept(command)
+                    yield outcome
+
+    def _outcome(self, command: str, reply: Sequence[str]) -> Outcome:
+        """The outcome that a reply tells. Raises BadReply, also where it is none about this network."""
+        outcome = outcome_of(command, reply)
+        if not fits(outcome, self.work.network):
+            raise BadReply(reply[0])
+        return outcome
 
     def _accept(self, command: str) -> None:
         name, numbers = split(command)
@@ -141,18 +173,20 @@ class Session:
 
     def _moves(self, moves: Sequence[Tuple[int, int]]) -> Iterator[Cost]:
         with self._whole():
-            for move, told in zip(moves, self._ready(2 * len(moves)).moved(moves)):
-                if isinstance(told, int):
-                    self._take_move(*move)
-                    yield told
-                else:
-                    yield self._cost_after(move, *told)
+            transport = self._ready(2 * len(moves))
+            with self.patience.of_lines(2 * len(moves)) as until:
+                for move, told in zip(moves, transport.moved(moves, until)):
+                    if isinstance(told, int):
+                        self._take_move(*move)
+                        yield told
+                    else:
+                        yield self._cost_after(move, *told)
 
     def _cost_after(self, move: Tuple[int, int], reply: List[str], cost: List[str]) -> Cost:
         outcome = outcome_of("time {} {}".format(*move), reply)
         if outcome is None:
             self._take_move(*move)
-            outcome = outcome_of("cost", cost)
+            outcome = self._outcome("cost", cost)
         if isinstance(outcome, (int, Refused, Fault)):
             return outcome
         raise BadReply(str(outcome))
@@ -165,11 +199,13 @@ class Session:
 
     def searched(self, nodes: int, deadline: float) -> Reached:
         """What a search of so many nodes comes to, which leaves all as it was. Raises what `answer` raises."""
-        with self._whole():
-            reached = self._ready(1).searched(nodes, self.work.network.events, deadline)
-        if reached is not None:
-            return reached
-        return Reached(found_by(self.answer(f"try {nodes}", deadline)))
+        # What has no deadline in it is to open the engine again.
+        with self.waiting(0):
+            with self._whole():
+                reached = self._ready(1).searched(nodes, self.work.network.events, deadline)
+            if reached is not None:
+                return reached
+            return Reached(found_by(self.answer(f"try {nodes}", deadline)))
 
     def set_time(self, event: int, time: int) -> bool:
         """Sets a time where the engine does that at once and it is accepted; else nothing has changed."""
@@ -217,8 +253,13 @@ class Session:
             for command in change.back:
                 self.work.apply(command)
             if self._transport is not None:
-                sync(self._ready(len(change.back)), change.back)
+                sync(self._ready(len(change.back)), change.back, self.patience)
         return list(change.commands)
+
+
+def patience_with(engine: Engine, seconds: Optional[float]) -> Patience:
+    """The patience with an engine: the library is a part of this process, and cannot be ended."""
+    return PATIENT if engine.name == "library" else Patience(seconds)
 
 
 def outcome_of(command: str, reply: Sequence[str]) -> Outcome:
@@ -231,8 +272,20 @@ def outcome_of(command: str, reply: Sequence[str]) -> Outcome:
         return told
 
 
-def sync(transport: Transport, commands: Sequence[str]) -> None:
-    """Gives an engine commands that it has to accept. Raises BadReply where it does not."""
-    for command, reply in zip(commands, transport.replies(commands)):
-        if reply != ["ok"]:
-            raise BadReply(f"{reply[0]} to {command}")
+def sync(transport: Transport, commands: Sequence[str], patience: Patience) -> None:
+    """Gives an engine commands that it has to accept. Raises BadReply where it does not, and Ended."""
+    with patience.of_lines(len(commands)) as until:
+        for command, reply in zip(commands, transport.replies(commands, until)):
+            if reply != ["ok"]:
+                raise BadReply(f"{reply[0]} to {command}")
+
+
+def dumped(reply: Sequence[str], period: int) -> Work:
+    """What the reply to `dump` makes. Raises BadReply for what is none, or no network of this period."""
+    try:
+        work = work_of(list(reply[1:]), period)
+    except (KeyError, IndexError, TypeError, ValueError):
+        raise BadReply(reply[0]) from None
+    if not isinstance(answer_of(reply), str) or work.times or not is_whole(work.network):
+        raise BadReply(reply[0])
+    return work

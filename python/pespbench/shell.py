@@ -1,14 +1,16 @@
-"""`shell`: the program at a terminal, with what the client adds: Ctrl-C keeps the network, `undo`, `save`, `search`."""
+"""`shell`: the program at a terminal, with what the client adds: Ctrl-C keeps the network, `undo`, `redo`, `save`, `search`, `take`."""
 
 from __future__ import annotations
 
 import argparse
-import io
-import sys
-from typing import Callable, Dict, Optional
+from contextlib import nullcontext
+from typing import Callable, Dict, List
 
 from pespbench.answers import Found, Stopped
 from pespbench.client import Bench
+from pespbench.commands import SEARCHES
+from pespbench.faults import text_of as fault_text
+from pespbench.given import Given
 from pespbench.opening import add_network, open_network, seconds
 from pespbench.replies import text_of
 from pespbench.terminal import shown, tell
@@ -16,25 +18,26 @@ from pespbench.watching import Line
 from pespbench.wording import Names, found_text
 
 HELP = """Of the network, with E, I and J for events, A for an activity, and times in minutes:
-  add event E, drop event E           an event comes or goes
-  fix E t, window E f n, unfix E      it is held at t, or at one of n minutes from f on, or not
+  add event E, drop event E           adds or removes an event
+  fix E t, window E f n, unfix E      requires it at t, at one of n minutes from f on, or anywhere
   add activity A I J l u w            from I to J it takes l to u minutes, at w a minute above l
-  drop activity A                     it goes
-  span A l u, weight A w, ends A I J  it changes
-  time E t, untime E                  it is at t in the working timetable, or has no time
+  drop activity A                     removes it
+  span A l u, weight A w, ends A I J  changes it
+  time E t, untime E                  sets its time in the working timetable, or removes it
 Questions:
-  domain E, domains                   when an event, or each, can still be
+  domain E, domains                   the times that an event, or each, can still have
   optimum, try N                      the best timetable; the same within N nodes of a search
   adopt                               makes the best timetable the working timetable
-  tensions, violations, cost          what the working timetable makes of the network
+  tensions, violations, cost          those of the working timetable
   dump                                the network as commands
 Of this shell:
-  search SECONDS                      looks so long for the best timetable
-  times                               tells the working timetable
-  undo                                takes back the last accepted change
-  save FOLDER                         writes network, times and labels, to be opened again
-  help; quit, exit or Ctrl-D          tells this; ends the shell
-Ctrl-C ends a long search, and nothing that was accepted is lost.
+  search SECONDS                      searches for the best timetable
+  take                                makes its result the working timetable
+  times                               shows the working timetable
+  undo, redo                          undoes the last accepted change; repeats it
+  save FOLDER                         writes network, times and labels, to open again
+  help; quit, exit or Ctrl-D          shows this; ends the shell
+Ctrl-C ends a long search, and no accepted change is lost.
 """
 ENDS = ("quit", "exit")
 
@@ -46,87 +49,128 @@ def add_parser(subparsers: "argparse._SubParsersAction[argparse.ArgumentParser]"
     parser.set_defaults(run=run)
 
 
+class Desk:
+    """A bench, with the result of its last search, and the changes undone last, which `redo` repeats."""
+
+    def __init__(self, bench: Bench) -> None:
+        self.bench = bench
+        self.found: Found = Stopped()
+        self._undone: List[List[str]] = []
+        self._journal: List[str] = []
+
+    def undo(self) -> List[str]:
+        """Undoes the last change, and returns its commands."""
+        self._forget_if_changed()
+        self._undone.append(self.bench.undo())
+        self._journal = self.bench.journal
+        return self._undone[-1]
+
+    def redo(self) -> List[str]:
+        """Repeats the change undone last, and returns its commands. Raises ValueError if there is none."""
+        self._forget_if_changed()
+        if not self._undone:
+            raise ValueError("there is nothing to make again")
+        commands = self._undone.pop()
+        self.bench.many(commands)
+        self._journal = self.bench.journal
+        return commands
+
+    def _forget_if_changed(self) -> None:
+        if self.bench.journal != self._journal:
+            self._undone.clear()
+
+
 def run(words: argparse.Namespace) -> int:
-    """Answers lines of standard input until it ends."""
-    is_typed = sys.stdin.isatty()
-    if is_typed:
-        try:
-            import readline  # noqa: F401  (`input` keeps a history then)
-        except ImportError:
-            pass
-    if isinstance(sys.stdin, io.TextIOWrapper):
-        # A line that is no text is no command, which the program tells.
-        sys.stdin.reconfigure(errors="replace")
+    """Answers lines of standard input until it ends; a search that goes on then is given up."""
+    given = Given()
     with open_network(words) as bench:
-        tell("help tells the commands, quit ends\n" if is_typed else "")
+        desk = Desk(bench)
+        tell("help tells the commands, quit ends\n" if given.is_typed else "")
         while True:
             try:
-                line = read("> " if is_typed else "")
+                line = given.line("> " if given.is_typed else "")
                 if line is None or line in ENDS:
                     return 0
-                if line and not line.startswith("#"):
-                    tell(told(bench, line))
+                if line and not line.startswith("#") and is_left(desk, line, given):
+                    return 0
             except KeyboardInterrupt:
                 tell("\nstopped; nothing that was accepted is lost\n")
 
 
-def read(prompt: str) -> Optional[str]:
-    """The next line, or None at the end of the input."""
-    try:
-        return input(prompt).strip()
-    except EOFError:
-        return None
+def is_left(desk: Desk, line: str, given: Given) -> bool:
+    """Tells what there is to a line; whether the input has ended while it was searched for, so that nobody waits for it."""
+    searches = line.split()[0] in (*SEARCHES, "search")
+    with given.kept_by(desk.bench._session.end) if searches else nullcontext() as ending:
+        text = told(desk, line)
+    if ending is not None and ending.has_come:
+        return True
+    tell(text)
+    return False
 
 
-def told(bench: Bench, line: str) -> str:
+def told(desk: Desk, line: str) -> str:
     """What is printed for a line: its answer, or what was raised, whatever it is, since no line ends the shell."""
     try:
-        return answer(bench, line)
+        return answer(desk, line)
     except Exception as fault:
-        return f"{fault or type(fault).__name__}\n"
+        return f"{fault_text(fault) or type(fault).__name__}\n"
 
 
-def answer(bench: Bench, line: str) -> str:
+def answer(desk: Desk, line: str) -> str:
     """What is printed for a line. Raises what the client raises, and ValueError for a word of the shell without its number."""
     name, _, rest = line.partition(" ")
     if name in OWN:
-        return OWN[name](bench, rest.strip())
-    return text_of(line, bench.many([line])[0])
+        return OWN[name](desk, rest.strip())
+    return text_of(line, desk.bench.many([line])[0])
 
 
-def _search(bench: Bench, time: str) -> str:
+def _search(desk: Desk, time: str) -> str:
     try:
         limit = seconds(time)
     except argparse.ArgumentTypeError as fault:
         raise ValueError(str(fault)) from None
     with Line() as line:
         try:
-            found: Found = bench.search(limit, watch=line).found()
+            desk.found = desk.bench.search(limit, watch=line).found()
         except KeyboardInterrupt:
-            found = line.best
+            desk.found = line.best
+    found = desk.found
     return text_of("optimum", found) + (f"# {found_text(found)}\n" if isinstance(found, Stopped) else "")
 
 
-def _undo(bench: Bench, _: str) -> str:
-    return "".join(f"# taken back: {command}\n" for command in bench.undo())
+def _take(desk: Desk, _: str) -> str:
+    if desk.found.cost is None:
+        raise ValueError("no search of this shell has found a timetable")
+    desk.bench.set_times(desk.found.times)
+    return "ok\n"
 
 
-def _times(bench: Bench, _: str) -> str:
-    names = Names(bench.labels, bench.network.activities)
-    return "".join(f"{event} {time}  {names.event(event)}\n" for event, time in bench.times.items())
+def _undo(desk: Desk, _: str) -> str:
+    return "".join(f"# taken back: {command}\n" for command in desk.undo())
 
 
-def _save(bench: Bench, folder: str) -> str:
+def _redo(desk: Desk, _: str) -> str:
+    return "".join(f"# made again: {command}\n" for command in desk.redo())
+
+
+def _times(desk: Desk, _: str) -> str:
+    names = Names(desk.bench.labels, desk.bench.network.activities)
+    return "".join(f"{event} {time}  {names.event(event)}\n" for event, time in desk.bench.times.items())
+
+
+def _save(desk: Desk, folder: str) -> str:
     if not folder:
         raise ValueError("save wants a folder")
-    bench.save(folder)
+    desk.bench.save(folder)
     return f"# saved: {shown(folder)}\n"
 
 
-OWN: Dict[str, Callable[[Bench, str], str]] = {
+OWN: Dict[str, Callable[[Desk, str], str]] = {
     "search": _search,
+    "take": _take,
     "undo": _undo,
+    "redo": _redo,
     "times": _times,
     "save": _save,
-    "help": lambda bench, rest: HELP,
+    "help": lambda desk, rest: HELP,
 }

@@ -9,29 +9,29 @@ import subprocess
 import sys
 import threading
 from concurrent.futures import ThreadPoolExecutor
-from typing import IO, Callable, Optional, Sequence
+from typing import Callable, Optional, Sequence
 
 # Of <linux/prctl.h>: the signal that a process gets when the thread that started it ends.
 PR_SET_PDEATHSIG = 1
 
 
-def started(words: Sequence[str], errors: IO[bytes]) -> "subprocess.Popen[bytes]":
-    """Starts a program with pipes to its input and from its output. Raises OSError where it cannot be started.
+def started(words: Sequence[str]) -> "subprocess.Popen[bytes]":
+    """Starts a program with pipes to its input and from its outputs. Raises OSError where it cannot be started.
 
     It has a session of its own, so that Ctrl-C at a terminal reaches the client alone. On Linux the kernel ends it with the
     thread that has started it, so that is one that lives as long as the process.
     """
     if threading.current_thread() is threading.main_thread():
-        return _start(words, errors)
-    return _lasting_thread().submit(_start, words, errors).result()
+        return _start(words)
+    return _lasting_thread().submit(_start, words).result()
 
 
-def _start(words: Sequence[str], errors: IO[bytes]) -> "subprocess.Popen[bytes]":
+def _start(words: Sequence[str]) -> "subprocess.Popen[bytes]":
     pipe, prctl = subprocess.PIPE, _prctl()
     # What runs between the fork and the program takes no lock and imports nothing.
     bound = None if prctl is None else functools.partial(_end_with, os.getpid(), prctl)
     return subprocess.Popen(
-        words, bufsize=0, stdin=pipe, stdout=pipe, stderr=errors, start_new_session=True, preexec_fn=bound
+        words, bufsize=0, stdin=pipe, stdout=pipe, stderr=pipe, start_new_session=True, preexec_fn=bound
     )  # fmt: skip
 
 

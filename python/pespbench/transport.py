@@ -9,7 +9,7 @@ from pespbench.answers import Found
 
 # The cost after a move, or the replies to `time` and to `cost` where they are others.
 AfterMove = Union[int, Tuple[List[str], List[str]]]
-COST = re.compile("cost ([0-9]+)")
+COST = re.compile("cost ([0-9]{1,17})")
 
 
 class OutOfTime(Exception):
@@ -38,9 +38,9 @@ class Transport:
         """
         raise NotImplementedError
 
-    def moved(self, moves: Sequence[Tuple[int, int]]) -> Iterator[AfterMove]:
+    def moved(self, moves: Sequence[Tuple[int, int]], deadline: Optional[float] = None) -> Iterator[AfterMove]:
         """Sets times, and gives what is told after each. Raises what `replies` raises."""
-        replies = self.replies([line for event, time in moves for line in (f"time {event} {time}", "cost")])
+        replies = self.replies([line for event, time in moves for line in (f"time {event} {time}", "cost")], deadline)
         for reply in replies:
             told = next(replies)
             cost = COST.fullmatch(told[0]) if reply == ["ok"] else None

@@ -1,4 +1,4 @@
-"""Many variants of one network, answered on one machine or on many."""
+"""Many variants of one network, evaluated on one machine or on many."""
 
 from __future__ import annotations
 
@@ -110,18 +110,18 @@ def variants(
     workers: Optional[int] = None,
     progress: Optional[bool] = None,
 ) -> List[Union[Outcome, Lost]]:
-    """Answers each list of edits on the network of `base` by itself, and gives the answers in the order of the lists.
+    """Applies each list of edits separately to the network of `base`, and returns the answers in the order of the lists.
 
-    `ask` is the command that is asked after the edits: `optimum`, `domains`, `try 5000`, .. The tasks go to `executor`, any of
-    `concurrent.futures` whose workers have this package and the program or library at the same path, `workers` of them at once (1,000
-    where that is None). Where none is given, they go to `workers` processes of this machine (as many as it has processors),
-    and the caller's main module has to be one that can be imported (`if __name__ == "__main__":`). Each worker keeps one
-    opened program. A bar on standard error shows how far it is where that is a terminal, or as `progress` says.
+    `ask` is the command after the edits: `optimum`, `domains`, `try 5000`, .. The tasks go to `executor`, any of
+    `concurrent.futures` whose workers have this package and the program or library at the same path, `workers` of them at once
+    (1,000 if that is None). Without one, they go to `workers` processes of this machine (by default one for each processor),
+    and the caller's main module must be importable (`if __name__ == "__main__":`). Each worker keeps one opened program. A bar
+    on standard error shows the progress if that is a terminal, or as `progress` says.
 
-    A refused edit makes Refused or Fault the answer of its list. What a worker or a program had in hand that died is given
-    out once more, and is Lost, with its place in the lists, where that dies too; a process pool of the caller that broke
-    takes nothing more, so all that is left is Lost then. Raises ValueError for a line that is no change, before anything is
-    sent, or for workers below 1, and BadReply.
+    A refused edit makes Refused or Fault the answer of its list. If a worker or a program dies, its task is repeated once, and
+    is Lost, with its place in the lists, if that dies too; a broken process pool of the caller accepts nothing more, so all
+    remaining tasks are then Lost. Raises ValueError for a line that is not a change, before anything is sent, or for workers
+    below 1, and BadReply.
     """
     lists = [tuple(map(change, edits)) for edits in lists_of_edits]
     shared = Base.of(base)

@@ -3,6 +3,7 @@
 from __future__ import annotations
 
 import contextlib
+import io
 import os
 import random
 import shutil
@@ -11,9 +12,10 @@ import tempfile
 import time
 import unittest
 from pathlib import Path
-from typing import Any, Dict, List, Type, TypeVar
+from typing import Any, Dict, List, Tuple, Type, TypeVar
 
 from pespbench import Bench
+from pespbench.__main__ import main
 
 TOP = Path(__file__).resolve().parents[2]
 EXAMPLES = TOP / "examples"
@@ -30,6 +32,22 @@ LONG = 100
 SOON = 30
 # Over a program that is so many times slower, as tools/test_program says it, so many times fewer are drawn where many are.
 PATIENCE = int(os.environ.get("PESPBENCH_PATIENCE") or 1)
+
+
+class Whole:
+    """A whole number that is no int, as those of other packages are."""
+
+    def __init__(self, number: int) -> None:
+        self.number = number
+
+    def __index__(self) -> int:
+        return self.number
+
+    def __hash__(self) -> int:
+        return hash(self.number)
+
+    def __eq__(self, other: object) -> bool:
+        return self.number == other
 
 
 class Case(unittest.TestCase):
@@ -60,6 +78,12 @@ class Case(unittest.TestCase):
         path.write_text(text)
         path.chmod(0o755)
         return path
+
+
+def run_words(*words: str) -> Tuple[int, str]:
+    """The exit status of a subcommand in this process, and what it wrote to standard output."""
+    with contextlib.redirect_stdout(io.StringIO()) as told:
+        return main(list(words)), told.getvalue()
 
 
 def worked(process: int) -> float:

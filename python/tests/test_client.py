@@ -3,12 +3,14 @@
 from __future__ import annotations
 
 import os
+import shutil
 import time
 import unittest
+from typing import Dict, List, Optional, Tuple
 from unittest import mock
 
 from pespbench import (
-    Activity, Bench, Domain, Ended, Fault, Infeasible, Optimum, Refused, Stopped, Tension, Violations, Window,
+    Activity, Bench, Domain, Ended, Fault, Found, Infeasible, Optimum, Refused, Stopped, Tension, Violations, Window, variants,
 )
 from tests.common import EXAMPLES, PROGRAM, Case, over_both
 
@@ -78,6 +80,32 @@ class Commands(Case):
         with self.assertRaises(Refused) as told:
             bench.cost()
         self.assertEqual(told.exception.event, 1)
+
+    def test_no_timetable_is_taken(self) -> None:
+        """What a search found none of empties nothing."""
+        bench = self.two_trains()
+        bench.set_times({1: 0, 2: 4})
+        before = list(bench.journal)
+        for none in [bench.attempt(0), Infeasible(), Stopped()]:
+            with self.assertRaises(ValueError):
+                bench.set_times(none.times)
+        self.assertEqual((bench.times, list(bench.journal)), ({1: 0, 2: 4}, before))
+        with Bench.open(None, period=10, **self.how) as empty:
+            empty.set_times({})
+
+    def test_one_face(self) -> None:
+        """What a search found can be read without asking what it is."""
+        bench = self.two_trains()
+        cases: List[Tuple[Found, Optional[int], Dict[int, int], Optional[int], bool]] = [
+            (bench.optimum(), 4, {1: 0, 2: 4}, 4, True),
+            (Stopped(5, {1: 0, 2: 5}), 5, {1: 0, 2: 5}, None, False),
+            (Stopped(5, {1: 0, 2: 5}, 3), 5, {1: 0, 2: 5}, 3, False),
+            (Stopped(), None, {}, None, False),
+        ]
+        bench.span(1, 3, 3)
+        cases.append((bench.optimum(), None, {}, None, True))
+        for found, cost, times, bound, is_proved in cases:
+            self.assertEqual((found.cost, dict(found.times), found.lower_bound, found.is_proved), (cost, times, bound, is_proved))
 
     def test_files(self) -> None:
         folder = EXAMPLES / "fixed-event"
@@ -167,10 +195,20 @@ class Pipes(Case):
             self.assertEqual(bench.program, PROGRAM)
         with mock.patch.dict(os.environ, {"PESPBENCH": "", "PATH": str(self.folder)}):
             self.assertRaises(FileNotFoundError, Bench.open, None)
-            (self.folder / "pespbench").symlink_to(PROGRAM)
-            with Bench.open(None) as bench:
-                self.assertEqual(bench.cost(), 0)
+        (self.folder / "pespbench").symlink_to(PROGRAM)
+        with mock.patch.dict(os.environ, {"PESPBENCH": "", "PATH": f"{self.folder}:{os.environ['PATH']}"}), Bench.open(None) as bench:
+            self.assertEqual((bench.program, bench.cost()), (str(self.folder / "pespbench"), 0))
         self.assertRaises(FileNotFoundError, Bench.open, None, program=self.folder / "none")
+
+    @unittest.skipUnless(shutil.which("node"), "there is no Node")
+    def test_module(self) -> None:
+        """The page's module answers where there is no program, in other processes too."""
+        with mock.patch.dict(os.environ, {"PESPBENCH": str(self.folder / "none")}):
+            with Bench.open(EXAMPLES / "two-trains/activities", period=10, engine="module") as bench:
+                self.assertEqual((bench.engine.name, bench.optimum()), ("module", Optimum(4, {1: 0, 2: 4})))
+                self.assertEqual(variants(bench, [["span 1 3 3"]], workers=1), [Infeasible()])
+        with mock.patch.dict(os.environ, {"PATH": str(self.folder)}):
+            self.assertRaises(FileNotFoundError, Bench.open, None, engine="module")
 
     def test_one_by_one_and_at_once(self) -> None:
         with self.drawn(4, 40, 80) as bench:

@@ -49,6 +49,17 @@ class Shell(Case):
         self.assertEqual((status, error), (0, ""))
         self.assertEqual(called("shell", folder, given="cost\n"), (0, "cost 4\n", ""))
 
+    def test_taken_and_made_again(self) -> None:
+        """What a search found is taken, and what was taken back is made again, until something else is changed."""
+        lines = "redo\ntake\nsearch 5\ntake\ncost\nspan 1 3 4\nundo\nundo\ntimes\nredo\nredo\nredo\ncost\nundo\nfix 1 0\nredo\n"
+        none = "there is nothing to make again\n"
+        wanted = f"{none}no search of this shell has found a timetable\noptimum 4 2\n1 0\n2 4\nok\ncost 4\nok\n"
+        times = ["time 1 0", "time 2 4"]
+        wanted += "# taken back: span 1 3 4\n" + "".join(f"# taken back: {line}\n" for line in times)
+        wanted += "".join(f"# made again: {line}\n" for line in times) + f"# made again: span 1 3 4\n{none}cost 4\n"
+        wanted += f"# taken back: span 1 3 4\nok\n{none}"
+        self.assertEqual(called("shell", *TWO, given=lines), (0, wanted, ""))
+
     def test_words_that_end_it(self) -> None:
         for word in ("quit", "exit", " exit "):
             self.assertEqual(called("shell", *TWO, given=f"dump\n{word}\ncost\n")[:2], (0, called("shell", *TWO, given="dump\n")[1]))
@@ -133,8 +144,11 @@ class Faults(Case):
     def test_told(self) -> None:
         table: List[Tuple[List[str], int, str]] = [
             (["search", "none"], 1, "pespbench: activities file cannot be read\n"),
-            (["search", str(self.folder)], 1, f"pespbench: [Errno 2] No such file or directory: '{self.folder}/period'\n"),
+            (["search", str(self.folder)], 1, f"pespbench: there is no file {self.folder}/period\n"),
             (["search", *TWO, "--program", "none"], 1, "pespbench: there is no program none;"),
+            (["search", *TWO, "--labels", str(self.folder)], 1, f"pespbench: {self.folder} is a folder, and no file\n"),
+            (["search", *TWO, "--labels", f"{TWO[-1]}/x"], 1, f"pespbench: {TWO[-1]}/x is below what is no folder\n"),
+            (["report", *TWO, "--output", str(self.folder)], 1, f"pespbench: {self.folder} is a folder, and no file\n"),
             ([], 2, "usage:"),
             (["searches"], 2, "usage:"),
         ]

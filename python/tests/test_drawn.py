@@ -42,6 +42,15 @@ class Drawn(Case):
                 widths = [each.width for each in region.activities if each.kind == "change"]
                 self.assertTrue(10 <= min(widths) and max(widths) <= 35)
 
+    def test_lines(self) -> None:
+        """More lines, and events and circles in proportion."""
+        for lines in (3, 4, 11, 24):
+            region = draw_region(5, lines=lines)
+            self.assertEqual((len({event.line for event in region.events}), missed(region), region.is_connected()), (lines, [], True))
+            self.assertTrue(100 * lines // 6 <= len(region.events) <= 120 * lines // 6 and 5 * lines <= region.circles <= 35 * lines // 6)
+        for wrong in (2, 25, -1):
+            self.assertRaises(ValueError, draw_region, 5, lines=wrong)
+
     def test_infeasible(self) -> None:
         for seed in SEEDS:
             region = draw_region(seed, feasible=False)
@@ -106,6 +115,14 @@ class Drawing(Case):
             with contextlib.redirect_stderr(io.StringIO()), self.assertRaises(SystemExit) as caught:
                 main(["draw", *words])
             self.assertEqual(caught.exception.code, 2)
+        with contextlib.redirect_stderr(io.StringIO()) as told:
+            self.assertEqual(main(["draw", "5", str(self.folder / "none"), "--lines", "2"]), 2)
+        self.assertEqual((told.getvalue(), (self.folder / "none").exists()), ("pespbench: a region has 3 to 24 lines\n", False))
+
+    def test_lines_of_the_command(self) -> None:
+        self.assertEqual(main(["draw", "5", str(self.folder), "--lines", "8"]), 0)
+        with Bench.load(self.folder, program=PROGRAM) as bench:
+            self.assertEqual(len({label.line for label in bench.labels.events.values()}), 8)
 
     def test_region_is_loaded(self) -> None:
         draw_region(3).save(self.folder)

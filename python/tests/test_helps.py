@@ -74,7 +74,7 @@ class Answers(unittest.TestCase):
         gains = (Gain(1, 3, 4, Optimum(10, {}), 1_200), Gain(20, 3, 6, Stopped(12, {}), 8))
         told = text_of(Helps(1, Optimum(1_210, {}), 3, gains), names)
         self.assertEqual(told, """The best timetable as it is costs 1,210.
-2 of 3 activities were asked about, each with 1 minute more.
+2 of 3 activities were asked about, each with 1 minute more; 1 not asked.
 Each of these alone saves:
 
       1,200  activity 1 from event 4 to event 5   3 to 4 minutes in place of 3
@@ -239,6 +239,13 @@ class EndedEarly(Case):
             self.assertEqual(helps(bench, seconds=0), Helps(1, Stopped(), 3))
             bench.add_event(3)
 
+    def test_first_search_without_end(self) -> None:
+        """It takes a part of the time alone, and the questions have the rest."""
+        program = self.stand_in(HALF.replace("if wide == 2:", "if wide == 0:"))
+        with Bench.open(None, program=program) as bench:
+            answer = helps(bench, seconds=15, workers=1)
+        self.assertEqual((answer.before, sorted(gain.activity for gain in answer.answers)), (Stopped(), [1, 2, 3]))
+
     def test_interrupt(self) -> None:
         """At Ctrl-C and SIGTERM the command tells what is known, and its status says so."""
         network = self.folder / "activities"
@@ -256,7 +263,7 @@ class EndedEarly(Case):
             command.send_signal(number)
             output, error = command.communicate(timeout=LONG)
             told = output.decode().splitlines()
-            self.assertEqual((command.returncode, error, told[1]), (128 + number, b"", "1 of 3 activities were asked about, each with 1 minute more."))
+            self.assertEqual((command.returncode, error, told[1]), (128 + number, b"", "1 of 3 activities were asked about, each with 1 minute more; 2 not asked."))
             self.assertEqual(told[-1], "  1  activity 1 from event 1 to event 2  3 to 10 minutes in place of 3 to 9")
 
 

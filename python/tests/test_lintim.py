@@ -9,9 +9,10 @@ import queue
 import threading
 import unittest
 from pathlib import Path
+from typing import Mapping
 
 from pespbench import Activity, Bench, EventLabel, FileFault
-from pespbench.lintim import LinTim, add_parser, read_lintim
+from pespbench.lintim import LinTim, add_parser, files_in, period_in, read_lintim
 from pespbench.report import read_places
 from tests.common import LONG, PROGRAM, Case
 
@@ -33,6 +34,11 @@ EVENTS = """\
 5; "departure"; 8; 2; 30; <; 1
 """
 STOPS = '# stop; short; long; x; y\n7; A; "Ashford"; 0.0; 1.5\n8; B; "Benton"; 10; 2\n9; C; ; 20; -1\n'
+# Where LinTim has its files.
+LINTIM = {
+    "activities": "timetabling/Activities-periodic.giv", "timetable": "timetabling/Timetable-periodic.tim",
+    "events": "timetabling/Events-periodic.giv", "stops": "basis/Stop.giv",
+}  # fmt: skip
 
 
 class LinTimFiles(Case):
@@ -90,9 +96,71 @@ class LinTimFiles(Case):
         self.run_words("to-lintim", str(self.folder / "network/times"), str(self.folder / "back.tim"))
         self.assertEqual((self.folder / "back.tim").read_text(), TIMETABLE.replace("62", "2"))
 
+    def folder_of(self, names: Mapping[str, str]) -> Path:
+        """A folder with LinTim's files under such names, by the names of these here."""
+        folder = self.folder / "lintim"
+        for name, place in names.items():
+            (folder / place).parent.mkdir(parents=True, exist_ok=True)
+            (folder / place).write_text(self.paths[name].read_text())
+        return folder
+
+    def test_folders(self) -> None:
+        """A folder of LinTim is read, written and read again, with the period of a configuration that it includes."""
+        lintim, network, back = self.folder_of(LINTIM), self.folder / "network", self.folder / "back"
+        (lintim / "basis/Config.cnf").write_text('include; "../../Global.cnf"\nperiod_length; 30\ninclude_if_exists; "After.cnf"\n')
+        (lintim / "basis/After.cnf").write_text("# config_key; value\nperiod_length; 120\ninclude; Config.cnf\n")
+        (self.folder / "Global.cnf").write_text("period_length; 20\n")
+        self.run_words("from-lintim", str(lintim), str(network))
+        with Bench.load(network, program=PROGRAM) as bench:
+            bench.many(["fix 1 3", "window 2 4 5"])
+            self.assertEqual((bench.period, len(bench.labels.events), len(bench.places)), (120, 5, 3))
+            known = bench.network.activities, bench.times, bench.labels, bench.places
+            bench.save(network)
+        told = self.run_words("to-lintim", str(network), str(back), f"--program={PROGRAM}")
+        self.assertEqual(told, "LinTim has no windows, and 2 are left out\n")
+        self.assertIn("1; \"drive\"; 1; 2; 24; 26; 12000\n", (back / "timetabling/Activities-periodic.giv").read_text())
+        self.assertIn('5; "departure"; 2; 2; 0; >; 1\n', (back / "timetabling/Events-periodic.giv").read_text())
+        self.assertEqual(self.run_words("from-lintim", str(back), str(network)), "")
+        with Bench.load(network, program=PROGRAM) as bench:
+            self.assertEqual((bench.period, *known), (120, bench.network.activities, bench.times, bench.labels, bench.places))
+
+    def test_columns_by_their_names(self) -> None:
+        """Columns stand in the order that a comment tells, as TimPassLib's do, without passengers."""
+        rows = "# activity_index; from_event; to_event; lower_bound; upper_bound; type\n7; 1; 2; 24; 26; DRIVE\n8; 2; 3; 2; 5; change\n"
+        self.paths["activities"].write_text(rows)
+        self.paths["events"].write_text("# type; event index; Line-ID; stop_id; direction\ndeparture; 1; 4; 7; >\narrival; 2; 4; 8; >\n")
+        lintim = self.folder_of({"activities": "Activities.csv", "events": "Events.csv", "stops": "Stops.csv", "timetable": "Timetable.csv"})
+        (lintim / "Config.csv").write_text("# key; value\nperiod_length; 40\nchange_penalty; 5\n")
+        told = self.run_words("from-lintim", str(lintim), str(self.folder / "network"))
+        self.assertEqual(told, "there are no passengers, so that all weights are 0\n")
+        with Bench.load(self.folder / "network", program=PROGRAM) as bench:
+            self.assertEqual(bench.network.activities, {7: Activity(7, 1, 2, 24, 26, 0), 8: Activity(8, 2, 3, 2, 5, 0)})
+            self.assertEqual((bench.period, bench.times), (40, {1: 3, 2: 28, 3: 31}))
+            self.assertEqual(bench.labels.events[1], EventLabel("L4", "Benton", "Ashford", "departure"))
+            self.assertEqual(bench.labels.activities, {7: "run", 8: "change"})
+
+    def test_rows_of_six_fields(self) -> None:
+        self.paths["activities"].write_text("1; drive; 1; 2; 3; 4\n2; wait; 2; 3; 1; 2; 7\n3; wait; 2; 3; 1; 2;\n")
+        self.assertEqual([each.weight for each in read_lintim(self.paths["activities"]).activities.values()], [0, 7, 0])
+
+    def test_faults_of_folders(self) -> None:
+        lintim = self.folder_of(LINTIM)
+        config = lintim / "basis/Config.cnf"
+        for text in ("period_length; 1441\n", "period_length; x\n", "period_length\n"):
+            config.write_text(text)
+            with self.subTest(text=text), self.assertRaises(FileFault):
+                period_in(config, lintim)
+        config.write_text('include; "../../Global.cnf"\n')
+        (self.folder / "Global.cnf").write_text("period_length; 20\n")
+        self.assertIsNone(period_in(config, lintim))
+        (lintim / LINTIM["activities"]).unlink()
+        self.assertRaisesRegex(FileFault, "there is no timetabling/Activities", files_in, lintim)
+        (lintim / LINTIM["activities"]).symlink_to(self.paths["activities"])
+        self.assertRaisesRegex(FileFault, "link out of its folder", files_in, lintim)
+
     def test_faults(self) -> None:
         wrong = {"1; drive; 1; 2; 3": 2, "1; drive; one; 2; 3; 4; 5": 2, "1; drive; 1; 2; 3.5; 4; 5": 2}
-        wrong.update({"7; drive; 1; 2; 3; 4; nan": 2, "7; drive; 1; 2; 3; 4; 5\n7; wait; 1; 2; 3; 4; 5": 3})
+        wrong.update({"1; drive; 1; 2; 4; 3; 5": 2, "7; drive; 1; 2; 3; 4; nan": 2, "7; drive; 1; 2; 3; 4; 5\n7; wait; 1; 2; 3; 4; 5": 3})
         for rows, record in wrong.items():
             with self.subTest(rows=rows), self.assertRaises(FileFault) as caught:
                 self.paths["activities"].write_text(f"# header\n{rows}\n")

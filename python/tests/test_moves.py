@@ -8,17 +8,7 @@ from typing import List, Tuple
 from unittest import mock
 
 from pespbench import Bench, Ended, Fault, Refused
-from tests.common import EXAMPLES, Case, over_both
-
-
-class Whole:
-    """A whole number that is no int, as those of other packages are."""
-
-    def __init__(self, number: int) -> None:
-        self.number = number
-
-    def __index__(self) -> int:
-        return self.number
+from tests.common import EXAMPLES, Case, Whole, over_both
 
 
 def cost_of(bench: Bench) -> int:
@@ -85,13 +75,14 @@ class Moves(Case):
         """What is no plain number goes the way of all lines, and so does what is refused."""
         bench = self.two_trains()
         bench.time(1, 0)
-        for event, time in [(True, 0), (1.0, 0), ("one", 0), (1, -1), (-1, 1)]:
+        bench.time(True, 0)
+        for event, time in [(1, -1), (-1, 1)]:
             self.assertRaises(Fault, bench.time, event, time)
+        for wrong in (1.0, None, "one", "2", "1 0\ntime 2", "1 " + "0" * 5_000):
+            self.assertRaises(TypeError, bench.time, wrong, 0)
         for event, time in [(7, 0), (1, 10)]:
             self.assertRaises(Refused, bench.time, event, time)
-        for event in ("1 0\ntime 2", "1 " + "0" * 5_000):
-            self.assertRaises(ValueError, bench.time, event, 0)
-        bench.time("2", 4)  # type: ignore[arg-type]
+        bench.time(Whole(2), 4)  # type: ignore[arg-type]
         self.assertEqual((bench.times, bench.cost()), ({1: 0, 2: 4}, 4))
         bench.untime(1)
         with self.assertRaises(Refused) as told:

@@ -11,7 +11,7 @@ from functools import partial
 from typing import Any, Callable, Dict, List, Optional, Sequence, Tuple
 from unittest import mock
 
-from pespbench import BadReply, Bench, Ended, Engine, Found, Infeasible, Network, Optimum, Progress, Search, Stopped
+from pespbench import BadReply, Bench, Ended, Engine, Found, Infeasible, Network, NoLibrary, Optimum, Progress, Search, Stopped
 from pespbench.library import Told, ToldFound
 from pespbench.transport import OutOfTime, Reached
 from pespbench.work import Work
@@ -66,6 +66,13 @@ class Steps(unittest.TestCase):
         script = self.over((1, stopped(None)), (2, stopped(9)), (4, stopped(8)))
         self.assertEqual(self.told(script.search(11)), [(None, None, False), (9, None, False), (8, None, True)])
         self.assertEqual((script.asked, script.now), ([1_000, 2_000, 4_000], 107))
+
+    def test_bound_of_what_was_found(self) -> None:
+        """What a search came to at its end tells the bound that was told on the way; the optimum is its own."""
+        found = self.over((1, stopped(9, 4)), (2, stopped(None, 3))).search(3).found()
+        self.assertEqual((found, found.cost, found.lower_bound, found.is_proved), (Stopped(9, {1: 9}), 9, 4, False))
+        found = self.over((1, stopped(None, 3)), (1, Reached(Optimum(5, {1: 5})))).search(9).found()
+        self.assertEqual((found.lower_bound, found.is_proved), (5, True))
 
     def test_even(self) -> None:
         """A step that goes on takes about a quarter of a second: it is doubled where it was much quicker, halved where slower."""
@@ -265,6 +272,12 @@ def after(table: Dict[int, Any], nodes: int) -> Any:
     return table[max(least for least in table if least <= nodes)]
 
 
+# A program that accepts all edits, and knows of no timetable.
+BESIDE = """
+write({"dump": EMPTY, "try 1000": b"infeasible\\n"}.get(line, b"ok\\n"))
+"""
+
+
 class OverCalls(Case):
     """Over a stand-in of the library that has the call for searches."""
 
@@ -300,6 +313,21 @@ class OverCalls(Case):
 
     def told(self, bench: Bench) -> List[Tuple[Optional[int], Optional[int]]]:
         return [(each.cost, each.lower_bound) for each in bench.search(60)]
+
+    def test_bounds_over_the_program(self) -> None:
+        """The library beside the program searches in its place, and where there is none it is said where it was looked for."""
+        library = self.library()
+        over(self, library)
+        program = self.stand_in(BESIDE)
+        with Bench.open(None, period=10, program=program) as bench, mock.patch.dict("os.environ", PESPBENCH_LIB=""):
+            bench.many(["add event 7", "add event 4", "time 4 3"])
+            with mock.patch("ctypes.util.find_library", return_value=None):
+                self.assertRaisesRegex(NoLibrary, "beside the program", bench.search, 60, bounds=True)
+            with mock.patch("pespbench.library.find_library", return_value="stand-in"):
+                told = list(bench.search(60, bounds=True))
+                self.assertEqual([(each.cost, each.lower_bound) for each in told], [(None, 2), (9, 2), (8, 5), (6, 6)])
+            self.assertEqual(list(library.lines)[1:4], [b"add event 4", b"add event 7", b"time 4 3"])
+            self.assertEqual((bench.engine.name, bench.times, bench.search(60).found()), ("program", {4: 3}, Infeasible()))
 
     def test_bounds(self) -> None:
         """Costs and bounds are told as it goes, by calls alone."""

@@ -9,7 +9,6 @@ from typing import Mapping
 
 from pespbench import Activity, Bench, Found, Infeasible, Network, Optimum, Window
 from pespbench.drawn import draw_region
-from pespbench.network import window_command
 from pespbench.why import Conflict, Member, Mend, Of, Possible, Span, Undecided, Verdict, text_of, why
 from pespbench.why.members import Bounds, Held
 from pespbench.why.shapes import Circle

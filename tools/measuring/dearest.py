@@ -36,6 +36,7 @@ def between_two() -> List[Row]:
 def cases() -> Iterator[Tuple[str, int, List[Row], List[Tuple[str, List[str]]]]]:
     """Each network with its period, its rows and lists of lines, which are measured one more at a time."""
     fixing: List[Tuple[str, List[str]]] = [("fix", ["fix 0 0"]), ("unfix", ["unfix 0"])]
+    fixing += [("fix once more", ["fix 0 0"]), ("fix at another time", ["fix 0 1"])]
     yield f"drawn, period {LONGER_PERIOD}", LONGER_PERIOD, drawn(LONGER_PERIOD), fixing
     yield f"drawn, period {PERIOD}", PERIOD, drawn(PERIOD), fixing
     yield "a star", PERIOD, star(), fixing

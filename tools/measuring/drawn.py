@@ -2,7 +2,6 @@
 
 import sys
 from typing import TYPE_CHECKING, Dict, Iterable, Iterator, List, Mapping, NamedTuple, Sequence, Tuple
-from unittest import mock
 
 from measuring.network import PERIOD, Numbers, activity_rows
 from tests.harness import TOP
@@ -29,8 +28,6 @@ SMALL = [(events, 2 * events, (8, 20)) for events in (8, 10, 12, 14, 16, 20, 24,
 DENSE = [(40, 80, (30, 20)), (40, 120, (30, 20)), (60, 180, (8, 20)), (100, 200, (2, 4)), (100, 400, (2, 4)), (100, 700, (2, 4))]
 PERIODS = [30, 120, 1_440]
 GREATEST = (20_000, 100_000, 120)
-# The sizes that a drawing has for its lines, in proportion.
-SIZES = ["LEAST_EVENTS", "MOST_EVENTS", "LEAST_CIRCLES", "MOST_CIRCLES", "MOST_HEADWAYS"]
 
 
 class Drawn(NamedTuple):
@@ -45,13 +42,11 @@ class Drawn(NamedTuple):
 
 
 def draw(seed: int, feasible: bool, widths: Tuple[int, int], lines: int = LINES[-1]) -> "Region":
-    """A region of so many lines, with events and circles as its lines are more than six."""
+    """A region of so many lines."""
     sys.path.insert(0, str(TOP / "python"))
-    from pespbench.drawn import draw_region, drawing
+    from pespbench.drawn import draw_region
 
-    sizes = {name: getattr(drawing, name) * lines // drawing.LINES for name in SIZES}
-    with mock.patch.multiple("pespbench.drawn.drawing", LINES=lines, **sizes):
-        return draw_region(seed, feasible, widths)
+    return draw_region(seed, feasible, widths, lines)
 
 
 def piece_of(region: "Region", lines: int) -> Tuple[List[Row], Dict[int, int]]:

@@ -5,8 +5,9 @@ import shutil
 from pathlib import Path
 from typing import Dict, List, Match, NamedTuple, Optional, Pattern, Sequence, Tuple
 
-from measuring.cycles import write_cycles
 from measuring.limited import run_limited
+from pespbench import Activity, Network, Window
+from pespbench.models import by_cycles, by_times
 from tests.rules import Row
 
 # What a solver is given beside its limit, to end by itself.
@@ -26,23 +27,14 @@ class Solved(NamedTuple):
     log: str
 
 
-def write_plain(rows: Sequence[Row], fixed: Sequence[Tuple[int, int]], period: int, path: Path) -> None:
-    """The network as a whole-number program: a residue for each event, periods and slack for each activity."""
-    times, held = {event: f"t{event}" for row in rows for event in row[1:3]}, dict(fixed)
-    lines = ["Minimize", " cost: " + " + ".join(f"{row[5]} y{row[0]}" for row in rows), "Subject To"]
-    for name, first, last, lower, *_ in rows:
-        ends = "" if first == last else f"{times[last]} - {times[first]} + "
-        lines.append(f" a{name}: {ends}{period} p{name} - y{name} = {lower}")
-    lines.append("Bounds")
-    for event, time in times.items():
-        lines.append(f" {time} = {held[event]}" if event in held else f" 0 <= {time} <= {period - 1}")
-    for name, _, _, lower, upper, _ in rows:
-        lines += [f" -1000 <= p{name} <= 1000", f" 0 <= y{name} <= {min(upper - lower, period - 1)}"]
-    lines += ["Generals", " " + "\n ".join([*times.values(), *(f"p{row[0]}" for row in rows)]), "End"]
-    path.write_text("\n".join(lines) + "\n")
+def network_of(rows: Sequence[Row], fixed: Sequence[Tuple[int, int]], period: int) -> Network:
+    """The network of rows of activities and of fixed times."""
+    windows: Dict[int, Optional[Window]] = {event: None for row in rows for event in row[1:3]}
+    windows.update({event: Window(time) for event, time in fixed})
+    return Network(period, windows, {row[0]: Activity(*row) for row in rows})
 
 
-FORMULATIONS = {"cycles": write_cycles, "plain": write_plain}
+FORMULATIONS = {"cycles": by_cycles, "plain": by_times}
 
 
 def words_of(solver: str, model: Path, seconds: int) -> List[str]:
@@ -67,7 +59,7 @@ def answer_of(log: str) -> Optional[str]:
 def solved(solver: str, formulation: str, folder: Path, rows: Sequence[Row], fixed: Sequence[Tuple[int, int]], period: int, seconds: int) -> Solved:
     """One solver over one formulation. What it takes to write the model is not counted."""
     model = folder / "model.lp"
-    FORMULATIONS[formulation](rows, fixed, period, model)
+    model.write_text(FORMULATIONS[formulation](network_of(rows, fixed, period)).lp())
     ran = run_limited(words_of(solver, model, seconds), "/dev/null", folder / "memory", seconds + MORE_SECONDS)
     ended = ran.seconds is not None and ran.seconds <= seconds - 1
     return Solved(ran.seconds if ended else None, answer_of(ran.printed) if ended else None, ran.printed)

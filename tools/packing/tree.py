@@ -1,17 +1,20 @@
-"""The tree that is packed, as git has it, and the version that it is."""
+"""The tree that is packed, as git has it."""
 
 import io
 import os
 import pathlib
-import re
 import subprocess
 import tarfile
 from typing import Dict, Tuple
 
 TOP = pathlib.Path(__file__).resolve().parents[2]
-PARTS = ["README.md", "CHANGELOG.md", "SECURITY.md", "man", "completions", "docs", "examples", "embedded", "tools/install"]
-PARTS += ["python/README.md", "python/pyproject.toml", "python/pespbench"]
-PARTS += ["page/README.md", "page/page.png", "page/pespbench.html"]
+# The version, which stands there alone.
+VERSION = "python/pespbench/VERSION"
+# What a package says of itself, in the place of the tree's own page.
+OWN_PAGE = "tools/packing/README.txt"
+PARTS = [OWN_PAGE, "CHANGELOG.md", "SECURITY.md", "man", "completions", "docs", "examples", "embedded", "tools/install", "tools/packing/try"]
+PARTS += ["python/README.md", "python/pyproject.toml", "python/setup.py", "python/pespbench"]
+PARTS += ["page/README.md", "page/page.png", "page/pespbench.html", "page/module.js", "tools/module"]
 
 
 class NotMade(Exception):
@@ -48,12 +51,3 @@ def committed() -> Dict[str, Tuple[bytes, bool]]:
 def has_changes() -> bool:
     """Whether a file that is packed is other than HEAD has it."""
     return bool(git("status", "--porcelain", "--untracked-files=no", "--", *PARTS))
-
-
-def version_of(changelog: str) -> str:
-    """The newest version that a changelog has, with `+unreleased` where more stands above it. Raises NotMade."""
-    heading = re.search(r"^## \[?([0-9][0-9.]*)", changelog, re.M)
-    if heading is None:
-        raise NotMade("CHANGELOG.md has no version")
-    above = re.search(r"^## [^\n]*\n(.*)", changelog[: heading.start()], re.M | re.S)
-    return heading[1] + ("+unreleased" if above and above[1].strip() else "")

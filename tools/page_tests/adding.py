@@ -24,21 +24,21 @@ def activity_added(suite: Suite, page: Hands) -> None:
     page.press("exchange")
     suite.note("they are exchanged", {"chosen": 4}, {"chosen": page.ask("Page.chosen")})
     page.press("exchange")
-    for name, text in [("kind", "change"), ("least", "3"), ("most", "0:20"), ("weight", "7")]:
+    for name, text in [("kind", "walk"), ("least", "3"), ("most", "0:20"), ("weight", "7")]:
         page.fill(f"#added-{name}", text)
     page.press("add-it")
     came = {"lines": page.lines(), "kind": page.ask("Page.labels.kinds.get(146)")}
-    suite.note("added", {"lines": ["add activity 146 4 9 3 20 7"], "kind": "change"}, came)
-    suite.holds("its card names it", "change" in page.text('[data-activity="146"] .title button'))
+    suite.note("added", {"lines": ["add activity 146 4 9 3 20 7"], "kind": "walk"}, came)
+    suite.holds("its card names it", "walk" in page.text('[data-activity="146"] .title button'))
     page.key("z", 90, CTRL)
     page.frame()
     came = {"size": page.text("#size"), "kind": page.ask("Page.labels.kinds.has(146)"), "saved": page.ask("Page.isSaved()")}
     suite.note("undone", {"size": size, "kind": False, "saved": True}, came)
     page.key("y", 89, CTRL)
     page.frame()
-    suite.note("done again", {"kind": "change"}, {"kind": page.ask("Page.labels.kinds.get(146)")})
+    suite.note("done again", {"kind": "walk"}, {"kind": page.ask("Page.labels.kinds.get(146)")})
     saved = page.ask("Page.filesToSave()")
-    suite.holds("it is saved", "146; 4; 9; 3; 20; 7" in saved["activities"] and "146;change" in saved["labels"])
+    suite.holds("it is saved", "146; 4; 9; 3; 20; 7" in saved["activities"] and "146;walk" in saved["labels"])
     page.press("add-from")
     page.click(*page.middle('[data-row="1"] .name'))
     page.frame()

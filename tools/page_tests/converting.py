@@ -2,9 +2,11 @@
 
 import pathlib
 import tempfile
-from typing import Dict, List, Mapping, Tuple, Union
+import zipfile
+from typing import Any, Dict, List, Mapping, Tuple, Union
 
 from page_tests.hands import TWO_TRAINS, Hands
+from page_tests.untouched import placed
 from tests.harness import Suite
 
 HEADER = "activity; from; to; lower; upper; weight\n"
@@ -100,7 +102,7 @@ def doubtful(suite: Suite, page: Hands) -> None:
         ("two columns", "1,1,2,0,0,5,0\n", "record 1: wrong number of fields", "It has decimal commas."),
         ("a row without one", "1,1,2,3,5,2,0\n2,2,1,4,6,1\n", "record 1: wrong number of fields", "It has decimal"),
         ("tabs in some rows", f"{ROW}2\t2\t1\t4\t6\t1\n", "record 3: wrong number of fields", "Tabs stand between"),
-        ("a row of tabs", f"{TABS}# c\n\t\nx\t2\t1\t4\t6\t1\n", "record 5: field 1 is not a number", ""),
+        ("a row of tabs", f"{TABS}# c\n\t\nx\t2\t1\t4\t6\t1\n", "record 5: field 1 is not a number", "Events and activities have numbers here."),
     ]:
         given(page, {"activities": data, "period": "10"})
         state, came = page.text("#title"), page.opening()
@@ -110,4 +112,63 @@ def doubtful(suite: Suite, page: Hands) -> None:
     page.again()
 
 
-GROUPS = [converted, others, doubtful]
+def dropped(page: Hands, files: Dict[str, bytes]) -> Dict[str, Any]:
+    """What the dialog tells of some files with a period, on a page that nobody has touched."""
+    page.again()
+    with tempfile.TemporaryDirectory() as folder:
+        for name, data in files.items():
+            (pathlib.Path(folder) / name).write_bytes(data)
+        page.drop(*(pathlib.Path(folder) / name for name in files), *placed(folder, {"period": "60\n"}))
+        if page.ask("Page.find('opening').open") and not page.opening()["told"]:
+            page.click(*page.middle("#opening .main"))
+            page.until("Page.find('opening-fault').textContent !== ''")
+        return page.opening()
+
+
+def sheet() -> bytes:
+    """The beginning of a file of a spreadsheet."""
+    with tempfile.TemporaryDirectory() as folder:
+        path = pathlib.Path(folder) / "sheet"
+        with zipfile.ZipFile(path, "w") as archive:
+            archive.writestr("[Content_Types].xml", "<Types/>")
+        return path.read_bytes()
+
+
+def other_forms(suite: Suite, page: Hands) -> None:
+    """What other programs write is told with what to do: spreadsheets, LinTim's events, names for numbers, and halves of minutes."""
+    row = b"1; 1; 2; 3; 5; 2\n"
+    for name, files, told, word in [
+        ("xlsx", {"activities.xlsx": sheet()}, "activities.xlsx is a spreadsheet in its own form, which is not read here", "Save each of its sheets as CSV"),
+        ("ods", {"plan.ods": sheet()}, "plan.ods is a spreadsheet in its own form, which is not read here", "Save each of its sheets as CSV"),
+        ("xls", {"times.xls": b"\xd0\xcf\x11\xe0\xa1\xb1\x1a\xe1" + bytes(600), "activities": row}, "times.xls is a spreadsheet in its own form, which is not read here", "Save each"),
+        ("LinTim", {"activities": row, "Events-periodic.giv": b'1; "departure"; 1; 1; 0; >; 1\n'}, "events file, record 1: wrong number of fields", "A file of events has their numbers alone"),
+        ("names", {"activities": b"activity;from;to;lower;upper;weight\n1; Ashford; Benton; 3; 5; 2\n"}, "activities file, record 2: field 2 is not a number", "Events and activities have numbers here."),
+        ("half a minute", {"activities": b"1; 1; 2; 5,5; 9; 2\n"}, "activities file, record 1: field 4 is not a number", "5.5 is no whole number."),
+        ("with a unit", {"activities": b"1; 1; 2; 3 min; 9; 2\n"}, "activities file, record 1: field 4 is not a number", "Write minutes as a whole number"),
+    ]:
+        came = dropped(page, files)
+        suite.note(name, {"open": True, "told": told, "help": word}, {**came, "help": came["help"][: len(word)]})
+    page.ask("document.querySelectorAll('dialog[open]').forEach(each => each.close())")
+
+
+def whole_minutes(suite: Suite, page: Hands) -> None:
+    """Numbers with a point before zeros, and times of the clock, are whole minutes, and a word says what was read so."""
+    zeros, clock = "zeros after points left out", "times of the clock read as minutes"
+    for name, rows, told in [
+        ("zeros", "1.0; 1; 2.00; 3.0; 5; 2\n", zeros),
+        ("a clock", "1; 1; 2; 0:03; 00:05; 2\n", clock),
+        ("among commas, in quotes", '1,1,2,"3.0",0:05,2\n', f"{zeros}, {clock}"),
+        ("tabs", "1\t1\t2\t3.0\t0:05\t2\n", f"tabs taken as separators, {zeros}, {clock}"),
+        ("decimal commas", "1; 1; 2; 3,0; 0:05; 2\n", f"decimal commas read as points, {clock}"),
+    ]:
+        page.again()
+        with tempfile.TemporaryDirectory() as folder:
+            page.drop(*placed(folder, {"activities": rows, "times": "1; 0:07\n2; 10.0\n", "period": "60\n"}))
+        page.until("Page.find('opening').open || Page.find('said').textContent.startsWith('opened')")
+        activity = {"number": 1, "first": 1, "last": 2, "lower": 3, "upper": 5, "weight": 2}
+        came = {"activity": page.ask("Page.view.network.activities.get(1)"), "times": page.ask("[...Page.view.times]"), "said": page.said().split(" — ")[1:]}
+        wanted = {"activity": activity, "times": [[1, 7], [2, 10]], "said": [f"activities: {told}", f"times: {zeros}, {clock}"]}
+        suite.note(name, wanted, came)
+
+
+GROUPS = [converted, others, doubtful, other_forms, whole_minutes]

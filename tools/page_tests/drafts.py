@@ -3,7 +3,7 @@
 import os
 import signal
 import time
-from typing import List, Tuple
+from typing import List, Optional, Tuple
 
 from page_tests.hands import TWO_TRAINS, Hands
 from page_tests.keys import CTRL
@@ -57,6 +57,12 @@ def is_kept(page: Hands) -> None:
     page.until(f"{KEPT} === 1")
 
 
+def open_first(page: Hands) -> None:
+    """Opens the first draft that is listed, and waits until that is told: the page asks first whether another one holds it."""
+    page.click(*page.middle("#drafts .main"))
+    page.until("/^the draft of|^The draft cannot/i.test(Page.find('said').textContent)")
+
+
 def draft_kept(suite: Suite, page: Hands) -> None:
     """Nothing is kept before the planner says so; then what is not saved is there after a crash, with all of its steps."""
     forget(page)
@@ -76,8 +82,7 @@ def draft_kept(suite: Suite, page: Hands) -> None:
     told = page.text("#drafts p")
     suite.holds(f"offered: {told}", told.startswith("A draft of “A region of 112 events” of ") and "3 steps" in told)
     suite.note("nothing is opened by itself", {"lines": []}, {"lines": page.lines()})
-    page.click(*page.middle("#drafts .main"))
-    page.frame()
+    open_first(page)
     came = {"state": page.state(), "lines": page.lines(), "title": page.text("#title"), "steps": page.ask(steps)}
     suite.note("opened", wanted, came)
     suite.holds("a train that was moved is told as one", came["steps"][2] == "R2 to Hatton 3 minutes later")
@@ -103,8 +108,8 @@ def draft_of_names(suite: Suite, page: Hands) -> None:
         page.ask(script)
         is_kept(page)
         page.again()
-        page.click(*page.middle("#drafts .main"))
-        page.frame()
+        open_first(page)
+        page.ask("Page.showRow(1)")
         came = {"name": page.text("#chosen-name"), "lines": page.lines(), "saved": page.ask("Page.isSaved()")}
         suite.note(name, {"name": "R9 to Inworth leaves Gorsley", "lines": lines, "saved": False}, came)
         for _ in range(1 + len(lines)):
@@ -123,7 +128,7 @@ def drafts_dropped(suite: Suite, page: Hands) -> None:
     is_kept(page)
     page.again()
     page.click(*page.middle("#drafts button:not(.main)"))
-    page.frame()
+    page.until("Page.find('said').textContent.startsWith('the draft is dropped')")
     came = {"shown": page.is_shown("drafts"), "kept": page.ask(KEPT), "said": page.said()}
     suite.note("dropped", {"shown": False, "kept": 0, "said": "the draft is dropped"}, came)
     saved = "Page.showSaving(); Page.find('save-all').click(); Page.find('saving').close()"
@@ -151,11 +156,10 @@ def draft_asked(suite: Suite, page: Hands) -> None:
     page.drag([page.minute(1, 2), page.minute(1, 5)])
     page.until(f"{KEPT} === 2")
     page.click(*page.middle("#drafts .main"))
-    page.frame()
+    page.until("document.querySelector('#drafts .main').dataset.asked")
     came = {"lines": page.lines(), "button": page.text("#drafts .main")}
     suite.note("asked", {"lines": ["fix 1 5"], "button": "Open it, and lose what is not saved"}, came)
-    page.click(*page.middle("#drafts .main"))
-    page.frame()
+    open_first(page)
     suite.note("given up", {"lines": ["fix 1 30"]}, {"lines": page.lines()})
     page.again()
     told = page.ask("[...document.querySelectorAll('#drafts p')].map(each => each.textContent.split('”')[0])")
@@ -175,6 +179,7 @@ def drafts_strange(suite: Suite, page: Hands) -> None:
         ("two lines in one", base.replace("STEPS", '[["fix 1 3\\\\nadd event 9"]]'), unread),
         ("a search", base.replace("STEPS", '[["adopt"]]'), unread),
         ("a day that is none", '{"title":"a","at":1e99,"labels":"","files":{},"steps":[]}', unread),
+        ("a file of commands", base.replace('"period"', '"lines":"adopt","period"').replace("STEPS", '[["fix 1 3"]]'), unread),
         ("markup", base.replace("STEPS", '[["fix 1 3"]]'), "A draft of “<img src=x onerror=hostile=1>” of "),
         ("a line that is refused", base.replace("STEPS", '[["fix 7 3"]]'), "A draft of “<img src=x onerror=hostile=1>” of "),
     ]:
@@ -182,12 +187,79 @@ def drafts_strange(suite: Suite, page: Hands) -> None:
         page.again()
         shown = page.text("#drafts p")
         suite.note(name, {"told": told}, {"told": shown[: len(told)]})
-    page.click(*page.middle("#drafts .main"))
-    page.frame()
-    suite.note("refused", {"said": "fix 7 3 — refused 2 no event 7"}, {"said": page.said()})
+    open_first(page)
+    came = {"said": page.said(), "title": page.text("#title")}
+    told = "The draft cannot be opened: fix 7 3: refused 2 no event 7."
+    suite.note("refused", {"said": told, "title": "A region of 112 events"}, came)
     came = {"acted": page.ask("typeof hostile"), "images": page.ask("document.images.length")}
     suite.note("and nothing acts", {"acted": "undefined", "images": 0}, came)
     page.ask("localStorage.clear()")
+
+
+class Second:
+    """Another page of the same browser, over which the hands are for a while."""
+
+    def __init__(self, page: Hands) -> None:
+        self.page, self.first = page, page._session
+
+    def __enter__(self) -> "Second":
+        self.page._session = None
+        self.target = self.page.call("Target.createTarget", url=self.page.address)["targetId"]
+        self.second = self.page.call("Target.attachToTarget", targetId=self.target, flatten=True)["sessionId"]
+        self.turn(self.second)
+        self.page.call("Page.enable")
+        self.page.until("document.body.classList.contains('ready')")
+        return self
+
+    def turn(self, session: Optional[str]) -> None:
+        """Goes to one of the two pages."""
+        self.page._session = session
+        self.page.call("Page.bringToFront")
+
+    def __exit__(self, *_: object) -> None:
+        self.page._session = None
+        self.page.call("Target.closeTarget", targetId=self.target)
+        self.turn(self.first)
+
+
+LISTED = "[...document.querySelectorAll('#drafts p')].map(each => each.textContent)"
+KEYS = "Object.keys(localStorage).filter(key => key.startsWith('pespbench-draft-')).sort()"
+STEPS_KEPT = f"{KEYS}.map(key => JSON.parse(localStorage[key]).steps.flat().join()).sort()"
+
+
+def drafts_apart(suite: Suite, page: Hands) -> None:
+    """A draft is the page's that holds it: another one opens a copy, drops none of it, and takes none of it by saving its own."""
+    forget(page)
+    tick(page)
+    page.drag([page.minute(1, 20), page.minute(1, 30)])
+    is_kept(page)
+    page.again()
+    page.click(*page.middle("#drafts .main"))
+    page.until("Page.journal().length === 1")
+    with Second(page) as both:
+        came = {"listed": [text.split(", ")[-1] for text in page.ask(LISTED)]}
+        suite.note("in another page", {"listed": ["is open in another page.Open a copy"]}, came)
+        page.click(*page.middle("#drafts .main"))
+        page.until("Page.journal().length === 1")
+        suite.holds(f"a copy: {page.said()}", "as one of its own, and not saved yet" in page.said())
+        page.drag([page.minute(2, 20), page.minute(2, 40)])
+        page.until(f"{KEPT} === 2 && {STEPS_KEPT}.includes('fix 1 30,fix 2 40')")
+        suite.note("each has its own", {"kept": ["fix 1 30", "fix 1 30,fix 2 40"]}, {"kept": page.ask(STEPS_KEPT)})
+        both.turn(both.first)
+        page.drag([page.minute(3, 20), page.minute(3, 25)])
+        page.until(f"{STEPS_KEPT}.includes('fix 1 30,fix 3 25')")
+        both.turn(both.second)
+        page.ask("Page.showSaving(); Page.find('save-all').click(); Page.find('saving').close()")
+        page.until(f"{KEPT} === 1")
+        suite.note("saved in one", {"kept": ["fix 1 30,fix 3 25"]}, {"kept": page.ask(STEPS_KEPT)})
+        both.turn(both.first)
+        suite.note("the other one has its work", {"lines": ["fix 1 30", "fix 3 25"]}, {"lines": page.lines()})
+        page.again()
+        both.turn(both.second)
+        page.until("document.querySelector('#drafts .main').textContent === 'Open it'")
+        suite.note("free once it is left", {"buttons": 2}, {"buttons": page.ask("document.querySelectorAll('#drafts button').length")})
+    page.ask("localStorage.clear()")
+    forget(page)
 
 
 def drafts_refused(suite: Suite, page: Hands) -> None:
@@ -219,4 +291,4 @@ def drafts_refused(suite: Suite, page: Hands) -> None:
     forget(page)
 
 
-GROUPS = [draft_kept, draft_of_names, drafts_dropped, draft_asked, drafts_strange, drafts_refused]
+GROUPS = [draft_kept, draft_of_names, drafts_dropped, draft_asked, drafts_strange, drafts_apart, drafts_refused]

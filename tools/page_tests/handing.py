@@ -127,6 +127,23 @@ def link_asked(suite: Suite, page: Hands) -> None:
     suite.note("given up", {"title": "A region of 112 events"}, {"title": page.text("#title")})
 
 
+def link_of_names(suite: Suite, page: Hands) -> None:
+    """A link of labels alone, which would change the names of what is open, is opened by a click alone, with a word on that."""
+    page.again()
+    page.show(TWO_TRAINS)
+    before = page.ask(NAMES)
+    page.ask("Page.say('')")
+    page.call("Page.navigate", url=page.address + fragment(json.dumps({"a/labels": "event; line\n1; R9\n"}).encode()))
+    page.until("Page.find('opening').open || Page.find('said').textContent !== ''")
+    page.frame()
+    came = {"open": page.opening()["open"], "names": page.ask(NAMES), "word": page.opening()["help"][:27]}
+    suite.note("asked", {"open": True, "names": before, "word": "The link has names alone: t"}, came)
+    page.click(*page.middle("#opening-form .main"))
+    page.until("Page.find('said').textContent.startsWith('opened')")
+    suite.note("added", {"line": "R9"}, {"line": page.ask("Page.labels.events.get(1).line")})
+    page.again()
+
+
 def links_refused(suite: Suite, page: Hands) -> None:
     """Links that are too long, damaged, bombs or no networks are refused with a word, and nothing is lost."""
     page.again()
@@ -255,4 +272,4 @@ def unmet_on_paper(suite: Suite, page: Hands) -> None:
         page.ask("window.dispatchEvent(new Event('afterprint'))")
 
 
-GROUPS = [named, links_opened, link_asked, links_refused, too_large, link_without, on_paper, unmet_on_paper]
+GROUPS = [named, links_opened, link_asked, link_of_names, links_refused, too_large, link_without, on_paper, unmet_on_paper]

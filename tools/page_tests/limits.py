@@ -1,6 +1,7 @@
 """The page at the limits of the program, with files that exist: each answer is quick, told, and exact."""
 
 import pathlib
+import re
 import tempfile
 import time
 import zipfile
@@ -99,13 +100,13 @@ def long_files(suite: Suite, page: Hands) -> None:
         suite.note("many long files in one archive", {"told": told}, page.opening())
 
 
-def lines_of(count: int, stations: int) -> Dict[str, str]:
-    """A network of so many lines, each between stations of its own, with labels and times."""
+def lines_of(count: int, stations: int, is_shared: bool = False) -> Dict[str, str]:
+    """A network of so many lines, each between stations of its own or all between the same, with labels and times."""
     events: List[str] = []
     activities: List[str] = []
     kinds: List[str] = []
     for line in range(count):
-        names = [f"S{line * stations + place}" for place in range(stations)]
+        names = [f"S{(0 if is_shared else line) * stations + place}" for place in range(stations)]
         for place, name in enumerate(names):
             for kind in ("arrival", "departure")[place == 0 : 1 + (place < stations - 1)]:
                 events.append(f"{len(events) + 1}; L{line}; {names[-1]}; {name}; {kind}\n")
@@ -158,6 +159,24 @@ def elided(suite: Suite, page: Hands) -> None:
     drawn_in_time(suite, page, "all are violated", "violated", wanted)
 
 
+@within(300)
+def many_lines_drawn(suite: Suite, page: Hands) -> None:
+    """A diagram and a corridor of 50 lines draw a part of their runs and stations, with a word that says so."""
+    for stations, is_shared, tab, wanted in [
+        (80, False, "diagram", ""),
+        (190, True, "diagram", "Elided: of 9,261 runs of other lines the first 2,000 are shown."),
+        (190, True, "corridor", "Elided: of 190 stations the 120 about S0 are drawn."),
+    ]:
+        with tempfile.TemporaryDirectory() as folder:
+            page.again()
+            page.drop(*placed(folder, lines_of(50, stations, is_shared)))
+            page.until(OPENED)
+        page.ask("Page.chooseCorridor([...Page.view.lines[0].stations])")
+        drawn_in_time(suite, page, f"50 lines of {stations} stations", tab, wanted)
+        drawn = page.ask(f"document.querySelectorAll('#{tab} *').length")
+        suite.holds(f"50 lines of {stations} stations, {tab}: {drawn:,} elements", 200 < drawn < 16_000)
+
+
 def exact(suite: Suite, page: Hands) -> None:
     """A cost beyond what a number of a script tells exactly is shown as it is, in its digits."""
     weights = [1_000_000_000 - (number <= 3_750) for number in range(7_500)]
@@ -177,4 +196,56 @@ def exact(suite: Suite, page: Hands) -> None:
     suite.note("a cost", {"shown": cost, "printed": True}, came)
 
 
-GROUPS = [at_the_limits, followed, long_files, elided, exact]
+# What is drawn and told anywhere, as its markup.
+MARKUP = "document.body.innerHTML.replace(/<script[^]*?<[/]script>/g, '')"
+UNKNOWN = re.compile(r"NaN|Infinity|undefined|[0-9]e[+][0-9]")
+FAR = [
+    ("the greatest numbers", [("1e308", "1e308"), ("-1e308", "-1e308"), ("0", "1e308")]),
+    ("far along one axis", [("1e308", "0"), ("-1e308", "1"), ("3", "2")]),
+    ("the least numbers", [("5e-324", "0"), ("0", "5e-324"), ("0", "0")]),
+    ("both", [("1.7e308", "5e-324"), ("-1.7e308", "0"), ("0", "1")]),
+]
+
+
+def far_places(suite: Suite, page: Hands) -> None:
+    """Places beyond any map are drawn, on the screen and on paper, and saved as they are."""
+    texts = lines_of(1, 3)
+    for name, places in FAR:
+        rows = "".join(f"S{place}; {x}; {y}\n" for place, (x, y) in enumerate(places))
+        page.again()
+        page.show({**texts, "places": f"station; x; y\n{rows}"})
+        page.press("tab-netgraph")
+        suite.note(f"{name}: the netgraph", {"unknown": []}, {"unknown": UNKNOWN.findall(page.ask("Page.find('view-netgraph').innerHTML"))})
+        rings = "new Set([...document.querySelectorAll('#netgraph .ring')].map(each => each.outerHTML)).size"
+        suite.note(f"{name}: apart", {"rings": 3}, {"rings": page.ask(rings)})
+        page.ask("window.dispatchEvent(new Event('beforeprint'))")
+        suite.note(f"{name}: on paper", {"unknown": []}, {"unknown": UNKNOWN.findall(page.ask("Page.find('printed').innerHTML"))})
+        page.ask("window.dispatchEvent(new Event('afterprint'))")
+        saved = page.ask("[...Page.readPlaces(Page.filesToSave().places)]")
+        suite.note(f"{name}: saved", {"places": [[f"S{place}", [float(x), float(y)]] for place, (x, y) in enumerate(places)]}, {"places": saved})
+    page.again()
+
+
+def great_costs(suite: Suite, page: Hands) -> None:
+    """Costs beyond 2 to the 53rd are told in all their digits: as a step changes them, beside each other, found, and in a report."""
+    count, weight = 6_400, 999_999_999
+    rows = "".join(f"{number}; 1; 2; 0; 1439; {weight}\n" for number in range(count))
+    page.again()
+    page.show({"activities": rows, "times": "1; 0\n2; 1439\n", "period": "1440"})
+    before = 1439 * weight * count
+    suite.holds("it is so great", before > 2**53)
+    page.ask("Page.step(['weight 0 999999998'])")
+    after = before - 1439
+    came = {"cost": page.text("#figure-cost b"), "change": page.text("#figure-cost small")}
+    suite.note("a step", {"cost": f"{after:,}", "change": "1,439 less"}, came)
+    page.press("keep-A")
+    page.ask("Page.step(['weight 0 999999997'])")
+    page.press("keep-B")
+    page.press("tab-compare")
+    told = page.ask("Page.find('view-compare').textContent")
+    suite.holds("beside each other", f"{after:,}" in told and f"{after - 1439:,}" in told)
+    suite.note("nothing is unknown", {"they": []}, {"they": UNKNOWN.findall(page.ask(MARKUP))})
+    page.again()
+
+
+GROUPS = [at_the_limits, followed, long_files, elided, many_lines_drawn, exact, far_places, great_costs]

@@ -205,4 +205,29 @@ def reasons(suite: Suite, page: Hands) -> None:
     page.ask("Page.showTab('diagram')")
 
 
-GROUPS = [optima, stopped, beside_edits, reasons]
+def turned_as_shown(suite: Suite, page: Hands) -> None:
+    """A timetable that was found is turned to agree with the one shown, where nothing is held, and not else."""
+    page.again()
+    page.press("optimum")
+    page.until(DONE)
+    page.press("adopt")
+    page.ask("Page.step([...Page.view.times].map(([event, time]) => `time ${event} ${(time + 7) % 60}`))")
+    page.frame()
+    came = {"told": page.text("#compared"), "adopt": page.is_shown("adopt")}
+    suite.note("all times later", {"told": "it is the timetable shown", "adopt": False}, came)
+    before = page.ask("Object.fromEntries(Page.view.times)")
+    page.drag([page.middle('[data-way="21"]'), (page.middle('[data-way="21"]')[0] + 30, page.middle('[data-way="21"]')[1])])
+    suite.holds("a train is moved", page.ask("Object.fromEntries(Page.view.times)") != before)
+    page.press("adopt")
+    suite.note("it alone comes back", {"times": before}, {"times": page.ask("Object.fromEntries(Page.view.times)")})
+    suite.note("and all is met", {"violated": "0"}, {"violated": page.text("#figure-violations b")})
+    first = page.ask("Page.view.times.get(1)")
+    page.ask(f"Page.step(['fix 1 {(first + 1) % 60}'])")
+    page.press("optimum")
+    page.until(DONE)
+    page.press("adopt")
+    suite.note("what is held is not turned", {"time": (first + 1) % 60, "violated": "0"}, {"time": page.ask("Page.view.times.get(1)"), "violated": page.text("#figure-violations b")})
+    page.again()
+
+
+GROUPS = [optima, stopped, beside_edits, reasons, turned_as_shown]

@@ -179,7 +179,7 @@ def connected(suite: Suite, page: Hands) -> None:
     def by_mouse(steps: Steps) -> object:
         steps.click('[data-row="4"] .name')
         steps.click("#add-from")
-        steps.click('[data-row="9"] .name')
+        steps.click('[data-row="93"] .name')
         for name, text in [("kind", "change"), ("least", "3"), ("most", "8")]:
             steps.click(f"#added-{name}")
             steps.word(text)
@@ -187,7 +187,7 @@ def connected(suite: Suite, page: Hands) -> None:
         return page.lines(), page.ask("Page.labels.kinds.get(146)")
 
     def by_keys(steps: Steps) -> object:
-        for event in (4, 9):
+        for event in (4, 93):
             steps.seek(str(event))
             steps.press("+")
         for text in ("change", "3", "8"):
@@ -199,7 +199,7 @@ def connected(suite: Suite, page: Hands) -> None:
         return page.lines(), page.ask("Page.labels.kinds.get(146)")
 
     lines, kind = compared(suite, page, "add a connection", by_mouse, by_keys)
-    suite.note("it is there", {"lines": ["add activity 146 4 9 3 8 1"], "kind": "change"}, {"lines": lines, "kind": kind})
+    suite.note("it is there", {"lines": ["add activity 146 4 93 3 8 1"], "kind": "change"}, {"lines": lines, "kind": kind})
 
 
 def handed_over(suite: Suite, page: Hands) -> None:

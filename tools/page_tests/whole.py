@@ -9,7 +9,7 @@ from page_tests.hands import TWO_TRAINS, Hands
 from tests.harness import Suite, within
 
 # The most bytes that the page may have.
-MOST_BYTES = 650_000
+MOST_BYTES = 720_000
 
 
 # Requests that a page could make; each tells whether it was sent.

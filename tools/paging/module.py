@@ -22,9 +22,9 @@ EXPORTS = ["pesp_answer", "pesp_open", "pesp_close", "pesp_ask", "pesp_cost"]
 EXPORTS += ["pesp_try_move", "pesp_events", "pesp_times", "pesp_domain", "pesp_search"]
 STACK = 1024 * 1024
 
-# As rattle calls clang, but for what is of x86 alone, and at -O2, which runs as fast here and makes the module a tenth smaller
-# than -O3; the last two have no calls of functions that are not there.
-FLAGS = ["-ffunction-sections", "-fdata-sections", "-fintegrated-cc1", "-O2", "-Wno-override-module"]
+# As rattle calls clang, but for what is of x86 alone, and at -Os, which makes the module a twentieth smaller than -O2 and takes
+# at most a tenth longer for a search; the last two have no calls of functions that are not there.
+FLAGS = ["-ffunction-sections", "-fdata-sections", "-fintegrated-cc1", "-Os", "-Wno-override-module"]
 FLAGS += ["-mllvm", "-trap-unreachable", "-mllvm", "-disable-machine-licm", "-mllvm", "-sink-common-insts=false"]
 FLAGS += ["-mllvm", "-expand-div-rem-bits=64", "-mllvm", "-expand-fp-convert-bits=64"]
 HEAP_FLAGS = ["-O2", "-ffreestanding", "-fno-builtin", "-nostdinc"]
@@ -32,7 +32,7 @@ PLAIN = [f"--target={TARGET}", f"-mcpu={CPU}", "--no-default-config", "-no-canon
 
 # What the compiled module uses, which wasm-opt has to be told.
 FEATURES = ["bulk-memory", "extended-const", "multivalue", "mutable-globals", "nontrapping-float-to-int", "sign-ext"]
-LOWERING = ["--enable-memory64", *(f"--enable-{name}" for name in FEATURES), "--memory64-lowering", "-O3"]
+LOWERING = ["--enable-memory64", *(f"--enable-{name}" for name in FEATURES), "--memory64-lowering", "-Os", "--converge"]
 LOWERING += ["--strip-debug", "--strip-producers", "--strip-target-features"]
 
 
@@ -43,6 +43,8 @@ def written_anew(text: str) -> str:
         text, count = re.subn(place, line, text, flags=re.M)
         if count != 1:
             raise NotMade(f"the library's LLVM module has {count} lines like {place}")
+    # What the module does not export is not compiled, so that nothing is inlined for it.
+    text = re.sub(r"^define (void @(\w+)\()", lambda found: found[0] if found[2] in EXPORTS else f"define internal {found[1]}", text, flags=re.M)
     text = re.sub(r'"target-cpu"="[^"]*"', f'"target-cpu"="{CPU}"', text)
     return re.sub(r'"probe-stack"="[^"]*" "stack-probe-size"="[^"]*"', "", text)
 

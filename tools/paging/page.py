@@ -14,6 +14,8 @@ LINE = re.compile(r"^[ \t]*<!-- (?:(style|script|modules): (\S+)|(module)) -->[ 
 # A script that runs; one of modules says which is the last of them.
 SCRIPT = re.compile(r"<script(?: data-modules=\w+)?>(.*?)</script>", re.S)
 POLICY = re.compile(r'<meta http-equiv="Content-Security-Policy" content="([^"]*)">')
+# A comment that begins a line and ends one.
+COMMENT = re.compile(r"^[ \t]*(?://[^\n]*|/\*(?:(?!\*/).)*\*/[ \t]*)\n", re.M | re.S)
 # What would end an inline script or style early, or hide a part of it.
 BREAKS = ["</script", "</style", "<!--"]
 # The one rule that lets nothing in or out where no other rule does.
@@ -23,6 +25,11 @@ NOTHING = "default-src 'none'"
 def unindented(text: str) -> str:
     """A source without the more than ten thousand blanks that begin lines, and without empty lines; no text in it may have these."""
     return re.sub(r"^\s+", "", text, flags=re.M)
+
+
+def without_comments(text: str) -> str:
+    """A style or script without the comments that have lines of their own; no text in it may have such lines."""
+    return COMMENT.sub("", text)
 
 
 def packed(module: bytes) -> bytes:
@@ -36,7 +43,7 @@ def fitting(name: str, text: str) -> str:
     for word in BREAKS:
         if word in text.lower():
             raise NotMade(f"page/{name} has {word}, which would end it inside of a page")
-    return unindented(text)
+    return unindented(without_comments(text))
 
 
 def source(folder: pathlib.Path, name: str) -> str:

@@ -4,8 +4,8 @@ NOTHING = ""
 TWO = "1; 1; 2; 3; 5; 2 / 2; 2; 1; 4; 6; 1"
 THREE = "1; 1; 2; 1; 2; 0 / 2; 1; 3; 1; 2; 0 / 3; 2; 3; 1; 2; 0"
 
-STOPPED = "1 0 / 2 1 / 3 3"
-# They cost nothing and admit what the first activity of their case does, and make so many cycles that the tree alone is searched.
+STOPPED = "1 0 / 2 1 / 3 9"
+# They cost nothing and admit what the first activity of their case does, and so many keep a search from its end for some steps.
 COPIES = " / ".join(f"{number}; 3; 2; 2; 8; 0" for number in range(4, 1006))
 TEN = "0 1 2 3 4 5 6 7 8 9"
 FULL = f"domains 2 / 1: {TEN} / 2: {TEN}"
@@ -108,9 +108,9 @@ CASES = [
         "a stop with what an earlier one told",
         10,
         f"1; 3; 2; 2; 8; 3 / 2; 3; 2; 8; 14; 3 / 3; 1; 2; 1; 7; 1 / {COPIES}",
-        "try 0 / try 3 / try 0 / weight 1 4 / try 0 / fix 1 3 / try 0 / unfix 1 / try 0",
-        f"stopped none / stopped 18 3 / {STOPPED} / stopped 18 3 / {STOPPED} / ok / stopped 24 3 / {STOPPED} / ok / stopped none"
-        f" / ok / stopped 24 3 / {STOPPED}",
+        "try 0 / try 3 / try 0 / weight 2 4 / try 0 / fix 1 3 / try 0 / unfix 1 / try 0",
+        f"stopped none / stopped 12 3 / {STOPPED} / stopped 12 3 / {STOPPED} / ok / stopped 16 3 / {STOPPED} / ok / stopped none"
+        f" / ok / stopped 16 3 / {STOPPED}",
     ),
     (
         "loops that cost, and one that nothing meets",

@@ -27,7 +27,7 @@ with Bench.open("examples/two-trains/activities", period=10, program=sys.argv[1]
         except (PespbenchError, ValueError) as why:
             print(type(why).__name__, why)
 """
-ANSWERS = """Stopped(cost=None, times={})
+ANSWERS = """Stopped(cost=None, times={}, lower_bound=None)
 Optimum(cost=4, times={1: 0, 2: 4})
 None
 {1: Domain(event=1, residues=(0,)), 2: Domain(event=2, residues=(4, 5))}

@@ -235,6 +235,8 @@ def installed_library(suite: Suite) -> None:
         told = run(["pkg-config", "--cflags", "--libs", "pespbench"], env={**env, "PKG_CONFIG_PATH": str(prefix / "lib/pkgconfig")})
         flags = [f"-I{prefix}/include", f"-L{prefix}/lib", "-lpespbench"]
         suite.note("what pkg-config tells", {"told": [flag.encode() for flag in flags]}, {"told": told["standard output"].split()})
+        told = run(["pkg-config", "--modversion", "pespbench"], env={**env, "PKG_CONFIG_PATH": str(prefix / "lib/pkgconfig")})
+        suite.note("the version that it tells", {"standard output": (TOP / "python/pespbench/VERSION").read_bytes()}, told)
     words = [sys.executable, "-B", "-c", "from pespbench import Bench; print(Bench.open(None, engine='library').program)"]
     paths = {"PYTHONPATH": str(prefix / "share/pespbench/python"), "PATH": "/usr/bin:/bin", "PESPBENCH": "", "PESPBENCH_LIB": ""}
     came = run(words, env={**env, **paths})

@@ -1,14 +1,19 @@
 """What tools/install promises of PREFIX, of links, of who can read, and of two at once; and where the command looks for modules."""
 
 import os
+import random
+import shutil
 import subprocess
+import sys
 from pathlib import Path
-from typing import Any, Dict
+from typing import Any, Dict, List, Tuple
 
-from tests.harness import TOP, Came, Suite, run, within
+from tests.harness import NOT_READ, NOT_WRITTEN, TOP, Came, Suite, run, within
+from tests.streams import drawn_lines
 
 INSTALL = TOP / "tools/install"
 TWO = TOP / "examples/two-trains/activities"
+VERSION = (TOP / "python/pespbench/VERSION").read_text().strip()
 ANSWER = b"optimum 4 2\n1 0\n2 4\n"
 
 
@@ -55,12 +60,15 @@ def installed_command(suite: Suite) -> None:
 @within(240)
 def installed_prefixes(suite: Suite) -> None:
     """PREFIX with marks that a shell or a search path takes for its own, and of nothing."""
-    for name in ["a:b", "two words", "it's $HOME", "-n"]:
+    for name in ["a:b", "two words", "it's $HOME", "./-n"]:
         suite.note(f"tools/install {name}", {"status": 0, "standard error": b""}, install(suite, name, cwd=suite.folder))
         prefix = suite.folder / name
         suite.note(f"the command in {name}", {"status": 0, "standard output": ANSWER}, searched(suite, prefix))
     for words in [[""], ["a\nb"], ["a", "b"]]:
         suite.note(f"tools/install {words}", {"status": 1, "standard output": b""}, install(suite, *words, cwd=suite.folder))
+    for words in [["-x"], ["--help=x"], ["--"], ["a", "-x"]]:
+        wanted = {"status": 2, "standard output": b"", "made": False}
+        suite.note(f"tools/install {words}", wanted, {**install(suite, *words, cwd=suite.folder), "made": (suite.folder / words[-1]).exists()})
     suite.holds("nothing is installed at home then", not (suite.folder / ".local").exists())
     env = {name: value for name, value in surroundings(suite).items() if name != "HOME"}
     suite.note("tools/install without HOME", {"status": 1}, run([INSTALL], env=env))
@@ -118,4 +126,73 @@ def installed_at_once(suite: Suite) -> None:
         is_whole(suite, f"four at once, {turn}", prefix)
 
 
-GROUPS = [installed_command, installed_prefixes, installed_links, installed_for_all, installed_at_once]
+# What --module wants beside Python.
+WANTED = ("wasm2c", "gcc")
+STREAMS, LINES = 200, 40
+
+
+@within(480)
+def installed_module(suite: Suite) -> None:
+    """Program and library of the page's module answer as the program does, and say that nothing of them is proved."""
+    missing = [name for name in WANTED if not shutil.which(name)]
+    if missing:
+        print(f"  nothing was installed of the page's module: there is no {missing[0]}")
+        return
+    prefix = suite.folder / "prefix"
+    came = install(suite, "--module", prefix, seconds=400)
+    suite.note("tools/install --module", {"status": 0, "standard error": b""}, came)
+    is_whole(suite, "tools/install --module", prefix)
+    made = prefix / "bin/pespbench"
+    told = f"pespbench {VERSION}, made of the page's module, and not proved\n".encode()
+    suite.note("the version that it tells", {"status": 0, "standard output": told}, run([made, "--version"]))
+    suite.holds("pkg-config says that nothing is proved", "not proved" in (prefix / "lib/pkgconfig/pespbench.pc").read_text())
+    suite.note("the command over it", {"status": 0, "standard output": ANSWER}, searched(suite, prefix))
+    same_streams(suite, made)
+    same_words(suite, made)
+    callers_of_module(suite, prefix)
+    suite.note("tools/install --remove", {"status": 0}, install(suite, "--remove", prefix))
+    suite.note("what is left then", {"files": []}, {"files": [str(path) for path in prefix.rglob("*") if not path.is_dir()]})
+
+
+def same_streams(suite: Suite, made: Path) -> None:
+    """Drawn runs, each with searches, give the program's bytes."""
+    draw = random.Random(8_501)
+    for number in range(STREAMS):
+        period = draw.randint(2, 12)
+        given = b"".join(line + b"\n" for line in drawn_lines(draw, period, LINES))
+        words = ["--period", str(period)]
+        suite.note(f"drawn stream {number}, {given!r}", run([suite.program, *words], given=given), run([made, *words], given=given))
+
+
+def same_words(suite: Suite, made: Path) -> None:
+    """Words, files and streams that are refused, faulty or at an end."""
+    crossed, lines = suite.file("crossed", b"1; 1; 2; 5; 3; 2\n"), b"x" * 4_096 + b"\n" + b"y" * 4_097
+    faulty: List[List[object]] = [[], ["--check", TWO], [suite.folder], ["none"], [crossed], ["--times", crossed], ["--check", "--times", TWO]]
+    for words in faulty:
+        suite.note(f"a run of {words}", run([suite.program, *words], given=lines), run([made, *words], given=lines))
+    refused: List[List[object]] = [["-x"], ["--period"], ["--period", "1"], ["--period=60", "--period=60"], ["--check=1"], ["a", "b"], ["--times", "-x"]]
+    for words in refused:
+        came = run([made, *words])
+        suite.note(f"refused words {words}", {"status": 2, "told": True}, {**came, "told": came["standard error"].startswith(b"error: ")})
+    suite.note("help", run([suite.program, "--help"]), run([made, "--help"]))
+    with open("/dev/full", "wb") as full:
+        suite.note("a full device", {"status": 1, "standard error": NOT_WRITTEN}, run([made], given=b"cost\n", stdout=full))
+    suite.note("standard input closed", {"status": 1, "standard error": NOT_READ}, run(["sh", "-c", 'exec "$0" <&-', made]))
+
+
+def callers_of_module(suite: Suite, prefix: Path) -> None:
+    """The library serves a caller in C, static and shared, and the Python package."""
+    folder = TOP / "examples/two-trains"
+    links: List[Tuple[str, List[object]]] = [("shared", [f"-L{prefix / 'lib'}", "-lpespbench"]), ("static", [prefix / "lib/libpespbench.a"])]
+    for title, link in links:
+        made = run(["gcc", "-O1", f"-I{prefix / 'include'}", "-o", suite.folder / title, TOP / "embedded/moves.c", *link])
+        suite.note(f"moves.c over the {title} library", {"status": 0, "standard error": b""}, made)
+        came = run([suite.folder / title, "10", folder / "activities", folder / "times", "1000"], env={"LD_LIBRARY_PATH": str(prefix / "lib")})
+        suite.note(f"moves over the {title} library", {"status": 0, "standard output": b"cost 3, now 3\n"}, came)
+    script = "from pespbench import Bench; b = Bench.open('activities', period=10, engine='library'); print(b.search(9).found().cost, b.adopt().cost, b.cost())"
+    paths = {"PYTHONPATH": str(prefix / "share/pespbench/python"), "PATH": os.environ["PATH"], "PYTHONDONTWRITEBYTECODE": "1"}
+    came = run([sys.executable, "-c", script], cwd=folder, env=paths)
+    suite.note("the Python package over it", {"status": 0, "standard output": b"4 4 4\n"}, came)
+
+
+GROUPS = [installed_command, installed_prefixes, installed_links, installed_for_all, installed_at_once, installed_module]

@@ -49,7 +49,7 @@ STATES = {
 
 def calls() -> Dict[str, List[Tuple[str, str]]]:
     """By the name of a call the names and types of its parameters, but for the allocator, which no caller sees."""
-    text = "".join((CRATE / name).read_text() for name in ["lib.rt", "numbers.rt", "searching.rt"])
+    text = "".join((CRATE / name).read_text() for name in ["lib.rt", "numbers.rt", "searching.rt", "pricing.rt"])
     found = re.findall(r'pub extern "C" fn (\w+)\((.*?)\)\s+ensures', text, re.S)
     given = {call: re.findall(r"(\w+): ([^,]+?)(?:,|$)", listed) for call, listed in found}
     return {call: [each for each in listed if each[1] != "Global"] for call, listed in given.items()}

@@ -10,17 +10,17 @@ import time
 import traceback
 from typing import Callable, Dict, Mapping, Optional, Sequence, Tuple
 
-from tests import arguments, checks, commands, devices, dialogue, documents, drawing, embedded, examples, files, installing, layout
+from tests import arguments, checks, commands, devices, dialogue, documents, drawing, drawn_cases, embedded, examples, files, helping, installing, layout
 from tests import limited, module_program, package, packaging, page_module, quick_model, rows, scripts, several, shelves, solvers, sources, start_script, strangers, streams, unproved
-from tests import without_proof, written
+from tests import without_proof, wording, written
 from tests.harness import PROGRAM, Suite
 
 # A group of tests, a function with a name.
 Group = Callable[[Suite], None]
 
 TOPICS = [examples, commands, quick_model, dialogue, streams, limited, several, arguments, files, rows, checks, devices, scripts, drawing, documents]
-TOPICS += [start_script, unproved, shelves, strangers, packaging, installing, package, embedded, layout, page_module, module_program, written]
-TOPICS += [sources, solvers, without_proof]
+TOPICS += [start_script, unproved, shelves, strangers, packaging, installing, package, embedded, layout, page_module, module_program, written, wording]
+TOPICS += [sources, solvers, without_proof, helping, drawn_cases]
 # A group takes a few seconds; this is the most where it names nothing else.
 SECONDS = 240
 

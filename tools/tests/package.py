@@ -68,6 +68,15 @@ def python_dask(suite: Suite) -> None:
         print("  nothing was tried over Dask: python3-distributed is not installed")
 
 
+@within(240)
+def python_habits(suite: Suite) -> None:
+    """The tests with tables, over pandas, numpy and networkx too where Debian's Python has them."""
+    has_pandas = subprocess.run([SYSTEM, "-c", "import networkx, pandas"], capture_output=True).returncode == 0
+    if not has_pandas:
+        print("  nothing was tried over pandas and networkx: python3-pandas and python3-networkx are not installed")
+    run_tests(suite, ["tests.test_habits"], SYSTEM if has_pandas else sys.executable)
+
+
 # A job of MPI as the superuser of a container, on fewer processors than it has processes.
 ANYWHERE = {"OMPI_ALLOW_RUN_AS_ROOT": "1", "OMPI_ALLOW_RUN_AS_ROOT_CONFIRM": "1", "OMPI_MCA_rmaps_base_oversubscribe": "1"}
 OVER_MPI = "mpiexec -n 8 python3 -m mpi4py.futures examples/on_a_cluster.py examples/two-changes mpi".split()
@@ -135,4 +144,4 @@ def python_package(suite: Suite) -> None:
 
 STANDARD = set(getattr(sys, "stdlib_module_names", ())) or {"argparse"}
 
-GROUPS = [*map(a_group, modules("tests.test_dask")), python_dask, python_mpi, python_types, tools_types, python_package]
+GROUPS = [*map(a_group, modules("tests.test_dask", "tests.test_habits")), python_dask, python_habits, python_mpi, python_types, tools_types, python_package]

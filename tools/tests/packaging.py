@@ -3,10 +3,12 @@
 import os
 import re
 import shutil
+import sys
 import tarfile
 from pathlib import Path
 from typing import Any, Dict, Sequence, Tuple
 
+from tests.documents import sessions
 from tests.harness import SOME, TOP, Came, Suite, run, within
 from tests.written import headings_of, links_of
 
@@ -14,6 +16,9 @@ from tests.written import headings_of, links_of
 SYSTEM = "/usr/bin/python3"
 
 
+VERSION = (TOP / "python/pespbench/VERSION").read_text().strip()
+# Who has the version, since nothing else can tell it there; a changelog has each that there was.
+NAMING = ["python/pespbench/VERSION", "embedded/rust/Cargo.toml", "CHANGELOG.md"]
 # tools/library makes it.
 LIBRARY = TOP / "crates/pesp_embedded/out/libpesp_embedded.a"
 ANSWER = ["-o", "answer", "embedded/answer.c", "embedded/heap.c", "embedded/libpesp_embedded.a"]
@@ -22,8 +27,11 @@ ANSWER = ["-o", "answer", "embedded/answer.c", "embedded/heap.c", "embedded/libp
 def called(suite: Suite, words: Sequence[object], **how: Any) -> Came:
     """What a tool gives, with the program of the tests as the built one, and a stand-in where the library is not built."""
     env = {"PATH": os.environ["PATH"], "HOME": str(suite.folder), "PESPBENCH": str(suite.program), "PYTHONDONTWRITEBYTECODE": "1"}
-    library = LIBRARY if LIBRARY.exists() else suite.file("stand-in.a", b"!<arch>\n")
-    return run(words, env={**env, "PESPBENCH_LIBRARY": str(library), **how.pop("env", {})}, **how)
+    if LIBRARY.exists():
+        env["PESPBENCH_LIBRARY"] = str(LIBRARY)
+    else:
+        env.update(PESPBENCH_LIBRARY=str(suite.file("stand-in.a", b"!<arch>\npesp_search\n")), CC="no-compiler")
+    return run(words, env={**env, **how.pop("env", {})}, **how)
 
 
 def git(tree: Path, *words: str) -> Came:
@@ -52,6 +60,7 @@ def package(suite: Suite) -> None:
     suite.holds("nothing that was compiled by Python is in it", not [name for name in names if name.endswith(".pyc")])
     top = next((suite.folder / "unpacked").iterdir())
     version(suite, top)
+    followed(suite, top)
     parts(suite, top)
     live_links(suite, top)
     sums = run(["sha256sum", "--check", "--quiet", "SHA256SUMS"], cwd=top)
@@ -64,11 +73,33 @@ def package(suite: Suite) -> None:
 
 
 def version(suite: Suite, top: Path) -> None:
-    """The name has the newest version of the changelog, and says where more stands above it."""
-    headings = re.findall(r"^## \[?([\w.]+)", (top / "CHANGELOG.md").read_text(), re.M)
+    """The name has the version."""
+    suite.note("the version of a package", {"name": f"pespbench-{VERSION}-{os.uname().machine}"}, {"name": top.name})
+
+
+def one_version(suite: Suite) -> None:
+    """VERSION has the newest version of the changelog, and says where more stands above it; all that tell one tell this."""
+    headings = re.findall(r"^## \[?([\w.]+)", (TOP / "CHANGELOG.md").read_text(), re.M)
     numbered = next(each for each in headings if each[0].isdigit())
-    wanted = numbered if headings[0] == numbered else f"{numbered}+unreleased"
-    suite.note("the version of a package", {"name": f"pespbench-{wanted}-{os.uname().machine}"}, {"name": top.name})
+    suite.note("VERSION", {"version": numbered if headings[0] == numbered else f"{numbered}+unreleased"}, {"version": VERSION})
+    cargo = re.findall(r'^version = "(.*)"$', (TOP / "embedded/rust/Cargo.toml").read_text(), re.M)
+    suite.note("the version for Cargo", {"version": [VERSION]}, {"version": cargo})
+    words = [sys.executable, "-B", "-c", "import pespbench; print(pespbench.__version__)"]
+    suite.note("the version of the package", {"standard output": f"{VERSION}\n".encode()}, run(words, cwd=TOP / "python"))
+    words = [sys.executable, "-B", "-m", "pespbench", "--version"]
+    suite.note("its --version", {"status": 0, "standard output": f"pespbench-py {VERSION}\n".encode()}, run(words, cwd=TOP / "python"))
+    names = [path for path in run(["git", "-C", TOP, "grep", "-lF", VERSION])["standard output"].decode().split() if path not in NAMING]
+    suite.note("who else has the number", {"files": []}, {"files": names})
+
+
+def followed(suite: Suite, top: Path) -> None:
+    """What its own page shows is what comes, wherever it is unpacked."""
+    blocks = list(sessions(top / "README.md"))
+    suite.holds("the page of the package shows something", blocks)
+    for shown in (shown for block in blocks for shown in block):
+        came = run(["sh", "-c", shown.command], cwd=top, env={"PATH": os.environ["PATH"], "PYTHONDONTWRITEBYTECODE": "1"})
+        wanted = {"status": 0, "standard output": shown.wanted().encode(), "standard error": b""}
+        suite.note(f"the page of the package: {shown.command}", wanted, came)
 
 
 def parts(suite: Suite, top: Path) -> None:
@@ -99,13 +130,16 @@ def a_clone(suite: Suite, name: str) -> Path:
     """A clone of what tools/package looks at, with names that are hard to a shell."""
     tree = suite.folder / name
     (tree / "tools/packing").mkdir(parents=True)
-    for path in [TOP / "tools/package", TOP / "tools/install", *(TOP / "tools").glob("packing/*.py")]:
+    (tree / "embedded").mkdir()
+    tools = [TOP / "tools" / name for name in ("package", "install", "packing/try", "packing/links.py", "packing/tree.py", "packing/__init__.py")]
+    for path in [*tools, *(TOP / "embedded").glob("*.[ch]")]:
         shutil.copy(path, tree / path.relative_to(TOP))
-    texts = {"CHANGELOG.md": "# Changes\n\n## Unreleased\n\n## 1.2.3\n\n- one\n", "README.md": "[a](docs/a.md) [b](other/b.md)\n"}
-    texts["SECURITY.md"] = ""
+    texts = {"CHANGELOG.md": "", "python/pespbench/VERSION": "1.2.3\n", "tools/packing/README.txt": "[a](docs/a.md) [b](other/b.md)\n"}
+    texts.update({"SECURITY.md": "", "README.md": "of the tree\n"})
     texts.update({f"{part}/a.md": "" for part in ["man", "completions", "docs", "embedded", "python/pespbench"]})
     texts.update({"docs/two words.md": "[up](../README.md#none)\n", "examples/a 'b' \"c\"": "", "examples/-n": "", "other/b.md": ""})
-    texts.update({"python/README.md": "", "python/pyproject.toml": "", "page/README.md": "", "page/page.png": "", "page/pespbench.html": "<p>"})
+    texts.update({name: "" for name in ["python/README.md", "python/pyproject.toml", "python/setup.py", "page/README.md", "page/page.png"]})
+    texts.update({"page/pespbench.html": "<p>", "page/module.js": "", "tools/module/main.js": ""})
     for file, text in texts.items():
         (tree / file).parent.mkdir(parents=True, exist_ok=True)
         (tree / file).write_text(text)
@@ -134,7 +168,7 @@ def package_of_a_clone(suite: Suite) -> None:
     """A package has what git has, whatever the names are, and nothing else, and is the same under each umask."""
     tree = a_clone(suite, "clone")
     name, modes, texts = packed(suite, tree, "tools/package with names that are hard to a shell")
-    suite.holds("nothing unreleased, and so a plain version", name.startswith("pespbench-1.2.3-"))
+    suite.holds("it has the version", name.startswith("pespbench-1.2.3-"))
     suite.holds("names with blanks and quotes are in it", {"docs/two words.md", "examples/a 'b' \"c\"", "examples/-n"} <= set(texts))
     suite.note("a link to what is not packed", {"text": b"[a](docs/a.md) b\n"}, {"text": texts.get("README.md")})
     for path in ["docs/secret", "python/pespbench/mine.py", "examples/a/b/notes~"]:
@@ -145,9 +179,6 @@ def package_of_a_clone(suite: Suite) -> None:
     again = packed(suite, tree, "tools/package beside files that are not in git", preexec_fn=lambda: os.umask(0o077))
     suite.note("what is packed again, by a careful user", {"package": (name, modes, texts)}, {"package": again})
     suite.holds("all can read it", modes and all(mode in (0o644, 0o755) for mode in modes.values()))
-    (tree / "CHANGELOG.md").write_text((tree / "CHANGELOG.md").read_text().replace("Unreleased\n", "Unreleased\n\n- two\n"))
-    git(tree, "commit", "-q", "-a", "-m", "two")
-    suite.holds("something unreleased is told", packed(suite, tree, "tools/package again")[0].startswith("pespbench-1.2.3+unreleased-"))
     shutil.rmtree(tree / ".git")
     suite.note("tools/package without git's files", {"status": 1}, called(suite, [tree / "tools/package", suite.folder]))
 
@@ -159,8 +190,8 @@ def installed(suite: Suite, prefix: Path) -> None:
     suite.note("the installed program", {"status": 0, "standard output": b"cost 0\n"}, came)
     words = ["pespbench-py", "search", "--period", "10", TOP / "examples/two-trains/activities"]
     suite.note("the installed package", {"status": 0, "standard output": b"optimum 4 2\n1 0\n2 4\n"}, called(suite, words, env=env))
-    page = called(suite, ["cmp", prefix / "share/man/man1/pespbench.1", TOP / "man/pespbench.1"])
-    suite.note("the installed manual page", {"status": 0}, page)
+    page = (TOP / "man/pespbench.1").read_text().replace('"pespbench"', f'"pespbench {VERSION}"', 1)
+    suite.note("the installed manual page", {"text": page}, {"text": (prefix / "share/man/man1/pespbench.1").read_text()})
     completion = prefix / "share/bash-completion/completions/pespbench"
     script = f". {completion}; COMP_WORDS=(pespbench --ti); COMP_CWORD=1; _pespbench; echo ${{COMPREPLY[@]}}"
     suite.note("bash completes an option", {"standard output": b"--times\n"}, run(["bash", "-c", script]))
@@ -176,13 +207,28 @@ def pip(suite: Suite) -> None:
     if run([SYSTEM, "-c", "import setuptools, wheel, pip"])["status"]:
         print("  pip was not tried: python3-pip, python3-setuptools and python3-wheel are not installed")
         return
-    shutil.copytree(TOP / "python", suite.folder / "python", ignore=shutil.ignore_patterns("__pycache__"))
-    words = ["-m", "pip", "install", "--quiet", "--no-index", "--no-build-isolation", "--target", "target", "./python"]
-    suite.note("pip install ./python", {"status": 0}, called(suite, [SYSTEM, *words], cwd=suite.folder, seconds=220))
+    for part in ["python", "tools/module"]:
+        shutil.copytree(TOP / part, suite.folder / part, ignore=shutil.ignore_patterns("__pycache__"))
+    (suite.folder / "page").mkdir()
+    for name in ["pespbench.html", "module.js"]:
+        shutil.copy(TOP / "page" / name, suite.folder / "page" / name)
+    install = ["-m", "pip", "install", "--quiet", "--no-index", "--no-build-isolation", "--target", "target", "./python"]
+    suite.note("pip install ./python", {"status": 0}, called(suite, [SYSTEM, *install], cwd=suite.folder, seconds=220))
     two = TOP / "examples/two-trains/activities"
     came = called(suite, [SYSTEM, "-m", "pespbench", "search", "--period", "10", two], env={"PYTHONPATH": str(suite.folder / "target")})
     suite.note("the package that pip installed", {"status": 0, "standard output": b"optimum 4 2\n1 0\n2 4\n"}, came)
     suite.holds("it tells its types", (suite.folder / "target/pespbench/py.typed").exists())
+    for part in ["python", "page", "tools"]:
+        shutil.rmtree(suite.folder / part)
+    env = {"PYTHONPATH": str(suite.folder / "target")}
+    words = [SYSTEM, "-m", "pespbench", "report", "--period", "10", "--output", "report.html", two]
+    suite.note("its report", {"status": 0, "standard error": b""}, called(suite, words, cwd=suite.folder, env=env))
+    suite.holds("which is the page", (suite.folder / "report.html").stat().st_size > 500_000)
+    suite.note("its version", {"standard output": f"pespbench-py {VERSION}\n".encode()}, called(suite, [SYSTEM, "-m", "pespbench", "--version"], env=env))
+    if shutil.which("node"):
+        script = f"from pespbench import Bench; print(Bench.open({str(two)!r}, period=10, engine='module').optimum())"
+        came = called(suite, [SYSTEM, "-c", script], cwd=suite.folder, env={**env, "PESPBENCH": "/none"})
+        suite.note("its module", {"status": 0, "standard output": b"Optimum(cost=4, times={1: 0, 2: 4})\n"}, came)
 
 
 def without_a_program(suite: Suite) -> None:
@@ -190,11 +236,46 @@ def without_a_program(suite: Suite) -> None:
     for tool in ["package", "install"]:
         tree = suite.folder / tool
         shutil.copytree(TOP / "tools/packing", tree / "tools/packing", ignore=shutil.ignore_patterns("__pycache__"))
-        (tree / "CHANGELOG.md").write_text("## 1.0\n")
         shutil.copy(TOP / "tools" / tool, tree / "tools" / tool)
         came = called(suite, [tree / "tools" / tool, tree], env={"PESPBENCH": ""})
         told = {"status": came["status"], "told": b"is not built" in came["standard error"]}
         suite.note(f"tools/{tool} without a program", {"status": 1, "told": True}, told)
 
 
-GROUPS = [package, package_of_a_clone, pip, without_a_program]
+@within(240)
+def packed_strangers(suite: Suite) -> None:
+    """What is no program or library of pespbench is neither packed nor installed, and is named."""
+    tree = a_clone(suite, "tree")
+    (suite.folder / "to").mkdir()
+    programs = {"true": b"#!/bin/sh\n", "another": b"#!/bin/sh\necho cost 1\n", "text": b"a text\n"}
+    for name, text in programs.items():
+        path = suite.file(name, text)
+        path.chmod(0o755)
+        for tool in ["package", "install"]:
+            came = called(suite, [tree / "tools" / tool, suite.folder / "to"], env={"PESPBENCH": str(path)})
+            refused_file(suite, f"tools/{tool} of a program {name}", path, came)
+    if not shutil.which("cc"):
+        return
+    source = suite.file("names.c", b"".join(b"void pesp_%s(void) {}\n" % name for name in [b"open", b"search"]))
+    run(["cc", "-c", "-o", suite.folder / "names.o", source])
+    run(["ar", "r", suite.folder / "names.a", suite.folder / "names.o"])
+    libraries = {"text": b"a text\n", "empty": b"!<arch>\n", "names": (suite.folder / "names.a").read_bytes()}
+    place = tree / "crates/pesp_embedded/out/libpesp_embedded.a"
+    place.parent.mkdir(parents=True)
+    for name, content in libraries.items():
+        path = suite.file(f"{name}.a", content)
+        place.write_bytes(content)
+        came = called(suite, [tree / "tools/package", suite.folder], env={"PESPBENCH_LIBRARY": str(path), "CC": "cc"})
+        refused_file(suite, f"tools/package of a library {name}", path, came)
+        came = called(suite, [tree / "tools/install", suite.folder / "to"], env={"CC": "cc"})
+        refused_file(suite, f"tools/install of a library {name}", place, came)
+
+
+def refused_file(suite: Suite, title: str, path: Path, came: Came) -> None:
+    """The file is named, and nothing is made but folders."""
+    told = f"{path} is no ".encode() in came["standard error"]
+    made = [str(each) for each in (suite.folder / "to").rglob("*") if each.is_file()]
+    suite.note(title, {"status": 1, "told": True, "made": []}, {"status": came["status"], "told": told, "made": made})
+
+
+GROUPS = [package, package_of_a_clone, packed_strangers, one_version, pip, without_a_program]

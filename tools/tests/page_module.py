@@ -100,7 +100,7 @@ def page(suite: Suite) -> None:
 # Modules of which the first one stands on both others, and the second on the third.
 OF_MODULES = INDEX + "<!-- modules: third -->\n<!-- modules: first -->\n"
 MODULES = {
-    "script__first_js": "// Imports.\n\nimport { two } from './second.js';\nimport {\n  Three,\n} from './third.js';\n\nglobalThis.told = [two(), new Three().number];\n",
+    "script__first_js": "// Imports.\n\nimport { two } from './second.js';\nimport {\n  Three,\n} from './third.js';\n\n/** What is told.\n * @type {number[]} */\nglobalThis.told = [two(), new Three().number]; // Here.\n",
     "script__second_js": "import { Three } from './third.js';\n\nexport const two = () => new Three().number - 1;\n",
     "script__third_js": "const number = 3;\n\nexport class Three {\n  get number() { return number; }\n}\n",
 }
@@ -125,8 +125,7 @@ return { two };
 PESPBENCH.first = (() => {
 const { two } = PESPBENCH.second;
 const { Three } = PESPBENCH.third;
-// Imports.
-globalThis.told = [two(), new Three().number];
+globalThis.told = [two(), new Three().number]; // Here.
 })();
 </script>
 """
@@ -139,7 +138,8 @@ def ran(scripts: List[str]) -> Any:
 
 
 def page_scripts(suite: Suite) -> None:
-    """Modules are put in order into scripts that run, whose names are in the policy; what is no such module is refused."""
+    """Modules are put in order into scripts that run, whose names are in the policy, without comments that have lines of their own;
+    what is no such module is refused."""
     came = refused(sources(suite, "modules", index_html=OF_MODULES, **MODULES))
     suite.note("modules", {"scripts": MADE_OF_MODULES}, {"scripts": came[came.find("<script data-modules") :]})
     parts = re.findall(r"<script data-modules=\w+>(.*?)</script>", came, re.S)

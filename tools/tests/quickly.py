@@ -135,6 +135,7 @@ def of_parts(words: argparse.Namespace, known: Sequence[Part]) -> int:
         print("\n".join(part.name for part in known))
         return 0
     print("tools/test: nothing is proved here; .ci/run proves everything", flush=True)
+    subprocess.run([TOP / "tools/packing/want", "node", "nodejs"], check=False)
     missing = [wanted for wanted in sorted({each for part in known for each in part.wants}) if not is_there(wanted)]
     there = [part for part in known if not set(part.wants) & set(missing)]
     passed, failed = run_all(there, max(1, words.jobs))

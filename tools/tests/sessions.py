@@ -21,6 +21,8 @@ Number = Union[int, Tuple[int, ...]]
 Numbers = Union[List[int], Tuple[int, ...]]
 # What a search tells: its state, the cost, a lower bound, and the times or the refusal.
 Searched = Tuple[int, int, int, Numbers]
+# State, cost and lower bound of a price, with the status of the call and the reason of a refusal.
+Priced = Tuple[int, int, int, int, int]
 
 
 class Session(ctypes.Structure):
@@ -57,6 +59,7 @@ class Library:
             "pesp_times": [of_session, ctypes.POINTER(ctypes.c_uint16), ctypes.c_size_t, of_told],
             "pesp_domain": [of_session, ctypes.c_uint32, ctypes.POINTER(ctypes.c_uint8), ctypes.c_size_t, of_told],
             "pesp_search": [of_session, ctypes.c_uint64, ctypes.POINTER(ctypes.c_uint16), ctypes.c_size_t, ctypes.POINTER(Found), of_told],
+            "pesp_price": [of_session, ctypes.c_uint32, ctypes.c_uint16, ctypes.c_uint64, ctypes.POINTER(Found), of_told],
         }
         self.calls = {name: getattr(library, name) for name in parameters}
         for name, call in self.calls.items():
@@ -120,6 +123,14 @@ class Library:
         times = self.shown("pesp_search", ctypes.c_uint16, [nodes], room, also=[found])
         self.goes_on = found.goes_on
         return (found.state, found.cost, found.lower_bound, times)
+
+
+    def price(self, event: int, time: int, nodes: int) -> Priced:
+        """State, cost and lower bound with the event at the time, or what was there, with status and reason."""
+        found = Found(7, 7, 7, 7)
+        self.calls["pesp_price"](self.session, event, time, nodes, found, self.told)
+        self.goes_on = found.goes_on
+        return (found.state, found.cost, found.lower_bound, self.told.status, self.told.reason)
 
 
 def lines_of(commands: bytes) -> List[bytes]:

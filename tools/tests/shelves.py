@@ -15,13 +15,19 @@ MOST_ON_THE_FIRST = 240
 # So many there were on one shelf. An edit that leaves the first goes to the second, and none is lost.
 LEAST_ON_BOTH = 492
 
-# It proves all crates but one, and says of each edit that stands where it looks what the edit's own last line says.
+# It proves all crates but one, and says of each edit that stands where it looks what the edit's own last line says. It knows
+# the two commands that it is given, and no other words.
 FAKE_RT = """#!/bin/sh
 echo "$@" in "$PWD" >>"$FAKE/log"
-if [ "$2" = unproved ]; then
-    echo "rt: unproved NOT PROVED"
-    exit 1
-fi
+case $# in
+    1) [ "$1" = check ] && [ -e ../../HANDLES ] || exit 2
+       [ "${PWD##*/}" = unproved ] || exit 0
+       echo "a line of the toolchain"
+       echo "logic=not-proved"
+       exit 1 ;;
+    2) [ "$1" = must-fail ] && [ -e HANDLES ] || exit 2 ;;
+    *) exit 2 ;;
+esac
 echo "rt: a line of the toolchain"
 for edit in crates/$2/must-fail/*.edit; do
     told=$(tail -n 1 "$edit")
@@ -103,14 +109,14 @@ def second_shelf(suite: Suite) -> None:
     low = [f"low/remark.edit: {BRACKETS}", "low: 2 of 2 refused"]
     high = [f"high/bad.edit: {BAD}", "high/no_word.edit: NOT TRIED: no word of it", f"high/passes.edit: {PROVED}"]
     high += ["high: 1 of 4 refused"]
-    none = ["unproved/plain.edit: NOT TRIED: rt: unproved NOT PROVED", "unproved: 0 of 1 refused"]
+    none = ["unproved/plain.edit: NOT TRIED: the crate is not proved: logic=not-proved", "unproved: 0 of 1 refused"]
     tried(suite, top, "a crate of which all are refused", ["low"], [*low, "2 passed, 0 failed"], 0)
     tried(suite, top, "a crate of which some are not", ["high"], [*high, "1 passed, 3 failed"], 1)
     tried(suite, top, "a crate that is not proved", ["unproved"], [*none, "0 passed, 1 failed"], 1)
     tried(suite, top, "all crates", [], [*high, *low, *none, "3 passed, 4 failed"], 1)
     tried(suite, top, "a crate without a second shelf", ["low", "bare"], [], 2)
     suite.note("the tree of the second shelf", {"files": before}, {"files": files_of(top)})
-    calls = [line for line in (top / "log").read_text().splitlines() if line.startswith("ci ")]
+    calls = (top / "log").read_text().splitlines()
     here = [line for line in calls if f" in {top}" in line]
     suite.holds("something is tried", calls)
     suite.note("what is tried is a copy", {"in the tree": []}, {"in the tree": here})

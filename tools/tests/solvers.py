@@ -1,4 +1,4 @@
-"""The formulation by cycles of tools/measuring/cycles.py, beside what trying all timetables gives, on drawn networks."""
+"""The formulation by cycles of the Python package, beside what trying all timetables gives, on drawn networks."""
 
 import random
 import re
@@ -8,7 +8,9 @@ from pathlib import Path
 from typing import Callable, Dict, Iterable, Iterator, List, Mapping, Optional, Sequence, Tuple
 from unittest import mock
 
-from measuring.cycles import Arc, independent, is_integral, range_of, write_cycles
+from measuring.solvers import network_of
+from pespbench.models import by_cycles
+from pespbench.models.basis import Arc, independent, is_integral, range_of
 from tests.harness import Suite, run, within
 from tests.rules import Row
 
@@ -72,7 +74,7 @@ def try_networks(suite: Suite, solver: str, title: str, numbers: Iterable[int], 
             print(f"  {title}: drawn networks from {number} on were not tried, since {SECONDS} seconds are over")
             return
         period, rows, fixed = drawn_network(random.Random(number))
-        write_cycles(rows, fixed, period, path)
+        path.write_text(by_cycles(network_of(rows, fixed, period)).lp())
         wanted = {"least cost": least_cost(period, rows, fixed)}
         suite.note(f"{title}, drawn network {number}", wanted, {"least cost": solved_cost(solver, path)})
 
@@ -102,7 +104,7 @@ def cycles(suite: Suite) -> None:
         return
     ends = time.monotonic() + SECONDS
     try_networks(suite, solver, "by narrow cycles", range(NETWORKS), ends)
-    with mock.patch("measuring.cycles.is_integral", return_value=False):
+    with mock.patch("pespbench.models.basis.is_integral", return_value=False):
         try_networks(suite, solver, "by cycles over least ways", range(OTHERS), ends)
 
 

@@ -3,7 +3,6 @@
 import os
 import shutil
 import subprocess
-import sys
 import time
 from typing import Dict, List, Optional, Sequence
 
@@ -14,7 +13,6 @@ SYSTEM = "/usr/bin:/bin"
 # It notes that it was called, and waits as long as it is told to, with a program that is half made.
 FAKE_RT = """#!/bin/sh
 echo "$1 $$" >>"$FAKE/log"
-[ "$1" = try ] && { shift; exec "$FAKE/try" "$@"; }
 echo "crate pesp_base is proved" >&2
 echo "a line of the toolchain"
 [ -e "$FAKE/fails" ] && { echo "an open goal"; exit 1; }
@@ -24,21 +22,6 @@ while [ -e "$FAKE/waits" ]; do sleep 0.01; done
 [ -e "$FAKE/edits" ] && touch src/main.rt
 printf '#!/bin/sh\\necho ran in "$PWD" with "$@"\\n' >out/pespbench && chmod +x out/pespbench
 """
-
-# The stand-in in a folder of its own, with the words after those of the toolchain, and the toolchain's last three lines.
-FAKE_TRY = """#!/bin/sh
-while [ "$1" != -- ]; do shift; done
-shift
-folder=$(mktemp -d) && cd "$folder" || exit 2
-"{python}" "{stand_in}" "$@"
-status=$?
-rmdir "$folder"
-echo "interpreter: no-answer: the run did not finish within 1000 steps: the program may loop forever" >&2
-echo "checked: ended status=$status" >&2
-echo "run=ended status=$status runners=1 proved=no" >&2
-exit $status
-"""
-
 
 class Tree:
     """A tree of its own with the script, a link to it, and the toolchain that notes."""
@@ -56,7 +39,6 @@ class Tree:
         (self.top / "crates.txt").write_text("pespbench:\n")
         shutil.copy(TOP / "tools/pespbench", self.top / "tools/pespbench")
         self.tool("rt", FAKE_RT)
-        self.tool("try", FAKE_TRY.format(python=sys.executable, stand_in=TOP / "tools/tests/stand_in.py"))
         self.link = suite.folder / "link"
         self.link.symlink_to(self.top / "tools/pespbench")
         self.environment = {"PATH": f"{self.fake}:{SYSTEM}", "FAKE": str(self.fake)}

@@ -1,73 +1,113 @@
-"""The script that starts the program, where it is asked to build it without a proof; the stand-in answers."""
+"""The script that starts the program, where it is asked to make one without a proof; the stand-in answers."""
 
+import os
 import subprocess
-import time
-from pathlib import Path
-from typing import Any, Dict, Sequence
+import sys
+from typing import Any, List, Sequence
 
 from tests.file_cases import TWO
-from tests.harness import SECONDS, Suite, run
+from tests.harness import TOP, Suite, run
 from tests.start_tree import Tree
 
-NOT_PROVED = "tools/pespbench: built without a proof, which takes a minute or two: nothing of what it answers is proved"
-# So begin the last lines of the toolchain, which no reader of replies looks for.
-TRAILING = ("interpreter: ", "checked: ", "run=")
-CHECK = b"tensions 2\n1 4 1\n2 6 2\nviolations 0\ncost 4\n"
+NOT_PROVED = b"tools/pespbench: made of the page's module: nothing of what it answers is proved\n"
+MAKING = b"tools/pespbench: making the program of the page's module, once, which takes a minute\n"
+# It notes that it was called, and makes the stand-in, or fails.
+FAKE_NATIVE = """import os, pathlib, sys
+open(os.environ["FAKE"] + "/made", "a").write("m")
+if os.path.exists(os.environ["FAKE"] + "/fails"):
+    print("there is no wasm2c (apt install wabt)")
+    sys.exit(1)
+path = pathlib.Path(sys.argv[1], "pespbench")
+path.write_text("#!/bin/sh\\nexec '{python}' '{stand_in}' \\"$@\\"\\n")
+path.chmod(0o755)
+"""
 
 
-def case(tree: Tree, name: str, words: Sequence[object], status: int = 0, output: bytes = b"", **given: Any) -> None:
-    """A start without a proof, where the caller stands in the suite's folder and the program in one of its own."""
+def a_tree(suite: Suite) -> Tree:
+    tree = Tree(suite)
+    (tree.top / "tools/native").mkdir()
+    (tree.top / "tools/native/__main__.py").write_text(FAKE_NATIVE.format(python=sys.executable, stand_in=TOP / "tools/tests/stand_in.py"))
+    (tree.top / "tools/packing").mkdir()
+    (tree.top / "tools/packing/want").write_text("#!/bin/sh\n")
+    (tree.top / "tools/packing/want").chmod(0o755)
+    (tree.top / "page").mkdir()
+    (tree.top / "page/pespbench.html").write_text("<p>")
+    return tree
+
+
+def made_of(tree: Tree) -> int:
+    """How often a program was made."""
+    path = tree.fake / "made"
+    return len(path.read_text()) if path.exists() else 0
+
+
+def case(tree: Tree, name: str, words: Sequence[object], told: bytes = NOT_PROVED, **given: Any) -> None:
+    """A start without a proof in the suite's folder."""
+    wanted = {"status": given.pop("status", 0), "standard output": given.pop("output", b"")}
     come = run([tree.link, "--unproved", *words], cwd=tree.suite.folder, env=tree.environment, **given)
-    told = come["standard error"].decode().splitlines()
-    trailing = [line for line in told if line.startswith(TRAILING)]
-    wanted = {"status": status, "standard output": output, "first line": NOT_PROVED, "lines of the toolchain": []}
-    tree.suite.note(f"tools/pespbench --unproved: {name}", wanted, {**come, "first line": told[0], "lines of the toolchain": trailing})
-
-
-def files_of(tree: Tree) -> Path:
-    """The files of the caller, one of which has a name that a period may have too, and one of the crate's folder."""
-    folder = tree.suite.folder / "a folder"
-    folder.mkdir()
-    (folder / "activities").write_bytes(TWO)
-    (tree.suite.folder / "times").write_bytes(b"1; 0\n2; 4\n")
-    (tree.suite.folder / "10").write_bytes(b"")
-    (tree.crate / "absent").write_bytes(TWO)
-    return folder / "activities"
+    begins = {"begins": told} if come["standard error"].startswith(told) else {"begins": come["standard error"]}
+    tree.suite.note(f"tools/pespbench --unproved: {name}", {**wanted, "begins": told}, {**come, **begins})
 
 
 def unproved(suite: Suite) -> None:
-    """Files are named from where the caller stands, whatever lies where the program is built; other words stay."""
-    tree = Tree(suite)
-    whole = files_of(tree)
-    period, times, below = ["--period", "10"], ["--times", "times"], "a folder/activities"
-    asked: Dict[str, Any] = {"given": b"fix 1 0\ndomain 2\n", "output": b"ok\n2: 4 5\n"}
-    case(tree, "a file below", [*period, below], **asked)
-    case(tree, "a file by its whole path", [*period, whole], **asked)
-    case(tree, "a check", ["--check", *period, *times, below], output=CHECK)
-    case(tree, "values after `=`", ["--check", "--period=10", "--times=times", below], output=CHECK)
-    case(tree, "a file after `--`", ["--check", *period, *times, "--", below], output=CHECK)
-    case(tree, "activities from standard input", ["--check", *period, *times, "/dev/stdin"], given=TWO, output=CHECK)
-    case(tree, "no words", [], given=b"cost\n", output=b"cost 0\n")
-    case(tree, "a file that lies where the program is built alone", ["absent"], status=1)
+    """It is made once, by no toolchain, and anew where the page is newer; words, streams and statuses are the program's."""
+    tree = a_tree(suite)
+    (suite.folder / "activities").write_bytes(TWO)
+    two: List[object] = ["--period", "10", "activities"]
+    case(tree, "the first start", two, MAKING + NOT_PROVED, given=b"fix 1 0\ndomain 2\n", output=b"ok\n2: 4 5\n")
+    case(tree, "the next one", two, given=b"cost\n", output=b"refused 11 event 1 has no time\n")
+    case(tree, "a check", ["--check", "--period=10", "/dev/stdin"], given=b"", output=b"tensions 0\nviolations 0\ncost 0\n")
     case(tree, "refused words", ["--period", "1"], status=2)
-    suite.holds("a start without a proof builds no program", not (tree.crate / "out/pespbench").exists())
-    suite.holds("and asks for no proof", {call.split()[0] for call in tree.calls()} == {"try"})
+    suite.note("programs that were made", {"made": 1, "calls": []}, {"made": made_of(tree), "calls": tree.calls()})
+    later = os.stat(tree.top / "tools/native/out/pespbench").st_mtime + 1
+    os.utime(tree.top / "page/pespbench.html", (later, later))
+    tree.say("fails", True)
+    case(tree, "a program that cannot be made", two, MAKING + b"tools/pespbench: there is no wasm2c (apt install wabt)\n", status=70)
+    tree.say("fails", False)
+    case(tree, "a page that changed", [], MAKING + NOT_PROVED, given=b"cost\n", output=b"cost 0\n")
+    left = sorted(path.name for path in (tree.top / "tools/native/out").iterdir())
+    suite.note("what is left beside it", {"names": ["pespbench"], "made": 3}, {"names": left, "made": made_of(tree)})
 
 
-def whole_input(suite: Suite) -> None:
-    """The toolchain takes standard input as it comes, and ends it at a pause: it is called once all of it is there."""
-    tree = Tree(suite)
+def unproved_lines(suite: Suite) -> None:
+    """Each reply comes before the next line is given."""
+    tree = a_tree(suite)
     words, pipe = [str(tree.link), "--unproved"], subprocess.PIPE
-    process = subprocess.Popen(words, env=tree.environment, stdin=pipe, stdout=pipe, stderr=pipe)
-    assert process.stdin is not None
-    process.stdin.write(b"add event 1\n")
-    process.stdin.flush()
-    time.sleep(0.2)
-    early = tree.calls()
-    output, _ = process.communicate(b"cost\n", timeout=SECONDS)
-    wanted = {"calls before the end": [], "calls": 1, "output": b"ok\nrefused 11 event 1 has no time\n"}
-    come = {"calls before the end": early, "calls": len(tree.calls()), "output": output}
-    suite.note("tools/pespbench --unproved: a pause in standard input", wanted, come)
+    with subprocess.Popen(words, env=tree.environment, stdin=pipe, stdout=pipe, stderr=subprocess.DEVNULL) as process:
+        assert process.stdin is not None and process.stdout is not None
+        for line, reply in [(b"add event 1\n", b"ok\n"), (b"cost\n", b"refused 11 event 1 has no time\n")]:
+            process.stdin.write(line)
+            process.stdin.flush()
+            suite.note(f"tools/pespbench --unproved: {line!r}", {"reply": reply}, {"reply": process.stdout.readline()})
+        process.stdin.close()
 
 
-GROUPS = [unproved, whole_input]
+# In the place of Debian's tool: it notes its words, and puts the command there at the second call of two.
+FAKE_APT = """#!/bin/sh
+echo "$@" >>"$FAKE/apt"
+[ "$1" = install ] && [ -e "$FAKE/list" ] && printf '#!/bin/sh\\n' >"$FAKE/wanted" && chmod +x "$FAKE/wanted"
+[ "$1" = update ] && : >"$FAKE/list"
+[ -e "$FAKE/wanted" ]
+"""
+
+
+def wanted_commands(suite: Suite) -> None:
+    """A command that is not there is installed by the superuser, and else its package is named."""
+    fake, want = suite.folder / "fake", TOP / "tools/packing/want"
+    fake.mkdir()
+    env = {"PATH": f"{fake}:/usr/bin:/bin", "FAKE": str(fake)}
+    for name, text in [("apt-get", FAKE_APT), ("id", "#!/bin/sh\necho 1000\n")]:
+        (fake / name).write_text(text)
+        (fake / name).chmod(0o755)
+    suite.note("a command that is there", {"status": 0, "standard error": b""}, run([want, "sh", "dash"], env=env))
+    told = b"tools/pespbench: there is no command wanted (apt install package)\n"
+    suite.note("a user", {"status": 1, "standard error": told}, run([want, "wanted", "package"], env=env))
+    suite.holds("who installs nothing", not (fake / "apt").exists())
+    (fake / "id").write_text("#!/bin/sh\necho 0\n")
+    told = b"tools/pespbench: there is no command wanted, so Debian's package package is installed\n"
+    suite.note("the superuser", {"status": 0, "standard error": told}, run([want, "wanted", "package"], env=env))
+    calls = ["install -y --no-install-recommends package", "update", "install -y --no-install-recommends package"]
+    suite.note("who installs it", {"calls": calls}, {"calls": (fake / "apt").read_text().splitlines()})
+
+
+GROUPS = [unproved, unproved_lines, wanted_commands]

@@ -33,6 +33,8 @@ pub struct Bench<K: Keeper> {
     candidate: Option<Timetable>,
     // What a search that stopped is gone on with from; whether it is of this instance is asked where it is used.
     searches: Searches,
+    // The same of searches under a restriction.
+    prices: Searches,
     // Of the last search.
     nodes: u64,
 }
@@ -76,6 +78,7 @@ impl<K: Keeper> Bench<K> {
             known: None,
             candidate: None,
             searches: Searches::new(alloc),
+            prices: Searches::new(alloc),
             nodes: 0,
         }
     }

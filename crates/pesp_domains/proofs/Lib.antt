@@ -2,6 +2,7 @@ pub mod Anew
 pub mod Apart
 pub mod Around
 mod Cases
+mod DrawnCases
 pub mod Edits
 pub mod Families
 pub mod Laws

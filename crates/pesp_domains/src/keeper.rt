@@ -54,7 +54,7 @@ pub trait Keeper: Drop {
 
     /// Makes an edit where nothing is pushed, or answers the first refusal and changes nothing.
     ///
-    /// Only `AddEvent`, `AddActivity` and `SetEnds` take memory, and only they can be refused it, after all else.
+    /// Only `AddEvent`, `AddActivity` and `SetEnds` can be refused memory, after all else.
     fn apply(&mut self, edit: &Edit) -> Result<(), Refusal>
         requires { pushes self.old ≡ [] }
         ensures ok { OnOk result (edited (network self.old) edit.now ≡ Ok (network self.new)) }
@@ -63,7 +63,7 @@ pub trait Keeper: Drop {
         ensures pushes { pushes self.new ≡ [] }
         ensures count { push_count self.new ≡ push_count self.old };
 
-    /// Pushes one pair more. This takes no memory.
+    /// Pushes one pair more. It is never refused memory.
     fn push_fix(&mut self, event: EventId, residue: u16)
         requires event { IsTrue (has_event (network self.old) event) }
         requires free { (r : ℕ) → In (pushes self.old) event r → ⊥ }
@@ -73,7 +73,7 @@ pub trait Keeper: Drop {
             ≡ pushes self.old ++ record { event = event; residue = residue } ∷ [] }
         ensures count { push_count self.new ≡ min (2 ^ 64 - 1) (push_count self.old + 1) };
 
-    /// Takes the pair away that was pushed last. This takes no memory.
+    /// Pops the pair that was pushed last. It is never refused memory.
     fn pop_fix(&mut self)
         requires { 0 < length (pushes self.old) }
         ensures network { network self.new ≡ network self.old }

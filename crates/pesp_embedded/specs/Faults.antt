@@ -1,10 +1,11 @@
 -- What is told of a call on a session that does nothing.
-use Rattle.std.specs.Prelude.{◌≡◌, ℕ, ◌<◌, true, length, List}
+use Rattle.std.specs.Prelude.{◌≡◌, ℕ, ◌<◌, ◌≤◌, true, false, length, List}
 use Rattle.std.specs.List.{list_any}
 use Rattle.pesp_base.specs.declared.refusal.Refusal.{Refusal}
 use Rattle.pesp_base.specs.declared.refusal.Refusal.TheVariants as no
 use Rattle.pesp_base.specs.Refusals.{number_of}
 use Rattle.pesp_shell_io.specs.Lines.{is_line_feed, longest_line}
+use Rattle.pesp_shell.specs.Runs.{MayWant}
 use Rattle.pesp_embedded.specs.declared.fault.Fault.{Fault}
 use Rattle.pesp_embedded.specs.declared.fault.Fault.TheVariants as fault
 use Rattle.pesp_embedded.specs.declared.told.Told.{Told}
@@ -24,9 +25,9 @@ told_fault fault.Open = record { length = 0; place = 0; status = 11; reason = 0;
 told_fault fault.NotOneLine = record { length = 0; place = 0; status = 12; reason = 0; field = 0 }
 told_fault (fault.Refused refusal) = record { length = 0; place = event_of refusal; status = 13; reason = number_of refusal; field = 0 }
 
--- why a line is not answered by an open session
+-- why a line is not answered by an open session: the first of these, where memory may be wanted for it
 abbrev pub IsLineFault : List ℕ → Fault → Type 0
-IsLineFault line fault.Memory = Unit {0}
 IsLineFault line fault.LongLine = longest_line < length line
-IsLineFault line fault.NotOneLine = list_any is_line_feed line ≡ true
+IsLineFault line fault.NotOneLine = (length line ≤ longest_line) × (list_any is_line_feed line ≡ true)
+IsLineFault line fault.Memory = MayWant line × (list_any is_line_feed line ≡ false)
 IsLineFault line other = ⊥

@@ -1,7 +1,8 @@
 -- What a search tells in numbers.
-use Rattle.std.specs.Prelude.{◌≡◌, ℕ, Bool, if◌then◌else◌, List, [], map, Option, Some, None, option_map}
+use Rattle.std.specs.Prelude.{◌≡◌, ◌≤◌, ℕ, Bool, if◌then◌else◌, List, [], map, Option, Some, None, option_map}
 use Rattle.pesp_instance.specs.Network.{Network, event_ids}
 use Rattle.pesp_tension.specs.Timetables.{Times}
+use Rattle.pesp_bench.specs.Asked.{IsSearched}
 use Rattle.pesp_search.specs.declared.answer.Answer.{Answer}
 use Rattle.pesp_search.specs.declared.answer.Answer.TheVariants.{Optimal, Infeasible}
 use Rattle.pesp_search.specs.declared.answer.Best.{Best}
@@ -18,6 +19,12 @@ use Rattle.pesp_embedded.specs.declared.told.Told.{Told}
 abbrev pub known_in : Option Kept → Option Answer
 known_in (Some k) = k.bench.known
 known_in None = None
+
+-- a call has searched by so many nodes at most, as a workbench does, or not at all: then nothing was pushed, or the session is closed
+abbrev pub HasSearched : Option Kept → ℕ → Option Kept → Type 0
+HasSearched (Some before) nodes (Some after) = IsSearched before.bench after.bench × (after.bench.nodes ≤ nodes)
+HasSearched None nodes None = Unit {0}
+HasSearched before nodes after = ⊥
 
 -- how good an optimum is, or that there is none
 abbrev pub found_answer : Answer → Found

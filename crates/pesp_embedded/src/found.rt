@@ -1,9 +1,10 @@
 //! How good a timetable is, in numbers.
 
 ghost use Rattle.std.specs.Prelude.{◌≡◌};
+ghost use Rattle.pesp_embedded.specs.Prices.{answer_in, found_known};
 ghost use Rattle.pesp_embedded.specs.Searches.{found_answer, found_stop};
 
-use pesp_search::{Answer, Best};
+use pesp_search::{Answer, Best, Known};
 
 /// What a search has come to, in numbers, which `embedded/pespbench.h` lists.
 #[repr(C)]
@@ -33,6 +34,33 @@ impl Found {
             lower_bound: cost,
             state,
             goes_on: 0,
+        }
+    }
+
+    /// A search came to its end with this.
+    fn of_end(best: &Option<Best>) -> Found
+        ensures { result ≡ found_answer (answer_in best.now) }
+    {
+        let (cost, state) = match best {
+            Some(best) => (best.cost, 2),
+            None => (0, 3),
+        };
+        Found {
+            cost,
+            lower_bound: cost,
+            state,
+            goes_on: 0,
+        }
+    }
+
+    /// A search came to this, and goes on or not where it stopped.
+    pub(crate) fn of_known(known: &Known, goes_on: bool) -> Found
+        ensures { result ≡ found_known known.now goes_on }
+    {
+        if known.is_stopped {
+            Found::of_stop(&known.best, known.lower_bound, goes_on)
+        } else {
+            Found::of_end(&known.best)
         }
     }
 

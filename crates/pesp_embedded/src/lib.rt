@@ -18,6 +18,7 @@ mod memory;
 mod moves;
 mod numbers;
 mod opening;
+mod pricing;
 mod searching;
 mod session;
 mod told;
@@ -42,6 +43,7 @@ pub use kept::Kept;
 pub use lists::NO_TIME;
 pub use numbers::{pesp_domain, pesp_events, pesp_times, pesp_try_move};
 use pesp_base::Period;
+pub use pricing::pesp_price;
 pub use searching::pesp_search;
 pub use session::Session;
 use std::alloc::Global;
@@ -181,7 +183,7 @@ pub extern "C" fn pesp_cost(alloc: Global, session: &mut Session, cost: &mut u64
     ensures refused { IsSome (work_in session.old.handle.kept) → told.new.status ≢ 0
         → (refusal : Refusal) × IsSomeAnd (work_in session.old.handle.kept) (λ w. cost_in w ≡ Err refusal)
         × (told.new ≡ told_fault (fault.Refused refusal)) }
-    ensures unchanged { work_in session.new.handle.kept ≡ work_in session.old.handle.kept }
+    ensures unchanged { session.new.handle.kept ≡ session.old.handle.kept }
     ensures untouched { told.new.status ≢ 0 → cost.new ≡ cost.old }
 {
     let Some(kept) = session.take(alloc) else {

@@ -1,10 +1,10 @@
 //! A search for the optimum, told in numbers.
 
-ghost use Rattle.std.specs.Prelude.{◌≡◌, ◌≢◌, None, Some, IfErr, IfOk, IfSome, IsSome, IsSomeAnd, OnErr, option_map};
+ghost use Rattle.std.specs.Prelude.{◌≡◌, ◌≢◌, ◌≤◌, None, Some, IfErr, IfOk, IfSome, IsSome, IsSomeAnd, OnErr, option_map};
 ghost use Rattle.pesp_shell_replies.specs.Legal.{work_of};
 ghost use Rattle.pesp_bench.specs.Asked.{IsSearched, IsUnsearched};
 ghost use Rattle.pesp_embedded.specs.Faults.{told_fault};
-ghost use Rattle.pesp_embedded.specs.Searches.{IsSearchTold, known_in, timetable_in, times_told};
+ghost use Rattle.pesp_embedded.specs.Searches.{HasSearched, IsSearchTold, known_in, timetable_in, times_told};
 ghost use Rattle.pesp_embedded.specs.Sessions.{AreShown, work_in};
 ghost use Rattle.pesp_embedded.specs.declared.fault.Fault.TheVariants as fault;
 
@@ -47,6 +47,7 @@ fn search(
     ensures told { IfOk result (λ r.
         IsSearchTold bench.old.instance nodes bench.new.known room.old room.new r.0 r.1) }
     ensures searched { IsSearched bench.old bench.new }
+    ensures within { bench.new.nodes ≤ nodes }
     ensures unchanged { work_of bench.new ≡ work_of bench.old }
     ensures refused { IfErr result (λ f. f ≡ fault.Memory) }
     ensures unsearched { OnErr result (IsUnsearched bench.old bench.new) }
@@ -91,6 +92,7 @@ pub extern "C" fn pesp_search(
     ensures fault { IsSome (work_in session.old.handle.kept) → told.new.status ≢ 0
         → (told.new ≡ told_fault fault.Memory) × (known_in session.old.handle.kept ≡ None)
         × (known_in session.new.handle.kept ≡ None) }
+    ensures searched { HasSearched session.old.handle.kept nodes session.new.handle.kept }
     ensures unchanged { work_in session.new.handle.kept ≡ work_in session.old.handle.kept }
     ensures kept { IfSome (known_in session.old.handle.kept) (λ answer.
         known_in session.new.handle.kept ≡ Some answer) }

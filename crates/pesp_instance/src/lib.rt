@@ -1,6 +1,6 @@
 //! An instance of the periodic event scheduling problem, and its edits.
 //!
-//! Look-ups and walks take no memory. Of the edits only `AddEvent`, `AddActivity` and `SetEnds` do.
+//! Look-ups and walks are never refused memory. Of the edits only `AddEvent`, `AddActivity` and `SetEnds` can be.
 #![tactic(auto)]
 
 mod apply;

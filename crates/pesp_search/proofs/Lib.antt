@@ -6,11 +6,13 @@ pub mod Costs
 pub mod Counted
 pub mod Cuts
 pub mod Decided
+mod DrawnCases
 pub mod Ends
 pub mod Enumerated
 pub mod Events
 pub mod Fronts
 pub mod Labels
+pub mod Lifted
 pub mod Maps
 pub mod Members
 pub mod Moves

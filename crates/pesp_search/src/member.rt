@@ -31,7 +31,7 @@ fn times_the_events(instance: &Instance, timetable: &Timetable) -> bool
 /// What the timetable costs, where it is of the instance's period, gives just its events a time and meets
 /// everything; and otherwise nothing.
 ///
-/// This takes no memory.
+/// It is never refused memory.
 pub fn member_cost(instance: &Instance, timetable: &Timetable) -> Option<u64>
     ensures member { IfSome result
         (λ cost. IsMember instance.now timetable.now

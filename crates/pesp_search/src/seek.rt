@@ -1,13 +1,14 @@
 //! The search by cycles, which is asked before the tree is gone through.
 
-ghost use Rattle.std.specs.Prelude.{◌≡◌, ℕ, ◌+◌, ◌<◌, ◌^◌, [], false, IfOk, IfSome, All, None, Some, length, option_map};
+ghost use Rattle.std.specs.Prelude.{◌≡◌, ◌↔◌, ℕ, ◌+◌, ◌-◌, ◌*◌, ◌<◌, ◌^◌, min, [], false, IfOk, IfSome, All, None, Some, length, option_map};
 ghost use Rattle.pesp_instance.specs.Network.{IsNetwork, event_ids};
 ghost use Rattle.pesp_search.specs.Arcs.{IsNetworkOf};
 ghost use Rattle.pesp_search.specs.Optima.{IsBound};
 ghost use Rattle.pesp_search.specs.Sought.{IsCap, IsMapOf, IsSought, IsSoughtMap, best_of_map};
 ghost use Rattle.pesp_search.specs.Known.{IsFloor};
-ghost use Rattle.pesp_search_least.specs.Sums.{IsLeast, IsLowerBound};
+ghost use Rattle.pesp_search_least.specs.Sums.{IsCandidate, IsLeast, IsLowerBound};
 ghost use Rattle.pesp_search_network.specs.Arcs.{IsCosted};
+ghost use Rattle.pesp_search_network.specs.Reduced.{IsPresolved, IsReduction};
 
 use crate::Best;
 use crate::arcs::network_of;
@@ -19,11 +20,14 @@ use pesp_domains::Keeper;
 use pesp_instance::Instance;
 use pesp_search_cycles::{ByCycles, is_of_use};
 use pesp_search_least::{Budget, Candidate, First, Limits, Outcome};
-use pesp_search_network::Network;
+use pesp_search_network::{Network, Reduction};
 use std::alloc::Global;
 
 /// How many units of work stand for a node of the limit.
 const UNITS_OF_NODE: u64 = 20;
+
+/// How many units a local search has where there is no limit and there are too many cycles.
+const ROUGH_UNITS: u64 = 20_000;
 
 /// What the search by cycles comes to.
 #[derive(Drop)]
@@ -48,7 +52,10 @@ struct SoughtMap {
 }
 
 /// What the search may do: so many units for each node of the limit, and one for each network that is known.
-fn budget_of(limit: Option<u64>, known: usize) -> Budget {
+fn budget_of(limit: Option<u64>, known: usize) -> Budget
+    ensures { result.left
+        ≡ option_map (λ nodes. min (2 ^ 64 - 1) (nodes * 20 + known)) limit }
+{
     match limit {
         Some(limit) => {
             let units = limit.saturating_mul(UNITS_OF_NODE);
@@ -95,7 +102,7 @@ fn first_map(
 }
 
 /// The first map of least cost, where some cost is below the cap.
-fn seek_map(
+fn seek_by_cycles(
     alloc: Global,
     cycles: &mut ByCycles,
     network: &Network,
@@ -119,6 +126,113 @@ fn seek_map(
             is_end: false,
         }),
     }
+}
+
+/// A map below the cap of a network with too many cycles, if a local search finds one.
+fn rough_map(
+    alloc: Global,
+    cycles: &mut ByCycles,
+    network: &Network,
+    cap: u64,
+    limit: Option<u64>,
+) -> Result<SoughtMap, Memory>
+    ensures best { IfOk result (λ sought.
+        IsSoughtMap (IsCosted network.now) cap sought.is_end sought.best) }
+    ensures floor { IfOk result (λ sought. IsLowerBound (IsCosted network.now) sought.floor) }
+{
+    let units = match limit {
+        Some(limit) => limit.saturating_mul(UNITS_OF_NODE) / 2,
+        None => ROUGH_UNITS,
+    };
+    let best = cycles.rough(alloc, network, cap, units)?;
+    Ok(SoughtMap {
+        best,
+        floor: 0,
+        is_end: false,
+    })
+}
+
+/// What is sought among the maps of a network below a cap: by cycles, or where these are too many by a local search.
+fn seek_in(
+    alloc: Global,
+    before: &mut Searches,
+    network: &Network,
+    cap: u64,
+    limit: Option<u64>,
+) -> Result<SoughtMap, Memory>
+    ensures best { IfOk result (λ sought.
+        IsSoughtMap (IsCosted network.now) cap sought.is_end sought.best) }
+    ensures floor { IfOk result (λ sought. IsLowerBound (IsCosted network.now) sought.floor) }
+{
+    before.by_cycles = is_of_use(alloc, network)?;
+    let cycles = &mut before.cycles;
+    if !before.by_cycles {
+        return rough_map(alloc, cycles, network, cap, limit);
+    }
+    let mut budget = budget_of(limit, cycles.solved());
+    seek_by_cycles(alloc, cycles, network, cap, &mut budget)
+}
+
+/// What was sought among the maps of a reduced network, told of those of the other.
+fn lifted_map(
+    alloc: Global,
+    network: &Network,
+    reduction: &Reduction,
+    sought: SoughtMap,
+) -> Result<SoughtMap, Memory>
+    requires reduction { IsReduction network.now reduction.now }
+    requires candidate { IfSome sought.best (IsCandidate (IsCosted reduction.now.network)) }
+    ensures best { (cap part : ℕ)
+        → ((cost : ℕ) → (cost < part) ↔ (reduction.now.fixed + reduction.now.factor * cost < cap))
+        → IsSoughtMap (IsCosted reduction.now.network) part sought.is_end sought.best
+        → IfOk result (λ of_map. IsSoughtMap (IsCosted network.now) cap of_map.is_end of_map.best) }
+    ensures floor { IsLowerBound (IsCosted reduction.now.network) sought.floor
+        → IfOk result (λ of_map. IsLowerBound (IsCosted network.now) of_map.floor) }
+{
+    let SoughtMap {
+        best,
+        floor,
+        is_end,
+    } = sought;
+    let floor = reduction.lower_bound(floor);
+    match best {
+        Some(candidate) => Ok(SoughtMap {
+            best: Some(network.lift(alloc, reduction, &candidate)?),
+            floor,
+            is_end,
+        }),
+        None => Ok(SoughtMap {
+            best: None,
+            floor,
+            is_end,
+        }),
+    }
+}
+
+/// What is sought among the maps of a network below a cap: in the one that is searched in its place.
+fn seek_map(
+    alloc: Global,
+    before: &mut Searches,
+    network: &Network,
+    presolved: Option<Reduction>,
+    cap: u64,
+    limit: Option<u64>,
+) -> Result<SoughtMap, Memory>
+    requires presolved { IsPresolved network.now presolved }
+    ensures best { IfOk result (λ sought.
+        IsSoughtMap (IsCosted network.now) cap sought.is_end sought.best) }
+    ensures floor { IfOk result (λ sought. IsLowerBound (IsCosted network.now) sought.floor) }
+{
+    let Some(reduction) = presolved else {
+        return Ok(SoughtMap {
+            best: None,
+            floor: cap,
+            is_end: true,
+        });
+    };
+    let part = reduction.cap(cap);
+    let sought = seek_in(alloc, before, &reduction.network, part, limit)?;
+    lifted_map(alloc, network, &reduction, sought)
 }
 
 /// The timetable of a map, with its cost.
@@ -173,7 +287,7 @@ fn with_times(
     })
 }
 
-/// What the search by cycles comes to; with limit 0, or where there are too many cycles, it is not begun.
+/// What the search by cycles comes to, or where there are too many a local search; with limit 0 neither is begun.
 pub(crate) fn seek<K: Keeper>(
     alloc: Global,
     keeper: &K,
@@ -200,12 +314,8 @@ pub(crate) fn seek<K: Keeper>(
         return Ok(nothing);
     }
     let network = network_of(alloc, keeper, events)?;
-    before.by_cycles = is_of_use(alloc, &network)?;
-    if !before.by_cycles {
-        return Ok(nothing);
-    }
-    let cycles = &mut before.cycles;
-    let mut budget = budget_of(ask.limit, cycles.solved());
-    let sought = seek_map(alloc, cycles, &network, cap_of(ask.bound), &mut budget)?;
+    let presolved = network.presolve(alloc)?;
+    let cap = cap_of(ask.bound);
+    let sought = seek_map(alloc, before, &network, presolved, cap, ask.limit)?;
     with_times(alloc, keeper.instance(), events, sought)
 }

@@ -3,10 +3,6 @@
 
 mod candidates;
 mod cycles;
-#[cfg(test)]
-mod drawn;
-#[cfg(test)]
-mod examples;
 mod forest;
 mod graph;
 mod growth;
@@ -15,8 +11,6 @@ mod nearest;
 mod parts;
 mod queue;
 mod roots;
-#[cfg(test)]
-mod short;
 mod space;
 mod steps;
 mod ways;

@@ -16,26 +16,12 @@ const MOST_CYCLES: usize = 1_000;
 /// how many events,
 const MOST_EVENTS: usize = 2_000;
 
-/// how many entries a tableau, which takes 16 MB then,
+/// and how many entries a tableau, which takes 16 MB then.
 const MOST_ENTRIES: usize = 2_097_152;
 
-/// and what all arcs may cost at most: sums of the bound are in parts, and have 64 bits.
-const MOST_COST: u64 = 1 << 37;
-
-/// What all arcs cost at most.
-fn most_cost(network: &Network) -> u64 {
-    let period = network.period();
-    let mut most: u64 = 0;
-    for arc in network.arcs() {
-        let width = u64::from(arc.width(period));
-        most = most.saturating_add(u64::from(arc.weight.get()).saturating_mul(width));
-    }
-    most
-}
-
-/// Whether a search by cycles is of use: whether there are few enough, and costs are small enough.
+/// Whether a search by cycles is of use: whether there are few enough.
 pub fn is_of_use(alloc: Global, network: &Network) -> Result<bool, Memory> {
-    if network.events() > MOST_EVENTS || most_cost(network) > MOST_COST {
+    if network.events() > MOST_EVENTS {
         return Ok(false);
     }
     let residues = residue_ranges(alloc, network)?;

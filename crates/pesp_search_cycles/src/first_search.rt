@@ -8,9 +8,11 @@ ghost use Rattle.pesp_search_network.specs.Arcs.{IsCosted};
 ghost use Rattle.pesp_search_cycles.specs.Maps.{Net};
 ghost use Rattle.pesp_search_cycles.specs.Settlings.{IsSettling, IsUnsettled};
 
+use crate::aim::Aim;
 use crate::basis::{basis_within, walks_of};
-use crate::cuts::{Aim, cuts_beside};
-use crate::flip::FlipCut;
+use crate::cut_rounds::flips_of;
+use crate::cuts::cuts_beside;
+use crate::flip::{Flip, FlipCut};
 use crate::residues::residue_ranges;
 use crate::settling::Settling;
 use crate::{Cycles, Walk};
@@ -19,6 +21,17 @@ use pesp_search_least::{Budget, First};
 use pesp_search_network::Network;
 use std::alloc::Global;
 use std::marker::Model;
+
+/// What is known of the cuts by which the least cost was found.
+#[derive(Drop)]
+pub(crate) enum CutsKnown {
+    /// It was found without.
+    Nothing,
+    /// Those of these flips.
+    Flips(Vec<Flip>),
+    /// A part of the network had some: they are sought again.
+    OfAPart,
+}
 
 /// A search for the first map of least cost that stands still.
 #[derive(Drop)]
@@ -52,7 +65,7 @@ impl FirstSearch {
     pub(crate) fn new(
         alloc: Global,
         network: Network,
-        with_cuts: bool,
+        known: CutsKnown,
         settling: Settling,
         budget: &mut Budget,
     ) -> Result<FirstSearch, Memory>
@@ -64,12 +77,15 @@ impl FirstSearch {
         let residues = residue_ranges(alloc, &network)?;
         let basis = basis_within(alloc, &network, &residues, budget)?;
         let walks = walks_of(alloc, &network, &residues, basis, budget)?;
-        let aim = Aim {
-            with_cuts: with_cuts && basis.is_narrow(),
-            cap: settling.best.cost,
-            floor: 0,
+        let flips = match known {
+            CutsKnown::Flips(flips) => flips,
+            CutsKnown::OfAPart if basis.is_narrow() => {
+                let cost = settling.best.cost;
+                flips_of(alloc, &network, &walks, Aim::at(cost), budget)?
+            }
+            _ => Vec::new(alloc),
         };
-        let cuts = cuts_beside(alloc, &network, &walks, aim, budget)?;
+        let cuts = cuts_beside(alloc, &network, &walks, &flips)?;
         let walks = Cycles::new(alloc, &network, walks, &cuts)?.into_walks();
         Ok(FirstSearch {
             network,

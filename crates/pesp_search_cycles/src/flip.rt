@@ -15,6 +15,7 @@ ghost use Rattle.pesp_search_cycles.specs.Walks.{residue, round, time_of, times}
 use crate::range::whole_below;
 use crate::root::{residue_range, step_range};
 use crate::{Cycles, Range, Walk};
+use pesp_base::Memory;
 use pesp_search_graph::{Arc, Step};
 use std::alloc::Global;
 
@@ -45,6 +46,31 @@ pub(crate) struct Flip {
     pub(crate) counted: Vec<bool>,
     // What is missing to whole periods.
     pub(crate) rest: i64,
+}
+
+impl Flip {
+    /// The same once more.
+    pub(crate) fn copy(&self) -> Result<Flip, Memory> {
+        let Ok(counted) = self.counted.clone() else {
+            return Err(Memory);
+        };
+        Ok(Flip {
+            walk: self.walk.copy()?,
+            counted,
+            rest: self.rest,
+        })
+    }
+}
+
+/// Flips once more.
+pub(crate) fn copies_of(alloc: Global, flips: &[Flip]) -> Result<Vec<Flip>, Memory> {
+    let mut copies = Vec::new(alloc);
+    for flip in flips {
+        if copies.push(flip.copy()?).is_err() {
+            return Err(Memory);
+        }
+    }
+    Ok(copies)
 }
 
 /// A step or an end of a walk: its time is the fixed one and so often the number.

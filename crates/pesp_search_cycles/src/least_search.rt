@@ -6,16 +6,20 @@ ghost use Rattle.pesp_search_least.specs.Sums.{IsLowerBound, IsOutcome, IsStop, 
 ghost use Rattle.pesp_search_network.specs.Arcs.{IsCosted};
 ghost use Rattle.pesp_search_cycles.specs.Stacks.{IsProgress};
 
+use crate::aim::Aim;
 use crate::basis::walks_of;
-use crate::cuts::{Aim, cuts_beside};
-use crate::flip::FlipCut;
-use crate::phase::spent_of;
+use crate::cut_rounds::{Rounds, seek_cuts};
+use crate::cuts::cuts_beside;
+use crate::flip::{Flip, FlipCut};
+use crate::local::Local;
 use crate::residues::residue_ranges;
+use crate::spent::spent_of;
 use crate::stack::{Progress, Stack};
 use crate::turn::Turn;
+use crate::walk::copied;
 use crate::{Cycles, Walk};
 use pesp_base::Memory;
-use pesp_search_least::{Budget, Limits, Outcome};
+use pesp_search_least::{Budget, Candidate, Limits, Outcome};
 use pesp_search_network::Network;
 use std::alloc::Global;
 use std::marker::Model;
@@ -27,11 +31,13 @@ pub(crate) struct LeastSearch {
     network: Network,
     // Each is kept by all maps.
     cuts: Vec<FlipCut>,
+    // What the cuts are made of.
+    flips: Vec<Flip>,
     // Each leads from its first event to its last.
     walks: Vec<Walk>,
     // Of the cycles that these make.
     stack: Stack,
-    // The phase in which it is.
+    // Whose turn it is, and how much of it is left.
     turn: Turn,
 }
 
@@ -49,7 +55,7 @@ impl Model for LeastSearch {
 }
 
 impl LeastSearch {
-    /// A phase at its beginning.
+    /// A search without cuts at its beginning.
     pub(crate) fn new(
         alloc: Global,
         network: Network,
@@ -63,25 +69,36 @@ impl LeastSearch {
         ensures budget { OnlySpends budget.old.left budget.new.left }
     {
         let before = budget.left;
-        let phase = turn.phase;
         let residues = residue_ranges(alloc, &network)?;
-        let walks = walks_of(alloc, &network, &residues, phase.basis, budget)?;
-        let aim = Aim {
-            with_cuts: phase.with_cuts,
-            cap: progress.limit(),
-            floor: progress.limits.floor,
-        };
-        let cuts = cuts_beside(alloc, &network, &walks, aim, budget)?;
+        let walks = walks_of(alloc, &network, &residues, turn.basis, budget)?;
+        let search = LeastSearch::of(alloc, network, walks, Vec::new(alloc), progress)?;
+        Ok(search.at(turn.after(spent_of(before, budget.left))))
+    }
+
+    /// A search by walks and by the cuts of flips, at its beginning.
+    fn of(
+        alloc: Global,
+        network: Network,
+        walks: Vec<Walk>,
+        flips: Vec<Flip>,
+        progress: Progress,
+    ) -> Result<LeastSearch, Memory>
+        requires { IsProgress (IsCosted network) progress }
+        ensures network { IfOk result (λ search. search.network ≡ network) }
+        ensures cap { IfOk result (λ search. search.cap ≡ progress.limits.cap) }
+    {
+        let residues = residue_ranges(alloc, &network)?;
+        let cuts = cuts_beside(alloc, &network, &walks, &flips)?;
         let cycles = Cycles::new(alloc, &network, walks, &cuts)?;
         let stack = Stack::new(alloc, &cycles, &residues, progress)?;
         let walks = cycles.into_walks();
-        let turn = turn.after(spent_of(before, budget.left));
         Ok(LeastSearch {
             network,
             cuts,
+            flips,
             walks,
             stack,
-            turn,
+            turn: Turn::narrow(),
         })
     }
 
@@ -92,7 +109,7 @@ impl LeastSearch {
         &self.network
     }
 
-    /// How many units its phase has left; none where it goes on to the end.
+    /// How many units its turn has left; none where it goes on to the end.
     pub(crate) fn units(&self) -> Option<u64> {
         self.turn.units
     }
@@ -106,6 +123,7 @@ impl LeastSearch {
         let LeastSearch {
             network,
             cuts,
+            flips,
             walks,
             stack,
             turn,
@@ -114,6 +132,7 @@ impl LeastSearch {
         Some(LeastSearch {
             network,
             cuts,
+            flips,
             walks,
             stack,
             turn,
@@ -139,6 +158,7 @@ impl LeastSearch {
         let LeastSearch {
             network,
             cuts,
+            flips,
             walks,
             stack,
             turn,
@@ -153,6 +173,7 @@ impl LeastSearch {
         let search = LeastSearch {
             network,
             cuts,
+            flips,
             walks,
             stack,
             turn,
@@ -165,12 +186,17 @@ impl LeastSearch {
         !self.cuts.is_empty()
     }
 
+    /// What its cuts are made of.
+    pub(crate) fn flips(&self) -> &[Flip] {
+        &self.flips
+    }
+
     /// The turn in which it is.
     pub(crate) fn turn(&self) -> Turn {
         self.turn
     }
 
-    /// The same search in another turn of its phase.
+    /// The same search in another turn.
     pub(crate) fn at(self, turn: Turn) -> LeastSearch
         ensures network { result.network ≡ self.network }
         ensures cap { result.cap ≡ self.cap }
@@ -194,6 +220,88 @@ impl LeastSearch {
         LeastSearch::new(alloc, network, turn, progress, budget)
     }
 
+    /// Another search for the same by the cuts of these flips, too, from its first node on but with what this one has found.
+    pub(crate) fn with_cuts(
+        &self,
+        alloc: Global,
+        turn: Turn,
+        flips: Vec<Flip>,
+    ) -> Result<LeastSearch, Memory>
+        ensures network { IfOk result (λ search. search.network ≡ self.now.network) }
+        ensures cap { IfOk result (λ search. search.cap ≡ self.now.cap) }
+    {
+        let network = self.network.copy()?;
+        let walks = copied(alloc, &self.walks)?;
+        let progress = self.stack.progress.copy()?;
+        Ok(LeastSearch::of(alloc, network, walks, flips, progress)?.at(turn))
+    }
+
+    /// What cuts are for.
+    pub(crate) fn aim(&self) -> Aim {
+        self.stack.progress.aim()
+    }
+
+    /// Goes on with rounds for flip cuts, where they are open: how many units they spent.
+    pub(crate) fn seek_cuts(
+        &self,
+        alloc: Global,
+        rounds: &mut Rounds,
+        budget: &mut Budget,
+    ) -> Result<u64, Memory>
+        ensures { OnlySpends budget.old.left budget.new.left }
+    {
+        let aim = self.aim();
+        seek_cuts(alloc, &self.network, &self.walks, aim, rounds, budget)
+    }
+
+    /// The same search with what a local search finds beside it, if that costs less than what is known.
+    pub(crate) fn improved(
+        self,
+        alloc: Global,
+        local: &mut Local,
+        budget: &mut Budget,
+    ) -> Result<LeastSearch, Memory>
+        ensures network { IfOk result (λ search. search.network ≡ self.network) }
+        ensures cap { IfOk result (λ search. search.cap ≡ self.cap) }
+        ensures budget { OnlySpends budget.old.left budget.new.left }
+    {
+        let best = &self.stack.progress.best;
+        match local.advance(alloc, &self.network, best, budget)? {
+            Some(map) => self.with_map(map),
+            None => Ok(self),
+        }
+    }
+
+    /// What is known with a map that was found elsewhere, where it is one and costs less than what is known without.
+    fn progress_with(&self, map: Vec<u16>) -> Option<Progress>
+        ensures progress { IfSome result (IsProgress (IsCosted self.now.network)) }
+        ensures cap { IfSome result (λ progress. progress.limits.cap ≡ self.now.cap) }
+    {
+        let limits = self.stack.progress.limits;
+        let cost = self.network.cost(&map)?;
+        if limits.cap <= cost || self.stack.progress.limit() <= cost {
+            return None;
+        }
+        let best = Some(Candidate { cost, map });
+        Some(Progress { limits, best })
+    }
+
+    /// The same search with a map that was found elsewhere, if that costs less than what is known.
+    fn with_map(self, map: Vec<u16>) -> Result<LeastSearch, Memory>
+        ensures network { IfOk result (λ search. search.network ≡ self.network) }
+        ensures cap { IfOk result (λ search. search.cap ≡ self.cap) }
+    {
+        match self.progress_with(map) {
+            Some(progress) => self.with_progress(&progress),
+            None => Ok(self),
+        }
+    }
+
+    /// What its own nodes tell of the least cost.
+    pub(crate) fn own_bound(&self) -> u64 {
+        self.stack.own_bound()
+    }
+
     /// The same search with what another one for the same has found.
     pub(crate) fn knowing(self, other: &LeastSearch) -> Result<LeastSearch, Memory>
         requires network { other.now.network ≡ self.network }
@@ -201,17 +309,29 @@ impl LeastSearch {
         ensures network { IfOk result (λ search. search.network ≡ self.network) }
         ensures cap { IfOk result (λ search. search.cap ≡ self.cap) }
     {
+        self.with_progress(&other.stack.progress)
+    }
+
+    /// The same search with more that is known of the network below the same cap.
+    fn with_progress(self, progress: &Progress) -> Result<LeastSearch, Memory>
+        requires progress { IsProgress (IsCosted self.network) progress.now }
+        requires cap { progress.now.limits.cap ≡ self.cap }
+        ensures network { IfOk result (λ search. search.network ≡ self.network) }
+        ensures cap { IfOk result (λ search. search.cap ≡ self.cap) }
+    {
         let LeastSearch {
             network,
             cuts,
+            flips,
             walks,
             stack,
             turn,
         } = self;
-        let stack = stack.knowing(&other.stack.progress)?;
+        let stack = stack.knowing(progress)?;
         Ok(LeastSearch {
             network,
             cuts,
+            flips,
             walks,
             stack,
             turn,

@@ -6,19 +6,16 @@ ghost use Rattle.pesp_search_least.specs.Spending.{OnlySpends};
 ghost use Rattle.pesp_search_least.specs.Sums.{IsLowerBound, IsOutcome, IsStop, StopsWhereSpent};
 ghost use Rattle.pesp_search_network.specs.Arcs.{IsCosted};
 
+use crate::cut_rounds::Rounds;
+use crate::flip::{Flip, copies_of};
 use crate::least_search::LeastSearch;
-use crate::phase::spent_of;
+use crate::local::Local;
+use crate::spent::spent_of;
 use crate::turn::Turn;
 use pesp_base::Memory;
 use pesp_search_least::{Budget, Limits, Outcome};
 use pesp_search_network::Network;
 use std::alloc::Global;
-
-/// How many times as long each turn of a search is as its last one where two take turns,
-const LONGER: u64 = 2;
-
-/// and where cuts were sought in vain, until they are sought again.
-const LONGER_ALONE: u64 = 4;
 
 /// A search for a map of least cost, and another one for the same that rests meanwhile.
 #[derive(Drop)]
@@ -27,6 +24,10 @@ pub(crate) struct LeastTurns {
     pub(crate) search: LeastSearch,
     // Of the same network, below the same cap.
     resting: Option<LeastSearch>,
+    // Where rounds for the cuts of another search stopped.
+    rounds: Option<Rounds>,
+    // For maps of the same network.
+    local: Local,
     ghost same_network: { ForSome resting (λ other. other.network ≡ search.network) },
     ghost same_cap: { ForSome resting (λ other. other.cap ≡ search.cap) },
 }
@@ -39,6 +40,8 @@ impl LeastTurns {
         LeastTurns {
             search,
             resting: None,
+            rounds: None,
+            local: Local::new(),
         }
     }
 
@@ -54,9 +57,9 @@ impl LeastTurns {
         self.search.turn().units
     }
 
-    /// Whether the search goes by cuts, too.
-    pub(crate) fn has_cuts(&self) -> bool {
-        self.search.has_cuts()
+    /// What the cuts of the search are made of, once more.
+    pub(crate) fn flips(&self, alloc: Global) -> Result<Vec<Flip>, Memory> {
+        copies_of(alloc, self.search.flips())
     }
 
     /// The same searches for what costs less than another cap, if what they know is enough for that.
@@ -65,13 +68,23 @@ impl LeastTurns {
         ensures network { IfSome result (λ turns. turns.search.network ≡ self.search.network) }
         ensures cap { IfSome result (λ turns. turns.search.cap ≡ limits.cap) }
     {
-        let LeastTurns { search, resting } = self;
+        let LeastTurns {
+            search,
+            resting,
+            rounds,
+            local,
+        } = self;
         let search = search.within(limits)?;
         let resting = match resting {
             Some(other) => other.within(limits),
             None => None,
         };
-        Some(LeastTurns { search, resting })
+        Some(LeastTurns {
+            search,
+            resting,
+            rounds,
+            local,
+        })
     }
 
     /// Goes on as far as the budget goes: what the search comes to, and where it stops how it can be gone on with.
@@ -90,12 +103,28 @@ impl LeastTurns {
         ensures spent { IfOk result (λ r. StopsWhereSpent budget.new.left r.0) }
         ensures budget { OnlySpends budget.old.left budget.new.left }
     {
-        let LeastTurns { search, resting } = self;
+        let LeastTurns {
+            search,
+            resting,
+            rounds,
+            mut local,
+        } = self;
+        let search = search.improved(alloc, &mut local, budget)?;
+        let before = budget.left;
         let (outcome, rest) = search.advance(alloc, budget)?;
         let Some(search) = rest else {
             return Ok((outcome, None));
         };
-        Ok((outcome, Some(LeastTurns { search, resting })))
+        local.earn(spent_of(before, budget.left));
+        Ok((
+            outcome,
+            Some(LeastTurns {
+                search,
+                resting,
+                rounds,
+                local,
+            }),
+        ))
     }
 
     /// The turn that comes after.
@@ -104,51 +133,75 @@ impl LeastTurns {
         ensures cap { IfOk result (λ turns. turns.search.cap ≡ self.search.cap) }
         ensures budget { OnlySpends budget.old.left budget.new.left }
     {
-        let LeastTurns { search, resting } = self;
+        let LeastTurns {
+            search,
+            resting,
+            rounds,
+            mut local,
+        } = self;
         if let Some(other) = resting {
-            let turn = other.turn().longer(LONGER);
-            let other = other.knowing(&search)?.at(turn);
-            return Ok(LeastTurns {
-                search: other,
-                resting: Some(search),
-            });
+            return exchanged(search, other, local);
         }
-        let turn = search.turn();
-        if turn.is_by_tree() {
+        if search.turn().is_by_tree() {
             let search = search.beside(alloc, Turn::narrow(), budget)?;
-            return Ok(LeastTurns::alone(search));
-        }
-        if search.has_cuts() {
-            return Ok(LeastTurns::alone(search.at(turn.endless())));
-        }
-        let other = with_cuts(alloc, &search, budget)?;
-        if other.has_cuts() {
             return Ok(LeastTurns {
-                search: other,
-                resting: Some(search),
+                search,
+                resting: None,
+                rounds: None,
+                local,
             });
         }
-        Ok(LeastTurns::alone(search.at(turn.longer(LONGER_ALONE))))
+        let mut rounds = match rounds {
+            Some(rounds) => rounds,
+            None => Rounds::new(alloc),
+        };
+        local.earn(search.seek_cuts(alloc, &mut rounds, budget)?);
+        after_rounds(alloc, search, rounds, local)
     }
 }
 
-/// Another search for the same with cuts, which may take all of its first turn to be found.
-fn with_cuts(
+/// The turn after one of rounds for cuts: of another search with the cuts, where they are of use, or else of the same.
+fn after_rounds(
     alloc: Global,
-    search: &LeastSearch,
-    budget: &mut Budget,
-) -> Result<LeastSearch, Memory>
-    ensures network { IfOk result (λ other. other.network ≡ search.now.network) }
-    ensures cap { IfOk result (λ other. other.cap ≡ search.now.cap) }
-    ensures budget { OnlySpends budget.old.left budget.new.left }
+    search: LeastSearch,
+    rounds: Rounds,
+    local: Local,
+) -> Result<LeastTurns, Memory>
+    ensures network { IfOk result (λ turns. turns.search.network ≡ search.network) }
+    ensures cap { IfOk result (λ turns. turns.search.cap ≡ search.cap) }
 {
-    let turn = search.turn().with_cuts();
-    let mut part = match turn.given {
-        Some(units) => budget.part(units),
-        None => Budget { left: budget.left },
-    };
-    let given = part.left;
-    let other = search.beside(alloc, turn, &mut part)?;
-    budget.spend(spent_of(given, part.left));
-    Ok(other)
+    let turn = search.turn();
+    if rounds.is_open() || !rounds.are_of_use(search.aim()) {
+        return Ok(LeastTurns {
+            search: search.at(rounds.turn_beside(turn)),
+            resting: None,
+            rounds: Some(rounds),
+            local,
+        });
+    }
+    let other = search.with_cuts(alloc, turn.longer(), rounds.into_flips())?;
+    Ok(LeastTurns {
+        search: other,
+        resting: Some(search),
+        rounds: None,
+        local,
+    })
+}
+
+/// The other search's turn: a longer one where its bound is no worse.
+fn exchanged(search: LeastSearch, other: LeastSearch, local: Local) -> Result<LeastTurns, Memory>
+    requires network { other.network ≡ search.network }
+    requires cap { other.cap ≡ search.cap }
+    ensures network { IfOk result (λ turns. turns.search.network ≡ search.network) }
+    ensures cap { IfOk result (λ turns. turns.search.cap ≡ search.cap) }
+{
+    let is_worse = other.own_bound() < search.own_bound();
+    let turn = other.turn().after_both(search.turn(), is_worse);
+    let other = other.knowing(&search)?.at(turn);
+    Ok(LeastTurns {
+        search: other,
+        resting: Some(search),
+        rounds: None,
+        local,
+    })
 }

@@ -2,9 +2,11 @@
 #![tactic(auto)]
 
 mod admitted;
+mod aim;
 mod basis;
 mod boxes;
 mod cut;
+mod cut_rounds;
 mod cuts;
 mod cycles;
 mod empty;
@@ -16,17 +18,19 @@ mod held;
 mod least_search;
 mod least_turns;
 mod leaves;
+mod local;
 mod method;
 mod node;
 mod open;
 mod parts;
-mod phase;
 mod proposer;
 mod range;
 mod residues;
 mod root;
 mod separate;
 mod settling;
+mod site;
+mod spent;
 mod stack;
 mod starts;
 mod terms;

@@ -3,16 +3,18 @@
 ghost use Rattle.std.specs.Prelude.{◌≡◌, ◌+◌, ◌<◌, ◌^◌, IfOk, IfSome};
 ghost use Rattle.pesp_search_least.specs.Order.{EndsUnlessSpent, IsFirstOutcome};
 ghost use Rattle.pesp_search_least.specs.Spending.{OnlySpends};
-ghost use Rattle.pesp_search_least.specs.Sums.{IsLeast, IsLowerBound, IsOutcome, IsStop, StopsWhereSpent};
+ghost use Rattle.pesp_search_least.specs.Sums.{IsBelow, IsLeast, IsLowerBound, IsOutcome, IsStop, StopsWhereSpent};
 ghost use Rattle.pesp_search_network.specs.Arcs.{IsCosted};
 
 use crate::basis::units_of_narrow;
-use crate::first_search::FirstSearch;
+use crate::first_search::{CutsKnown, FirstSearch};
+use crate::flip::{Flip, copies_of};
 use crate::least_search::LeastSearch;
 use crate::least_turns::LeastTurns;
-use crate::phase::spent_of;
+use crate::local::Local;
 use crate::residues::residue_ranges;
 use crate::settling::Settling;
+use crate::spent::spent_of;
 use crate::stack::Progress;
 use crate::turn::Turn;
 use pesp_base::Memory;
@@ -50,6 +52,14 @@ impl Solved {
     }
 }
 
+/// A network with too many cycles, and the local search for its maps.
+#[derive(Drop)]
+struct Rough {
+    // As it was given.
+    network: Network,
+    local: Local,
+}
+
 /// Searches by what the slacks of a network add up to along its cycles.
 ///
 /// One that stops is kept, and goes on where it is asked for the same network again.
@@ -59,10 +69,13 @@ pub struct ByCycles {
     stopped: Option<LeastTurns>,
     // Where the last one for a first map stopped.
     unsettled: Option<FirstSearch>,
+    // A local search of a network with too many cycles.
+    rough: Option<Rough>,
     // Networks that were searched to the end within budgets.
     solved: Vec<Solved>,
-    // Whether a search ended by cuts, since the last one for a first map began.
-    by_cuts: bool,
+    // What the cuts are made of by which the last search ended, and how many arcs its network had. Nothing is relied upon.
+    flips: Vec<Flip>,
+    arcs: usize,
 }
 
 impl ByCycles {
@@ -71,8 +84,10 @@ impl ByCycles {
         ByCycles {
             stopped: None,
             unsettled: None,
+            rough: None,
             solved: Vec::new(alloc),
-            by_cuts: false,
+            flips: Vec::new(alloc),
+            arcs: 0,
         }
     }
 
@@ -141,6 +156,14 @@ impl ByCycles {
         Ok(LeastTurns::alone(search))
     }
 
+    /// Keeps what the cuts are made of by which a search ended, where it has some.
+    fn end_by(&mut self, flips: Vec<Flip>, arcs: usize) {
+        if !flips.is_empty() {
+            self.flips = flips;
+            self.arcs = arcs;
+        }
+    }
+
     /// Goes on with a search, by so many turns that have an end and then to the end, as far as the budget goes.
     fn go_on(
         &mut self,
@@ -154,11 +177,14 @@ impl ByCycles {
         ensures spent { IfOk result (StopsWhereSpent budget.new.left) }
         ensures budget { OnlySpends budget.old.left budget.new.left }
     {
-        let has_cuts = turns.has_cuts();
+        let flips = turns.flips(alloc)?;
+        let arcs = turns.network().arc_count();
         let units = if left == 0 { None } else { turns.units() };
         let Some(units) = units else {
             let (outcome, rest) = turns.advance(alloc, budget)?;
-            self.by_cuts = self.by_cuts || (has_cuts && rest.is_none());
+            if rest.is_none() {
+                self.end_by(flips, arcs);
+            }
             self.stopped = rest;
             return Ok(outcome);
         };
@@ -167,7 +193,7 @@ impl ByCycles {
         let (outcome, rest) = turns.advance(alloc, &mut part)?;
         budget.spend(spent_of(given, part.left));
         let Some(rest) = rest else {
-            self.by_cuts = self.by_cuts || has_cuts;
+            self.end_by(flips, arcs);
             return Ok(outcome);
         };
         if budget.is_spent() {
@@ -180,6 +206,36 @@ impl ByCycles {
 }
 
 impl ByCycles {
+    /// A map below the cap that a local search finds, if it finds one: for a network with too many cycles. The search is kept,
+    /// and goes on where it is asked for the same network again.
+    pub fn rough(
+        &mut self,
+        alloc: Global,
+        network: &Network,
+        cap: u64,
+        units: u64,
+    ) -> Result<Option<Candidate>, Memory>
+        ensures { IfOk result (λ found. IfSome found (IsBelow (IsCosted network.now) cap)) }
+    {
+        let mut local = match self.rough.take() {
+            Some(rough) if rough.network.is_same(network) => rough.local,
+            _ => Local::new(),
+        };
+        local.give(units);
+        let found = local.advance(alloc, network, &None, &mut Budget::unlimited())?;
+        self.rough = Some(Rough {
+            network: network.copy()?,
+            local,
+        });
+        let Some(map) = found else {
+            return Ok(None);
+        };
+        match network.cost(&map) {
+            Some(cost) if cost < cap => Ok(Some(Candidate { cost, map })),
+            _ => Ok(None),
+        }
+    }
+
     /// The search for the first map of the network at this cost that stopped, if there is one.
     fn unsettled(&mut self, network: &Network, cost: u64) -> Option<FirstSearch>
         ensures network { IfSome result (λ search. search.network ≡ network.now) }
@@ -207,10 +263,15 @@ impl ByCycles {
         ensures cost { IfOk result (λ search. search.cost ≡ candidate.cost) }
         ensures budget { OnlySpends budget.old.left budget.new.left }
     {
-        let with_cuts = self.by_cuts;
-        self.by_cuts = false;
+        let known = if self.arcs == network.arc_count() {
+            CutsKnown::Flips(copies_of(alloc, &self.flips)?)
+        } else if self.flips.is_empty() {
+            CutsKnown::Nothing
+        } else {
+            CutsKnown::OfAPart
+        };
         let settling = Settling::new(candidate);
-        FirstSearch::new(alloc, network.copy()?, with_cuts, settling, budget)
+        FirstSearch::new(alloc, network.copy()?, known, settling, budget)
     }
 
     /// From a map of least cost to the first one of that cost.

@@ -14,14 +14,12 @@ mod splits;
 use crate::admitted::{admitted_cost, only_map};
 use crate::boxes::Boxes;
 use crate::empty::{has_empty, has_lost_event};
-use crate::flip::Flip;
 use crate::graph::units_of;
 use crate::proposer::Proposer;
 use crate::root::root;
-use crate::separate::separate;
 use crate::terms::floor;
 use crate::waiting::Waiting;
-use crate::{Cycles, Range, Walk};
+use crate::{Cycles, Range};
 use pesp_base::Memory;
 use pesp_search_least::{Budget, Candidate, Relaxation, Split};
 use std::alloc::Global;
@@ -65,7 +63,7 @@ fn greater(bound: Option<u64>, other: Option<u64>) -> Option<u64>
 }
 
 /// How many numbers may be gone through with what is left of a budget.
-fn most_of(budget: &Budget) -> u64 {
+pub(crate) fn most_of(budget: &Budget) -> u64 {
     match budget.left {
         Some(left) => left
             .saturating_add(1)
@@ -260,29 +258,6 @@ impl<'a> Node<'a> {
             Some(cost) => Ok(Some(Candidate { cost, map })),
             None => Ok(None),
         }
-    }
-
-    /// The flip of a walk that the tableau misses by most, and by how much.
-    pub(crate) fn separated(
-        &self,
-        alloc: Global,
-        walk: &Walk,
-    ) -> Result<Option<(i64, Flip)>, Memory> {
-        let network = self.cycles.network();
-        let (arcs, period) = (network.arcs(), network.period());
-        separate(
-            alloc,
-            arcs,
-            period,
-            &self.boxes.numbers,
-            &self.proposer,
-            walk,
-        )
-    }
-
-    /// Whether the terms of a cut are as little as they may.
-    pub(crate) fn is_tight(&self, cut: usize) -> bool {
-        self.proposer.is_tight(cut)
     }
 
     /// The ranges of the residues.

@@ -13,9 +13,9 @@ use crate::{Cycles, Walk};
 use pesp_base::Memory;
 use pesp_search_graph::Arc;
 use pesp_search_network::Network;
-use pesp_search_simplex::{End, PARTS, SCALE, Tableau, Term};
+use pesp_search_simplex::{End, PARTS, Tableau, Term};
 use std::alloc::Global;
-use terms::{are_of, base_of, costs_of, most_of, terms_of, terms_of_cut};
+use terms::{are_of, base_of, costs_of, most_of, room_of, terms_of, terms_of_cut};
 
 /// How many entries the tableaus of waiting nodes have together at most: 16 MB. The others of them find theirs anew.
 const MOST_ENTRIES: usize = 2_097_152;
@@ -35,6 +35,8 @@ pub(crate) struct Proposer {
     cuts: usize,
     // How many slacks and residues there are.
     numbers: usize,
+    // How many bits after the point multipliers have: so many that sums of the bound fit.
+    scale_bits: u32,
     // How the tableau was left.
     end: End,
     // How many nodes were searched on the way here.
@@ -55,13 +57,16 @@ impl Proposer {
     ) -> Result<Proposer, Memory> {
         let network = cycles.network();
         let costs = costs_of(alloc, network)?;
+        let tableau = Tableau::new(alloc, &costs)?;
+        let scale_bits = tableau.scale_bits().min(room_of(network));
         let mut proposer = Proposer {
-            tableau: Tableau::new(alloc, &costs)?,
+            tableau,
             bases: Vec::new(alloc),
             is_part: part.is_some(),
             before: cycles.walks().len(),
             cuts: 0,
             numbers: costs.len(),
+            scale_bits,
             end: End::Spent,
             depth: 0,
         };
@@ -99,7 +104,7 @@ impl Proposer {
     }
 
     /// Takes a cut: a number for what its terms are together.
-    fn push_cut(
+    pub(crate) fn push_cut(
         &mut self,
         alloc: Global,
         network: &Network,
@@ -159,6 +164,7 @@ impl Proposer {
             before: self.before,
             cuts: self.cuts,
             numbers: self.numbers,
+            scale_bits: self.scale_bits,
             end: self.end,
             depth: self.depth,
         })
@@ -207,6 +213,19 @@ impl Proposer {
         self.tableau.work().saturating_sub(before)
     }
 
+    /// Whether it was left before it came to the least cost.
+    pub(crate) fn is_spent(&self) -> bool {
+        self.end == End::Spent
+    }
+
+    /// The least cost, as the tableau has it; the greatest number where it has none.
+    pub(crate) fn cost(&self) -> u64 {
+        match self.end {
+            End::Empty => u64::MAX,
+            _ => self.tableau.cost(),
+        }
+    }
+
     /// The multipliers of the walks and the cuts that tell a bound, and their scale.
     pub(crate) fn write_multipliers(&self, multipliers: &mut [i64]) -> u32
         ensures { length multipliers.new ≡ length multipliers.old }
@@ -223,10 +242,14 @@ impl Proposer {
             multipliers[index] = if is_empty {
                 self.tableau.refutation(row)
             } else {
-                self.tableau.multiplier(row)
+                self.tableau.multiplier(row, self.scale_bits)
             };
         }
-        if is_empty { 0 } else { SCALE }
+        if is_empty {
+            0
+        } else {
+            1u32.wrapping_shl(self.scale_bits)
+        }
     }
 
     /// What the tableau says of a number, as a whole one.

@@ -9,6 +9,7 @@ ghost use Rattle.pesp_search_cycles.specs.Maps.{Net};
 ghost use Rattle.pesp_search_cycles.specs.Ranges.{AreIn};
 ghost use Rattle.pesp_search_cycles.specs.Stacks.{AreEqualBests, IsProgress, IsStack};
 
+use crate::aim::Aim;
 use crate::open::whole;
 use crate::waiting::{Waiting, asleep, awake};
 use crate::{Cycles, Range};
@@ -54,6 +55,18 @@ impl Progress {
         }
     }
 
+    /// What cuts are for.
+    pub(crate) fn aim(&self) -> Aim {
+        Aim {
+            best: match &self.best {
+                Some(best) => Some(best.cost),
+                None => None,
+            },
+            cap: self.limits.cap,
+            floor: self.limits.floor,
+        }
+    }
+
     /// The same once more.
     pub(crate) fn copy(&self) -> Result<Progress, Memory>
         ensures limits { IfOk result (λ copy. copy.limits ≡ self.now.limits) }
@@ -67,6 +80,15 @@ impl Progress {
 }
 
 impl Stack {
+    /// What its nodes tell of the least cost, apart from what was known before.
+    pub(crate) fn own_bound(&self) -> u64 {
+        let mut least = self.progress.limit();
+        for node in &self.nodes {
+            least = least.min(node.bound.unwrap_or(least));
+        }
+        least
+    }
+
     /// A search at its beginning: the node of all maps is open.
     pub(crate) fn new<'a>(
         alloc: Global,

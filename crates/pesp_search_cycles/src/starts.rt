@@ -9,7 +9,7 @@ ghost use Rattle.pesp_search_cycles.specs.Starts.{AreStarts, IsFound, IsInBoxes,
 use crate::boxes::Boxes;
 use crate::open::{leaves_of_part, whole};
 use crate::parts::{Part, Parts};
-use crate::phase::spent_of;
+use crate::spent::spent_of;
 use crate::{Cycles, Range};
 use pesp_base::Memory;
 use pesp_search_least::Budget;

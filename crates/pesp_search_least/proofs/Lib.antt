@@ -1,7 +1,6 @@
 pub mod Along
 pub mod Budgets
 pub mod Expanded
-pub mod Lines
 pub mod Outcomes
 pub mod Reached
 pub mod Stack

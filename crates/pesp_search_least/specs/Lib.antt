@@ -1,5 +1,4 @@
 pub mod Expansions
-pub mod Lines
 pub mod Order
 pub mod Reached
 pub mod Spending

@@ -2,13 +2,9 @@
 #![tactic(auto)]
 
 mod budget;
-#[cfg(test)]
-mod examples;
 mod expand;
 mod incumbent;
 mod limits;
-#[cfg(test)]
-mod line;
 mod order;
 mod outcome;
 mod region;

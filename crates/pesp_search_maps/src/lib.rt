@@ -3,18 +3,30 @@
 //! Nothing is proved of a map but that it can be made safely: what it costs, the caller works out.
 #![tactic(auto)]
 
+mod chance;
 mod charge;
+mod crossings;
+mod current;
+mod cuts;
+mod descent;
 mod ends;
-#[cfg(test)]
-mod examples;
+mod first;
 mod forest;
+mod kick;
+mod links;
+mod local_search;
 mod maps;
 mod moves;
+mod neighbourhood;
+mod numbers;
 mod residue;
 mod sets;
-#[cfg(test)]
-mod tables;
+mod spanning;
+mod tree;
 mod turns;
 
+pub use charge::Charge;
+pub use first::first_map;
+pub use local_search::LocalSearch;
 pub use maps::map_of;
 pub use moves::polish;

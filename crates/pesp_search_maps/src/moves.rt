@@ -7,7 +7,8 @@
 
 use crate::ends::Ends;
 use crate::forest::Forest;
-use crate::residue::{residue_of, slack_at, turned};
+use crate::links::Link;
+use crate::residue::{residue_of, settle, slack_at, turned};
 use crate::turns::Turns;
 use pesp_base::{Memory, Period};
 use pesp_search_graph::Arc;
@@ -61,17 +62,6 @@ fn order_of(alloc: Global, period: Period, arcs: &[Arc]) -> Result<Vec<usize>, M
     Ok(order)
 }
 
-/// Turns the whole map so that the origin stands at 0, each residue below the period.
-fn settle(period: Period, map: &mut [u16], origin: Option<usize>) {
-    let by = match origin {
-        Some(origin) => 0 - i64::from(residue_of(period, map, origin)),
-        None => 0,
-    };
-    for residue in map {
-        *residue = turned(period, *residue, by);
-    }
-}
-
 fn spend(work: &mut u64, numbers: usize) {
     *work = (*work).saturating_sub(numbers as u64);
 }
@@ -108,8 +98,11 @@ impl Moves<'_> {
                 None => true,
             };
             if let (false, Some(arc)) = (is_inside, self.arcs.get(end.arc)) {
-                self.turns
-                    .add(arc, slack_at(self.period, map, arc), end.is_head);
+                let link = Link::new(self.period, arc, end.is_head);
+                let own = residue_of(self.period, map, node);
+                let other = residue_of(self.period, map, end.other);
+                let rise = link.rise(self.period.get(), own, other);
+                self.turns.add(&link, rise, 1);
             }
         }
     }
@@ -128,7 +121,7 @@ impl Moves<'_> {
             spend(work, self.ends.of(place.node).len().saturating_add(1));
         }
         spend(work, usize::from(self.period.get()));
-        let turn = self.turns.best();
+        let (turn, _charge) = self.turns.best();
         if turn == 0 {
             return false;
         }

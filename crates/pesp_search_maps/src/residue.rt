@@ -39,3 +39,14 @@ pub(crate) fn turned(period: Period, residue: u16, by: i64) -> u16
 {
     remainder(period, i64::from(residue).wrapping_add(by))
 }
+
+/// Turns the whole map so that the origin stands at 0, each residue below the period.
+pub(crate) fn settle(period: Period, map: &mut [u16], origin: Option<usize>) {
+    let by = match origin {
+        Some(origin) => 0 - i64::from(residue_of(period, map, origin)),
+        None => 0,
+    };
+    for residue in map {
+        *residue = turned(period, *residue, by);
+    }
+}

@@ -1,5 +1,6 @@
 //! Which nodes are joined.
 
+use crate::numbers::{append, at, put, refill};
 use pesp_base::Memory;
 use std::alloc::Global;
 
@@ -12,33 +13,25 @@ pub(crate) struct Sets {
     sizes: Vec<usize>,
 }
 
-/// What stands at an index; the fallback where nothing does.
-fn at(numbers: &[usize], index: usize, fallback: usize) -> usize {
-    match numbers.get(index) {
-        Some(number) => *number,
-        None => fallback,
-    }
-}
-
-fn put(numbers: &mut [usize], index: usize, number: usize) {
-    if let Some(old) = numbers.get_mut(index) {
-        *old = number;
-    }
-}
-
 impl Sets {
     /// A set for each node.
     pub(crate) fn new(alloc: Global, nodes: usize) -> Result<Sets, Memory> {
-        let mut parents = Vec::new(alloc);
-        for node in 0..nodes {
-            if parents.push(node).is_err() {
-                return Err(Memory);
-            }
-        }
-        let Ok(sizes) = vec![in alloc; 1; nodes] else {
-            return Err(Memory);
+        let mut sets = Sets {
+            parents: Vec::new(alloc),
+            sizes: Vec::new(alloc),
         };
-        Ok(Sets { parents, sizes })
+        sets.part(nodes)?;
+        Ok(sets)
+    }
+
+    /// Begins again with a set for each of so many nodes.
+    pub(crate) fn part(&mut self, nodes: usize) -> Result<(), Memory> {
+        refill(&mut self.sizes, nodes, 1)?;
+        self.parents.clear();
+        for node in 0..nodes {
+            append(&mut self.parents, node)?;
+        }
+        Ok(())
     }
 
     /// The node that stands for a node's set.

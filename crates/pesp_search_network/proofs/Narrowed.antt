@@ -1,5 +1,5 @@
 -- Which maps are left where an event may stand at fewer residues.
-use Rattle.std.proofs.Common.{◌≡◌, ◌≢◌, ℕ, ◌+◌, ◌*◌, ◌/◌, ◌<◌, ◌≤◌, ◌⊎◌, inl, inr, min, Bool, true, false, All, IsTrue, List, length, get_or, slice_index, slice_set, sum_by, refl, sym, subst, ap, ◌∙◌, arith}
+use Rattle.std.proofs.Common.{◌≡◌, ◌≢◌, ℕ, ◌+◌, ◌*◌, ◌/◌, ◌<◌, ◌≤◌, ◌⊎◌, inl, inr, min, Bool, true, false, All, IsTrue, List, length, get_or, slice_index, slice_set, sum_by, sym, subst, ap, ◌∙◌, arith}
 use Rattle.std.proofs.Math.ListN.{set}
 use Rattle.std.proofs.lemmas.List.{get_or-set_same, get_or-set_other, get_or_past, length-set}
 use Rattle.std.proofs.lemmas.Nat.{div-mul-add}
@@ -12,7 +12,7 @@ use Rattle.pesp_search_network.proofs.Residues.{keeps_rows}
 
 -- ---- one residue
 
-unset_there : (rows : List Bool) (k : ℕ) → get_or (set rows k false) k false ≡ false
+pub unset_there : (rows : List Bool) (k : ℕ) → get_or (set rows k false) k false ≡ false
 unset_there rows k = elim (cases_lt k (length rows)) [
   | inr past ↦ get_or_past (set rows k false) k false (omega (arith, past, length-set rows k false))
   | inl within ↦ get_or-set_same rows k false false within
@@ -26,7 +26,7 @@ unset rows k j e = elim (cases_eq j k) [
 ]
 
 -- two indices of one row
-one_index : (T v w q r : ℕ) → q < T → r < T → v * T + q ≡ w * T + r → (v ≡ w) × (q ≡ r)
+pub one_index : (T v w q r : ℕ) → q < T → r < T → v * T + q ≡ w * T + r → (v ≡ w) × (q ≡ r)
 one_index T v w q r h below e =
     let row : v ≡ w = sym (div-mul-add v T q h) ∙ ap (λ n. n / T) e ∙ div-mul-add w T r below in
     let starts = ap (λ n. n * T) row in

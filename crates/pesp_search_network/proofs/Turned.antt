@@ -13,14 +13,14 @@ use Rattle.pesp_search_network.specs.Arcs.{cost_in, meets}
 use Rattle.pesp_search_graph.specs.declared.arc.Arc.{Arc}
 
 -- a turned residue is the residue and the turn, less whole periods
-turned_parts : (T t r : ℕ) → pos ((r + t) % T) ≡ pos (r + t) +ℤ pos T *ℤ neg_ℤ (pos ((r + t) / T))
+pub turned_parts : (T t r : ℕ) → pos ((r + t) % T) ≡ pos (r + t) +ℤ pos T *ℤ neg_ℤ (pos ((r + t) / T))
 turned_parts T t r =
     let whole : (r + t) / T * T + (r + t) % T ≡ r + t = div-add-mod' (r + t) T in
     let same : (r + t) / T * T ≡ T * ((r + t) / T) = mul_comm ((r + t) / T) T in
     omega (arith, ints, whole, same, against T (pos ((r + t) / T)), pos-*ℤ-pos T ((r + t) / T))
 
 -- the slack stays
-slack-turned : (T : ℕ) (span : Bounds) (t r s : ℕ) → 0 < T → slack_of T span ((r + t) % T) ((s + t) % T) ≡ slack_of T span r s
+pub slack-turned : (T : ℕ) (span : Bounds) (t r s : ℕ) → 0 < T → slack_of T span ((r + t) % T) ((s + t) % T) ≡ slack_of T span r s
 slack-turned T span t r s some =
     let q : ℤ = neg_ℤ (pos ((s + t) / T)) in
     let p : ℤ = neg_ℤ (pos ((r + t) / T)) in

@@ -2,6 +2,9 @@ pub mod Arcs
 pub mod Narrow
 pub mod Only
 pub mod Pieces
+pub mod Prices
+pub mod Reduced
+pub mod Shifts
 pub mod SumsApart
-pub mod Tried
+pub mod Tied
 pub mod Weights

@@ -10,16 +10,13 @@ mod method;
 mod narrow;
 mod network;
 mod pieces;
+mod presolve;
 mod separation;
 mod share;
-#[cfg(test)]
-mod tests;
-#[cfg(test)]
-mod tests_apart;
 mod traversal;
-#[cfg(test)]
-mod trials;
 
 pub use method::Method;
 pub use network::Network;
 pub use pesp_search_graph::Arc;
+pub use presolve::reduction::Reduction;
+pub use presolve::shift::Shift;

@@ -5,6 +5,6 @@
 pub(crate) struct Column {
     // Its index among all numbers.
     pub(crate) number: usize,
-    /// In parts of `COST`.
+    /// With as many bits after the point as the tableau says.
     pub(crate) cost: i64,
 }

@@ -3,14 +3,17 @@
 /// Values are told in parts of this.
 pub const PARTS: i64 = 65_536;
 
-/// Multipliers are told in parts of this.
-pub const SCALE: u32 = 16_777_216;
+/// Multipliers have at most so many bits after the point.
+const MOST_SCALE_BITS: u32 = 24;
 
 /// Entries and values are in parts of this, 2^40.
 pub(crate) const ONE: i64 = 1_099_511_627_776;
 
-/// Costs are in parts of this, 2^30.
-pub(crate) const COST: i64 = 1_073_741_824;
+/// Costs have at most so many bits after the point,
+const MOST_COST_BITS: u32 = 30;
+
+/// and all given ones together have so many bits at most, so that reduced costs fit.
+const COST_ROOM: u32 = 58;
 
 /// An entry below this is 0.
 const TINY: i64 = 65_536;
@@ -43,4 +46,24 @@ pub(crate) fn clean(entry: i64) -> i64 {
     } else {
         entry
     }
+}
+
+/// How many bits after the point costs have where the given ones are these: fewer where they are great.
+pub(crate) fn cost_bits_of(costs: &[u32]) -> u32 {
+    let mut total: u64 = 0;
+    for cost in costs {
+        total = total.saturating_add(u64::from(*cost));
+    }
+    let whole = 64 - total.leading_zeros();
+    COST_ROOM.saturating_sub(whole).min(MOST_COST_BITS)
+}
+
+/// How many bits after the point multipliers have, where costs have so many: at least one fewer.
+pub(crate) fn scale_bits_of(cost_bits: u32) -> u32 {
+    cost_bits.saturating_sub(1).min(MOST_SCALE_BITS)
+}
+
+/// A cost in parts of so many bits.
+pub(crate) fn cost_in(cost: u32, bits: u32) -> i64 {
+    i64::from(cost).wrapping_shl(bits)
 }

@@ -3,8 +3,6 @@
 
 mod basic;
 mod column;
-#[cfg(test)]
-mod drawn;
 mod end;
 mod enter;
 mod equations;
@@ -21,11 +19,9 @@ mod solve;
 mod steps;
 mod tableau;
 mod term;
-#[cfg(test)]
-mod tests;
 
 pub use end::End;
-pub use fixed::{PARTS, SCALE};
+pub use fixed::PARTS;
 pub use steps::Steps;
 pub use tableau::Tableau;
 pub use term::Term;

@@ -1,15 +1,12 @@
 //! What a tableau says.
 
 use crate::enter::SMALL;
-use crate::fixed::{ONE, PARTS, narrow};
+use crate::fixed::{ONE, PARTS, narrow, scale_bits_of};
 use crate::number::Place;
 use crate::{Steps, Tableau};
 
 /// Parts of `ONE` to those of `PARTS`.
 const TO_PARTS: u32 = 24;
-
-/// Parts of `COST` to those of `SCALE`.
-const COST_TO_SCALE: u32 = 6;
 
 /// Parts of `ONE` to those of a refutation, 2^32.
 const ONE_TO_REFUTATION: u32 = 8;
@@ -56,14 +53,28 @@ impl Tableau {
         snapped(narrow(wide.wrapping_add(8_388_608).wrapping_shr(TO_PARTS)))
     }
 
-    /// What a row's equation is to be multiplied by for the lower bound, in parts of `SCALE`.
-    pub fn multiplier(&self, row: usize) -> i64 {
+    /// The cost of all numbers where they stand, rounded up; 0 where it is less.
+    pub fn cost(&self) -> u64 {
+        let most = 1i128.wrapping_shl(self.cost_bits).wrapping_sub(1);
+        let whole = self.cost.wrapping_add(most).wrapping_shr(self.cost_bits);
+        u64::try_from(whole.max(0)).unwrap_or(u64::MAX)
+    }
+
+    /// How many bits after the point multipliers have: at most 24, and fewer where costs are great.
+    pub fn scale_bits(&self) -> u32 {
+        scale_bits_of(self.cost_bits)
+    }
+
+    /// What a row's equation is to be multiplied by for the lower bound, with so many bits after the point: no more than
+    /// `scale_bits` says.
+    pub fn multiplier(&self, row: usize, bits: u32) -> i64 {
         let number = self.number(self.columns.len().saturating_add(row));
         let Place::Column(column) = number.place else {
             return 0;
         };
+        let more = self.cost_bits.saturating_sub(bits);
         match self.columns.get(column) {
-            Some(own) => halved(own.cost, COST_TO_SCALE.saturating_add(number.shift)),
+            Some(own) => halved(own.cost, more.saturating_add(number.shift)),
             None => 0,
         }
     }

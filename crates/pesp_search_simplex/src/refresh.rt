@@ -1,7 +1,7 @@
 //! Mistakes that rounding leaves, and how they are undone.
 
 use crate::Tableau;
-use crate::fixed::{COST, product, times};
+use crate::fixed::{cost_in, product, times};
 use crate::number::Place;
 
 /// Equations are off from this on.
@@ -72,7 +72,7 @@ impl Tableau {
         self.cost = 0;
         for index in 0..self.columns.len() {
             let cost = match self.costs.get(index) {
-                Some(cost) => i64::from(*cost).wrapping_mul(COST),
+                Some(cost) => cost_in(*cost, self.cost_bits),
                 None => 0,
             };
             if let Some(column) = self.columns.get_mut(index) {

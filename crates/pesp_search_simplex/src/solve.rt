@@ -1,13 +1,12 @@
 //! The search for the least cost.
 
-use crate::fixed::COST;
 use crate::{End, Tableau};
 
 /// Equations are tried after so many pivots.
 const PIVOTS: u32 = 64;
 
-/// By how much the cost has to be above the cap less 1, in parts of `COST`: an 128th.
-const MARGIN: i128 = 8_388_608;
+/// The cost has to be above the cap less 1 by one divided by two so many times: an 128th.
+const MARGIN_BITS: u32 = 7;
 
 impl Tableau {
     /// Searches for the least cost, until so much work is done.
@@ -62,6 +61,7 @@ impl Tableau {
     /// Whether the cost, rounded up, has come to the cap, whatever was rounded.
     fn is_at(&self, cap: u64) -> bool {
         let before = i128::from(cap).wrapping_sub(1);
-        before.wrapping_mul(i128::from(COST)).wrapping_add(MARGIN) < self.cost
+        let margin = 1i128.wrapping_shl(self.cost_bits.saturating_sub(MARGIN_BITS));
+        before.wrapping_shl(self.cost_bits).wrapping_add(margin) < self.cost
     }
 }

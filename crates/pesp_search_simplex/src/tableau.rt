@@ -5,7 +5,7 @@ use crate::basic::Basic;
 use crate::column::Column;
 use crate::enter::Point;
 use crate::equations::Equations;
-use crate::fixed::{COST, product, times};
+use crate::fixed::{cost_bits_of, cost_in, product, times};
 use crate::matrix::Matrix;
 use crate::number::{Number, Place};
 use crate::pivot::Touch;
@@ -25,6 +25,8 @@ pub struct Tableau {
     pub(crate) alloc: Global,
     // The cost of each given number.
     pub(crate) costs: Vec<u32>,
+    // How many bits after the point costs have.
+    pub(crate) cost_bits: u32,
     // What each row was as it was pushed.
     pub(crate) equations: Equations,
     // The given numbers, and then those of the rows.
@@ -37,7 +39,7 @@ pub struct Tableau {
     pub(crate) entries: Matrix,
     // Whether the entries are left out, until it is searched.
     pub(crate) is_light: bool,
-    // The cost of all numbers where they stand, in parts of COST.
+    // The cost of all numbers where they stand, with as many bits after the point.
     pub(crate) cost: i128,
     // Grows only.
     pub(crate) work: u64,
@@ -52,10 +54,10 @@ pub struct Tableau {
 }
 
 /// The columns of the given numbers at the start.
-fn columns_of(alloc: Global, costs: &[u32]) -> Result<Vec<Column>, Memory> {
+fn columns_of(alloc: Global, costs: &[u32], bits: u32) -> Result<Vec<Column>, Memory> {
     let mut columns = Vec::new(alloc);
     for (number, &cost) in costs.iter().enumerate() {
-        let cost = i64::from(cost).wrapping_mul(COST);
+        let cost = cost_in(cost, bits);
         if columns.push(Column { number, cost }).is_err() {
             return Err(Memory);
         }
@@ -93,12 +95,14 @@ impl Tableau {
         ) else {
             return Err(Memory);
         };
+        let cost_bits = cost_bits_of(costs);
         Ok(Tableau {
             alloc,
             costs: own,
+            cost_bits,
             equations: Equations::new(alloc),
             numbers: numbers_of(alloc, costs.len())?,
-            columns: columns_of(alloc, costs)?,
+            columns: columns_of(alloc, costs, cost_bits)?,
             basics: Vec::new(alloc),
             entries: Matrix::new(alloc, costs.len()),
             is_light: false,
@@ -135,6 +139,7 @@ impl Tableau {
         Ok(Tableau {
             alloc: self.alloc,
             costs,
+            cost_bits: self.cost_bits,
             equations: self.equations.copy()?,
             numbers,
             columns,

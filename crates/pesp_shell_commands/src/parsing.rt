@@ -91,7 +91,7 @@ fn command(words: &[&[u8]]) -> Result<Command, ParseFault>
 
 /// What a line says: a command, or nothing where it is blank or a comment.
 ///
-/// It takes no memory. Errors, the first that applies: `UnknownCommand`, `WordCount`, `BadNumber` or
+/// It is never refused memory. Errors, the first that applies: `UnknownCommand`, `WordCount`, `BadNumber` or
 /// `OutOfRange` from left to right, `Crossed`.
 pub fn parse(line: &[u8]) -> Result<Option<Command>, ParseFault>
     ensures { result ≡ parsed line.now }

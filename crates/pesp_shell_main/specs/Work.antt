@@ -1,5 +1,7 @@
 -- What the words of a command line come to: which files are answered, and how the program ends.
-use Rattle.std.specs.Prelude.{◌≡◌, ◌⊎◌, ℕ, true, false, List, [], ◌∷◌, Option, Contains, MatchResult, Result, Ok, Err}
+use Rattle.std.specs.Prelude.{◌≡◌, ◌⊎◌, ℕ, true, false, List, Option, MatchResult, Result, Ok, Err}
+use Rattle.std.specs.declared.io.ErrorKind as io
+use Rattle.std.specs.declared.io.ErrorKind.TheVariants as failed
 use Rattle.clap.specs.Values.{kind_of}
 use Rattle.clap.specs.Words.{FailsBy, fault_of, takes}
 use Rattle.clap.specs.declared.error.Error.{Error}
@@ -15,9 +17,9 @@ use Rattle.pesp_shell_main.specs.declared.fault.Fault.{Fault}
 use Rattle.pesp_shell_main.specs.declared.fault.Fault.TheVariants as fault
 use Rattle.pesp_shell_main.specs.declared.file_bytes.FileBytes.{FileBytes}
 use Rattle.pesp_shell_main.specs.Checks.{IsUnchecked, IsWritten}
-use Rattle.pesp_shell_main.specs.Endings.{ending_of, statuses_of}
+use Rattle.pesp_shell_main.specs.Endings.{Console, EndsWith, ending_of}
 use Rattle.pesp_shell_main.specs.Faults as faults
-use Rattle.pesp_shell_main.specs.Files.{AreRead}
+use Rattle.pesp_shell_main.specs.Files.{AreRead, FileSystem, IsFirstUnread}
 use Rattle.pesp_shell_main.specs.Wiring.{files_of}
 
 -- standard input and output: the bytes left and written before and after, and what the devices tell at the end
@@ -57,40 +59,47 @@ pub record AreRefused (words : List (List ℕ)) (s : Streams) (ended : Result (U
   pub ends : ended ≡ Err (ending_of (kind_of error) error)
   pub unused : AreUnused s
 
--- the words give settings, and one of the files cannot be read
-pub record IsUnread (words : List (List ℕ)) (s : Streams) (ended : Result (Unit {0}) Ending) : Type 0 where
+-- the words give settings, and the first of their files that gave no bytes ends the program
+pub record IsUnread {F : Type 0} (fs : FileSystem F) (words : List (List ℕ)) (s : Streams) (ended : Result (Unit {0}) Ending) : Type 0 where
   pub settings : Settings
   pub given : AreSettings words settings
   pub fault : Fault
-  pub of_file : faults.IsFaultOfFile fault
+  pub first : IsFirstUnread fs settings fault
   pub ends : ended ≡ Err (ending.Fault fault)
   pub unused : AreUnused s
 
 -- the words give settings, the files that these name gave their bytes, each its own, and what the settings ask for was done for just these bytes
-pub record IsDone {F : Type 0} (opens : List ℕ → F → Type 0) (left : F → Option (List ℕ)) (words : List (List ℕ)) (s : Streams) (ended : Result (Unit {0}) Ending) : Type 0 where
+pub record IsDone {F : Type 0} (fs : FileSystem F) (words : List (List ℕ)) (s : Streams) (ended : Result (Unit {0}) Ending) : Type 0 where
   pub settings : Settings
   pub given : AreSettings words settings
   pub files : FileBytes
-  pub read : AreRead opens left settings files
+  pub read : AreRead fs settings files
   pub result : Result (Unit {0}) RunFault
   pub answer : IsAnswer settings (files_of settings.period files) s result
   pub ends : ended ≡ ended_by result
 
 -- what the words come to
-abbrev pub IsWork : {F : Type 0} → (List ℕ → F → Type 0) → (F → Option (List ℕ)) → List (List ℕ) → Streams → Result (Unit {0}) Ending → Type 0
-IsWork opens left words s ended = AreRefused words s ended ⊎ (IsUnread words s ended ⊎ IsDone opens left words s ended)
+abbrev pub IsWork : {F : Type 0} → FileSystem F → List (List ℕ) → Streams → Result (Unit {0}) Ending → Type 0
+IsWork fs words s ended = AreRefused words s ended ⊎ (IsUnread fs words s ended ⊎ IsDone fs words s ended)
 
--- how the program may end: without the words, which are no text or find no memory, or as some words come to with some files and streams
-abbrev pub MayEndBy : {F : Type 0} → (List ℕ → F → Type 0) → (F → Option (List ℕ)) → Result (Unit {0}) Ending → Type 0
-MayEndBy opens left ended =
-    Contains (Err ending.NotText ∷ Err (ending.Fault (fault.Memory 0)) ∷ []) ended
-    ⊎ ((words : List (List ℕ)) × (s : Streams) × IsWork opens left words s ended)
+-- the words of a process, or how reading them failed
+abbrev pub Words : Type 0
+Words = Result (List (List ℕ)) io.ErrorKind
 
--- the statuses with which the program can end so
-abbrev pub statuses : Result (Unit {0}) Ending → List ℕ
-statuses (Ok done) = 0 ∷ []
-statuses (Err e) = statuses_of e
+abbrev pub words_of : {X E : Type 0} → (X → List (List ℕ)) → (E → io.ErrorKind) → Result X E → Words
+words_of texts kind (Ok words) = Ok (texts words)
+words_of texts kind (Err error) = Err (kind error)
 
--- the program ends as it may, and its status is one of that end
-abbrev pub IsStatus : {F : Type 0} → (List ℕ → F → Type 0) → (F → Option (List ℕ)) → ℕ → Type 0
-IsStatus opens left status = (ended : Result (Unit {0}) Ending) × MayEndBy opens left ended × Contains (statuses ended) status
+-- how the program ends where its words cannot be read
+abbrev pub wordless : io.ErrorKind → Ending
+wordless failed.OutOfMemory = ending.Fault (fault.Memory 0)
+wordless _ = ending.NotText
+
+-- what these words of a process come to; memory may be wanted before they are looked at
+abbrev pub MayEndBy : {F : Type 0} → FileSystem F → Words → Streams → Result (Unit {0}) Ending → Type 0
+MayEndBy fs (Ok words) s ended = IsWork fs words s ended ⊎ ((ended ≡ Err (ending.Fault (fault.Memory 0))) × AreUnused s)
+MayEndBy fs (Err kind) s ended = (ended ≡ Err (wordless kind)) × AreUnused s
+
+-- the whole program: it ends as these words may, and says so and has the status of that end
+abbrev pub IsProgram : {F : Type 0} → FileSystem F → Console → Words → Streams → ℕ → Type 0
+IsProgram fs c words s status = (ended : Result (Unit {0}) Ending) × MayEndBy fs words s ended × EndsWith c ended status

@@ -1,10 +1,12 @@
 //! How the program ends early, and what it says then.
 
-ghost use Rattle.std.specs.Prelude.{◌≡◌, ◌≤◌, Contains};
+ghost use Rattle.std.specs.Prelude.{◌≡◌};
 ghost use Rattle.std.specs.Process.{exit_status};
 ghost use Rattle.clap.specs.Values.{kind_of};
+ghost use Rattle.pesp_shell_main.specs.Endings.{EndsByFault, EndsByWords, console};
 
 use crate::fault::Fault;
+use crate::messages::Messages;
 use clap::error::ErrorKind;
 use pesp_shell::RunFault;
 use std::process::ExitCode;
@@ -23,38 +25,47 @@ pub enum Ending {
 }
 
 impl Ending {
-    ghost use Rattle.pesp_shell_main.specs.Endings.{statuses_of};
+    ghost use Rattle.pesp_shell_main.specs.Endings.{EndsEarly};
 
-    /// Says why, help on standard output and all else on standard error, and gives the exit status.
-    pub fn tell<R: Print + Eprint>(&self, rt: &R) -> ExitCode
-        ensures status { Contains (statuses_of self.now) (exit_status result) }
-        ensures greatest { exit_status result ≤ 2 }
+    /// Says why, and gives the exit status. Where standard error cannot be written, the status alone reports the end.
+    pub fn report<M: Messages>(&self, messages: &M) -> ExitCode
+        ensures { EndsEarly
+            (console (M.printed messages.now) (M.reported messages.now) (M.unprinted messages.now) (M.unreported messages.now))
+            self.now (exit_status result) }
     {
         match self {
-            Ending::Words(error) if error.kind() == ErrorKind::DisplayHelp => {
-                match error.print(rt) {
-                    Ok(()) => ExitCode::SUCCESS,
-                    Err(_) => tell_fault(rt, Fault::NotWritten),
-                }
-            }
-            Ending::Words(error) => {
-                let _ = error.print(rt);
-                ExitCode::from(REFUSED)
-            }
+            Ending::Words(error) => report_words(messages, error),
             Ending::NotText => {
-                let _ = rt.eprintln("error: a word of the command line is not UTF-8");
+                let _ = messages.report_line("error: a word of the command line is not UTF-8");
                 ExitCode::from(REFUSED)
             }
-            Ending::Fault(fault) => tell_fault(rt, *fault),
+            Ending::Fault(fault) => report_fault(messages, *fault),
         }
     }
 }
 
-/// Where standard error cannot be written, the status alone tells the fault.
-fn tell_fault(rt: &impl Eprint, fault: Fault) -> ExitCode
-    ensures { exit_status result ≡ 1 }
+/// Help goes to standard output.
+fn report_words<M: Messages>(messages: &M, error: &clap::Error) -> ExitCode
+    ensures { EndsByWords
+        (console (M.printed messages.now) (M.reported messages.now) (M.unprinted messages.now) (M.unreported messages.now))
+        (kind_of error.now) (exit_status result) }
 {
-    let _ = rt.eprintln(fault);
+    if error.kind() == ErrorKind::DisplayHelp {
+        return match messages.print_text(error) {
+            Ok(()) => ExitCode::SUCCESS,
+            Err(_) => report_fault(messages, Fault::NotWritten),
+        };
+    }
+    let _ = messages.report_text(error);
+    ExitCode::from(REFUSED)
+}
+
+fn report_fault<M: Messages>(messages: &M, fault: Fault) -> ExitCode
+    ensures { EndsByFault
+        (console (M.printed messages.now) (M.reported messages.now) (M.unprinted messages.now) (M.unreported messages.now))
+        fault (exit_status result) }
+{
+    let _ = messages.report_line(fault);
     ExitCode::FAILURE
 }
 

@@ -1,29 +1,51 @@
 //! The faults that end a run, and their texts.
 
 ghost use Rattle.std.specs.Prelude.{◌≡◌};
+ghost use Rattle.pesp_shell_main.specs.Faults as texts;
 
 use pesp_shell::{ReadFault, RunFault, Source};
-use thiserror::Error;
+use std::fmt;
+use std::fmt::{Display, Formatter};
 
-/// Why a run ends without its replies. Each text is one line of standard error.
-#[derive(Clone, Copy, Debug, PartialEq, Eq, Error)]
+/// Why a run ends without its replies.
+#[derive(Clone, Copy, Debug, PartialEq, Eq)]
 pub enum Fault {
-    #[error("pespbench: {name} file cannot be read", name = name_of(*.0))]
     Unreadable(Source),
-    #[error("pespbench: {name} file is too long", name = name_of(*.0))]
     TooLong(Source),
-    #[error("pespbench: {name} file, record {place}: {kind}", name = name_of(*.source), place = .fault.place, kind = .fault.kind)]
     Faulty { source: Source, fault: ReadFault },
-    #[error("pespbench: commands cannot be read")]
     NotRead,
-    #[error("pespbench: replies cannot be written")]
     NotWritten,
-    #[error("pespbench: out of memory at line {line}")]
     Memory { line: u64 },
-    #[error("pespbench: line {line} is longer than 4096 bytes")]
     LineTooLong { line: u64 },
-    #[error("pespbench: more than 1000000 lines")]
     TooManyLines,
+}
+
+/// Each text is one line of standard error.
+impl Display for Fault {
+    ghost use Rattle.pesp_shell_main.specs.Faults.{text_of};
+
+    ghost output = { λ fault. text_of fault };
+
+    fn fmt<W: fmt::Write>(&self, f: &mut Formatter<W>) -> fmt::Result {
+        match *self {
+            Fault::Unreadable(source) => {
+                write!(f, "pespbench: {} file cannot be read", name_of(source))
+            }
+            Fault::TooLong(source) => write!(f, "pespbench: {} file is too long", name_of(source)),
+            Fault::Faulty { source, fault } => {
+                let name = name_of(source);
+                let ReadFault { place, kind } = fault;
+                write!(f, "pespbench: {name} file, record {place}: {kind}")
+            }
+            Fault::NotRead => f.write_str("pespbench: commands cannot be read"),
+            Fault::NotWritten => f.write_str("pespbench: replies cannot be written"),
+            Fault::Memory { line } => write!(f, "pespbench: out of memory at line {line}"),
+            Fault::LineTooLong { line } => {
+                write!(f, "pespbench: line {line} is longer than 4096 bytes")
+            }
+            Fault::TooManyLines => f.write_str("pespbench: more than 1000000 lines"),
+        }
+    }
 }
 
 impl Fault {
@@ -31,7 +53,9 @@ impl Fault {
     pub const EARLY_MEMORY: Fault = Fault::Memory { line: 0 };
 }
 
-fn name_of(source: Source) -> &'static str {
+fn name_of(source: Source) -> &'static str
+    ensures { result.now ≡ texts.name_of source }
+{
     match source {
         Source::Activities => "activities",
         Source::Fixed => "fixed",

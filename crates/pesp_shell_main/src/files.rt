@@ -1,16 +1,17 @@
 //! Reading files whole.
 
-ghost use Rattle.std.specs.Prelude.{◌≡◌, ◌+◌, [], take, Contains, IfErr, IfOk, IfSome, OnOk, nat_lt, option_map};
-ghost use Rattle.pesp_shell_main.specs.Faults.{IsFaultOfFile, faults_of_file};
-ghost use Rattle.pesp_shell_main.specs.Files.{AreRead, Gave, IsGiven, longest_file};
+ghost use Rattle.std.specs.Prelude.{◌≡◌, IfErr, IfOk, nat_lt, option_map};
+ghost use Rattle.std.specs.IoError.{error_kind};
+ghost use Rattle.pesp_shell_main.specs.Faults.{fault_of_kind};
+ghost use Rattle.pesp_shell_main.specs.Files.{AreRead, Gave, HasFault, IsFaultOf, IsFirstUnread, IsGiven, file_system, longest_file};
 
 use crate::fault::Fault;
 use crate::file_bytes::FileBytes;
-use crate::paths::Paths;
+use crate::paths::{Contents, Paths};
 use pesp_shell::{Settings, Source};
 use std::alloc::Global;
 use std::io;
-use std::io::{ErrorKind, Read};
+use std::io::ErrorKind;
 
 /// How many bytes a file may have.
 const LONGEST: u64 = 67_108_864;
@@ -19,15 +20,6 @@ fn is_too_long(length: u64) -> bool
     ensures { result ≡ nat_lt longest_file length }
 {
     length > LONGEST
-}
-
-/// Reads all that the file has, or one byte more than a file may have.
-fn read_bounded<F: Read + Drop>(file: F, bytes: &mut Vec<u8>) -> io::Result<usize>
-    requires { bytes.old.items ≡ [] }
-    ensures { OnOk result (IfSome (F.remaining file)
-        (λ all. bytes.new.items ≡ take (longest_file + 1) all)) }
-{
-    file.take(LONGEST + 1).read_to_end(bytes)
 }
 
 /// All bytes of the file at the path, where there are at most [`LONGEST`] of them.
@@ -40,8 +32,10 @@ fn read_whole<P: Paths>(
     source: Source,
     path: &str,
 ) -> Result<Vec<u8>, Fault>
-    ensures whole { IfOk result (λ bytes. Gave (P.opens paths.now path.now) P.File.remaining bytes.items) }
-    ensures named { IfErr result (Contains (faults_of_file source)) }
+    ensures whole { IfOk result (λ bytes.
+        Gave (file_system (P.opens paths.now) (P.refuses paths.now) P.File.whole P.File.fails) path.now bytes.items) }
+    ensures fault { IfErr result (IsFaultOf
+        (file_system (P.opens paths.now) (P.refuses paths.now) P.File.whole P.File.fails) source path.now) }
 {
     let (file, length) = paths.open(path).map_err(|error| fault_of(source, &error))?;
     if is_too_long(length) {
@@ -51,7 +45,10 @@ fn read_whole<P: Paths>(
     let Ok(mut bytes) = Vec::with_capacity(alloc, length as usize + 1) else {
         return Err(Fault::EARLY_MEMORY);
     };
-    read_bounded(file, &mut bytes).map_err(|error| fault_of(source, &error))?;
+    match file.read_at_most(LONGEST + 1, &mut bytes) {
+        Ok(_) => {}
+        Err(error) => return Err(fault_of(source, &error)),
+    }
     if is_too_long(bytes.len() as u64) {
         return Err(Fault::TooLong(source));
     }
@@ -59,7 +56,7 @@ fn read_whole<P: Paths>(
 }
 
 fn fault_of(source: Source, error: &io::Error) -> Fault
-    ensures { Contains (faults_of_file source) result }
+    ensures { result ≡ fault_of_kind source (error_kind error.now) }
 {
     if error.kind() == ErrorKind::OutOfMemory {
         Fault::EARLY_MEMORY
@@ -75,9 +72,12 @@ fn contents<P: Paths>(
     source: Source,
     path: Option<&str>,
 ) -> Result<Option<Vec<u8>>, Fault>
-    ensures given { IfOk result (IsGiven (P.opens paths.now) P.File.remaining
+    ensures given { IfOk result (IsGiven
+        (file_system (P.opens paths.now) (P.refuses paths.now) P.File.whole P.File.fails)
         (option_map (λ path. path.now) path.entry)) }
-    ensures named { IfErr result (Contains (faults_of_file source)) }
+    ensures fault { IfErr result (HasFault
+        (file_system (P.opens paths.now) (P.refuses paths.now) P.File.whole P.File.fails) source
+        (option_map (λ path. path.now) path.entry)) }
 {
     match path {
         Some(path) => Ok(Some(read_whole(alloc, paths, source, path)?)),
@@ -85,14 +85,17 @@ fn contents<P: Paths>(
     }
 }
 
-/// The bytes of the files that the settings name.
+/// The bytes of the files that the settings name. Faults in order: the file of activities, that of fixed times,
+/// that of times.
 pub fn read_files<P: Paths>(
     alloc: Global,
     paths: &P,
     settings: &Settings,
 ) -> Result<FileBytes, Fault>
-    ensures read { IfOk result (AreRead (P.opens paths.now) P.File.remaining settings.now) }
-    ensures named { IfErr result IsFaultOfFile }
+    ensures read { IfOk result (AreRead
+        (file_system (P.opens paths.now) (P.refuses paths.now) P.File.whole P.File.fails) settings.now) }
+    ensures fault { IfErr result (IsFirstUnread
+        (file_system (P.opens paths.now) (P.refuses paths.now) P.File.whole P.File.fails) settings.now) }
 {
     let activities = contents(alloc, paths, Source::Activities, settings.activities)?;
     let fixed = contents(alloc, paths, Source::Fixed, settings.fixed)?;

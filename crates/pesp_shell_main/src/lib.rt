@@ -6,7 +6,8 @@ mod ending;
 mod fault;
 mod file_bytes;
 mod files;
+mod messages;
 mod paths;
 mod program;
 
-pub use program::status;
+pub use program::{run, status};

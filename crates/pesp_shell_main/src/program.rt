@@ -1,39 +1,47 @@
 //! What the program does: it reads the command line and the files, and prints the replies.
 
-ghost use Rattle.std.specs.Prelude.{◌≡◌, ◌≤◌, [], ◌∷◌, false, Contains, IfErr};
+ghost use Rattle.std.specs.Prelude.{◌≡◌, false, map, string_bytes, IfOk};
+ghost use Rattle.std.specs.IoError.{error_kind};
 ghost use Rattle.std.specs.Process.{exit_status};
 ghost use Rattle.clap.specs.Walk.{texts};
 ghost use Rattle.pesp_shell.specs.Runs.{marks};
-ghost use Rattle.pesp_shell_main.specs.Work.{IsStatus, IsWork, MayEndBy, statuses, streams};
-ghost use Rattle.pesp_shell_main.specs.declared.ending.Ending.TheVariants as ending;
-ghost use Rattle.pesp_shell_main.specs.declared.fault.Fault.TheVariants as fault;
+ghost use Rattle.pesp_shell_main.specs.Endings.{console};
+ghost use Rattle.pesp_shell_main.specs.Files.{file_system};
+ghost use Rattle.pesp_shell_main.specs.Work.{IsProgram, IsWork, MayEndBy, streams, wordless, words_of};
 
 use crate::answering::answer_files;
 use crate::ending::Ending;
 use crate::fault::Fault;
 use crate::files::read_files;
+use crate::messages::Messages;
 use crate::paths::Paths;
 use pesp_shell::{ByteSink, ByteSource, Noted, settings};
-use std::alloc::Global;
+use std::alloc::{AllocError, Global};
 use std::io::{ErrorKind, Input};
 use std::process::ExitCode;
 use std::rt::{Env, Files};
 use std::{env, io};
 
-/// The words of the command line.
-fn read_words<R: Env + AllocGlobal>(rt: &R) -> Result<Vec<String>, Ending>
-    ensures { IfErr result (Contains (ending.NotText ∷ ending.Fault (fault.Memory 0) ∷ [])) }
+/// How the program ends where its words cannot be read.
+fn ending_without_words(error: &io::Error) -> Ending
+    ensures { result ≡ wordless (error_kind error.now) }
 {
-    let words = match env::args(rt) {
-        Ok(words) => words,
-        Err(error) if error.kind() == ErrorKind::OutOfMemory => {
-            return Err(Ending::Fault(Fault::EARLY_MEMORY));
-        }
-        Err(_) => return Err(Ending::NotText),
-    };
-    words
-        .collect::<Vec<String>>(rt.alloc())
-        .map_err(|_| Ending::Fault(Fault::EARLY_MEMORY))
+    if error.kind() == ErrorKind::OutOfMemory {
+        Ending::Fault(Fault::EARLY_MEMORY)
+    } else {
+        Ending::NotText
+    }
+}
+
+/// The texts of words.
+fn texts_of<'a>(alloc: Global, words: &'a [String]) -> Result<Vec<&'a str>, AllocError>
+    ensures { IfOk result (λ found. texts found.items ≡ map string_bytes words.entry.now) }
+{
+    let mut found = Vec::new(alloc);
+    for word in words {
+        found.push(word.as_str())?;
+    }
+    Ok(found)
 }
 
 /// Does what the words ask for.
@@ -47,7 +55,8 @@ fn work<P: Paths, R: ByteSource, W: ByteSink>(
     requires reader { R.failed source.old ≡ false }
     requires end { R.at_end source.old ≡ false }
     requires writer { W.failed sink.old ≡ false }
-    ensures { IsWork (P.opens paths.now) P.File.remaining (texts words.entry.now)
+    ensures { IsWork (file_system (P.opens paths.now) (P.refuses paths.now) P.File.whole P.File.fails)
+        (texts words.entry.now)
         (streams (R.left source.old) (R.left source.new) (W.written sink.old) (W.written sink.new)
         (marks (R.at_end source.new) (R.failed source.new) (W.failed sink.new) (W.passed_on sink.new)))
         result }
@@ -58,40 +67,72 @@ fn work<P: Paths, R: ByteSource, W: ByteSink>(
     Ok(())
 }
 
-fn run<R: Env + Files + AllocGlobal + Input + Print>(rt: &R) -> Result<(), Ending>
-    ensures { MayEndBy (⟦<R as Paths>⟧.opens rt.now) R.File.remaining result }
+/// Does what the words of a process ask for, where they can be read.
+fn work_of<P: Paths, R: ByteSource, W: ByteSink>(
+    alloc: Global,
+    paths: &P,
+    words: io::Result<Vec<String>>,
+    source: &mut R,
+    sink: &mut W,
+) -> Result<(), Ending>
+    requires reader { R.failed source.old ≡ false }
+    requires end { R.at_end source.old ≡ false }
+    requires writer { W.failed sink.old ≡ false }
+    ensures { MayEndBy (file_system (P.opens paths.now) (P.refuses paths.now) P.File.whole P.File.fails)
+        (words_of (λ texts. map string_bytes texts.items) error_kind words)
+        (streams (R.left source.old) (R.left source.new) (W.written sink.old) (W.written sink.new)
+        (marks (R.at_end source.new) (R.failed source.new) (W.failed sink.new) (W.passed_on sink.new)))
+        result }
 {
-    let words = read_words(rt)?;
-    let texts = words
-        .iter()
-        .map(|word| word.as_str())
-        .collect::<Vec<&str>>(rt.alloc())
-        .map_err(|_| Fault::EARLY_MEMORY)?;
-    work(
-        rt.alloc(),
-        rt,
-        texts.as_slice(),
-        &mut Noted::new(rt.reader()),
-        &mut Noted::new(io::writer(rt)),
-    )
+    let words = match words {
+        Ok(words) => words,
+        Err(error) => return Err(ending_without_words(&error)),
+    };
+    let Ok(texts) = texts_of(alloc, words.as_slice()) else {
+        return Err(Ending::Fault(Fault::EARLY_MEMORY));
+    };
+    work(alloc, paths, texts.as_slice(), source, sink)
 }
 
-/// The status of an end, of which it tells where it is early.
-fn told<R: Print + Eprint>(rt: &R, ended: &Result<(), Ending>) -> ExitCode
-    ensures status { Contains (statuses ended.now) (exit_status result) }
-    ensures greatest { exit_status result ≤ 2 }
+/// The program, of the words of a process, over files, messages and streams of any kind: it does what the words ask for,
+/// and where it ends early it says why. The exit status is 0 where it did that or printed help, 2 where the words were
+/// refused, and else 1.
+pub fn run<S: Paths + Messages, R: ByteSource, W: ByteSink>(
+    alloc: Global,
+    system: &S,
+    words: io::Result<Vec<String>>,
+    source: &mut R,
+    sink: &mut W,
+) -> ExitCode
+    requires reader { R.failed source.old ≡ false }
+    requires end { R.at_end source.old ≡ false }
+    requires writer { W.failed sink.old ≡ false }
+    ensures { IsProgram (file_system (S.opens system.now) (S.refuses system.now) S.File.whole S.File.fails)
+        (console (S.printed system.now) (S.reported system.now) (S.unprinted system.now) (S.unreported system.now))
+        (words_of (λ texts. map string_bytes texts.items) error_kind words)
+        (streams (R.left source.old) (R.left source.new) (W.written sink.old) (W.written sink.new)
+        (marks (R.at_end source.new) (R.failed source.new) (W.failed sink.new) (W.passed_on sink.new)))
+        (exit_status result) }
 {
-    match ended {
+    match work_of(alloc, system, words, source, sink) {
         Ok(()) => ExitCode::SUCCESS,
-        Err(ending) => ending.tell(rt),
+        Err(ending) => ending.report(system),
     }
 }
 
-/// Runs the program, and tells why where it ends early. The exit status is 0 where it did what was asked for or told its
-/// help, 2 where the words of the command line were refused, and else 1.
-pub fn status<R: Env + Files + AllocGlobal + Input + Print + Eprint>(rt: &R) -> ExitCode
-    ensures status { IsStatus (⟦<R as Paths>⟧.opens rt.now) R.File.remaining (exit_status result) }
-    ensures greatest { exit_status result ≤ 2 }
-{
-    told(rt, &run(rt))
+/// The words of the process.
+fn words_of_process<R: Env + AllocGlobal>(rt: &R) -> io::Result<Vec<String>> {
+    let words = env::args(rt)?;
+    Ok(words.collect::<Vec<String>>(rt.alloc())?)
+}
+
+/// The program of a process: [`run`] of its words, of standard input and of standard output.
+pub fn status<R: Env + Files + AllocGlobal + Input + Print + Eprint>(rt: &R) -> ExitCode {
+    run(
+        rt.alloc(),
+        rt,
+        words_of_process(rt),
+        &mut Noted::new(rt.reader()),
+        &mut Noted::new(io::writer(rt)),
+    )
 }

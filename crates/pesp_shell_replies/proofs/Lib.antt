@@ -1,5 +1,6 @@
 mod Cases
 pub mod DomainLemmas
+mod DrawnCases
 pub mod Refused
 pub mod SpacedLemmas
 pub mod TranscriptLemmas

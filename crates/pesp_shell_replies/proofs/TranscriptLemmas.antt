@@ -117,6 +117,6 @@ are_afresh first lines output n small (last, leads) =
       told = told;
       rest = rest;
       whole = whole;
-      before = (mid, before);
+      before = subst (λ I. Leads first (take n lines) told (record { instance = I; times = mid.times })) (leads_instance first mid (take n lines) told before) before;
       later = (last, subst (λ I. Leads (record { instance = I; times = mid.times }) (drop n lines) rest last) (leads_instance first mid (take n lines) told before) later);
     }

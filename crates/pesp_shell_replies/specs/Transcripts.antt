@@ -31,13 +31,13 @@ edit_in line = edit_said (parsed line)
 abbrev pub edits_in : List (List ℕ) → List Edit
 edits_in lines = filter_map edit_in lines
 
--- after its first n lines a transcript goes on as one for the instance that their edits leave
+-- after its first n lines a transcript goes on as one for the instance that their edits leave, and the working timetable that they lead to
 pub record GoesOnAfresh (first : Work) (lines : List (List ℕ)) (output : List ℕ) (n : ℕ) : Type 0 where
   pub times : Times
   pub told : List ℕ
   pub rest : List ℕ
   pub whole : output ≡ told ++ rest
-  pub before : IsTranscript first (take n lines) told
+  pub before : Leads first (take n lines) told (record { instance = after first.instance (edits_in (take n lines)); times = times })
   pub later : IsTranscript (record { instance = after first.instance (edits_in (take n lines)); times = times }) (drop n lines) rest
 
 -- each reply of a transcript is one for the instance that the accepted edits before it leave, read afresh

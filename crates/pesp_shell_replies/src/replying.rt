@@ -71,7 +71,7 @@ fn fault_reply(alloc: Global, fault: ParseFault) -> Result<Vec<u8>, Memory>
 /// Does what a line says, and gives the bytes of the reply: none for a blank line or a comment.
 ///
 /// Where memory is wanted, the instance and the working timetable are as they were. A line without a reply
-/// wants none.
+/// is never refused memory.
 pub fn reply_to_line<K: Keeper>(
     alloc: Global,
     bench: &mut Bench<K>,

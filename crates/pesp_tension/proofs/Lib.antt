@@ -1,4 +1,5 @@
 mod Cases
+mod DrawnCases
 pub mod Kept
 pub mod Places
 pub mod Timed

@@ -7,7 +7,7 @@ use crate::Timetable;
 use crate::answers::{is_in_window, is_met};
 use pesp_instance::Instance;
 
-/// Whether each activity is met, where each event of the instance has a time. It takes no memory.
+/// Whether each activity is met, where each event of the instance has a time. It is never refused memory.
 pub fn meets_all(instance: &Instance, timetable: &Timetable) -> bool
     requires { first_missing instance.now timetable.now ≡ None }
     ensures { IsTrue result ↔ All (λ a. IsTrue (meets timetable.now a)) (instance.now).activities }
@@ -21,7 +21,7 @@ pub fn meets_all(instance: &Instance, timetable: &Timetable) -> bool
 }
 
 /// Whether each event's time is in its window, if it has one, where each event of the instance has a time.
-/// It takes no memory.
+/// It is never refused memory.
 pub fn agrees_with_all(instance: &Instance, timetable: &Timetable) -> bool
     requires { first_missing instance.now timetable.now ≡ None }
     ensures { IsTrue result ↔ All (λ x. IsTrue (agrees timetable.now x)) (instance.now).events }

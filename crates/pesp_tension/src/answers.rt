@@ -205,7 +205,7 @@ pub fn violations(
     list_violations(alloc, instance, timetable).map_err(|_| Refusal::Memory)
 }
 
-/// The sum of weight times slack over all activities, met or not. It takes no memory.
+/// The sum of weight times slack over all activities, met or not. It is never refused memory.
 ///
 /// Refusal: 11 with the least event of the instance that has no time.
 pub fn cost(instance: &Instance, timetable: &Timetable) -> Result<u64, Refusal>

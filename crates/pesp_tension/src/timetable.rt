@@ -76,7 +76,7 @@ impl Timetable {
     /// Gives the event a time, also in place of another one.
     ///
     /// Refusals in order: 4 where the time is not below the period; 7 where the event has no time
-    /// and as many others have one as may; 10. An event that has a time takes no memory.
+    /// and as many others have one as may; 10. An event that has a time is never refused memory.
     pub fn set(&mut self, event: EventId, time: u16) -> Result<(), Refusal>
         ensures ok { OnOk result (set_time self.old event time ≡ Ok self.new) }
         ensures refused { IfErr result (IsSetRefusal self.old event time) }

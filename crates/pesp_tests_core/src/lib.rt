@@ -33,6 +33,8 @@ mod members;
 #[cfg(test)]
 mod parts;
 #[cfg(test)]
+mod prices;
+#[cfg(test)]
 mod restored;
 #[cfg(test)]
 mod search;

@@ -62,7 +62,7 @@ fn optimum(rt: &impl Print, alloc: Global, bench: &mut Bench<CountKeeper>) -> bo
             telling::answer(rt, "found", answer);
             false
         }
-        Err(refusal) => is_wanted(rt, Err(refusal)),
+        Err(Memory) => is_wanted(rt, Err(Refusal::Memory)),
     }
 }
 

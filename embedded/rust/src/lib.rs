@@ -1,6 +1,6 @@
 //! The workbench in process: a session of an instance and a working timetable, which answers line by line.
 //!
-//! The library is proved, this handle is not: it keeps to what embedded/pespbench.h wants of a caller.
+//! The library is proved, this handle is not: it follows the rules of embedded/pespbench.h for callers.
 
 mod raw;
 
@@ -9,7 +9,7 @@ use raw::{pesp_ask, pesp_close, pesp_cost, pesp_domain, pesp_events, pesp_open, 
 use std::fmt;
 use std::ptr;
 
-/// The reply to a change has at most so many bytes, so that no change is asked twice.
+/// The greatest length of the reply to a change, so that no change is requested twice.
 const LEAST_ROOM: usize = 128;
 
 const DONE: u32 = 0;
@@ -17,10 +17,10 @@ const DONE: u32 = 0;
 const NOTHING_YET: u32 = 0;
 const BEST_SO_FAR: u32 = 1;
 const OPTIMUM: u32 = 2;
-/// In the place of the time of an event without one.
+/// Instead of the time of an event without one.
 const NO_TIME: u16 = 65_535;
 
-/// The bytes of the files that a session is opened of; one of no bytes is not there.
+/// The bytes of the files of a session; one without bytes is missing.
 #[derive(Clone, Copy, Debug, Default)]
 pub struct Files<'a> {
     pub activities: &'a [u8],
@@ -28,11 +28,11 @@ pub struct Files<'a> {
     pub times: &'a [u8],
 }
 
-/// What a search has come to. Times are in the order of [`Session::events`].
+/// The result of a search so far. Times are in the order of [`Session::events`].
 #[derive(Clone, Debug, PartialEq, Eq)]
 pub enum Search {
-    /// It stopped: the best timetable so far, if there is one, what every timetable that meets everything costs at least, and
-    /// whether the next call goes on where this one stopped. Else that begins anew.
+    /// It stopped: the best timetable so far, if there is one, a lower bound of all timetables that meet everything, and
+    /// whether the next call resumes this one. Otherwise that restarts.
     Stopped { best: Option<Best>, lower_bound: u64, goes_on: bool },
     /// The optimum is known.
     Optimum(Best),
@@ -52,11 +52,11 @@ pub struct Best {
 pub struct Fault {
     /// Of `pesp_status`.
     pub status: u32,
-    /// Of `pesp_reason` for a fault of a file, or the number of a refusal; else 0.
+    /// Of `pesp_reason` for a fault of a file, or the number of a refusal; otherwise 0.
     pub reason: u32,
-    /// The record of a file or the event that is named; else 0.
+    /// The record of a file or the event; otherwise 0.
     pub place: u64,
-    /// The field of a record; else 0.
+    /// The field of a record; otherwise 0.
     pub field: u32,
 }
 
@@ -82,7 +82,7 @@ impl Told {
     }
 }
 
-/// All that a call gives which says how many they are; it is asked with no room first.
+/// All results of a call that returns their number; the first call has no room.
 fn all<T: Copy + Default>(mut call: impl FnMut(*mut T, usize, *mut Told)) -> Result<Vec<T>, Fault> {
     let (mut out, mut told) = (Vec::new(), Told::default());
     call(out.as_mut_ptr(), 0, &mut told);
@@ -93,7 +93,7 @@ fn all<T: Copy + Default>(mut call: impl FnMut(*mut T, usize, *mut Told)) -> Res
     Ok(out)
 }
 
-/// An open session. It may go to another thread, and is used by one at a time.
+/// An open session. It may move to another thread, and one thread uses it at a time.
 pub struct Session {
     raw: Raw,
     // For replies: no call takes one that is longer.
@@ -104,7 +104,7 @@ pub struct Session {
 unsafe impl Send for Session {}
 
 impl Session {
-    /// Opens a session of files, as pespbench reads them.
+    /// Opens a session from files, which it reads like pespbench.
     pub fn open(period: u16, files: Files<'_>) -> Result<Session, Fault> {
         let mut told = Told::default();
         let mut raw = Raw {
@@ -141,7 +141,7 @@ impl Session {
         Ok(told.length as usize)
     }
 
-    /// The program's reply to a line, which is given without its line feed: its bytes, with theirs.
+    /// The bytes of the program's reply to a line: the line without its line feed, the reply with them.
     pub fn ask(&mut self, line: &str) -> Result<&[u8], Fault> {
         let mut length = self.asked(line.as_bytes())?;
         // Only a question has a longer reply, and asked again it has the same.
@@ -160,7 +160,7 @@ impl Session {
         Ok(cost)
     }
 
-    /// What the cost would change by if the event had this time. Nothing is set.
+    /// By how much the cost would change if the event had this time. Nothing is set.
     pub fn try_move(&mut self, event: u32, time: u16) -> Result<i64, Fault> {
         let (mut change, mut told) = (0, Told::default());
         unsafe { pesp_try_move(&mut self.raw, event, time, &mut change, &mut told) };
@@ -188,11 +188,11 @@ impl Session {
         Ok((found, told.length as usize))
     }
 
-    /// Looks for the optimum by as much work as so many nodes stand for. The working timetable stays.
+    /// Searches for the optimum with the work of `nodes` nodes. The working timetable does not change.
     ///
-    /// Calls one after the other are one search: each goes on where the one before it stopped, and tells no dearer timetable and
-    /// no lesser bound. A line that changes the network begins anew; lines that change times alone, and questions, do not. Double the
-    /// nodes after a call that does not go on: a network of too many cycles is searched anew each time.
+    /// Successive calls are one search: each resumes the previous one, and returns no dearer timetable and no lesser bound. A line
+    /// that changes the network restarts it; lines that change only times, and queries, do not. Double the nodes after a call that
+    /// cannot be resumed: a network of too many cycles is searched from the start each time.
     pub fn search(&mut self, nodes: u64) -> Result<Search, Fault> {
         let mut times = vec![0; self.events()?.len()];
         let (Found { cost, lower_bound, state, goes_on }, length) = self.sought(nodes, &mut times)?;
@@ -297,7 +297,7 @@ mod tests {
         panic!("a thousand nodes do not settle two trains");
     }
 
-    /// Activities between each two of eight events, and so many more beside the first.
+    /// Activities between each two of eight events, and a number more beside the first.
     fn each_with_each(more: usize) -> Vec<u8> {
         let pairs = (1..=8).flat_map(|to| (1..to).map(move |from| (from, to))).chain(std::iter::repeat_n((1, 2), more));
         let row = |((from, to), number): ((i32, i32), i32)| {

@@ -15,7 +15,9 @@ from pespbench.drawn.numbers import Numbers
 from pespbench.drawn.region import PERIOD, Region, RegionActivity, RegionEvent
 from pespbench.drawn.stations import draw_stations
 
+# The sizes below are those of a region of six lines; one of more or fewer has them in proportion.
 LINES = 6
+FEWEST_LINES, MOST_LINES = 3, 24
 LEAST_EVENTS, MOST_EVENTS = 100, 120
 LEAST_CIRCLES, MOST_CIRCLES = 30, 35
 MOST_HEADWAYS = 12
@@ -25,10 +27,14 @@ HEADWAY = 3
 class Drawing:
     """A region while it is drawn: events with their hidden times, and the activities so far."""
 
-    def __init__(self, numbers: Numbers, change_widths: tuple[int, int]) -> None:
-        self.numbers, self.change_widths = numbers, change_widths
+    def __init__(self, numbers: Numbers, change_widths: tuple[int, int], lines: int) -> None:
+        self.numbers, self.change_widths, self.lines = numbers, change_widths, lines
         self.events: list[RegionEvent] = []
         self.activities: list[RegionActivity] = []
+
+    def sized(self, count: int) -> int:
+        """What a region of these lines has, where one of six has so many."""
+        return count * self.lines // LINES
 
     def add_event(self, line: str, to: str, station: str, kind: str, time: int) -> RegionEvent:
         """A new event, at a hidden time that is taken modulo the period."""
@@ -79,7 +85,7 @@ class Drawing:
 
     def join_lines(self, count: int) -> bool:
         """Headways and changes between lines, so many in all; False where the hidden timetable meets too few."""
-        headways = self.numbers.shuffled(list(headway_pairs(self)))[:MOST_HEADWAYS]
+        headways = self.numbers.shuffled(list(headway_pairs(self)))[: self.sized(MOST_HEADWAYS)]
         changes = self._fitting_changes()
         if len(headways) + len(changes) < count:
             return False
@@ -136,29 +142,31 @@ def headway_pairs(drawing: Drawing) -> Iterator[tuple[RegionEvent, RegionEvent]]
                 yield first, last
 
 
-def draw_region(seed: int, feasible: bool = True, change_widths: tuple[int, int] = (10, 35)) -> Region:
-    """The region of a seed.
+def draw_region(seed: int, feasible: bool = True, change_widths: tuple[int, int] = (10, 35), lines: int = LINES) -> Region:
+    """The region of a seed, of `lines` lines with some 17 events each.
 
     The span of a change allows from the first to the second of `change_widths` minutes above its lower bound, or as
-    many as the hidden timetable needs, which is no more than the second.
+    many as the hidden timetable needs, which is no more than the second. Raises ValueError for fewer lines than 3 or more than 24.
     """
+    if not FEWEST_LINES <= lines <= MOST_LINES:
+        raise ValueError(f"a region has {FEWEST_LINES} to {MOST_LINES} lines")
     numbers = Numbers(seed)
     while True:
-        region = _draw_once(seed, numbers, change_widths)
+        region = _draw_once(seed, Drawing(numbers, change_widths, lines))
         if region and not feasible:
             region = moved_off(region, numbers)
         if region:
             return region
 
 
-def _draw_once(seed: int, numbers: Numbers, change_widths: tuple[int, int]) -> Region | None:
+def _draw_once(seed: int, drawing: Drawing) -> Region | None:
+    numbers, sized = drawing.numbers, drawing.sized
     stations = draw_stations(numbers)
-    drawing = Drawing(numbers, change_widths)
-    for place, path in enumerate(stations.draw_lines(numbers, LINES)):
+    for place, path in enumerate(stations.draw_lines(numbers, drawing.lines)):
         minutes = [stations.minutes(*pair) for pair in zip(path, path[1:])]
         drawing.add_line(f"R{place + 1}", path, minutes)
-    circles = numbers.between(LEAST_CIRCLES, MOST_CIRCLES)
-    if not LEAST_EVENTS <= len(drawing.events) <= MOST_EVENTS or not drawing.join_lines(circles - 1):
+    circles = numbers.between(sized(LEAST_CIRCLES), sized(MOST_CIRCLES))
+    if not sized(LEAST_EVENTS) <= len(drawing.events) <= sized(MOST_EVENTS) or not drawing.join_lines(circles - 1):
         return None
     region = Region(seed, drawing.events, drawing.activities, stations)
     return region if region.is_connected() else None

@@ -5,7 +5,7 @@ from __future__ import annotations
 from dataclasses import dataclass
 from typing import List, Optional, Tuple
 
-from pespbench.answers import Found, Stopped, cost_of
+from pespbench.answers import Found
 
 
 @dataclass(frozen=True)
@@ -29,7 +29,7 @@ class Gain:
     @property
     def is_sure(self) -> bool:
         """Whether it saves just that, and not perhaps more."""
-        return not isinstance(self.found, Stopped)
+        return self.found.is_proved
 
 
 @dataclass(frozen=True)
@@ -51,6 +51,6 @@ class Helps:
     @property
     def gains(self) -> List[Gain]:
         """What saves something, the most first; where there is no timetable as it is, what gives one, the cheapest first."""
-        is_none = cost_of(self.before) is None
-        good = [each for each in self.answers if (cost_of(each.found) is not None if is_none else (each.saves or 0) > 0)]
-        return sorted(good, key=lambda each: (-(each.saves or 0), cost_of(each.found) or 0, each.activity))
+        is_none = self.before.cost is None
+        good = [each for each in self.answers if (each.found.cost is not None if is_none else (each.saves or 0) > 0)]
+        return sorted(good, key=lambda each: (-(each.saves or 0), each.found.cost or 0, each.activity))

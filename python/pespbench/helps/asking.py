@@ -1,4 +1,4 @@
-"""Asks what would help: each span of some kinds that is a little wider is a variant of its own."""
+"""Finds out what would help: each span of some kinds, a little wider, is a variant."""
 
 from __future__ import annotations
 
@@ -18,6 +18,8 @@ from pespbench.transport import OutOfTime
 from pespbench.variants import AT_ONCE, Base, Task, answer_task, at_work, hands_of
 from pespbench.workers import Driver
 
+# The share of the time that the search of the unchanged network may use; the rest is for the questions.
+FIRST_PART = 1 / 3
 # What is called with what is known.
 Watcher = Callable[[Helps], object]
 
@@ -33,27 +35,28 @@ def helps(
     workers: Optional[int] = None,
     watch: Optional[Watcher] = None,
 ) -> Helps:
-    """How much cheaper the best timetable would be if an activity could take so many minutes more, for each alone.
+    """How much cheaper the best timetable would be if one activity could take `minutes` more, for each activity.
 
-    `kinds` are those that may change, by the bench's labels; where they are None, all but runs, dwells and headways. Where
-    `minutes` is below 0, so many are taken off the least ones. Each is a search of at most `nodes` nodes, and so is that of
-    the best timetable as it is. Those that cost most in the working timetable are asked first, side by side: `executor` and
-    `workers` are as in `variants`.
+    `kinds` are those that may change, by the bench's labels; by default all except runs, dwells and headways. If `minutes` is
+    below 0, minimums are lowered instead. Each is a search of at most `nodes` nodes, and so is that of the current best
+    timetable. Those with the greatest cost in the working timetable come first, in parallel: `executor` and `workers` are as in
+    `variants`.
 
-    What has no answer within `seconds` is left out. `watch` is called with what is known before the first question and after
-    each: so it has that at Ctrl-C, too, where KeyboardInterrupt is raised. The bench stays as it is. Raises WrongWords for an
-    unknown kind; ValueError for no minutes, no nodes, no workers, and seconds that are not from 0 to 1,000,000; and BadReply.
+    Activities without an answer within `seconds` are left out; the search of the unchanged network uses a third of them at most.
+    `watch` is called with the results before the first search and after each: so it has them at Ctrl-C, too, which raises
+    KeyboardInterrupt. The bench does not change. Raises WrongWords for an unknown kind; ValueError for no minutes, no nodes, no
+    workers, and seconds outside 0 to 1,000,000; and BadReply.
     """
     check_limits(seconds, nodes)
     if not minutes:
         raise ValueError("0 minutes change nothing")
-    until, asked, base = clock.monotonic() + seconds, questions(bench, kinds, minutes), Base.of(bench)
+    began, asked, base = clock.monotonic(), questions(bench, kinds, minutes), Base.of(bench)
     hands, answer = hands_of(executor, workers, AT_ONCE), Helps(minutes, Stopped(), len(asked))
     with suppress(OutOfTime), at_work(hands, base):
-        answer = replace(answer, before=best_within(bench, nodes, until))
+        answer = replace(answer, before=best_within(bench, nodes, began + FIRST_PART * seconds))
         tell(watch, answer)
         tasks = (Task(base, (question.edit,), f"try {nodes}") for question in asked)
-        for place, found in Driver(answer_task, hands).run(tasks, until):
+        for place, found in Driver(answer_task, hands).run(tasks, began + seconds):
             if isinstance(found, (Optimum, Infeasible, Stopped)):
                 answer = replace(answer, answers=(*answer.answers, asked[place].gain(answer.before, found)))
                 tell(watch, answer)

@@ -8,9 +8,10 @@ from typing import Optional
 from pespbench.client import Bench
 from pespbench.ending import INTERRUPTS, status_of, uninterrupted
 from pespbench.faults import PespbenchError
+from pespbench.forms import add_form, in_form
 from pespbench.helps.answers import Helps
 from pespbench.helps.asking import helps
-from pespbench.helps.telling import text_of
+from pespbench.helps.telling import table_of, text_of
 from pespbench.opening import add_network, open_network, seconds, whole
 from pespbench.terminal import tell
 from pespbench.wording import Names
@@ -19,12 +20,13 @@ from pespbench.workers import Bar
 
 def add_parser(subparsers: "argparse._SubParsersAction[argparse.ArgumentParser]") -> None:
     """Adds the subcommand's parser."""
-    parser = subparsers.add_parser("helps", help="which activity with a minute more would save most")
+    parser = subparsers.add_parser("helps", help="which activity would save most with one more minute")
     add_network(parser)
-    parser.add_argument("--kinds", metavar="KINDS", help="kinds that may change, as change,turnaround [default: all but run,dwell,headway]")
-    parser.add_argument("--minutes", type=some_minutes, default=1, help="how many more; below 0, by how many the least are lowered [default: 1]")
-    parser.add_argument("--seconds", type=seconds, default=60.0, help="how long is asked [default: 60]")
-    parser.add_argument("--workers", type=whole, help="how many programs run side by side [default: one for each processor]")
+    parser.add_argument("--kinds", metavar="KINDS", help="kinds that may change, such as change,turnaround [default: all but run,dwell,headway]")
+    parser.add_argument("--minutes", type=some_minutes, default=1, help="how many more; below 0, by how many minimums are lowered [default: 1]")
+    parser.add_argument("--seconds", type=seconds, default=60.0, help="how long to search [default: 60]")
+    parser.add_argument("--workers", type=whole, help="the number of programs in parallel [default: one for each processor]")
+    add_form(parser)
     parser.set_defaults(run=run)
 
 
@@ -69,7 +71,8 @@ def run(words: argparse.Namespace) -> int:
         with uninterrupted():
             latest.end()
             if latest.answer is not None:
-                tell(text_of(latest.answer, Names(bench.labels, bench.network.activities)))
+                names = Names(bench.labels, bench.network.activities)
+                tell(in_form(words.form, table_of(latest.answer, names), text_of(latest.answer, names)))
     if isinstance(ended, PespbenchError):
         raise ended
     return 0 if ended is None else status_of(ended)

@@ -5,7 +5,7 @@ from __future__ import annotations
 from dataclasses import dataclass
 from typing import Collection, List, Optional, Set
 
-from pespbench.answers import Found, cost_of
+from pespbench.answers import Found
 from pespbench.client import Bench
 from pespbench.commands import GREATEST_BOUND
 from pespbench.faults import WrongWords
@@ -46,7 +46,7 @@ class Question:
 
     def gain(self, before: Found, found: Found) -> Gain:
         """What comes of it, beside the best as it is."""
-        old, new = cost_of(before), cost_of(found)
+        old, new = before.cost, found.cost
         saves = None if old is None or new is None else old - (new - self.paid)
         return Gain(self.activity, self.lower, self.upper, found, saves)
 

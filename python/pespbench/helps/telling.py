@@ -2,14 +2,15 @@
 
 from __future__ import annotations
 
-from pespbench.answers import Found, Infeasible, Optimum, cost_of
+from pespbench.answers import Found, Infeasible, Optimum
+from pespbench.forms import Table, word_of
 from pespbench.helps.answers import Gain, Helps
 from pespbench.wording import Names, minutes, span_text
 
 
 def text_of(answer: Helps, names: Names) -> str:
     """The answer as lines of text, one for each activity that helps."""
-    gains, is_none = answer.gains, cost_of(answer.before) is None
+    gains, is_none = answer.gains, answer.before.cost is None
     lines = [before_text(answer.before), asked_text(answer)]
     if not gains:
         return "\n".join([*lines, "None of them helps." if is_none else "None of them saves anything.", ""])
@@ -17,6 +18,17 @@ def text_of(answer: Helps, names: Names) -> str:
     rows = [(gain_text(each), names.activity(each.activity), change_text(each, names)) for each in gains]
     first, second = (max(len(row[place]) for row in rows) for place in (0, 1))
     return "\n".join([*lines, "", *(f"  {row[0]:>{first}}  {row[1]:<{second}}  {row[2]}" for row in rows), ""])
+
+
+def table_of(answer: Helps, names: Names) -> Table:
+    """All that was asked, the most useful first, for other programs."""
+    rest = [each for each in answer.answers if each not in answer.gains]
+    rows = [
+        [each.activity, names.activity(each.activity), each.lower, each.upper, word_of(each.found), each.found.cost, each.saves]
+        for each in [*answer.gains, *rest]
+    ]
+    facts = {"minutes": answer.minutes, "asked": answer.asked, "before": word_of(answer.before), "cost_before": answer.before.cost}
+    return Table("helps", facts, ["activity", "name", "lower", "upper", "found", "cost", "saves"], rows)
 
 
 def before_text(before: Found) -> str:
@@ -31,15 +43,16 @@ def before_text(before: Found) -> str:
 
 
 def asked_text(answer: Helps) -> str:
-    """How many were asked, and what."""
+    """How many were asked, and what, and how many were not."""
     change = f"{minutes(answer.minutes)} more" if answer.minutes > 0 else f"its least lowered by {minutes(-answer.minutes)}"
-    return f"{len(answer.answers):,} of {answer.asked:,} activities were asked about, each with {change}."
+    left = answer.asked - len(answer.answers)
+    return f"{len(answer.answers):,} of {answer.asked:,} activities were asked about, each with {change}{f'; {left:,} not asked' if left else ''}."
 
 
 def gain_text(gain: Gain) -> str:
     """What is saved, or what the timetable costs that there is then."""
     more = "" if gain.is_sure else " or more" if gain.saves is not None else " or less"
-    told = f"costs {cost_of(gain.found):,}" if gain.saves is None else f"{gain.saves:,}"
+    told = f"costs {gain.found.cost:,}" if gain.saves is None else f"{gain.saves:,}"
     return f"{told}{more}"
 
 

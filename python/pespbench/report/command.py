@@ -9,6 +9,7 @@ from typing import Optional
 
 from pespbench.answers import Found
 from pespbench.client import Bench
+from pespbench.folders import own_file
 from pespbench.opening import add_network, open_network, seconds
 from pespbench.places import Place, read_places
 from pespbench.report.drawing import netgraph_of
@@ -16,7 +17,7 @@ from pespbench.report.gathering import gather
 from pespbench.report.page import page_of
 from pespbench.terminal import shown, tell
 from pespbench.watching import Line
-from pespbench.writing import write_text
+from pespbench.writing import write_set, write_text
 
 
 def add_parser(subparsers: argparse._SubParsersAction[argparse.ArgumentParser]) -> None:
@@ -26,10 +27,10 @@ def add_parser(subparsers: argparse._SubParsersAction[argparse.ArgumentParser]) 
     places = "places of stations: station; x; y [default: the file places of a folder, else laid out]"
     parser.add_argument("--places", metavar="FILE", help=places)
     parser.add_argument("--title", default="Timetable", help="the title [default: Timetable]")
-    output = "where the report is written; - is standard output [default: the name of NETWORK with .html, in this folder]"
+    output = "the file of the report; - is standard output [default: the name of NETWORK with .html, in this folder]"
     parser.add_argument("--output", metavar="FILE", help=output)
-    parser.add_argument("--netgraph", metavar="FILE", help="write the netgraph alone too, as an SVG picture; this wants Node")
-    best = "look so long for the best timetable, and report on it where one is found"
+    parser.add_argument("--netgraph", metavar="FILE", help="also write the netgraph alone, as an SVG picture; this needs Node")
+    best = "search for the best timetable for SECONDS, and report on it if one is found"
     parser.add_argument("--search", metavar="SECONDS", type=seconds, help=best)
     parser.set_defaults(run=run)
 
@@ -44,10 +45,12 @@ def run(words: argparse.Namespace) -> int:
     output = words.output or f"{Path(words.network).resolve().name or 'report'}.html"
     if output == "-":
         sys.stdout.write(text)
+    elif words.output is None:
+        # Nobody named it, so a link that stands there is not written through.
+        write_set(Path(), {output: text})
+        tell(f"{shown(output)}\n")
     else:
         write_text(output, text)
-    if words.output is None:
-        tell(f"{shown(output)}\n")
     if words.netgraph is not None:
         write_text(words.netgraph, netgraph_of(content))
     return 0
@@ -55,17 +58,15 @@ def run(words: argparse.Namespace) -> int:
 
 def places_for(words: argparse.Namespace) -> Optional[dict[str, Place]]:
     """The places of the file that is named, or of the one in the network's folder; None where there is neither."""
-    beside = Path(words.network) / "places"
-    if words.places is None and not beside.is_file():
-        return None
-    return read_places(beside if words.places is None else Path(words.places))
+    is_folder = Path(words.network).is_dir()
+    path = words.places or (own_file(words.network, "places") if is_folder else None)
+    return None if path is None else read_places(path)
 
 
 def searched(bench: Bench, limit: float) -> Optional[Found]:
     """What a search found; its timetable, where there is one, is the working timetable from then on."""
     with Line() as line:
         found = bench.search(limit, watch=line).found()
-    times = getattr(found, "times", {})
-    if times:
-        bench.set_times(times)
+    if found.times:
+        bench.set_times(found.times)
     return found

@@ -6,8 +6,9 @@ from typing import Any, Dict, List, Mapping, Optional
 
 from pespbench.answers import Domain, Found, Infeasible
 from pespbench.client import Bench
-from pespbench.faults import Refused
-from pespbench.places import Place
+from pespbench.faults import BadReply, Refused
+from pespbench.fitting import are_known
+from pespbench.places import Place, on_a_map
 from pespbench.terminal import shown
 from pespbench.wording import found_text
 
@@ -33,7 +34,7 @@ def gather(bench: Bench, title: str, places: Optional[Mapping[str, Place]] = Non
         "title": shown(title),
         "network": network_of(bench),
         "labels": labels_of(bench),
-        "places": [[shown(station), place] for station, place in (places or {}).items()],
+        "places": [[shown(station), place] for station, place in on_a_map(places or {}).items()],
         "times": [[event, time] for event, time in bench.times.items()],
         "domains": domains_of(bench.domains(), bench.period),
         "search": "" if found is None else found_text(found),
@@ -64,13 +65,18 @@ def domains_of(domains: Mapping[int, Domain], period: int) -> List[Any]:
 
 
 def timetable_of(bench: Bench) -> Content:
-    """What the working timetable makes; `missing` says which event lacks a time, and nothing else is known then."""
+    """What the working timetable makes; `missing` says which event lacks a time, and nothing else is known then.
+
+    Raises Refused and BadReply.
+    """
     try:
         tensions, violations, cost = bench.tensions(), bench.violations(), bench.cost()
     except Refused as refusal:
         if refusal.number != NO_TIME:
             raise
         return {"tensions": None, "violations": None, "cost": None, "missing": f"event {refusal.event} has no time"}
+    if not are_known(violations, bench.network):
+        raise BadReply(f"violations {len(violations)}")
     rows = [[number, each.tension, each.slack] for number, each in tensions.items()]
     broken = {"activities": violations.activities, "events": violations.events}
     return {"tensions": rows, "violations": broken, "cost": str(cost), "missing": ""}

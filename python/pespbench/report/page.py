@@ -5,8 +5,8 @@ from __future__ import annotations
 import json
 import os
 from pathlib import Path
-from typing import List
 
+from pespbench.beside import place_of
 from pespbench.report.gathering import Content
 
 NAME = "pespbench.html"
@@ -28,7 +28,7 @@ def page_of(content: Content) -> str:
 
 def written(content: Content) -> str:
     """The content in characters of ASCII alone, none of which begins or ends an element."""
-    return json.dumps(content, separators=(",", ":")).replace("<", "\\u003c").replace(">", "\\u003e").replace("&", "\\u0026")
+    return json.dumps(content, separators=(",", ":"), allow_nan=False).replace("<", "\\u003c").replace(">", "\\u003e").replace("&", "\\u0026")
 
 
 def page_text() -> str:
@@ -40,11 +40,9 @@ def page_text() -> str:
 
 
 def page_path() -> Path:
-    """Where the page is: as PESPBENCH_PAGE says, else beside the package as it was installed, else in the repository. Raises NoPage."""
-    package = Path(__file__).resolve().parents[1]
+    """Where the page is: as PESPBENCH_PAGE says, else in the package or the repository. Raises NoPage."""
     named = os.environ.get("PESPBENCH_PAGE")
-    places: List[Path] = [Path(named)] if named else [package / NAME, package.parents[1] / "page" / NAME]
-    found = next((place for place in places if place.is_file()), None)
-    if found is None:
-        raise NoPage(f"there is no page {' or '.join(map(str, places))}; PESPBENCH_PAGE names one")
-    return found
+    place = Path(named) if named else place_of(NAME)
+    if not place.is_file():
+        raise NoPage(f"there is no page {place}; PESPBENCH_PAGE names one")
+    return place

@@ -4,21 +4,24 @@ from __future__ import annotations
 
 import argparse
 
+from pespbench.forms import add_form, in_form
 from pespbench.opening import add_network, open_network, seconds, whole
 from pespbench.terminal import tell
 from pespbench.why.finding import why
+from pespbench.why.tabling import table_of
 from pespbench.why.telling import text_of
 from pespbench.wording import Names
 
 
 def add_parser(subparsers: argparse._SubParsersAction[argparse.ArgumentParser]) -> None:
     """Adds the subcommand's parser."""
-    parser = subparsers.add_parser("why", help="why no timetable meets everything, and what mends it")
+    parser = subparsers.add_parser("why", help="why no timetable meets everything, and how to repair it")
     add_network(parser)
-    parser.add_argument("--hard", metavar="KINDS", default="", help="kinds that are not to be changed, as run,dwell,headway")
-    parser.add_argument("--lower", action="store_true", help="let mends lower the least minutes of activities too")
+    parser.add_argument("--hard", metavar="KINDS", default="", help="kinds that must not change, such as run,dwell,headway")
+    parser.add_argument("--lower", action="store_true", help="let repairs also lower the minimum minutes of activities")
     parser.add_argument("--nodes", type=whole, default=2_000, help="the nodes of each search of a part [default: 2000]")
-    parser.add_argument("--seconds", type=some_seconds, default=10.0, help="about how long the whole is searched [default: 10]")
+    parser.add_argument("--seconds", type=some_seconds, default=10.0, help="about how long to search in all [default: 10]")
+    add_form(parser)
     parser.set_defaults(run=run)
 
 
@@ -35,5 +38,6 @@ def run(words: argparse.Namespace) -> int:
     with open_network(words) as bench:
         hard = [kind for kind in map(str.strip, words.hard.split(",")) if kind]
         answer = why(bench, hard, words.nodes, words.seconds, words.lower)
-        tell(text_of(answer, Names(bench.labels, bench.network.activities)))
+        names = Names(bench.labels, bench.network.activities)
+        tell(in_form(words.form, table_of(answer, names), text_of(answer, names)))
     return 0

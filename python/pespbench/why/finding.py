@@ -6,7 +6,7 @@ import time
 from typing import Collection, Sequence
 
 from pespbench.client import Bench
-from pespbench.faults import WrongWords
+from pespbench.faults import GivenUp, WrongWords
 from pespbench.labels import Labels
 from pespbench.terminal import shown
 from pespbench.why.answers import Conflict, Possible, Undecided, Why
@@ -37,7 +37,7 @@ def why(bench: Bench, hard: Collection[str] = (), nodes: int = 2_000, seconds: f
         lower: whether a mend may lower the least minutes of an activity too; else all keep them.
 
     Raises:
-        Ended: the program ended.
+        Ended: the program ended, or gave no answer within so many seconds.
         ValueError: a number of nodes or seconds is not above 0, or no label has a kind.
     """
     if nodes < 1 or not seconds > 0:
@@ -45,7 +45,7 @@ def why(bench: Bench, hard: Collection[str] = (), nodes: int = 2_000, seconds: f
     held = hard_members(bench, hard)
     if (standing := bench.standing()).cost is not None:
         return Possible(dict(standing.times))
-    with Bench.from_script(bench.dump(), period=bench.period, engine=bench.engine) as copy:
+    with Bench.from_script(bench.dump(), period=bench.period, engine=bench.engine, patience=seconds) as copy:
         return Finding(Probe(copy), held, nodes, seconds, lower).answer()
 
 
@@ -73,7 +73,12 @@ class Finding:
             return self._conflict(self._least(list(self.probe.members), self._by_domains))
         nodes, until = FIRST_NODES, time.monotonic() + self.seconds
         while True:
-            verdict, times = self.probe.search(self.probe.members, nodes)
+            try:
+                verdict, times = self.probe.search(self.probe.members, nodes)
+            except GivenUp:
+                if nodes == FIRST_NODES:
+                    raise
+                return Undecided(nodes // MORE)
             if verdict is Verdict.POSSIBLE:
                 return Possible(times)
             if verdict is Verdict.INFEASIBLE:

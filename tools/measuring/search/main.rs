@@ -85,9 +85,21 @@ fn in_steps(network: &Network, units: u64) -> Option<String> {
     None
 }
 
+/// The network that is searched: the reduced one, or with PRESOLVE=0 that of the file.
+fn reduced(network: Network) -> Option<Network> {
+    if std::env::var("PRESOLVE").is_ok_and(|word| word == "0") {
+        return Some(network);
+    }
+    let begun = seconds();
+    let reduction = network.presolve(Global).ok()??;
+    let (events, arcs) = (reduction.network.events(), reduction.network.arc_count());
+    eprintln!("reduced to {events} events and {arcs} arcs in {:.3} s", seconds() - begun);
+    Some(reduction.network)
+}
+
 fn run(words: &[String]) -> Option<String> {
     let rows = rows_of(&std::fs::read_to_string(words.get(1)?).ok()?)?;
-    let network = network_of(words.first()?.parse().ok()?, &rows)?;
+    let network = reduced(network_of(words.first()?.parse().ok()?, &rows)?)?;
     let units = words.get(2).map(|word| word.parse()).transpose().ok()?;
     if words.get(3).is_some_and(|word| word == "steps") {
         return in_steps(&network, units?);

@@ -27,7 +27,7 @@ impl<K: Keeper> Bench<K> {
     ///
     /// What was known of the optimum stays known exactly where the edit can neither let a timetable meet
     /// everything that did not nor make one cheaper, and the optimum still meets everything at its cost.
-    /// This takes no memory.
+    /// Finding that out is never refused memory.
     ///
     /// Refusals are those of the edit, in order.
     pub fn apply(&mut self, edit: &Edit) -> Result<(), Refusal>

@@ -8,11 +8,14 @@ ghost use Rattle.pesp_search.specs.declared.answer.Answer.TheVariants as answers
 ghost use Rattle.pesp_instance.specs.Network.{Network};
 ghost use Rattle.pesp_search.specs.Optima.{IsAnswer};
 ghost use Rattle.pesp_search.specs.Tried.{IsEnd};
+ghost use Rattle.pesp_search.specs.Tree.{WerePushed};
+ghost use Rattle.pesp_bench.specs.Trials.{IsPriced, IsTrialRefusal};
 ghost use Rattle.pesp_bench.specs.Asked.{IsAdopted, IsAttempt, IsLent, IsNoOptimum, IsNotAdopted, IsSearched, IsSought, IsUnsearched};
 
 use crate::candidate::{candidate_cost, or_candidate};
 use crate::costing::KeptCost;
-use crate::{Attempt, Bench, Sought};
+use crate::trial::search_trial;
+use crate::{Attempt, Bench, Sought, Trial};
 use pesp_base::{Memory, Refusal};
 use pesp_domains::Keeper;
 use pesp_search::{Answer, Best, Known, Searches, known_after};
@@ -101,7 +104,7 @@ impl<K: Keeper> Bench<K> {
     }
 
     /// The optimum, or out of memory: what [`Bench::find_optimum`] makes known, and a known one as it is. The working timetable stays.
-    pub(crate) fn known_optimum(&mut self, alloc: Global) -> Result<&Answer, Memory>
+    pub fn optimum(&mut self, alloc: Global) -> Result<&Answer, Memory>
         ensures* leaves { sem 𝓛 (follows_so (the_row K.row K.Keeper) (the_row K.row K.Keeper) self.entry.ghost_name none (λ _ _. ⊤) (λ after. IsLent self.old after (λ answer. answer.now) result)) }
         ensures ok { IfOk result (λ answer. IsAnswer self.old.instance answer.now) }
         ensures kept { IfSome self.old.known
@@ -162,6 +165,11 @@ impl<K: Keeper> Bench<K> {
         self.searches.goes_on()
     }
 
+    /// Whether the last call of [`Bench::price`], where it stopped, is gone on with.
+    pub fn price_goes_on(&self) -> bool {
+        self.prices.goes_on()
+    }
+
     /// What [`Bench::seek_optimum`] comes to that begins anew, without the bound: how far other searches have come does not matter.
     pub fn try_optimum(&mut self, alloc: Global, limit: u64) -> Result<Attempt, Refusal>
         ensures ok { IfOk result (IsAttempt self.new limit) }
@@ -172,8 +180,28 @@ impl<K: Keeper> Bench<K> {
     {
         let kept = std::mem::replace(&mut self.searches, Searches::new(alloc));
         let sought = self.seek_optimum(alloc, limit);
-        self.searches = kept;
+        drop(std::mem::replace(&mut self.searches, kept));
         Ok(sought?.attempt)
+    }
+
+    /// What a search for the optimum comes to under a restriction that is tried and not made, by at most so many nodes.
+    ///
+    /// It is that of the instance after `Fix` or `SetSpan`; at a time outside of the event's window no timetable meets
+    /// everything. A search that stopped is gone on with. Refusals: those of the edit; 10.
+    pub fn price(
+        &mut self,
+        alloc: Global,
+        trial: &Trial,
+        limit: u64,
+    ) -> Result<(Known, u64), Refusal>
+        ensures ok { IfOk result (λ r. IsPriced self.old.instance trial.now limit r.0 r.1) }
+        ensures refused { IfErr result (IsTrialRefusal self.old.instance trial.now) }
+        ensures unchanged { self.new ≡ record self.old { push_count = self.new.push_count } }
+        ensures pushed { IfOk result (λ r.
+            WerePushed self.old.push_count r.1 self.new.push_count) }
+        ensures unpushed { OnErr result (self.new.push_count ≡ self.old.push_count) }
+    {
+        search_trial(alloc, &mut self.keeper, &mut self.prices, trial, limit)
     }
 
     /// Finds the optimum and makes it the working timetable.

@@ -24,3 +24,9 @@ returns-clause-answered c = elim c.match-ask.branch [
   })
   | in-Err w ↦ λ done. absurd (not_done w.in-Err.fault c.match-ask.told (w.told-is ∙ w.told-in-Err.ensures) done)
 ]
+
+pub returns-clause-fault : goal.returns-clause-fault
+returns-clause-fault c = elim c.match-ask.branch [
+  | in-Ok w ↦ λ is_open undone. absurd (undone (ap (λ (told : Told). told.status) (w.told-is ∙ w.ended.ensures)))
+  | in-Err w ↦ λ is_open undone. (w.in-Err.fault, w.in-Err.ensures.fault, w.told-is ∙ w.told-in-Err.ensures)
+]

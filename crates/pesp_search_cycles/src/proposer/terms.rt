@@ -25,6 +25,22 @@ pub(super) fn costs_of(alloc: Global, network: &Network) -> Result<Vec<u32>, Mem
     Ok(costs)
 }
 
+/// What all arcs cost at most.
+fn most_cost(network: &Network) -> u64 {
+    let period = network.period();
+    let mut most: u64 = 0;
+    for arc in network.arcs() {
+        let width = u64::from(arc.width(period));
+        most = most.saturating_add(u64::from(arc.weight.get()).saturating_mul(width));
+    }
+    most
+}
+
+/// How many bits after the point multipliers may have: sums of the bound have 64 bits, of which three are left free.
+pub(super) fn room_of(network: &Network) -> u32 {
+    most_cost(network).leading_zeros().saturating_sub(4)
+}
+
 /// What the lower bounds of a walk's arcs add up to.
 pub(super) fn base_of(arcs: &[Arc], walk: &Walk) -> i64 {
     let mut base: i64 = 0;

@@ -7,7 +7,7 @@ returns-in_err-files g c = inr (inl record {
   settings = c.in_ok-settings.settings;
   given = search rules;
   fault = c.in_err-files.field-0.0;
-  of_file = search rules;
+  first = search rules;
   ends = search rules;
   unused = search rules;
 })

@@ -10,4 +10,4 @@ invariant_of-result c =
     let walks = c.into_walks-walks.result.items in
     let cuts = c.in_ok-cuts.cuts.items in
     let N : Net = net_of c.args.network walks cuts in
-    (cycles_of c.in_ok-new.field-0 c.args.network walks cuts c.in_ok-new.ensures.network c.into_walks-walks.ensures.walks (c.in_ok-new.ensures.cuts ∙ c.deref-4.ensures.value) c.into_walks-walks.ensures.sound, c.requires N refl)
+    (cycles_of c.in_ok-new.field-0 c.args.network walks cuts c.in_ok-new.ensures.network c.into_walks-walks.ensures.walks (c.in_ok-new.ensures.cuts ∙ c.deref-5.ensures.value) c.into_walks-walks.ensures.sound, c.requires N refl)

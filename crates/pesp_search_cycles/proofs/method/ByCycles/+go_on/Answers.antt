@@ -1,6 +1,6 @@
 -- What is spent in one turn and in those that come after.
 use Rattle.std.proofs.Common.{◌≡◌, ℕ, Option, Some}
-use Rattle.pesp_search_least.proofs.Budgets.{spends_on}
+use Rattle.pesp_search_least.proofs.Budgets.{spends_none, spends_on}
 use Rattle.pesp_search_least.specs.Sums.{StopsWhereSpent}
 use Rattle.pesp_search_least.specs.declared.outcome.Outcome.{Outcome}
 use Rattle.pesp_search_least.specs.declared.outcome.Outcome.TheVariants.{Found, NoneBelow, Spent}
@@ -16,3 +16,6 @@ returns-then-is_spent-clause-spent t c = stops_at_nothing _ _ (c.is_spent.ensure
 
 pub returns-clause-budget : goal.returns-clause-budget
 returns-clause-budget t c = spends_on _ _ _ c.spend.ensures.spends (spends_on _ _ _ c.in_ok-next.ensures.budget c.go_on.ensures.budget)
+
+pub returns-in_err-flips-clause-budget : goal.returns-in_err-flips-clause-budget
+returns-in_err-flips-clause-budget t c = spends_none _

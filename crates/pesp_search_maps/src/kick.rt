@@ -1,0 +1,106 @@
+//! Kicks: turns of clusters that leave a map which no cut betters.
+
+use crate::chance::Chance;
+use crate::charge::Charge;
+use crate::crossings::Crossings;
+use crate::current::Current;
+use crate::neighbourhood::Neighbourhood;
+use pesp_base::{Memory, Period};
+use std::alloc::Global;
+
+/// How many clusters a kick turns at most, and how many nodes one has.
+const MOST_CLUSTERS: usize = 3;
+
+const MOST_NODES: usize = 60;
+
+/// How many numbers a node or an arc of a cluster stands for where work is counted.
+const END_WORK: u64 = 8;
+
+/// Of how many drawn turns the best is made.
+const DRAWN_TURNS: usize = 4;
+
+/// Room for kicks.
+#[derive(Drop)]
+pub(crate) struct Kick {
+    // The nodes that are turned together.
+    cluster: Neighbourhood,
+    // The arcs round the cluster.
+    crossings: Crossings,
+}
+
+impl Kick {
+    pub(crate) fn new(
+        alloc: Global,
+        period: Period,
+        nodes: usize,
+        fixed: usize,
+    ) -> Result<Kick, Memory> {
+        Ok(Kick {
+            cluster: Neighbourhood::new(alloc, nodes, fixed)?,
+            crossings: Crossings::new(alloc, period.get()),
+        })
+    }
+
+    /// Turns one to three clusters of the neighbourhood; tells by how much the charge rose, and
+    /// counts the work.
+    pub(crate) fn make(
+        &mut self,
+        current: &mut Current,
+        hood: &Neighbourhood,
+        chance: &mut Chance,
+        work: &mut u64,
+    ) -> Result<Charge, Memory> {
+        let mut rise = Charge::NONE;
+        let count = chance.below(MOST_CLUSTERS).saturating_add(1);
+        let most = (hood.members().len() / 3).max(2).min(MOST_NODES);
+        for _cluster in 0..count {
+            let size = chance.below(most).saturating_add(1);
+            let Some(first) = hood.members().get(chance.below(hood.members().len())) else {
+                return Ok(rise);
+            };
+            self.cluster
+                .take_cluster(&current.links, hood, chance, (*first, size))?;
+            self.find_crossings(current)?;
+            rise.add(self.turn(current, chance));
+            let ends = self
+                .cluster
+                .members()
+                .len()
+                .saturating_add(self.crossings.len());
+            *work = (*work).saturating_add((ends as u64).saturating_mul(END_WORK));
+        }
+        Ok(rise)
+    }
+
+    fn find_crossings(&mut self, current: &Current) -> Result<(), Memory> {
+        self.crossings.clear();
+        for node in self.cluster.members() {
+            for link in current.links.of(*node) {
+                if self.cluster.place(link.other) == 0 {
+                    self.crossings.add(link, current.rise(*node, link))?;
+                }
+            }
+        }
+        Ok(())
+    }
+
+    /// Turns the cluster by the best of a few drawn turns.
+    fn turn(&mut self, current: &mut Current, chance: &mut Chance) -> Charge {
+        let period = current.period.get();
+        let mut best: Option<(Charge, u16)> = None;
+        for _turn in 0..DRAWN_TURNS {
+            let turn = chance.residue(period);
+            let found = (self.crossings.charge(turn), turn);
+            best = Some(match best {
+                Some(other) if other <= found => other,
+                _ => found,
+            });
+        }
+        let Some((after, turn)) = best else {
+            return Charge::NONE;
+        };
+        let before = self.crossings.charge(0);
+        current.turn(self.cluster.members(), turn);
+        after.above(before)
+    }
+}

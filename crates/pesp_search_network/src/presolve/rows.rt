@@ -1,0 +1,44 @@
+//! The rows of a reduced network: an event may stand where all may that go with it.
+
+ghost use Rattle.std.specs.Prelude.{◌≡◌, ℕ, ◌*◌, ◌<◌, true, length, replicate, slice_index_or};
+ghost use Rattle.pesp_search_network.specs.Tied.{AreRowsHeld, IsHeldTo};
+ghost use Rattle.pesp_search_network.specs.declared.presolve.shift.Shift.{Shift};
+
+use crate::Network;
+use crate::presolve::shift::{Shift, later};
+
+impl Network {
+    /// Leaves an event of a reduced network the residues at which this event may stand, which goes with it.
+    fn hold_to(&self, reduced: &mut Network, event: usize, shift: Shift)
+        requires event { event < self.now.events }
+        requires index { shift.index < reduced.old.events }
+        requires period { reduced.old.period ≡ self.now.period }
+        ensures { IsHeldTo self.now event shift self.now.period reduced.old reduced.new }
+    {
+        let period = self.period();
+        for residue in 0..period.get() {
+            if !self.may_have(event, later(period, residue, shift.offset)) {
+                reduced.forbid(shift.index, residue);
+            }
+        }
+    }
+
+    /// Leaves each event of a reduced network, which may stand everywhere, the residues at which all events may stand that go
+    /// with it.
+    pub(crate) fn hold_rows(&self, reduced: &mut Network, shifts: &[Shift])
+        requires long { length shifts.now ≡ self.now.events }
+        requires within { (event : ℕ) (d : Shift) → event < self.now.events
+            → (slice_index_or shifts.now event d).index < reduced.old.events }
+        requires period { reduced.old.period ≡ self.now.period }
+        requires full { reduced.old.rows
+            ≡ replicate (reduced.old.events * reduced.old.period) true }
+        ensures held { AreRowsHeld self.now shifts.now self.now.events reduced.new }
+        ensures period { reduced.new.period ≡ reduced.old.period }
+        ensures events { reduced.new.events ≡ reduced.old.events }
+        ensures arcs { reduced.new.arcs ≡ reduced.old.arcs }
+    {
+        for event in 0..self.events() {
+            self.hold_to(reduced, event, shifts[event]);
+        }
+    }
+}

@@ -1,0 +1,6 @@
+//! Cycles of networks, and ways through them.
+
+mod drawn;
+mod examples;
+mod lists;
+mod short;

@@ -1,0 +1,4 @@
+//! Branch and bound over one event.
+
+mod examples;
+mod line;

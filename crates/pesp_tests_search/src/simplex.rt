@@ -1,0 +1,4 @@
+//! Least sums of drawn problems, and single calls.
+
+mod drawn;
+mod examples;

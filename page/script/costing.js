@@ -1,0 +1,190 @@
+// What each minute costs of the chosen event, of all of its train, and of activities at it: asked for by a tick or a button, drawn as it
+// is worked out, and taken over by a click.
+
+import { drawCurve, hasCost, makeCurve, priceText, shadesOf, summaryOf } from './curves.js';
+import { element, find, findAll, say, setText } from './elements.js';
+import { minutesOfKey, tellHandle, unitAt } from './handles.js';
+import { activityName, clock, eventName, minutesText } from './names.js';
+import { carryPrices, hearPrices, isPricing, pricedMinutes, pricesOf, wantPrices } from './prices.js';
+import { doStep } from './session.js';
+import { shown } from './shown.js';
+import { rangeShown } from './spans.js';
+import { trainAt } from './trains.js';
+
+// An event of the train and the activities that were asked for; the minute that is looked at in a picture; and the frame that waits.
+let ofTrain = null, activities = new Set(), looked = { key: '', minute: null }, frame = 0;
+
+const eventQuestion = event => ({ of: 'event', number: event, window: shown.view.network.windows.get(event) || null });
+
+const activityQuestion = number => ({ of: 'activity', ...shown.view.network.activities.get(number) });
+
+const isOn = () => find('ask-prices').checked;
+
+// The chosen event, and where it was asked for all others of its train.
+const eventsAsked = () => {
+  const { chosen } = shown, of = trainAt(chosen);
+  if (!isOn()) return [];
+  return of && of.train.events.includes(ofTrain) ? [chosen, ...of.train.events.filter(event => event !== chosen)] : [chosen];
+};
+
+// Those of activities first, since they were asked for by themselves.
+const questions = ({ network, domains }) => [
+  ...[...activities].filter(number => network.activities.has(number)).map(activityQuestion),
+  ...eventsAsked().filter(event => domains.has(event)).map(eventQuestion),
+];
+
+const trackOf = ({ of, number }) => {
+  if (of === 'event') return { least: 0, count: shown.view.network.period };
+  const [least, count] = rangeShown(number);
+  return { least, count };
+};
+
+const told = ({ of }, minute) => of === 'event' ? `at ${clock(minute)}` : `with ${minutesText(minute)}`;
+
+const nowOf = ({ of, number }, { times, tensions }) => of === 'event' ? times.get(number) : tensions ? tensions.get(number).tension : undefined;
+
+// Another timetable as far as it is another.
+const changedTimes = ({ times }) => {
+  const { network: { events }, times: now } = shown.view;
+  return events.flatMap((event, place) => now.get(event) === times[place] ? [] : [`time ${event} ${times[place]}`]);
+};
+
+const holdLines = ({ of, number, window }, minute) => of !== 'event' || (window && window.length === 1 && window.first === minute) ? [] : [`fix ${number} ${minute}`];
+
+const titleOf = ({ of, number }, minute) => of === 'event' ? `${eventName(number)}: held at ${clock(minute)}`
+  : `${activityName(shown.view.network.activities.get(number))}: ${minutesText(minute)}`;
+
+// Holds an event at a minute, where one was looked for, and takes the best timetable over that has it there.
+const take = (question, minute) => {
+  const price = pricesOf(question).get(minute);
+  if (!hasCost(price)) return say(priceText(pricesOf(question), minute, told(question, minute)), true);
+  const lines = [...holdLines(question, minute), ...changedTimes(price)];
+  if (!lines.length) return say('It is so already.');
+  return carryPrices(question, () => doStep(lines, { title: titleOf(question, minute), isFound: true }));
+};
+
+const lookAt = (question, minute) => {
+  looked = { key: `${question.of} ${question.number}`, minute };
+  drawSoon();
+};
+
+const minuteAt = (question, picture, x) => {
+  const { least, count } = trackOf(question);
+  return Math.min(least + count - 1, Math.max(least, unitAt(picture, x, least, count)));
+};
+
+const typed = (question, event) => {
+  const all = pricedMinutes(question), least = Math.min(...all), most = Math.max(...all), move = minutesOfKey(event);
+  const now = lookedIn(question) ?? all[0];
+  if (event.ctrlKey || event.metaKey || event.altKey) return;
+  if (move) lookAt(question, Math.min(most, Math.max(least, now + move)));
+  else if (event.key === 'Enter' || event.key === ' ') take(question, now);
+  else return;
+  event.preventDefault();
+  event.stopPropagation();
+};
+
+const lookedIn = ({ of, number }) => looked.key === `${of} ${number}` ? looked.minute : null;
+
+// A picture with its words, of the question that it has at the time.
+const pictureOf = (name, questionNow) => {
+  const picture = makeCurve(name, {
+    onpointermove: event => lookAt(questionNow(), minuteAt(questionNow(), picture, event.clientX)),
+    onpointerleave: () => lookAt(questionNow(), null),
+    onclick: event => take(questionNow(), minuteAt(questionNow(), picture, event.clientX)),
+    onkeydown: event => typed(questionNow(), event),
+  });
+  return element('div', { class: 'priced' }, picture, element('p', { class: 'quiet' }), element('p', { class: 'quiet' }));
+};
+
+const isTurned = ({ network: { windows } }, { of, number }) => of === 'event' && ![...windows.keys()].some(event => event !== number);
+
+const draw = (holder, question, view) => {
+  const [picture, summary, at] = holder.children, prices = pricesOf(question), minute = lookedIn(question), now = nowOf(question, view), all = pricedMinutes(question);
+  const { period } = view.network, words = minute === null ? '' : priceText(prices, minute, told(question, minute));
+  drawCurve(picture, prices, trackOf(question), minute === null ? now : minute);
+  setText(summary, prices.size ? summaryOf(prices, all, { period, isLength: question.of !== 'event', isTurned: isTurned(view, question) }) : 'It is being worked out.');
+  setText(at, words || 'A click takes a minute over with its timetable.');
+  tellHandle(picture, minute === null ? all[0] : minute, Math.min(...all), Math.max(...all), words || summary.textContent);
+};
+
+// The activities' pictures stand in their cards, which may be made anew.
+const drawCards = view => {
+  for (const button of findAll('[data-price]')) {
+    const number = Number(button.dataset.price), holder = button.closest('.card').querySelector('.priced');
+    if (!activities.has(number)) continue;
+    const made = holder || pictureOf(`${activityName(view.network.activities.get(number))}: what each length costs`, () => activityQuestion(number));
+    if (!holder) button.closest('.card').querySelector('.track').after(made);
+    draw(made, activityQuestion(number), view);
+  }
+};
+
+const drawStrips = view => {
+  const known = eventsAsked().filter(event => pricesOf(eventQuestion(event)).size), track = { least: 0, count: view.network.period };
+  for (const strip of findAll('.strip.priced')) strip.classList.toggle('priced', known.includes(Number(strip.dataset.event)));
+  for (const event of known) {
+    const [strip] = findAll(`.strip[data-event="${event}"]`);
+    if (!strip) continue;
+    strip.classList.add('priced');
+    strip.style.setProperty('--prices', shadesOf(pricesOf(eventQuestion(event)), track));
+  }
+};
+
+const drawChosen = (view, event) => {
+  const [holder] = findAll('#prices .priced');
+  if (holder && !isOn()) holder.remove();
+  if (!isOn()) return;
+  const made = holder || pictureOf('what each minute costs', () => eventQuestion(shown.chosen));
+  if (!holder) find('prices').append(made);
+  draw(made, eventQuestion(event), view);
+};
+
+const drawAll = () => {
+  const { view, chosen } = shown;
+  frame = 0;
+  if (!view || !view.domains.has(chosen)) return;
+  find('prices-of-train').hidden = !isOn() || !trainAt(chosen);
+  find('prices').classList.toggle('busy', isPricing());
+  drawChosen(view, chosen);
+  drawCards(view);
+  drawStrips(view);
+};
+
+const drawSoon = () => {
+  frame = frame || requestAnimationFrame(drawAll);
+};
+
+const again = () => {
+  wantPrices(questions(shown.view));
+  drawSoon();
+};
+
+const askTrain = () => {
+  ofTrain = shown.chosen;
+  again();
+};
+
+const build = () => {
+  if (find('ask-prices')) return;
+  find('prices').append(element('label', {}, element('input', { type: 'checkbox', id: 'ask-prices', onchange: again }), ' what each minute costs '),
+    element('button', { type: 'button', id: 'prices-of-train', hidden: true, onclick: askTrain }, 'Of all of its train'));
+};
+
+export const costingPanel = {
+  begin: () => { [ofTrain, activities] = [null, new Set()]; },
+  build,
+  update: view => {
+    wantPrices(questions(view));
+    if (!view.isTried) drawSoon();
+  },
+};
+
+export const startCosting = () => {
+  hearPrices(drawSoon);
+  find('activities').addEventListener('click', event => {
+    const button = event.target.closest('[data-price]');
+    if (!button) return;
+    activities.add(Number(button.dataset.price));
+    again();
+  });
+};

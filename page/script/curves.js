@@ -1,0 +1,93 @@
+// The picture of what minutes cost: a curve above shades, over as many minutes as a track shows.
+
+import { element } from './elements.js';
+import { makeHandle } from './handles.js';
+import { domainText, minutesText } from './names.js';
+
+const FLOOR = 12;
+
+export const hasCost = price => Boolean(price) && price.cost !== undefined;
+
+/** The least and the greatest cost that is known; null where none is.
+ * @returns {[bigint, bigint]} */
+const rangeOf = prices => {
+  const costs = [...prices.values()].filter(hasCost).map(({ cost }) => BigInt(cost));
+  const extreme = isBetter => costs.reduce((best, cost) => isBetter(cost, best) ? cost : best);
+  return costs.length ? [extreme((one, other) => one < other), extreme((one, other) => one > other)] : null;
+};
+
+const leastCost = prices => (rangeOf(prices) || [null])[0];
+
+// By how much of what lies between them a price is above the least, from 0 to 1.
+const partOf = ({ cost }, [least, most]) => most === least ? 0 : Number(BigInt(cost) - least) / Number(most - least);
+
+const colorOf = (price, range) => {
+  if (hasCost(price)) return `color-mix(in srgb, var(--dear) ${Math.round(100 * partOf(price, range))}%, var(--cheap))`;
+  return price && price.kind === 'infeasible' ? 'var(--none)' : 'transparent';
+};
+
+const percent = (minute, { least, count }) => 100 * (minute - least) / count;
+
+// The shades as an image of a style: a stripe for each minute that is known.
+export const shadesOf = (prices, track) => {
+  const range = rangeOf(prices), stripes = [];
+  for (let minute = track.least; minute < track.least + track.count; minute += 1) {
+    const [start, end] = [minute, minute + 1].map(each => percent(each, track).toFixed(2));
+    stripes.push(`${colorOf(prices.get(minute), range)} ${start}% ${end}%`);
+  }
+  return `linear-gradient(to right, ${stripes.join(', ')})`;
+};
+
+// The curve as the edge of an area, which goes down to the ground where nothing is known or nothing is possible.
+const edgeOf = (prices, track) => {
+  const range = rangeOf(prices), points = ['0% 100%'];
+  for (let minute = track.least; minute < track.least + track.count; minute += 1) {
+    const price = prices.get(minute), [start, end] = [minute, minute + 1].map(each => percent(each, track).toFixed(2));
+    const height = hasCost(price) ? (100 - FLOOR) * (1 - partOf(price, range)) : 100;
+    points.push(`${start}% ${height.toFixed(1)}%`, `${end}% ${height.toFixed(1)}%`);
+  }
+  return `polygon(${[...points, '100% 100%'].join(', ')})`;
+};
+
+// A picture that is empty. What is done by a pointer and by keys there is its owner's.
+export const makeCurve = (name, more) => {
+  const made = makeHandle('curve', name, { tabindex: 0, ...more });
+  made.append(...['shades', 'area', 'best', 'at'].map(part => element('span', { class: part })));
+  return made;
+};
+
+const bestMinutes = prices => {
+  const least = leastCost(prices);
+  return least === null ? [] : [...prices.values()].filter(price => hasCost(price) && BigInt(price.cost) === least).map(({ minute }) => minute).sort((one, other) => one - other);
+};
+
+export const drawCurve = (picture, prices, track, at) => {
+  const [shades, area, best, mark] = picture.children, [first] = bestMinutes(prices);
+  shades.style.background = shadesOf(prices, track);
+  area.style.clipPath = edgeOf(prices, track);
+  for (const [node, minute] of [[best, first], [mark, at]]) {
+    node.hidden = minute === undefined || minute === null;
+    if (!node.hidden) node.style.left = `${percent(minute + 0.5, track)}%`;
+  }
+};
+
+const number = cost => cost.toLocaleString('en');
+
+// What a minute costs beside the best one, in words.
+export const priceText = (prices, minute, told) => {
+  const price = prices.get(minute), least = leastCost(prices);
+  if (!price) return `${told}: not known yet`;
+  if (price.kind === 'infeasible') return `${told} there is no timetable`;
+  if (!hasCost(price)) return `${told} none is found yet; it would cost at least ${number(price.bound)}`;
+  const more = BigInt(price.cost) - least, words = more ? `${number(more)} more` : `least: ${number(price.cost)}`;
+  return price.kind === 'optimum' ? `${told} the best costs ${words}` : `${told} the best that is found costs ${words}`;
+};
+
+// Which minutes are best, and which have none, as far as it is known.
+export const summaryOf = (prices, all, { period, isLength, isTurned }) => {
+  const best = bestMinutes(prices), none = [...prices.values()].filter(({ kind }) => kind === 'infeasible').map(({ minute }) => minute).sort((one, other) => one - other);
+  const left = all.length - prices.size, name = minutes => isLength ? minutes.map(each => minutesText(each)).join(', ') : domainText(minutes, period);
+  if (!left && best.length === all.length && isTurned) return 'Each minute costs the same: nothing else is held, and so all can be turned together. Hold an event of another train first.';
+  return [best.length ? `Best: ${name(best)}, cost ${number(leastCost(prices))}.` : '', none.length ? `No timetable: ${name(none)}.` : '',
+    left ? `${left} of ${all.length} are not known yet.` : ''].filter(Boolean).join(' ');
+};

@@ -1,0 +1,62 @@
+// The nearest timetable to given times: of those that meet everything, one in which times move by the fewest minutes in all, round the
+// period either way, and of those one that costs least. It is asked of a session of its own, in the problem's own terms: beside a clock,
+// which stands at 0, each event that may move has another one that comes after both the event and its given time, as soon as it may; the
+// minutes from both to it are those by which the event moves.
+
+import { baseOf } from './network.js';
+import { isSure } from './replies.js';
+import { openSession } from './running.js';
+
+// A minute of a move costs more than all else together, as far as a weight may; and no search takes longer, in milliseconds.
+const MOST_WEIGHT = 1e9, MOST_TIME = 30000, FIRST_NODES = 1000, STEP = 250;
+
+const weightOf = ({ activities, period }) =>
+  [...activities.values()].reduce((sum, { lower, upper, weight }) => Math.min(MOST_WEIGHT, sum + weight * Math.min(upper - lower, period - 1)), 1);
+
+// The network in which events have the numbers of their places, with what the moves cost; `most` is how far an event may move at most.
+const withMoves = (network, times, { held, most }) => {
+  const { period, events } = network, count = events.length, numbers = new Map(events.map((event, place) => [event, place + 1]));
+  const clock = 2 * count + 1, reach = Math.min(most === null ? period : most, Math.floor(period / 2)), weight = weightOf(network);
+  const made = [...network.activities.values()].map(each => ({ ...each, first: numbers.get(each.first), last: numbers.get(each.last) }));
+  const windows = new Map([...network.windows].map(([event, window]) => [numbers.get(event), window])).set(clock, { first: 0, length: 1 });
+  for (const [event, time] of times) {
+    const number = numbers.get(event), beside = count + number;
+    if (held.has(event)) windows.set(number, { first: time, length: 1 });
+    else made.push({ first: number, last: beside, lower: 0, upper: reach, weight }, { first: clock, last: beside, lower: time, upper: time + reach, weight });
+  }
+  const activities = new Map(made.map((each, place) => [place + 1, { ...each, number: place + 1 }]));
+  return { period, events: [...Array(clock).keys()].map(place => place + 1), windows, activities };
+};
+
+// What a search of it says of the network.
+const nearOf = ({ kind, times }, { events }) => ({ kind, times: times ? new Map(events.map((event, place) => [event, times.get(place + 1)])) : null });
+
+// An event that has to be somewhere else than it is held at is told by its window.
+const outside = ({ windows, period }, times, held) => [...held].find(event => {
+  const window = windows.get(event);
+  return window && (times.get(event) - window.first + period) % period >= window.length;
+});
+
+const search = async (session, network, events, tell, hear) => {
+  const until = performance.now() + MOST_TIME;
+  for (let nodes = FIRST_NODES; ;) {
+    const from = performance.now(), found = session.search(nodes, events), now = performance.now(), isDone = isSure(found) || now > until;
+    tell({ near: nearOf(found, network), isDone });
+    if (isDone) return;
+    if (now - from < STEP) nodes *= 2;
+    await hear();
+  }
+};
+
+// Tells the nearest timetable that is known, until none can be nearer. Some events are held where they are.
+export const tellNearest = async (network, asked, tell, hear) => {
+  const times = new Map(asked.times), held = new Set(asked.held.filter(event => times.has(event))), event = outside(network, times, held);
+  if (event !== undefined) return tell({ near: { kind: 'outside', event }, isDone: true });
+  const wide = withMoves(network, times, { held, most: asked.most }), base = baseOf(wide, new Map()), session = openSession(base);
+  try {
+    await search(session, network, wide.events, tell, hear);
+  } finally {
+    session.close();
+  }
+  return null;
+};

@@ -1,0 +1,55 @@
+// What a minute costs, as a session tells it, which is as before afterwards: the least cost of a timetable that has an event at a
+// minute, whatever holds it now, or in which an activity takes so many minutes.
+
+import { windowLine } from './network.js';
+import { exactly, isSure } from './replies.js';
+import { does } from './running.js';
+
+// No minute is searched for longer, in milliseconds; the first step of a search has so many nodes, and takes about so long.
+const MOST = 1500, FIRST_NODES = 1000, STEP = 100;
+
+const OF = {
+  event: ({ number, window }, minute) => ({
+    line: `fix ${number} ${minute}`, back: window ? windowLine(number, window.first, window.length) : `unfix ${number}`, less: 0n,
+  }),
+  // Minutes above the new least ones cost nothing, so those up to it are added.
+  activity: ({ number, lower, upper, weight }, minutes) => ({
+    line: `span ${number} ${minutes} ${minutes}`, back: `span ${number} ${lower} ${upper}`, less: BigInt(weight) * BigInt(minutes - lower),
+  }),
+};
+
+const more = (cost, less) => cost === undefined ? undefined : exactly(String(BigInt(cost) + less));
+
+// A price: its kind as of a search, the cost or a bound for it, and the times of the timetable, event by event.
+const priceOf = ({ kind, cost, bound, times }, less) =>
+  ({ kind, cost: more(cost, less), bound: more(bound, less), times: times ? Uint16Array.from(times.values()) : null });
+
+// Searches until that is sure, or takes long, or something else is asked; null then.
+const searched = async (session, events, isLeft, hear) => {
+  const until = performance.now() + MOST;
+  for (let nodes = FIRST_NODES; ;) {
+    const from = performance.now(), found = session.search(nodes, events), now = performance.now();
+    if (isSure(found) || now > until) return found;
+    if (now - from < STEP) nodes *= 2;
+    await hear();
+    if (isLeft()) return null;
+  }
+};
+
+// Tells the price of each of some minutes, one after another, until something else is asked.
+export const tellPrices = async (session, { question, minutes, events }, tell, { isLeft, hear }) => {
+  for (const minute of minutes) {
+    const { line, back, less } = OF[question.of](question, minute);
+    does(session, [line]);
+    try {
+      const found = await searched(session, events, isLeft, hear);
+      if (!found) return;
+      tell({ price: { minute, ...priceOf(found, less) } });
+    } finally {
+      does(session, [back]);
+    }
+    await hear();
+    if (isLeft()) return;
+  }
+  tell({ isDone: true });
+};

@@ -1,0 +1,29 @@
+"""The answer to why, for other programs."""
+
+from __future__ import annotations
+
+from pespbench.forms import Table
+from pespbench.why.answers import Possible, Undecided, Why
+from pespbench.why.members import Bounds, Held, Member
+from pespbench.why.telling import member_name, ordered
+from pespbench.wording import Names
+
+TITLES = ["part", "of", "number", "name", "lower", "upper", "hard", "minutes", "whole"]
+
+
+def table_of(answer: Why, names: Names) -> Table:
+    """The members of a conflict, in the order of their circle or way, and then its mends, with what they ask for."""
+    if isinstance(answer, Possible):
+        return Table("possible", {}, ["event", "time"], sorted(answer.times.items()))
+    if isinstance(answer, Undecided):
+        return Table("undecided", {"nodes": answer.nodes})
+    rows = [["member", *told(each, answer.members[each], names), each in answer.hard, None, None] for each in ordered(answer)]
+    for mend in answer.mends:
+        rows.append(["mend", *told(mend.member, mend.after, names), False, mend.minutes, mend.whole.value if mend.whole else None])
+    return Table("conflict", {"is_least": answer.is_least}, TITLES, rows)
+
+
+def told(member: Member, bounds: Bounds, names: Names) -> list[object]:
+    """Whose member it is, its name, and the first and the last that it may be."""
+    ends = (bounds.first, bounds.first + bounds.length - 1) if isinstance(bounds, Held) else (bounds.lower, bounds.upper)
+    return [member.of.value, member.number, member_name(member, names), *ends]

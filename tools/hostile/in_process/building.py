@@ -1,0 +1,99 @@
+"""A caller of the library (caller.c), made for each way to watch what the library does.
+
+The library's own code is watched too: the toolchain's clang compiles its LLVM module, which tools/library keeps, with the checks
+of a sanitizer, and gcc links them with its own. Under memcheck the library is the very one that callers link.
+"""
+
+import os
+import re
+import shutil
+from pathlib import Path
+from typing import Dict, List, NamedTuple, Optional, Sequence
+
+from paging.library import MADE, MODULE
+from paging.tree import NotMade, run, toolchain
+from tests.harness import TOP
+
+HERE = Path(__file__).resolve().parent
+HEADERS = TOP / "embedded"
+C_FLAGS = ["-std=gnu11", "-g", "-O1", "-Wall", "-Wextra", "-Werror", "-fno-omit-frame-pointer", "-pthread"]
+# heap.c asks memory.c, which counts and refuses.
+WATCHED = [f"-D{name}=watched_{name}" for name in ("malloc", "realloc", "free")]
+WATCHED_NAMES = "void *watched_malloc(unsigned long); void *watched_realloc(void *, unsigned long); void watched_free(void *);\n"
+
+
+class Way(NamedTuple):
+    """A way to watch: flags of the C compiler, and the sanitizer of the library's own code, with its attribute of a function and
+    what is called then; the words before those of the caller; and in how many threads the library is called."""
+
+    flags: List[str]
+    sanitizer: str
+    attribute: str
+    called: bytes
+    before: List[str]
+    threads: int
+
+
+MEMCHECK = ["valgrind", "--quiet", "--error-exitcode=99", "--leak-check=full", "--show-leak-kinds=all", "--errors-for-leak-kinds=all"]
+WAYS: Dict[str, Way] = {
+    "sanitizers": Way(["-fsanitize=address,undefined", "-fno-sanitize-recover=undefined"], "address", "sanitize_address", b"__asan_report_load", [], 1),
+    "threads": Way(["-fsanitize=thread"], "thread", "sanitize_thread", b"__tsan_read", [], 2),
+    "memcheck": Way([], "", "", b"", MEMCHECK, 1),
+}
+# What a sanitizer finds ends the caller.
+SETTINGS = {"ASAN_OPTIONS": "exitcode=98:detect_stack_use_after_return=1", "TSAN_OPTIONS": "exitcode=97:halt_on_error=1", "UBSAN_OPTIONS": "print_stacktrace=1"}
+
+
+class Caller(NamedTuple):
+    """How the caller is started, and in how many threads it calls."""
+
+    words: List[object]
+    env: Dict[str, str]
+    threads: int
+
+
+def compiler() -> Optional[str]:
+    return shutil.which("gcc") or shutil.which("cc")
+
+
+# The attributes of functions by number, and a function that has none of these.
+GROUP = re.compile(r"^(attributes #\d+ = \{)", re.M)
+BARE = re.compile(r"^(define .*\)(?: (?:local_)?unnamed_addr)?)((?:(?!#\d)[^)\n])*\{)$", re.M)
+
+
+def with_attribute(text: str, attribute: str) -> str:
+    """The text of a module whose functions all have an attribute, by which a sanitizer looks at them."""
+    return BARE.sub(rf"\1 {attribute}\2", GROUP.sub(rf"\1 {attribute}", text))
+
+
+def watched_library(folder: Path, name: str, way: Way) -> Path:
+    """The library as an object whose code a sanitizer watches."""
+    clang, text, made = toolchain() / "toolchain/bin/clang", folder / f"{name}.ll", folder / f"{name}.o"
+    run([clang, "-x", "ir", MODULE, "-S", "-emit-llvm", "-O0", "-Xclang", "-disable-llvm-passes", "-o", text])
+    text.write_text(with_attribute(text.read_text(), way.attribute))
+    run([clang, f"-fsanitize={way.sanitizer}", "-O1", "-fPIC", "-Wno-override-module", "-c", "-x", "ir", text, "-o", made])
+    if way.called not in made.read_bytes():
+        raise NotMade("the library's code is not watched: the clang of the toolchain has left the sanitizer out")
+    return made
+
+
+def library_for(folder: Path, name: str, given: Sequence[Path]) -> List[Path]:
+    """The library to link for a way, or what is given in its place."""
+    if given:
+        return list(given)
+    if not MADE.exists() or not MODULE.exists():
+        raise NotMade(f"there is no {MADE.relative_to(TOP)}, which tools/library makes")
+    way = WAYS[name]
+    return [watched_library(folder, name, way)] if way.attribute else [MADE]
+
+
+def made_caller(folder: Path, name: str, library: Sequence[Path], more: Sequence[object] = (), title: str = "caller") -> Caller:
+    """The caller over a library, with more words for the compiler."""
+    way, cc = WAYS[name], compiler()
+    program, heap = folder / f"{title}-{name}", folder / f"heap-{name}.o"
+    names = folder / "watched.h"
+    names.write_text(WATCHED_NAMES)
+    run([cc, *C_FLAGS, *way.flags, "-include", "stdlib.h", "-include", names, *WATCHED, "-c", HEADERS / "heap.c", "-o", heap])
+    sources = [HERE / source for source in ("caller.c", "calls.c", "memory.c", "names.c")]
+    run([cc, *C_FLAGS, *way.flags, f"-I{HEADERS}", "-o", program, *sources, heap, *more, *library])
+    return Caller([*way.before, program], {**os.environ, **SETTINGS}, way.threads)

@@ -1,0 +1,57 @@
+/* A caller of the library in process that makes the calls that scripts order, each with memory of just its size. */
+#ifndef CALLER_H
+#define CALLER_H
+
+#include "pespbench.h"
+
+#include <stdbool.h>
+#include <stddef.h>
+#include <stdint.h>
+#include <stdio.h>
+
+/* What is ordered: `kind` is one of the letters that calls.c lists. */
+struct order {
+    char kind;
+    unsigned slot;          /* the session */
+    uint64_t first, second; /* a period, an event and a time, or nodes */
+    size_t room;            /* how many bytes or numbers there is room for */
+    int refusal;            /* of enum refusal */
+    size_t lengths[4];
+    uint8_t *texts[4]; /* files, commands, a line: null where the length is 0 */
+};
+
+/* How requests for memory are refused in a call that is made again and again, until none is. */
+enum refusal { NONE = 0, ALONE = 1, WITH_ALL_LATER_ONES = 2 };
+
+/* What came of a call. */
+struct answer {
+    struct pesp_told told;
+    uint64_t numbers[4]; /* of a cost, a change or a search */
+    uint8_t *room;
+    size_t bytes; /* how many the room has */
+    size_t shown; /* how many of those the call has filled in */
+    bool is_kept; /* whether the rest of the room stayed as it was */
+};
+
+/* calls.c */
+void make_call(const struct order *order, struct pesp_session *session, struct answer *answer);
+void let_go(struct answer *answer);
+/* The network, the domains and the working timetable, as bytes. */
+uint8_t *state_of(struct pesp_session *session, size_t *length);
+
+/* memory.c: what heap.c calls in the place of malloc, realloc and free. */
+void refuse_requests(uint64_t from, uint64_t to);
+/* How many requests were refused since then. */
+uint64_t refused_requests(void);
+/* The blocks that this thread took in calls and has not given back. */
+long held_blocks(void);
+struct totals {
+    long held;
+    unsigned long requests, refused;
+};
+struct totals all_threads(void);
+
+/* A block of just so many bytes, or null for none; the caller ends where there is no memory. */
+void *block_of(size_t bytes);
+
+#endif

@@ -1,0 +1,102 @@
+"""The callers of embedded/ in C, Rust and Python over a library whose code the sanitizers watch: they do what the program does."""
+
+import contextlib
+import io
+import shutil
+import subprocess
+import sys
+from pathlib import Path
+from typing import Dict, List, Sequence, Tuple
+
+from hostile.in_process.building import C_FLAGS, HEADERS, WAYS, compiler
+from paging.tree import NotMade, run
+from tests.embedded import asked_by, refusals
+from tests.examples import content, folders, words_of
+from tests.harness import TOP, Suite
+from tests.harness import run as tried
+
+FLAGS = WAYS["sanitizers"].flags
+# rustc links no library but those that it is told.
+RUNTIMES = ["-lasan", "-lubsan"]
+# What a sanitizer finds has a status of its own.
+WATCHED = ["env", "ASAN_OPTIONS=exitcode=98"]
+# Python keeps memory to its end, and is no program of the sanitizer: its library comes first.
+UNLEAKED = ["env", "ASAN_OPTIONS=exitcode=98:detect_leaks=0"]
+LINE = TOP / "examples/hourly-line"
+NUMBERS: Dict[str, Tuple[List[object], bytes]] = {
+    "moves": ([60, LINE / "activities", LINE / "times", 1000], b"cost 503, now 318\n"),
+    "search": ([60, LINE / "activities"], b"cost 180, none costs less than 180\n"),
+}
+
+
+def runtime() -> str:
+    """The sanitizer's own library, which comes before all others."""
+    return subprocess.run([str(compiler()), "-print-file-name=libasan.so"], capture_output=True, text=True, check=True).stdout.strip()
+
+
+def languages(folder: Path, library: Sequence[Path]) -> Dict[str, List[object]]:
+    """The commands that answer as the program does, by what they are written in."""
+    cc, heap, shared = compiler(), folder / "heap.o", folder / "libpespbench.so"
+    run([cc, *C_FLAGS, *FLAGS, "-fPIC", "-c", HEADERS / "heap.c", "-o", heap])
+    for name in ["answer", *NUMBERS]:
+        run([cc, *C_FLAGS, *FLAGS, "-o", folder / name, HEADERS / f"{name}.c", heap, *library])
+    found: Dict[str, List[object]] = {"C": [*WATCHED, folder / "answer"]}
+    run([cc, *FLAGS, "-shared", "-o", shared, heap, "-Wl,--whole-archive", *library, "-Wl,--no-whole-archive"])
+    found["Python"] = [*UNLEAKED, f"LD_PRELOAD={runtime()}", sys.executable, "-B", HEADERS / "answer.py", shared]
+    if shutil.which("rustc"):
+        links = [f"-Clink-arg={word}" for word in [heap, *library, *RUNTIMES]]
+        run(["rustc", "--edition=2021", "-O", "-o", folder / "in-rust", HEADERS / "answer.rs", *links])
+        found["Rust"] = [*WATCHED, f"LD_PRELOAD={runtime()}", folder / "in-rust"]
+    return found
+
+
+def stories(suite: Suite, made: Dict[str, List[object]]) -> None:
+    """The stories of examples/ that have commands, refused ones among them."""
+    for folder in folders():
+        commands = content(folder / "commands", None)
+        if commands is None:
+            continue
+        wanted = {"status": int(content(folder / "status", b"0")), "standard output": content(folder / "expected")}
+        wanted["standard error"] = content(folder / "error")
+        for language, words in made.items():
+            came = tried([*words, *asked_by(words_of(folder))], given=commands, cwd=folder)
+            suite.note(f"examples/{folder.name} in {language}", wanted, came)
+
+
+def crate(suite: Suite, library: Sequence[Path]) -> None:
+    """The crate for Cargo: its own tests."""
+    place, archive = suite.folder / "rust", suite.folder / "lib"
+    shutil.copytree(HEADERS / "rust", place)
+    archive.mkdir()
+    run(["ar", "qc", archive / "libpespbench.a", suite.folder / "heap.o", *library])
+    target = host()
+    env = {"PESPBENCH_LIB": archive, "RUSTFLAGS": " ".join(f"-Clink-arg={word}" for word in RUNTIMES)}
+    env[f"CARGO_TARGET_{target.upper().replace('-', '_')}_RUNNER"] = " ".join([*WATCHED, f"LD_PRELOAD={runtime()}"])
+    words = ["env", *(f"{name}={value}" for name, value in env.items()), "cargo", "test", "--offline", "--quiet"]
+    # A target that is named keeps the sanitizer from what builds the crate.
+    came = tried([*words, "--target", target, "--target-dir", suite.folder / "target"], cwd=place, seconds=300)
+    suite.note("the crate's own tests", {"status": 0}, came)
+
+
+def host() -> str:
+    told = subprocess.run(["rustc", "-vV"], capture_output=True, text=True, check=True).stdout
+    return told.split("host: ")[1].split()[0]
+
+
+def try_all(program: Path, folder: Path, library: Sequence[Path]) -> Tuple[int, List[str]]:
+    """How many cases passed, and what was wrong."""
+    suite, told = Suite(program, folder, folder / "tally"), io.StringIO()
+    suite.tally.write_text("")
+    try:
+        made = languages(folder, library)
+    except NotMade as fault:
+        return 0, [f"FAILED callers: {fault}"]
+    with contextlib.redirect_stdout(told):
+        stories(suite, made)
+        refusals(suite, made)
+        for name, (words, wanted) in NUMBERS.items():
+            suite.note(name, {"status": 0, "standard output": wanted}, tried([*WATCHED, folder / name, *words]))
+        if shutil.which("cargo") and "Rust" in made:
+            crate(suite, library)
+    tally = suite.tally.read_text()
+    return tally.count("p"), [told.getvalue()] * bool(tally.count("f"))

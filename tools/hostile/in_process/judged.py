@@ -1,0 +1,20 @@
+"""Libraries that go wrong, each in one way: the tests have to find it."""
+
+from typing import Dict, Tuple
+
+# By the numbers of wrong.c: what goes wrong, the ways to watch that find it, and a word of what is told.
+WRONG: Dict[int, Tuple[str, str, str]] = {
+    1: ("a byte is written after the room", "sanitizers memcheck", "heap-buffer-overflow|Invalid write"),
+    2: ("a byte is read after the line", "sanitizers memcheck", "heap-buffer-overflow|Invalid read"),
+    3: ("memory is read that was given back", "sanitizers memcheck", "heap-use-after-free|Invalid read"),
+    4: ("memory is kept", "sanitizers memcheck", "LeakSanitizer|definitely lost|memory is kept"),
+    5: ("memory is read that was never set", "memcheck", "uninitialised"),
+    6: ("two threads share a count", "threads", "data race"),
+    7: ("a reply has another byte", "sanitizers", "wanted b'"),
+    8: ("a length is that of the room", "sanitizers", r"wanted \("),
+    9: ("a call that is refused memory does its work", "sanitizers", "has changed the session"),
+    10: ("a lower bound is above the optimum", "sanitizers", "the optimum is|and now"),
+    11: ("a timetable has another cost", "sanitizers", "the program tells|the optimum is|and now"),
+    12: ("a time is lost", "sanitizers", "wanted"),
+    13: ("the library's own code reads a byte after the line", "sanitizers memcheck", "heap-buffer-overflow|Invalid read"),
+}

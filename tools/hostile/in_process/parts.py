@@ -1,0 +1,126 @@
+"""What is tried of the library in process: drawn streams under each way to watch it, libraries that go wrong, and the callers."""
+
+import argparse
+import random
+import re
+import tempfile
+from concurrent.futures import ThreadPoolExecutor
+from pathlib import Path
+from typing import Callable, Collection, Dict, Iterator, List, NamedTuple, Sequence, Tuple
+
+from hostile.in_process import callers
+from hostile.in_process.building import HERE, MEMCHECK, WAYS, Caller, library_for, made_caller
+from hostile.in_process.judged import WRONG
+from hostile.in_process.playing import Counts, Player
+from tests.embedded import answering
+
+# So many streams of a thread are played by one start of the caller.
+STREAMS_AT_ONCE = 100
+# Of so many streams one is played so: memcheck is some thirty times as slow as a sanitizer, and threads play two at once.
+ONE_OF = {"sanitizers": 1, "threads": 5, "memcheck": 25}
+# Streams in which a library has to be found wrong.
+TRIALS, STREAMS_OF_A_TRIAL = 6, 8
+WRAPPED = [f"-Wl,--wrap={name}" for name in ("pesp_ask", "pesp_search")]
+
+
+class Task(NamedTuple):
+    """A part, its number, and how many streams it plays in each thread."""
+
+    part: str
+    number: int
+    streams: int
+
+
+class Result(NamedTuple):
+    """How much was tried, how many cases passed, and what was wrong."""
+
+    counts: Counts
+    passed: int
+    faults: List[str]
+
+
+class Making:
+    """The callers and libraries that were made, in a folder that all tasks read."""
+
+    def __init__(self, words: argparse.Namespace, folder: Path) -> None:
+        self.words, self.folder = words, folder
+        self.callers: Dict[str, Caller] = {}
+        self.wrong: Dict[str, Caller] = {}
+        self.libraries: Dict[str, List[Path]] = {}
+
+    def make_libraries(self, parts: Sequence[str], missing: Collection[str]) -> None:
+        """Makes the library for each way that the parts need, at once."""
+        ways = sorted({way for part in parts for way in ways_of(part)} - set(missing))
+        with ThreadPoolExecutor() as threads:
+            made = threads.map(lambda way: library_for(self.folder, way, self.words.library), ways)
+            self.libraries = dict(zip(ways, made))
+
+    def make_callers(self, part: str) -> None:
+        """Makes what a part needs beside the library."""
+        for way in set(ways_of(part)) & set(self.libraries):
+            if part in WAYS:
+                self.callers[way] = made_caller(self.folder, way, self.libraries[way])
+            if part == "judges":
+                self.wrong[way] = made_caller(self.folder, way, self.libraries[way], [HERE / "wrong.c", *WRAPPED], "wrong")
+
+
+def ways_of(part: str) -> List[str]:
+    """The ways to watch that a part needs."""
+    return [part] if part in WAYS else list(WAYS) if part == "judges" else ["sanitizers"]
+
+
+def tasks(part: str, streams: int) -> Iterator[Task]:
+    """What a part has to do, each in a process."""
+    if part not in WAYS:
+        yield from (Task(part, number, 0) for number in (WRONG if part == "judges" else [0]))
+        return
+    left = -(-streams // (ONE_OF[part] * WAYS[part].threads))
+    at_once = min(STREAMS_AT_ONCE, -(-left // 4))
+    for number in range(-(-left // at_once)):
+        yield Task(part, number, min(at_once, left - number * at_once))
+
+
+def play(making: Making, task: Task) -> Result:
+    """Streams of a task, drawn from the seed, the part and the number."""
+    draw = random.Random(f"{making.words.seed} {task.part} {task.number}")
+    with tempfile.TemporaryDirectory() as name:
+        player = Player(making.words.program, making.callers[task.part], answering(), Path(name))
+        counts, faults = player.play(draw, task.streams)
+    return Result(counts, 1 - bool(faults), [f"FAILED {task.part} {task.number} of seed {making.words.seed}: {fault}" for fault in faults[:5]])
+
+
+def judges(making: Making, task: Task) -> Result:
+    """A library that goes wrong is found by each way that can find it, and by what it says."""
+    title, ways, word = WRONG[task.number]
+    missed = [way for way in ways.split() if way in making.wrong and not is_found(making, making.wrong[way], task.number, word)]
+    tried = [way for way in ways.split() if way in making.wrong]
+    return Result(Counts(), len(tried) - len(missed), [f"FAILED judges: {title}, and {way} does not find it" for way in missed])
+
+
+def is_found(making: Making, caller: Caller, number: int, word: str) -> bool:
+    caller = caller._replace(env={**caller.env, "WRONG": str(number)})
+    draw = random.Random(number)
+    for _ in range(TRIALS):
+        with tempfile.TemporaryDirectory() as name:
+            _, faults = Player(making.words.program, caller, answering(), Path(name)).play(draw, STREAMS_OF_A_TRIAL)
+        if faults:
+            return any(re.search(word, fault) for fault in faults)
+    return False
+
+
+def call(making: Making, task: Task) -> Result:
+    """The callers of embedded/, over the library whose code the sanitizers watch."""
+    with tempfile.TemporaryDirectory() as name:
+        passed, faults = callers.try_all(making.words.program, Path(name), making.libraries["sanitizers"])
+    return Result(Counts(), passed, faults)
+
+
+PARTS: Dict[str, Callable[[Making, Task], Result]] = {"judges": judges, "callers": call, **{way: play for way in WAYS}}
+# A command that a part cannot do without.
+WANTED: Dict[str, Tuple[str, str]] = {"memcheck": (MEMCHECK[0], "no memcheck (valgrind)")}
+
+
+def described(task: Task, result: Result) -> str:
+    """A line of a task."""
+    played = f": {result.counts.told()}" if result.counts.calls else ""
+    return f"{task.part} {task.number}: {result.passed} passed, {len(result.faults)} failed{played}"

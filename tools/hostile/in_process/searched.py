@@ -1,0 +1,58 @@
+"""What searches told that may tell more than one thing, judged by the program over the same networks."""
+
+from typing import Dict, List, NamedTuple, Optional
+
+# In the numbers of the header.
+NOTHING_YET, BEST_SO_FAR, OPTIMUM, NO_TIMETABLE = range(4)
+
+
+class Searched(NamedTuple):
+    """What a search told: its network as a script, its timetable if any, its cost, its lower bound, and a whole reply that is the optimum's."""
+
+    script: bytes
+    times: Dict[int, int]
+    cost: int
+    bound: int
+    optimum: bytes = b""
+
+
+def numbers_in(shown: bytes, width: int) -> List[int]:
+    return [int.from_bytes(shown[place : place + width], "little") for place in range(0, len(shown), width)]
+
+
+def times_in(reply: bytes) -> Dict[int, int]:
+    """The timetable of an optimum."""
+    rows = [line.split() for line in reply.splitlines()[1:]]
+    return {int(event): int(time) for event, time in rows}
+
+
+def searched_by_try(script: bytes, reply: bytes) -> Searched:
+    """The same of a reply to `try`."""
+    if not reply.startswith(b"stopped"):
+        return Searched(script, {}, 0, 0, reply)
+    cost = reply.split()[1]
+    return Searched(script, times_in(reply), 0 if cost == b"none" else int(cost), 0)
+
+
+def emptying(script: bytes) -> List[bytes]:
+    """The lines that take a network away, of which the script is told."""
+    rows = [line.split() for line in script.splitlines()]
+    activities = [b"drop activity " + row[2] for row in rows if row[:2] == [b"add", b"activity"]]
+    return activities + [b"drop event " + row[2] for row in rows if row[:2] == [b"add", b"event"]]
+
+
+def lines_of_search(searched: Searched) -> List[bytes]:
+    times = [b"time %d %d" % pair for pair in searched.times.items()]
+    return [*searched.script.splitlines(), *times, b"violations", b"cost", b"optimum", *emptying(searched.script)]
+
+
+def fault_of_search(searched: Searched, violations: bytes, cost: bytes, optimum: bytes) -> Optional[str]:
+    """A timetable meets everything at its cost, and no optimum is below the bound, or dearer."""
+    if searched.optimum:
+        return None if searched.optimum == optimum else f"{searched}, and the optimum is {optimum!r}"
+    if searched.times and (violations, cost) != (b"violations 0\n", b"cost %d\n" % searched.cost):
+        return f"{searched}, of which the program tells {violations!r} and {cost!r}"
+    words = optimum.split()
+    is_bound = words[0] == b"infeasible" or searched.bound <= int(words[1])
+    is_bound = is_bound and not (searched.times and (words[0] == b"infeasible" or int(words[1]) > searched.cost))
+    return None if is_bound else f"{searched}, and the optimum is {optimum!r}"

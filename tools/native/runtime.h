@@ -1,0 +1,12 @@
+/* Memory for the translated module. */
+#ifndef RUNTIME_H
+#define RUNTIME_H
+
+#include <stdbool.h>
+
+#include "wasm-rt.h"
+
+/* Keeps memory for the next module that this thread makes; whether there is any. */
+bool has_memory(void);
+
+#endif

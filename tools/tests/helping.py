@@ -1,0 +1,73 @@
+"""Every tool says what it is for, refuses what it does not know, and does nothing else then."""
+
+import os
+import shutil
+from pathlib import Path
+from typing import Dict, List
+
+from tests.harness import SOME, TOP, Suite, run, within
+from tests.start_tree import Tree
+
+TOOLS = TOP / "tools"
+# In the place of the toolchain: a tool that begins to prove leaves a file.
+TOOLCHAIN = '#!/bin/sh\n[ "$1" = doc ] || [ "$1" = version ] || touch "$ASKED"\nexit 1\n'
+
+
+def tools() -> List[Path]:
+    """The files of tools/ that are started by their name."""
+    return sorted(path for path in TOOLS.iterdir() if path.is_file() and os.access(path, os.X_OK))
+
+
+def surroundings(suite: Suite, home: Path) -> Dict[str, str]:
+    """An empty home, and a toolchain that proves nothing."""
+    commands = suite.folder / "commands"
+    commands.mkdir()
+    home.mkdir()
+    (commands / "rt").write_text(TOOLCHAIN)
+    (commands / "rt").chmod(0o755)
+    return {**os.environ, "PATH": f"{commands}:{os.environ['PATH']}", "HOME": str(home), "ASKED": str(suite.folder / "asked")}
+
+
+@within(480)
+def helping(suite: Suite) -> None:
+    """`--help` and `-h` print how a tool is used, with status 0; another option is a fault with status 2."""
+    home = suite.folder / "home"
+    env = surroundings(suite, home)
+    suite.holds("there are tools", len(tools()) > 15)
+    for path in tools():
+        if path.name == "pespbench_module" and not shutil.which("node"):
+            continue
+        for option in ["--help", "-h"]:
+            came = run([path, option], env=env, cwd=home)
+            wanted = {"status": 0, "usage": True, "standard error": b""}
+            suite.note(f"tools/{path.name} {option}", wanted, {**came, "usage": b"sage: " in came["standard output"]})
+        for option in ["-x", "--no-such-option"]:
+            wanted = {"status": 2, "standard output": b"", "standard error": SOME}
+            suite.note(f"tools/{path.name} {option}", wanted, run([path, option], env=env, cwd=home))
+        left = [str(place) for place in home.rglob("*")]
+        suite.note(f"what tools/{path.name} leaves", {"made": [], "proved": False}, {"made": left, "proved": (suite.folder / "asked").exists()})
+
+
+def helping_start(suite: Suite) -> None:
+    """tools/pespbench builds nothing for help, or for an option that the program does not have; a built program gets both."""
+    tree = Tree(suite)
+    for words in [["--help"], ["-h"], ["--period", "10", "--help"]]:
+        come = run([tree.link, *words], env=tree.environment)
+        suite.note(f"{words} before a build", {"status": 0, "usage": True}, {**come, "usage": b"usage: tools/pespbench" in come["standard output"]})
+    for words in [["-x"], ["--period", "10", "--x"], ["--period", "-5"]]:
+        come = run([tree.link, *words], env=tree.environment)
+        suite.note(f"{words} before a build", {"status": 2, "standard output": b"", "standard error": SOME}, come)
+    suite.note("builds for help", {"calls": []}, {"calls": tree.calls()})
+    tree.say("waits", True)
+    first = tree.begin()
+    tree.is_half_made()
+    come = run([tree.link, "--help"], env=tree.environment)
+    suite.note("help while another start builds", {"status": 0, "usage": True}, {**come, "usage": b"usage: tools/pespbench" in come["standard output"]})
+    tree.say("waits", False)
+    first.communicate()
+    for words in [["--help"], ["-x"], ["--period", "10", "--", "-x"]]:
+        wanted = f"ran in {suite.folder} with {' '.join(words)}\n".encode()
+        suite.note(f"{words} after a build", {"standard output": wanted}, run([tree.link, *words], cwd=suite.folder, env=tree.environment))
+
+
+GROUPS = [helping, helping_start]
