@@ -1,10 +1,10 @@
-"""The text of the sources, held to docs/STYLE.md: clauses within their columns, and a word on each private field."""
+"""The text of the sources, held to docs/STYLE.md: clauses within their columns, and a word on each private field; and no links."""
 
 import re
 from pathlib import Path
 from typing import Iterator, List, Tuple
 
-from tests.harness import TOP, Suite
+from tests.harness import TOP, Suite, run
 
 COLUMNS = 100
 # Of a hundred clauses so many may have a longer line.
@@ -55,4 +55,12 @@ def private_fields(suite: Suite) -> None:
     suite.note("each private field has a comment", {"silent": []}, {"silent": silent})
 
 
-GROUPS = [clauses_within_columns, private_fields]
+def no_links(suite: Suite) -> None:
+    """`rt ci` refuses a tree in which a file or a folder is a link."""
+    listed = run(["git", "-C", TOP, "ls-files", "-s"])
+    if listed["status"] == 0:
+        lines = listed["standard output"].decode(errors="replace").splitlines()
+        suite.note("no file is a link", {"links": []}, {"links": [line.partition("\t")[2] for line in lines if line.startswith("120000 ")]})
+
+
+GROUPS = [clauses_within_columns, private_fields, no_links]
