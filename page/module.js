@@ -63,10 +63,24 @@ const makePespModule = () => {
   // A search is not asked for twice either: the times of all events that there may be fit in.
   const LEAST_ROOM = 1 << 20;
 
-  // The module after a text in base64 that was packed by deflate, compiled: this can be sent to a Worker, which starts it sooner.
-  const compile = base64 => {
-    const packed = new Blob([Uint8Array.from(atob(base64), letter => letter.charCodeAt(0))]);
-    const bytes = packed.stream().pipeThrough(new DecompressionStream('deflate-raw'));
+  // The digits of numbers of 4 bytes, which have 5 of them each.
+  const DIGITS = '0123456789ABCDEFGHIJKLMNOPQRSTUVWXYZabcdefghijklmnopqrstuvwxyz!#,%.()*+-;:=[?@^_]{|}~';
+
+  // The bytes that a text in these digits has, of which the last number may have fewer, and then has one digit more than bytes.
+  const bytesOfDigits = text => {
+    const values = new Uint8Array(128), length = Math.floor(text.length * 4 / 5), view = new DataView(new ArrayBuffer(length + 4));
+    [...DIGITS].forEach((digit, value) => { values[digit.charCodeAt(0)] = value; });
+    for (let start = 0, at = 0; start < text.length; start += 5, at += 4) {
+      let number = 0;
+      for (let place = start; place < start + 5; place += 1) number = number * 85 + (place < text.length ? values[text.charCodeAt(place)] : 84);
+      view.setUint32(at, number);
+    }
+    return new Uint8Array(view.buffer, 0, length);
+  };
+
+  // The module of a page, which is packed there by deflate, compiled: this can be sent to a Worker, which starts it sooner.
+  const compile = text => {
+    const bytes = new Blob([bytesOfDigits(text)]).stream().pipeThrough(new DecompressionStream('deflate-raw'));
     return WebAssembly.compileStreaming(new Response(bytes, { headers: { 'Content-Type': 'application/wasm' } }));
   };
 
@@ -262,7 +276,7 @@ const makePespModule = () => {
     forget(module, session);
   };
 
-  return { compile, start, startNow, limit, answer, open, ask, cost, canTellDomains, domains, canSearch, search, close, faultOf };
+  return { bytesOfDigits, compile, start, startNow, limit, answer, open, ask, cost, canTellDomains, domains, canSearch, search, close, faultOf };
 };
 
 const PespModule = makePespModule();

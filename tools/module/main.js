@@ -13,10 +13,10 @@ const { Session } = require('./session.js');
 
 const CHECK = ['tensions', 'violations', 'cost'].map(word => Buffer.from(word));
 
-const moduleOf = page => {
-  const found = /const PESPBENCH_MODULE = "([A-Za-z0-9+/=]*)"/.exec(readFileSync(page, 'latin1'));
+const moduleOf = (page, PespModule) => {
+  const found = /const PESPBENCH_MODULE = "([^"]*)"/.exec(readFileSync(page, 'latin1'));
   if (!found) throw new Error(`${page} has no module`);
-  return inflateRawSync(Buffer.from(found[1], 'base64'));
+  return inflateRawSync(PespModule.bytesOfDigits(found[1]));
 };
 
 const filesOf = settings => ({
@@ -39,7 +39,7 @@ const work = async (page, script, words) => {
   const settings = settingsOf(words);
   const files = filesOf(settings);
   const PespModule = require(script);
-  const start = () => PespModule.start(moduleOf(page));
+  const start = () => PespModule.start(moduleOf(page, PespModule));
   const session = await Session.open(PespModule, start, { period: settings.period, ...files });
   if (!settings.check) return answerLines(session);
   for (const reply of session.answer(CHECK.map(bytes => ({ bytes, place: 0 })))) writeAll(reply);

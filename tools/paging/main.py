@@ -6,7 +6,8 @@ import subprocess
 from typing import List, Sequence
 
 from paging.module import made_module, tools
-from paging.page import assembled, module_of
+from paging.packing import packed
+from paging.page import assembled, module_of, packed_in
 from paging.tree import LIBRARY, MADE, PAGE, TOP, NotMade, below
 
 
@@ -44,14 +45,10 @@ def difference(anew: bytes) -> str:
     there = MADE.read_bytes()
     if there == anew:
         return ""
-    part = "the screen" if module_of(there) == module_of(anew) else "the module"
+    part = "the screen" if packed_in(there) == packed_in(anew) else "how the module is packed"
+    if module_of(there) != module_of(anew):
+        part = "the module"
     return f"page/pespbench.html differs from the page made anew, in {part}; {which_is_older()}"
-
-
-def given_module(path: pathlib.Path) -> bytes:
-    """The module in a file, or in a page."""
-    data = path.read_bytes()
-    return data if data.startswith(b"\0asm") else module_of(data)
 
 
 def made_by(words: argparse.Namespace) -> str:
@@ -69,12 +66,15 @@ def checked(anew: bytes, made: str) -> bool:
 
 
 def work(words: argparse.Namespace) -> bool:
-    module = given_module(words.given) if words.given else made_module()
+    data = words.given.read_bytes() if words.given else made_module()
+    is_page = not data.startswith(b"\0asm")
+    module = module_of(data) if is_page else data
     if words.module:
         words.module.write_bytes(module)
         print(f"{words.module}: {len(module):,} bytes, {made_by(words)}")
         return False
-    page = assembled(PAGE, module)
+    # In a page the module is packed already, so that zopfli is not needed.
+    page = assembled(PAGE, packed_in(data) if is_page else packed(module))
     if words.check:
         return checked(page, made_by(words))
     MADE.write_bytes(page)

@@ -4,10 +4,10 @@ import base64
 import hashlib
 import pathlib
 import re
-import zlib
 from typing import Match, Set
 
 from paging.modules import joined, scripts
+from paging.packing import unpacked
 from paging.tree import NotMade
 
 LINE = re.compile(r"^[ \t]*<!-- (?:(style|script|modules): (\S+)|(module)) -->[ \t]*$", re.M)
@@ -32,12 +32,6 @@ def without_comments(text: str) -> str:
     return COMMENT.sub("", text)
 
 
-def packed(module: bytes) -> bytes:
-    """The bytes of a module by deflate without a head, the same ones each time."""
-    packer = zlib.compressobj(9, zlib.DEFLATED, -15)
-    return packer.compress(module) + packer.flush()
-
-
 def fitting(name: str, text: str) -> str:
     """A style or script of the page, which can stand inside of it."""
     for word in BREAKS:
@@ -53,12 +47,12 @@ def source(folder: pathlib.Path, name: str) -> str:
     return fitting(name, path.read_text())
 
 
-def part(folder: pathlib.Path, found: Match[str], module: bytes, there: Set[str]) -> str:
+def part(folder: pathlib.Path, found: Match[str], module: str, there: Set[str]) -> str:
     """What stands for a line of the kind `<!-- style: FILE -->`, `<!-- script: FILE -->`, `<!-- modules: NAME -->` or
     `<!-- module -->`. Modules are those of script/NAME.js that are not there yet."""
     kind, name, is_module = found.groups()
     if is_module:
-        return f'<script>const PESPBENCH_MODULE = "{base64.b64encode(packed(module)).decode()}";</script>'
+        return f'<script>const PESPBENCH_MODULE = "{module}";</script>'
     if kind == "modules":
         return f"<script data-modules={name}>\n{fitting(f'script/{name}.js, or what it imports,', joined(scripts(folder / 'script'), name, there))}</script>"
     return f"<{kind}>\n{source(folder, name)}</{kind}>"
@@ -80,8 +74,8 @@ def with_policy(text: str) -> str:
     return text.replace(policies[0], "; ".join(rules), 1)
 
 
-def assembled(folder: pathlib.Path, module: bytes) -> bytes:
-    """The page of the sources in a folder and of a module, as its bytes."""
+def assembled(folder: pathlib.Path, module: str) -> bytes:
+    """The page of the sources in a folder and of a packed module, as its bytes."""
     if not (folder / "index.html").is_file():
         raise NotMade("there is no page/index.html")
     index = unindented((folder / "index.html").read_text())
@@ -92,12 +86,14 @@ def assembled(folder: pathlib.Path, module: bytes) -> bytes:
     return with_policy(text).encode()
 
 
-def module_of(page: bytes) -> bytes:
-    """The module in a page."""
-    found = re.search(rb'const PESPBENCH_MODULE = "([A-Za-z0-9+/=]*)"', page)
+def packed_in(page: bytes) -> str:
+    """The packed module in a page."""
+    found = re.search(rb'const PESPBENCH_MODULE = "([^"]*)"', page)
     if not found:
         raise NotMade("there is no module in the page")
-    try:
-        return zlib.decompress(base64.b64decode(found.group(1)), -15)
-    except zlib.error as fault:
-        raise NotMade(f"the module in the page cannot be unpacked: {fault}") from fault
+    return found.group(1).decode()
+
+
+def module_of(page: bytes) -> bytes:
+    """The module in a page."""
+    return unpacked(packed_in(page))

@@ -18,6 +18,7 @@ from tests.harness import TOP, Suite, within
 
 sys.path.insert(0, str(TOP / "tools"))
 
+from paging.packing import bytes_of, in_digits, packed, unpacked  # noqa: E402
 from paging.page import assembled, module_of  # noqa: E402
 from paging.tree import MADE, NotMade  # noqa: E402
 
@@ -35,14 +36,16 @@ MADE_OF_IT = """<!doctype html>
 p { margin: 0 }
 </style>
 <p>A <!-- comment --> stays.</p>
-<script>const PESPBENCH_MODULE = "Y0gszgUA";</script>
+<script>const PESPBENCH_MODULE = "V@NE{1po";</script>
 <script>
 'use strict';
 </script>
 """
 MODULE = b"\0asm"
-# By openssl, of each of the two scripts; Node packed the module.
-NAMES = ["sha256-ucCEDWFESBPBbm1ODIMALbDS0sTBScYkR9sE53sXVVk=", "sha256-YZwKaVawabDNvmVDMcSnBHe0D1Gx5K61vcyoQEpD0nk="]
+# Node's deflate has 63 48 2c ce 05 00 for it: the digits 31 77 23 14 81, and of what is left 1 51 50.
+PACKED = "V@NE{1po"
+# By openssl, of each of the two scripts.
+NAMES = ["sha256-hT+tTpMv85LFqUQAQLIj9xrWYS+kTjHFpIe3GcaLvLc=", "sha256-YZwKaVawabDNvmVDMcSnBHe0D1Gx5K61vcyoQEpD0nk="]
 
 
 def sources(suite: Suite, name: str, **changed: str) -> Path:
@@ -58,7 +61,7 @@ def sources(suite: Suite, name: str, **changed: str) -> Path:
 
 def refused(folder: Path) -> str:
     try:
-        return assembled(folder, MODULE).decode()
+        return assembled(folder, PACKED).decode()
     except NotMade as fault:
         return f"refused: {fault}"
 
@@ -81,7 +84,7 @@ def page(suite: Suite) -> None:
     wanted = POLICY.replace("script-src 'unsafe-inline'", f"script-src {names}")
     suite.note("its policy", {"policy": wanted}, {"policy": policy})
     suite.holds("its module", module_of(came.encode()) == MODULE)
-    unpacked = module_or_fault(came.replace("Y0gszgUA", "AGFzbQ=="))
+    unpacked = module_or_fault(came.replace(PACKED, "009C61O"))
     suite.holds(f"one that is not packed: {unpacked!r}", str(unpacked).startswith("the module in the page cannot be unpacked"))
     table = {
         "a script that would end early": {"parts__first_js": "const text = '</SCRIPT>';\n"},
@@ -95,6 +98,38 @@ def page(suite: Suite) -> None:
     for number, (name, changed) in enumerate(table.items()):
         came = refused(sources(suite, f"page {number}", **changed))
         suite.note(f"a page with {name}", {"is refused": True}, {"is refused": came.startswith("refused: ")})
+
+
+def by_script(digits: List[str]) -> List[bytes]:
+    """What page/module.js reads of digits."""
+    runs = "const { bytesOfDigits } = require(process.argv[1]);"
+    runs += "console.log(JSON.stringify(JSON.parse(process.argv[2]).map(each => [...bytesOfDigits(each)])))"
+    words = ["node", "-e", runs, str(TOP / "page/module.js"), json.dumps(digits)]
+    return list(map(bytes, json.loads(subprocess.run(words, capture_output=True, text=True, check=True).stdout)))
+
+
+def made_without_zopfli(given: Path) -> str:
+    words = [sys.executable, str(TOP / "tools/page"), "--check", "--with", str(given)]
+    return subprocess.run(words, capture_output=True, text=True, check=False, env={"PATH": ""}).stdout
+
+
+def page_packing(suite: Suite) -> None:
+    """Deflated bytes stand in the page in digits that mean nothing in a script, and are read again by Python and in the page."""
+    draw = random.Random(4_200)
+    table = [b"", b"\xff" * 8, *(draw.randbytes(length) for length in range(1, 40))]
+    digits = list(map(in_digits, table))
+    suite.note("harmless", {"others": set()}, {"others": set("".join(digits)) & set("\"$&'/<>\\`")})
+    suite.note("by Python", {"bytes": table}, {"bytes": list(map(bytes_of, digits))})
+    if shutil.which("node"):
+        suite.note("by page/module.js", {"bytes": table}, {"bytes": by_script(digits)})
+    if shutil.which("zopfli"):
+        suite.note("a module", {"text": PACKED, "again": MODULE}, {"text": packed(MODULE), "again": unpacked(packed(MODULE))})
+    wasm = suite.folder / "short.wasm"
+    wasm.write_bytes(MODULE)
+    came = made_without_zopfli(wasm)
+    suite.holds(f"a module without zopfli: {came}", "there is no zopfli (Debian's package zopfli)" in came)
+    came = made_without_zopfli(MADE)
+    suite.holds(f"a page without zopfli: {came}", came.endswith("1 passed, 0 failed\n"))
 
 
 # Modules of which the first one stands on both others, and the second on the third.
@@ -276,4 +311,4 @@ def page_module(suite: Suite) -> None:
             endings(suite, node)
 
 
-GROUPS = [page, page_scripts, page_module]
+GROUPS = [page, page_packing, page_scripts, page_module]
