@@ -1,6 +1,6 @@
 """What a file of another form has that a fault comes from, and what mends it: UTF-16, tabs, decimal commas.
 
-The page says the same (page/script/helping.js).
+The page says the same (page/script/files/helping.js).
 """
 
 from __future__ import annotations

@@ -1,5 +1,6 @@
 """The sources of the page: types, lint, and what its modules share; and those of the tools about it. What is not installed is told."""
 
+import json
 import os
 import re
 import shutil
@@ -14,8 +15,12 @@ from tests.harness import TOP, Suite, within
 SCRIPTS = TOP / "page/script"
 # Debian's modules, which another Node does not look for.
 MODULES = "/usr/share/nodejs"
-CHECKED = ["--noUnusedLocals", "--noUnusedParameters", "--noImplicitReturns", "--noImplicitThis", "--noFallthroughCasesInSwitch"]
-CHECKED += ["--strictBindCallApply", "--strictFunctionTypes"]
+CHECKED = ["noUnusedLocals", "noUnusedParameters", "noImplicitReturns", "noImplicitThis", "noFallthroughCasesInSwitch"]
+CHECKED += ["strictBindCallApply", "strictFunctionTypes", "allowJs", "checkJs", "noEmit"]
+# A module is imported by its name, whatever folder it is in.
+FOLDERS = [str(path) for path in [SCRIPTS, *SCRIPTS.iterdir()] if path.is_dir()]
+OPTIONS = {**dict.fromkeys(CHECKED, True), "target": "es2022", "module": "es2022", "moduleResolution": "node", "rootDirs": FOLDERS}
+OPTIONS["lib"] = ["es2022", "dom", "dom.iterable"]
 # The modules that lay out what others draw, and the most lines of all of them.
 LAYING_OUT, MOST_DRAWING = ("lanes", "places", "report", "spreading", "stretch", "ways"), 1_700
 # What is given to callers outside, in outside.js: `get name() ..`, `name: ..` and `name`.
@@ -36,9 +41,10 @@ def told_by(suite: Suite, what: str, command: Sequence[object], **how: Any) -> N
 @within(240)
 def types_of_scripts(suite: Suite, page: Hands) -> None:
     """The scripts pass TypeScript's checker."""
-    words = ["tsc", "--allowJs", "--checkJs", "--noEmit", "--target", "es2022", "--module", "es2022", "--moduleResolution", "node"]
-    words += ["--lib", "es2022,dom,dom.iterable", *CHECKED]
-    told_by(suite, "types of scripts", [*words, TOP / "page/types.d.ts", *sorted(SCRIPTS.glob("*.js"))])
+    files = [TOP / "page/types.d.ts", *sorted(SCRIPTS.rglob("*.js"))]
+    project = suite.folder / "tsconfig.json"
+    project.write_text(json.dumps({"compilerOptions": OPTIONS, "files": list(map(str, files))}))
+    told_by(suite, "types of scripts", ["tsc", "--project", project])
 
 
 @within(120)
@@ -50,7 +56,7 @@ def lint_of_scripts(suite: Suite, page: Hands) -> None:
 
 def what_scripts_share(suite: Suite, page: Hands) -> None:
     """Each export is imported by some module, each module is one of the page's, and all that is given to callers outside is used there."""
-    found, texts = scripts(SCRIPTS), {path.stem: path.read_text() for path in SCRIPTS.glob("*.js")}
+    found, texts = scripts(SCRIPTS), {path.stem: path.read_text() for path in SCRIPTS.rglob("*.js")}
     taken = {name for script in found.values() for names in script.imports.values() for name in names}
     suite.note("exported, and not imported", {"they": []}, {"they": sorted({name for script in found.values() for name in script.exports} - taken)})
     entries = re.findall(r"<!-- modules: (\w+) -->", (TOP / "page/index.html").read_text())
@@ -69,7 +75,7 @@ def drawn_once(suite: Suite, page: Hands) -> None:
     """The modules that draw, those that lay out for them, and the package's own for a report, which asks them, have few lines together."""
     found = scripts(SCRIPTS)
     drawing = [name for name, script in found.items() if "drawing" in script.imports.get("elements", ()) and name != "outside"]
-    paths = [*(SCRIPTS / f"{name}.js" for name in sorted({*drawing, *LAYING_OUT})), *(TOP / "python/pespbench/report").glob("drawing.*")]
+    paths = [*(path for path in SCRIPTS.rglob("*.js") if path.stem in {*drawing, *LAYING_OUT}), *(TOP / "python/pespbench/report").glob("drawing.*")]
     count = sum(len(path.read_text().splitlines()) for path in paths)
     suite.holds(f"{len(drawing)} modules draw, and {len(paths)} files have {count} lines", len(drawing) > 8 and count <= MOST_DRAWING)
 

@@ -27,7 +27,7 @@ def told_by_node(suite: Suite, folder: str, *words: str) -> List[str]:
     """What readers.mjs writes in a folder with the page's modules."""
     there = suite.folder / folder
     there.mkdir(exist_ok=True)
-    for path in [*SCRIPTS.glob("*.js"), READERS]:
+    for path in [*SCRIPTS.rglob("*.js"), READERS]:
         shutil.copy(path, there)
     (there / "package.json").write_text('{"type": "module"}')
     done = subprocess.run(["node", READERS.name, *words], cwd=there, capture_output=True, text=True)
@@ -62,7 +62,7 @@ def patterns_in_one_pass(suite: Suite, page: Hands) -> None:
     if not shutil.which("node"):
         print("  nothing was tried of patterns: node is not installed")
         return
-    patterns = patterns_of([*sorted(SCRIPTS.glob("*.js")), TOP / "page/module.js"])
+    patterns = patterns_of([*sorted(SCRIPTS.rglob("*.js")), TOP / "page/module.js"])
     suite.holds(f"there are {len(patterns)}", len(patterns) > 30)
     (suite.folder / "patterns.json").write_text(json.dumps(patterns))
     *slow, count = told_by_node(suite, "patterns", "patterns", str(suite.folder / "patterns.json")) or [""]

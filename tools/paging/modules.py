@@ -60,8 +60,8 @@ def read(path: pathlib.Path) -> Script:
 
 
 def scripts(folder: pathlib.Path) -> Dict[str, Script]:
-    """All modules of a folder by their names, where each import is another one's export, and no two export one name."""
-    found = {path.stem: read(path) for path in sorted(folder.glob("*.js"))}
+    """All modules in a folder and below by their names, where each import is another one's export, and no two export one name."""
+    found = {path.stem: read(path) for path in sorted(folder.rglob("*.js"))}
     for each in twice([name for script in found.values() for name in script.exports]):
         _, *others = [name for name, script in found.items() if each in script.exports]
         refuse(others[0], f"exports {each}, as another module does")

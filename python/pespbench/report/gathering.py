@@ -13,7 +13,7 @@ from pespbench.terminal import shown
 from pespbench.wording import found_text
 
 NO_TIME = 11
-# What page/script/report.js reads: rows of numbers and names, of which nothing steers a terminal.
+# What page/script/draw/report.js reads: rows of numbers and names, of which nothing steers a terminal.
 Content = Dict[str, Any]
 
 
