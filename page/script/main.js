@@ -1,6 +1,7 @@
 // Starts the page: the program first, and then the first story, or says why it cannot start. A report is read before that.
 
 import { addingPanel } from './adding.js';
+import { alwaysPanel, startAlways } from './always.js';
 import { startAsking } from './asking.js';
 import { changingPanel } from './changing.js';
 import { choosingPanel, startChoosing } from './choosing.js';
@@ -44,13 +45,13 @@ import { startVariants, variantsPanel } from './variants.js';
 // In the order in which they are drawn.
 const PANELS = [
   eventsPanel, factsPanel, spansPanel, costingPanel, movingPanel, changingPanel, addingPanel, headPanel, diagramPanel, tablesPanel, netgraphPanel,
-  variantsPanel, findingPanel, finderPanel, corridorPanel, trafficPanel, stationsPanel, choosingPanel, violatedPanel, stepsPanel, searchingPanel, proposingPanel,
+  variantsPanel, findingPanel, finderPanel, corridorPanel, trafficPanel, stationsPanel, choosingPanel, violatedPanel, stepsPanel, searchingPanel, proposingPanel, alwaysPanel,
   tellingPanel, gainsPanel, linkingPanel, draftsPanel,
 ];
 
 const STARTS = [
   startHead, startTabs, startStrips, startDiagram, startCosting, startChoosing, startLines, startLining, startVariants, startHelps, startLegend,
-  startFinding, startStations, startAsking, startSearching, startProposing, startTelling, startGains, startPrinting, startOpening, startSaving,
+  startFinding, startStations, startAsking, startSearching, startProposing, startAlways, startTelling, startGains, startPrinting, startOpening, startSaving,
   startHanding,
 ];
 

@@ -5,6 +5,7 @@ import { MOST_BYTES } from './archive.js';
 import { findWhy } from './conflict.js';
 import { convert } from './converting.js';
 import { sourceOfBlob } from './decoding.js';
+import { tellRest } from './hand.js';
 import { tellNearest } from './nearest.js';
 import { baseOf, readNetwork } from './network.js';
 import { tellPrices } from './pricing.js';
@@ -79,7 +80,7 @@ const search = async (asked, tell, isLeft) => {
 
 // With some events held at minutes beside what holds others.
 const why = (asked, tell) => {
-  const network = readNetwork(sessionOf(asked).ask('dump'));
+  const network = networkOf(asked);
   for (const [event, first] of asked.held) network.windows.set(event, { first, length: 1 });
   tell({ why: findWhy(network, { kept: new Set(asked.members), canLower: asked.canLower }), isDone: true });
 };
@@ -151,19 +152,25 @@ const gains = (asked, tell) => {
   }
 };
 
-// What it leaves is the network of before, without a search.
-const prices = async (asked, tell, isLeft) => {
+// The session for what leaves the network of before, without a search.
+const sessionToLeave = asked => {
   const session = sessionOf(asked);
   kept = { ...kept, isBegun: false, isOpen: false };
-  await tellPrices(session, asked, tell, { isLeft, hear });
+  return session;
 };
 
-const near = (asked, tell) => tellNearest(readNetwork(sessionOf(asked).ask('dump')), asked, tell, hear);
+const prices = (asked, tell, isLeft) => tellPrices(sessionToLeave(asked), asked, tell, { isLeft, hear });
+
+const networkOf = asked => readNetwork(sessionOf(asked).ask('dump'));
+
+const near = (asked, tell, isLeft) => tellNearest(networkOf(asked), asked, tell, { isLeft, hear });
+
+const hand = (asked, tell, isLeft) => tellRest(sessionToLeave(asked), networkOf(asked), asked, tell, { isLeft, hear });
 
 // Takes the place of a search that is stopped.
 const rest = () => {};
 
-const WORK = { search, why, convert: convertFiles, play, gains, prices, near, rest };
+const WORK = { search, why, convert: convertFiles, play, gains, prices, near, hand, rest };
 
 // Does what was asked; `tell` is called with each answer, and `isLeft` says whether something else is asked.
 const work = async (asked, tell, isLeft) => {

@@ -7,7 +7,7 @@ import { isAlarming } from './conflicts.js';
 import { drawing, find, findAll, setText } from './elements.js';
 import { lengthsOf } from './frames.js';
 import { mostNumbers } from './lanes.js';
-import { labelOf, shortText } from './names.js';
+import { labelOf, oldText, shortText } from './names.js';
 import { nearby } from './nearby.js';
 import { layOut } from './places.js';
 import { shown } from './shown.js';
@@ -217,10 +217,11 @@ export const netgraphOf = view => {
 // A number is set where it is another one than was drawn, since there are many and a step changes few.
 const drawNumber = (view, event, number, chosen = shown.chosen) => {
   const text = minuteText(view, event), isChosen = event === chosen;
-  const look = [isAlarming(view, event) ? 'alarm' : '', isChosen ? 'chosen' : ''].join(' ').trim(), drawn = `${text} ${look}`;
+  const look = [isAlarming(view, event) ? 'alarm' : '', isChosen ? 'chosen' : ''].join(' ').trim(), old = oldText(view, event), drawn = `${text} ${look} ${old}`;
   if (number.drawn === drawn) return;
   number.drawn = drawn;
   setText(number.node, text);
+  if (old) number.node.append(drawing('tspan', { class: 'old', dx: 2 }, old));
   number.node.setAttribute('class', look);
 };
 

@@ -8,7 +8,9 @@ import { costsBeside, differences } from './differing.js';
 import { element, elided, find, rowOf, say, tableOf } from './elements.js';
 import { showRow } from './events.js';
 import { isField } from './fields.js';
+import { movesText } from './moves.js';
 import { minutesText } from './names.js';
+import { see } from './proposing.js';
 import { doStep, redraw, session, timesNow } from './session.js';
 import { shown, within } from './shown.js';
 import { isTab, showTab } from './tabs.js';
@@ -62,6 +64,14 @@ const linesTo = view => linesBetween({ network: shown.view.network, times: times
 const isOfPeriod = view => view.network.period === shown.view.network.period;
 
 const isShown = view => view === shown.view || (isOfPeriod(view) && view.labels === shown.labels && !linesTo(view).length);
+
+// What has the same events, activities and names is drawn above what is shown before it is taken over.
+const isSeen = view => view.network.shape === shown.view.network.shape && view.labels === shown.labels && !isShown(view);
+
+const seeVariant = name => {
+  const { view } = kept.get(name);
+  see(linesTo(view), movesText(view.times), { title: `${name} is taken over` }, false);
+};
 
 // Titles tell two networks apart.
 const headOf = ({ name, title }, isTitled) => element('th', { scope: 'col' }, element('b', {}, name === 'now' ? 'what is shown' : name), ' ',
@@ -157,6 +167,7 @@ const hands = () => {
   for (const name of NAMES) {
     find(`take-${name}`).hidden = find(`forget-${name}`).hidden = !kept.has(name);
     find(`take-${name}`).disabled = kept.has(name) && isShown(kept.get(name).view);
+    find(`see-${name}`).hidden = !kept.has(name) || !isSeen(kept.get(name).view);
   }
   find('swap').hidden = !isBoth;
 };
@@ -174,6 +185,7 @@ export const variantsPanel = { update };
 
 export const startVariants = () => {
   find('compare-hands').replaceChildren(...NAMES.map(name => button(`Take ${name} over`, () => take(name), { id: `take-${name}`, class: 'main' })),
+    ...NAMES.map(name => button(`See ${name}`, () => seeVariant(name), { id: `see-${name}` })),
     button('Exchange A and B', swap, { id: 'swap' }), ...NAMES.map(name => button(`Forget ${name}`, () => forget(name), { id: `forget-${name}` })));
   for (const name of NAMES) find(`keep-${name}`).addEventListener('click', () => keep(name));
   find('compared-told').addEventListener('click', event => {

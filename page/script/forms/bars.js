@@ -3,11 +3,11 @@
 import { conflictsAt, isAlarming, isOutside, outsideText } from './conflicts.js';
 import { drawing, element, setAttribute, setText } from './elements.js';
 import { isFinger, makeHandle, minutesOfKey, tellHandle, unitAt } from './handles.js';
-import { beginMove, isStaying, moveTrain, shiftText, wantsFromHere } from './moving.js';
+import { beginMove, moveTrain, shiftText, wantsFromHere } from './moving.js';
 import { clock, trainName } from './names.js';
 import { choose } from './session.js';
 import { shown } from './shown.js';
-import { minutesOf } from './trains.js';
+import { isStaying, minutesOf } from './trains.js';
 
 export const makeBar = (line, train) => {
   const bar = { train, drawn: '', way: null, note: element('span', { class: 'note' }) }, name = trainName(train);

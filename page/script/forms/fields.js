@@ -17,7 +17,7 @@ export const minutesTyped = text => minutesIn(text.trim(), [CLOCK, FOUR_DIGITS])
 export const clockTyped = text => minutesIn(text.trim(), [CLOCK, isOfHours() ? OF_A_DAY : FOUR_DIGITS]);
 
 /** Whether what has the keys takes letters. @param {any} node */
-export const isField = node => node.matches('input, select, textarea');
+export const isField = node => node.matches('input:not([type=checkbox]), select, textarea');
 
 export const numberField = more => element('input', { class: 'number', inputmode: 'numeric', autocomplete: 'off', ...more });
 

@@ -1,7 +1,8 @@
 // What is dragged, by a pointer or by keys. A drag shows what each of its lines would make, and its last line is one step.
 
 import { element, say, setAttribute } from './elements.js';
-import { doStep, preview, refresh } from './session.js';
+import { doByHand, leaveHand, showHand } from './rest.js';
+import { refresh } from './session.js';
 
 // So many pixels a pointer moves before it drags, so that a click changes nothing.
 const LEAST_MOVE = 3;
@@ -21,7 +22,7 @@ export const beginDrag = (start, linesAt, titleOf = () => '') => {
     const lines = linesAt(x);
     if (lines.join() === (last || []).join()) return;
     last = lines;
-    preview(lines, titleOf());
+    showHand(lines, titleOf());
   };
   const move = event => {
     x = event.clientX;
@@ -34,7 +35,8 @@ export const beginDrag = (start, linesAt, titleOf = () => '') => {
     if (frame) cancelAnimationFrame(frame);
     if (frame && isDone) look();
     if (last === null) return;
-    if (isDone && last.length) return doStep(last, { title: titleOf() });
+    if (isDone && last.length) return doByHand(last, titleOf());
+    leaveHand();
     refresh();
     return say('Nothing has changed.');
   };

@@ -6,25 +6,16 @@ import { element, find, say } from './elements.js';
 import { minutesField, minutesTyped } from './fields.js';
 import { beginDrag } from './handles.js';
 import { eventName, labelOf, lengthText, minutesText, trainName } from './names.js';
-import { choose, doStep, redraw, timesNow } from './session.js';
+import { doByHand } from './rest.js';
+import { choose, redraw, timesNow } from './session.js';
 import { shown } from './shown.js';
-import { trainAt } from './trains.js';
+import { forgetStaying, isStaying, setStaying, trainAt } from './trains.js';
 
-// What is moved now or was last, and the first events of the trains that stay where others are mended.
-let moved = null, staying = new Set();
-
-const firstOf = event => {
-  const found = trainAt(event);
-  return found ? found.train.events[0] : null;
-};
-
-export const isStaying = event => staying.has(firstOf(event));
-
-export const stayingEvents = () => shown.view.trains.filter(({ events }) => isStaying(events[0])).flatMap(({ events }) => events);
+// What is moved now or was last.
+let moved = null;
 
 const stay = isKept => {
-  if (isKept) staying.add(firstOf(shown.chosen));
-  else staying.delete(firstOf(shown.chosen));
+  setStaying(shown.chosen, isKept);
   redraw();
 };
 
@@ -74,7 +65,7 @@ export const moveTrain = (event, minutes, isFromHere) => {
   begun(event, isFromHere);
   moved.minutes = withinPeriod(minutes);
   const made = lines();
-  if (made.length) doStep(made, { title: title() });
+  if (made.length) doByHand(made, title());
   else say(`${title()}: no time changes`, true);
 };
 
@@ -99,7 +90,7 @@ const form = () => {
 };
 
 export const movingPanel = {
-  begin: () => { staying = new Set(); },
+  begin: forgetStaying,
   build: () => {
     if (!find('move-by')) find('move').append(form());
   },

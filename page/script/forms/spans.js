@@ -6,6 +6,7 @@ import { bringRow, showRow } from './events.js';
 import { minutesField, minutesTyped, numberField } from './fields.js';
 import { beginDrag, makeHandle, moveOf, tellHandle, unitAt } from './handles.js';
 import { activityName, kindOf, lengthText, minutesText, spanMinutes } from './names.js';
+import { doByHand } from './rest.js';
 import { doStep } from './session.js';
 import { shown } from './shown.js';
 import { minutesHad } from './viewing.js';
@@ -155,7 +156,7 @@ const typed = (card, event) => {
   const move = moveOf(event), { end } = event.target.dataset;
   if (!move || !end) return;
   event.preventDefault();
-  doStep([spanLine(card.number, shown.view.network.activities.get(card.number), event.shiftKey ? 'both' : end, move)]);
+  doByHand([spanLine(card.number, shown.view.network.activities.get(card.number), event.shiftKey ? 'both' : end, move)]);
 };
 
 const change = card => {

@@ -7,6 +7,7 @@ import { eventBeside, rowAt, showRow } from './events.js';
 import { beginDrag, isFinger, minutesOfKey, moveOf, unitAt } from './handles.js';
 import { beginMove, moveTrain, wantsFromHere } from './moving.js';
 import { windowLine } from './network.js';
+import { doByHand } from './rest.js';
 import { choose, doStep } from './session.js';
 import { shown } from './shown.js';
 import { showActivity } from './spans.js';
@@ -84,7 +85,7 @@ const typed = event => {
   if (!row) return;
   const { grip } = event.target.dataset;
   if (isOfTrain(event, grip) && minutesOfKey(event)) moveTrain(row.event, minutesOfKey(event), wantsFromHere(event));
-  else if (move) doStep([grip ? gripLine(row.event, grip, move) : movedLine(row.event, move, event.shiftKey)]);
+  else if (move) doByHand([grip ? gripLine(row.event, grip, move) : movedLine(row.event, move, event.shiftKey)]);
   else if (event.key === 'ArrowUp') showRow(eventBeside(row.event, -1));
   else if (event.key === 'ArrowDown') showRow(eventBeside(row.event, 1));
   else if (event.key === '+') addHere();

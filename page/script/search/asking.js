@@ -2,7 +2,7 @@
 // long files of lines. A search is stopped between two steps of the Worker, which keeps it to be gone on with; all else by ending it.
 
 import { find, lead, say } from './elements.js';
-import { markNow, present, session } from './session.js';
+import { markNow, present, stepNow } from './session.js';
 import { startWorker } from './workers.js';
 
 const WORDS = {
@@ -25,9 +25,6 @@ let worker = null, asked = null, clock = null;
 let hear = () => {};
 
 export const hearAsked = listener => { hear = listener; };
-
-const stepNow = () => session.steps[session.place - 1] || session.opened;
-
 
 // Asks something of the state that is shown. `tell` hears each answer, `fail` a fault, and `end` after how many seconds nothing
 // more comes.

@@ -54,6 +54,15 @@ export const tookText = ({ kind, nodes, seconds, isStopped }) => {
   return isSure({ kind }) ? `in ${took}` : `after ${number(nodes)} cases, ${took}`;
 };
 
+// How far a timetable that is shown is above the best, as far as that is known; where it does not meet everything, what the best costs.
+export const aboveText = (found, view) => {
+  const { kind, cost, times, bound } = found, best = `the best${kind === 'optimum' ? '' : ' that is found'}`;
+  if (!times) return TEXTS[kind](found);
+  if (countViolated(view) !== 0) return `${best} costs ${number(cost)}`;
+  const more = BigInt(view.cost) - BigInt(cost), gap = kind === 'optimum' ? '' : gapText(view.cost, bound) || 'how far above the best is not known yet';
+  return [more > 0n ? `${number(more)} above ${best}, which costs ${number(cost)}` : best, gap].filter(Boolean).join('; ');
+};
+
 const isShown = ({ cost, times }, view) => cost === view.cost && times.size === view.times.size
   && [...turned(times, view)].every(([event, time]) => view.times.get(event) === time);
 

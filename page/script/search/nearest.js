@@ -32,12 +32,12 @@ const withMoves = (network, times, { held, most }) => {
 const nearOf = ({ kind, times }, { events }) => ({ kind, times: times ? new Map(events.map((event, place) => [event, times.get(place + 1)])) : null });
 
 // An event that has to be somewhere else than it is held at is told by its window.
-const outside = ({ windows, period }, times, held) => [...held].find(event => {
+export const heldElsewhere = ({ windows, period }, times, held) => [...held].find(event => {
   const window = windows.get(event);
   return window && (times.get(event) - window.first + period) % period >= window.length;
 });
 
-const search = async (session, network, events, tell, hear) => {
+const search = async (session, network, events, { tell, isLeft, hear }) => {
   const until = performance.now() + MOST_TIME;
   for (let nodes = FIRST_NODES; ;) {
     const from = performance.now(), found = session.search(nodes, events), now = performance.now(), isDone = isSure(found) || now > until;
@@ -45,16 +45,17 @@ const search = async (session, network, events, tell, hear) => {
     if (isDone) return;
     if (now - from < STEP) nodes *= 2;
     await hear();
+    if (isLeft()) return;
   }
 };
 
-// Tells the nearest timetable that is known, until none can be nearer. Some events are held where they are.
-export const tellNearest = async (network, asked, tell, hear) => {
-  const times = new Map(asked.times), held = new Set(asked.held.filter(event => times.has(event))), event = outside(network, times, held);
+// Tells the nearest timetable that is known, until none can be nearer, or something else is asked. Some events are held where they are.
+export const tellNearest = async (network, asked, tell, { isLeft, hear }) => {
+  const times = new Map(asked.times), held = new Set(asked.held.filter(event => times.has(event))), event = heldElsewhere(network, times, held);
   if (event !== undefined) return tell({ near: { kind: 'outside', event }, isDone: true });
   const wide = withMoves(network, times, { held, most: asked.most }), base = baseOf(wide, new Map()), session = openSession(base);
   try {
-    await search(session, network, wide.events, tell, hear);
+    await search(session, network, wide.events, { tell, isLeft, hear });
   } finally {
     session.close();
   }

@@ -4,13 +4,14 @@
 import { say } from './elements.js';
 import { markNow, present } from './session.js';
 import { shown } from './shown.js';
-import { startWorker } from './workers.js';
+import { soleWorker } from './workers.js';
 
 // Of networks by their marks, of each question by its key the prices by minute; of the last networks alone, with so many times.
 const known = new Map(), MOST_TIMES = 20000000, NONE = new Map();
 
-// What is to be known, in this order; what is asked now, null where nothing is.
-let wanted = [], asked = null, worker = null, hear = () => {};
+// What is to be known, in this order.
+const worker = soleWorker();
+let wanted = [], hear = () => {};
 
 export const hearPrices = listener => { hear = listener; };
 
@@ -44,41 +45,28 @@ export const carryPrices = (question, act) => {
   hear();
 };
 
-const answered = told => {
-  if (!asked || told.id !== asked.id) return;
-  const { mark, question, prices } = asked;
-  if (told.price) {
-    prices.set(told.price.minute, told.price);
+const answered = ({ mark, question }, prices) => ({ price, fault }) => {
+  if (price) {
+    prices.set(price.minute, price);
     keep(mark, question, prices);
   }
-  if (told.fault) {
-    say(told.fault, true);
+  if (fault) {
+    say(fault, true);
     wanted = [];
   }
-  if (told.isDone) asked = null;
   askNext();
   hear();
 };
 
 const leftOf = question => pricedMinutes(question).filter(minute => !pricesOf(question).has(minute));
 
-const end = () => {
-  if (worker) worker.terminate();
-  [worker, asked] = [null, null];
-};
-
 const askNext = () => {
-  const question = wanted.find(each => leftOf(each).length), mark = markNow();
-  if (!wanted.length) return end();
-  if (asked && question && asked.mark === mark && keyOf(asked.question) === keyOf(question)) return null;
-  if (!question) {
-    asked = null;
-    return worker && worker.postMessage({ kind: 'rest' });
-  }
-  worker = worker || startWorker(answered);
-  asked = { id: performance.now(), mark, question, prices: new Map(pricesOf(question)) };
-  const { id } = asked;
-  return worker.postMessage({ kind: 'prices', id, mark, ...present(), question, minutes: leftOf(question), events: shown.view.network.events });
+  const question = wanted.find(each => leftOf(each).length), mark = markNow(), asked = worker.of();
+  if (!wanted.length) return worker.end();
+  if (!question) return worker.leave();
+  if (asked && asked.mark === mark && keyOf(asked.question) === keyOf(question)) return null;
+  const next = { kind: 'prices', mark, ...present(), question, minutes: leftOf(question), events: shown.view.network.events };
+  return worker.ask(next, answered(next, new Map(pricesOf(question))));
 };
 
 // Works out what some questions ask, one after another, in the place of those before. Each is of an event, with its window, or of an
@@ -89,4 +77,4 @@ export const wantPrices = questions => {
 };
 
 // Whether more comes.
-export const isPricing = () => asked !== null;
+export const isPricing = () => worker.of() !== null;

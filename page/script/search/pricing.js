@@ -24,12 +24,13 @@ const more = (cost, less) => cost === undefined ? undefined : exactly(String(Big
 const priceOf = ({ kind, cost, bound, times }, less) =>
   ({ kind, cost: more(cost, less), bound: more(bound, less), times: times ? Uint16Array.from(times.values()) : null });
 
-// Searches until that is sure, or takes long, or something else is asked; null then.
-const searched = async (session, events, isLeft, hear) => {
+// Searches until that is sure, or takes long, or something else is asked; null then. What it has come to is told as it goes.
+export const untilSure = async (session, events, { isLeft, hear, tell = found => found }) => {
   const until = performance.now() + MOST;
   for (let nodes = FIRST_NODES; ;) {
     const from = performance.now(), found = session.search(nodes, events), now = performance.now();
     if (isSure(found) || now > until) return found;
+    tell(found);
     if (now - from < STEP) nodes *= 2;
     await hear();
     if (isLeft()) return null;
@@ -42,7 +43,7 @@ export const tellPrices = async (session, { question, minutes, events }, tell, {
     const { line, back, less } = OF[question.of](question, minute);
     does(session, [line]);
     try {
-      const found = await searched(session, events, isLeft, hear);
+      const found = await untilSure(session, events, { isLeft, hear });
       if (!found) return;
       tell({ price: { minute, ...priceOf(found, less) } });
     } finally {

@@ -1,56 +1,75 @@
-// Mends what is violated: the nearest timetable, with what was moved held, is shown above the present one, and taken or left.
+// What a timetable would move is shown above the present one before it is taken or left: of one that was found, of a variant, and of the
+// nearest one, with what was moved held, which mends what is violated.
 
 import { askedNow, askFor } from './asking.js';
-import { element, find, findAll, say, setText } from './elements.js';
+import { element, find, say, setText } from './elements.js';
 import { isField } from './fields.js';
-import { stayingEvents } from './moving.js';
-import { eventName, minutesText, trainName } from './names.js';
-import { doStep, eventsMoved, preview, refresh, timesNow } from './session.js';
+import { foundsOf, noteFound } from './founds.js';
+import { drawOld, linesToTimes, movesText } from './moves.js';
+import { eventName, minutesText } from './names.js';
+import { doStep, eventsMoved, markNow, preview, refresh, timesNow } from './session.js';
 import { shown } from './shown.js';
+import { isTab, showTab } from './tabs.js';
 import { askWhy } from './telling.js';
-import { trainAt } from './trains.js';
+import { stayingEvents } from './trains.js';
+import { turned } from './turning.js';
 import { countViolated } from './viewing.js';
 
-// What is shown as proposed: its lines and its words; and what a search for one came to that shows none, null where there is no such.
-// So many trains are told by their names.
-const MOST_NAMED = 2;
-let proposed = null, refusal = null, found = null;
-
-const farther = (one, other) => {
-  const { period } = shown.view.network, later = (((other - one) % period) + period) % period;
-  return Math.min(later, period - later);
-};
-
-// How many other trains move, or events where there are no trains, and by how much.
-const movesText = (times, held) => {
-  const before = timesNow(), moved = [...times].filter(([event, time]) => before.get(event) !== time && !held.has(event)).map(([event]) => event);
-  const trains = new Set(moved.map(event => trainAt(event) ? trainAt(event).train : event)), isOfTrains = moved.every(event => trainAt(event));
-  const most = moved.reduce((far, event) => before.has(event) ? Math.max(far, farther(before.get(event), times.get(event))) : far, 0);
-  if (!moved.length) return 'nothing else moves';
-  const named = trains.size <= MOST_NAMED ? [...trains].map(each => isOfTrains ? trainName(each) : eventName(each)).join(' and ') : '';
-  return `${named || `${trains.size} other ${isOfTrains ? 'trains' : 'events'}`} move${trains.size > 1 ? '' : 's'}, by at most ${minutesText(most)}`;
-};
-
-const linesTo = times => {
-  const before = timesNow();
-  return [...times].filter(([event, time]) => before.get(event) !== time).map(([event, time]) => `time ${event} ${time}`);
-};
+// What is shown as proposed: its lines and words, and what the step is called that takes it; and what a search for one came to that shows
+// none, null where there is no such; and what was listed last.
+let proposed = null, refusal = null, found = null, offered = [];
 
 const costText = before => {
+  if (shown.view.cost === null) return 'cost not known';
   const more = BigInt(shown.view.cost) - BigInt(before.cost ?? shown.view.cost);
   return more ? `cost ${(more < 0n ? -more : more).toLocaleString('en')} ${more < 0n ? 'less' : 'more'}` : 'cost as before';
 };
 
-// Shows a timetable above the present one, which stays what it is.
-const propose = ({ times }, held, isNearest) => {
-  const lines = linesTo(times), before = shown.view.before || shown.view;
+// Shows what lines would make above what is shown, which stays what it is; `told` says what they move, and `step` what takes them.
+const propose = (lines, told, step, isMet = true) => {
+  const before = shown.view.before || shown.view;
+  refusal = null;
   preview(lines, '', before);
-  if (!shown.view.isTried || countViolated(shown.view) !== 0) {
+  if (!shown.view.isTried || (isMet && countViolated(shown.view) !== 0)) {
     refresh();
     return say('What was found does not meet everything: this is a fault of the page.', true);
   }
-  proposed = { lines, view: shown.view, told: [movesText(times, held), costText(before), isNearest ? '' : 'perhaps not the nearest'].filter(Boolean).join('; ') };
+  proposed = { lines, view: shown.view, told: [told, costText(before)].join('; '), step };
   return tell();
+};
+
+// The same by a click; where it is drawn is brought to the front.
+export const see = (...of) => {
+  propose(...of);
+  if (isTab('compare')) showTab('diagram');
+  find('take-proposed').focus();
+};
+
+// The same of a timetable that was found.
+export const seeTimes = (times, title) => see(linesToTimes(nearer(times)), movesText(nearer(times)), { title });
+
+// Turned to agree with the one that is shown.
+const nearer = times => turned(times, shown.view.before || shown.view);
+
+const offer = ({ times, cost }) => {
+  const name = cost.toLocaleString('en'), isOther = linesToTimes(nearer(times)).length > 0;
+  const button = isOther && element('button', { type: 'button', onclick: () => seeTimes(times, `the timetable of cost ${name} is taken`) }, 'See it');
+  return element('li', {}, element('b', {}, name), isOther ? ` ${movesText(nearer(times))} ` : ' it is shown', button);
+};
+
+// The timetables that were found for the network that is shown. While something is tried, what was listed beside the present one stays.
+export const tellOffers = () => {
+  const { view } = shown, all = foundsOf(markNow()), { open } = find('offers'), seen = [all, open, view];
+  if (!view || view.isTried || seen.every((each, place) => each === offered[place])) return;
+  offered = seen;
+  find('offers').hidden = !all.length;
+  setText(find('offers').firstElementChild, `${all.length} found timetable${all.length > 1 ? 's' : ''}`);
+  find('offered').replaceChildren(...open ? all.map(offer) : []);
+};
+
+const proposeNearest = ({ times, kind }, held) => {
+  propose(linesToTimes(times), `${movesText(times, held)}${kind === 'optimum' ? '' : '; perhaps not the nearest'}`, { title: 'mended' });
+  if (proposed) noteFound(markNow(), { times, cost: proposed.view.cost });
 };
 
 const NONE = 'No timetable meets everything with what was moved, and what is to stay, where it is';
@@ -67,12 +86,12 @@ const mostMoved = () => find('most-moved').value ? Number(find('most-moved').val
 const end = (held, most, focused) => {
   const isHere = [focused, find('stop'), document.body].includes(document.activeElement);
   if (!found) return;
-  if (found.times) propose(found, held, found.kind === 'optimum');
+  if (found.times) proposeNearest(found, held);
   else {
     refusal = { view: shown.view, told: refusalText(found, most), held: found.kind === 'infeasible' ? [...held].map(event => [event, timesNow().get(event)]) : null };
     tell();
   }
-  if (isHere) find(proposed ? 'take-proposed' : refusal.held ? 'why-not' : 'mend').focus();
+  if (isHere) find(proposed ? 'take-proposed' : refusal && refusal.held ? 'why-not' : 'mend').focus();
 };
 
 // Looks for the nearest timetable, with what was moved held.
@@ -86,19 +105,6 @@ export const mend = () => {
   });
 };
 
-// Where each time was, beside where it would be.
-const drawOld = view => {
-  for (const ghost of findAll('.strip .old')) ghost.remove();
-  if (!view.before) return;
-  for (const [event, time] of view.before.times) {
-    const [strip] = view.times.get(event) === time ? [] : findAll(`.strip[data-event="${event}"]`);
-    if (!strip) continue;
-    const ghost = element('span', { class: 'old' });
-    ghost.style.left = `${100 * (time + 0.5) / view.network.period}%`;
-    strip.append(ghost);
-  }
-};
-
 const tell = () => {
   const { view } = shown, isProposed = Boolean(proposed) && proposed.view === view, isRefused = Boolean(refusal) && refusal.view === view;
   find('mending').hidden = isProposed || Boolean(view.isTried) || !countViolated(view);
@@ -106,25 +112,29 @@ const tell = () => {
   setText(find('proposed-told'), isProposed ? proposed.told : isRefused ? refusal.told : '');
   for (const name of ['take-proposed', 'leave-proposed']) find(name).hidden = !isProposed;
   find('why-not').hidden = !isRefused || !refusal.held;
+  tellOffers();
   drawOld(view);
 };
 
 export const proposingPanel = { update: tell };
 
 const take = () => {
-  const { lines, told } = proposed;
-  if (doStep(lines, { title: 'mended', isFound: true })) say(`mended: ${told}`);
+  const { lines, told, step } = proposed;
+  if (doStep(lines, { ...step, isFound: true })) say(`${step.title}: ${told}`);
+  find('optimum').focus();
 };
 
 const leave = () => {
   refresh();
   say('The proposal is left, and nothing has changed.');
+  find(find('mending').hidden ? 'optimum' : 'mend').focus();
 };
 
 export const startProposing = () => {
   for (const [name, act] of Object.entries({ 'mend': mend, 'take-proposed': take, 'leave-proposed': leave, 'why-not': () => askWhy(refusal.held) })) {
     find(name).addEventListener('click', act);
   }
+  find('offers').addEventListener('toggle', tellOffers);
   window.addEventListener('keydown', event => {
     if (event.key.toLowerCase() !== 'm' || event.ctrlKey || event.metaKey || event.altKey || isField(event.target) || document.querySelector('dialog[open]')) return;
     event.preventDefault();

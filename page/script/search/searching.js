@@ -3,6 +3,8 @@
 import { askedNow, askFor, hearAsked, leaveAsked, stopAsking } from './asking.js';
 import { find, lead, say, sayMore, setText } from './elements.js';
 import { betterFound, comparedText, foundText, tookText } from './found.js';
+import { foundsOf, noteFound } from './founds.js';
+import { seeTimes, tellOffers } from './proposing.js';
 import { isSure } from './replies.js';
 import { doStep, markNow } from './session.js';
 import { shown } from './shown.js';
@@ -11,7 +13,7 @@ import { turned } from './turning.js';
 import { countViolated } from './viewing.js';
 
 // The most that a search can be asked for.
-const EVERY_CASE = 1e12;
+export const EVERY_CASE = 1e12;
 
 // What searches of one network, by its mark, have come to; whether it was offered; and the nodes and seconds before the search that runs.
 let found = null, wasOffered = false, before = { nodes: 0, seconds: 0 };
@@ -20,10 +22,9 @@ let found = null, wasOffered = false, before = { nodes: 0, seconds: 0 };
 const isOfNow = () => Boolean(found) && found.mark === markNow();
 
 // The cheapest timetable that is known to meet everything: the one that was found, or the one that is shown.
-const bestKnown = () => {
-  const { times, cost, isTried } = shown.view, isMet = !isTried && countViolated(shown.view) === 0;
-  if (isMet && !(found.cost <= cost)) return { times, cost };
-  return found.times ? { times: found.times, cost: found.cost } : null;
+export const bestKnown = () => {
+  const { times, cost, isTried } = shown.view, isMet = !isTried && countViolated(shown.view) === 0, [best] = foundsOf(markNow());
+  return isMet && !(best && best.cost <= cost) ? { times, cost } : best || null;
 };
 
 // A search that was stopped, or ended without being sure, is gone on with.
@@ -38,7 +39,19 @@ const search = most => {
 const hear = ({ found: now, nodes, isDone }) => {
   const seconds = before.seconds + askedNow().seconds;
   found = { ...betterFound(found, { ...now, nodes: before.nodes + nodes, seconds }), mark: found.mark, isStopped: !isDone };
+  noteFound(found.mark, found);
   if (isSure(found) && !isDone) stopAsking();
+};
+
+// What searches of the network that is shown have come to; null where there was none.
+export const foundNow = () => isOfNow() ? found : null;
+
+// What another search of it has come to.
+export const learnFound = now => {
+  if (now.mark !== markNow()) return;
+  found = { ...isOfNow() ? betterFound(found, now) : now, mark: now.mark, isStopped: isOfNow() && found.isStopped };
+  noteFound(found.mark, found);
+  tell();
 };
 
 const end = seconds => {
@@ -81,8 +94,10 @@ const tell = () => {
   const compared = isOffered ? comparedText(found, shown.view, isSearching) : { told: '', adopt: '' };
   setText(find('compared'), compared.told);
   find('adopt').hidden = !compared.adopt;
+  find('see').hidden = !compared.adopt || !shown.view.times.size;
   if (compared.adopt) setText(find('adopt'), compared.adopt);
   tellButtons(asked);
+  tellOffers();
   wasOffered = isOffered;
 };
 
@@ -112,4 +127,5 @@ export const startSearching = () => {
     search(Number(find('nodes').value));
   });
   find('adopt').addEventListener('click', adopt);
+  find('see').addEventListener('click', () => seeTimes(found.times, 'adopted'));
 };

@@ -14,3 +14,29 @@ export const startWorker = hear => {
   worker.postMessage({ program: programNow() });
   return worker;
 };
+
+// One that is started where it is first asked something. Of what is asked while another thing is, that is left at its next step, and
+// nothing of it is heard any more.
+export const soleWorker = () => {
+  let worker = null, asked = null;
+  const hear = told => {
+    if (!asked || (told.id !== undefined && told.id !== asked.id)) return;
+    const { tell } = asked;
+    if (told.isDone) asked = null;
+    tell(told);
+  };
+  const leave = () => {
+    if (asked) worker.postMessage({ kind: 'rest' });
+    asked = null;
+  };
+  const ask = (question, tell) => {
+    worker = worker || startWorker(hear);
+    asked = { id: performance.now(), of: question, tell };
+    worker.postMessage({ ...question, id: asked.id });
+  };
+  const end = () => {
+    if (worker) worker.terminate();
+    [worker, asked] = [null, null];
+  };
+  return { ask, leave, end, of: () => asked && asked.of };
+};

@@ -97,3 +97,6 @@ export const domainText = (minutes, period) => {
   if (!minutes.length) return 'no minute';
   return runsOf(minutes).map(([first, last]) => first === last ? clock(first) : `${clock(first)}–${clock(last)}`).join(', ');
 };
+
+// When an event was that another timetable moves, which is shown before it is taken; '' where it does not.
+export const oldText = ({ before, times }, event) => before?.times.has(event) && before.times.get(event) !== times.get(event) ? bareClock(before.times.get(event)) : '';

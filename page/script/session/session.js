@@ -30,6 +30,7 @@ let settled = null;
 export const present = () => ({ base: state.opened.base, lines: journal() });
 
 export const timesNow = () => settled.times;
+export const networkNow = () => settled.network;
 
 // A mark of the network that is shown, as which each step comes back that changed it.
 let last = 0;
@@ -136,19 +137,23 @@ export const preview = (more, title = '', before = null) => {
   if (tries(more)) show({ ...told, title, before, isTried: true });
 };
 
+// The step that was done last; what was opened where none was.
+export const stepNow = () => state.steps[state.place - 1] || state.opened;
+
 // What was tried is of the present step from now on.
 const settle = () => {
   [settled, tried] = [told, null];
 };
 
 // Does some lines as one step, with other names or without, which can be undone; false where a line is refused, and then
-// nothing has changed. A title says in a planner's words what they do; what `isFound` is a timetable that was found.
-export const doStep = (more, { title = '', labels = shown.labels, isFound = false } = {}) => {
+// nothing has changed. A title says in a planner's words what they do; what `isFound` is a timetable that was found, and `own` are the
+// lines of the hand, where others follow it.
+export const doStep = (more, { title = '', labels = shown.labels, isFound = false, own = more } = {}) => {
   if (!isTried(more) && !tries(more)) {
     refresh();
     return false;
   }
-  const made = { ...tried, mark: markAfter(told.network, settled.network, markNow()), title, labels, isFound };
+  const made = { ...tried, mark: markAfter(told.network, settled.network, markNow()), title, labels, isFound, own };
   settle();
   state.steps.splice(state.place, Infinity, made);
   state.place += 1;
@@ -156,6 +161,15 @@ export const doStep = (more, { title = '', labels = shown.labels, isFound = fals
   say(title || (more.length > 1 ? `${more.length} commands` : titleOf(made)));
   show({ ...told, title });
   return true;
+};
+
+// Makes more lines a part of the step that was done last, which has another title then.
+export const extendStep = (more, title) => {
+  const step = stepNow();
+  if (!tries(more)) return refresh();
+  state.steps[state.place - 1] = { ...step, lines: [...step.lines, ...more], back: [...tried.back, ...step.back], title };
+  settle();
+  return show({ ...told, title });
 };
 
 // Has the session take back what was tried.
@@ -194,9 +208,9 @@ export const journal = () => state.steps.slice(0, state.place).flatMap(step => s
 
 // The events that a planner has moved since a timetable was found or the network was changed.
 export const eventsMoved = () => {
-  const isMove = ({ lines, isFound }) => !isFound && lines.every(line => line.startsWith('time '));
+  const isMove = ({ lines, own = lines, isFound }) => !isFound && own.every(line => line.startsWith('time '));
   const done = state.steps.slice(0, state.place), other = done.map(isMove).lastIndexOf(false);
-  return new Set(done.slice(other + 1).flatMap(({ lines }) => lines.map(line => Number(line.split(' ')[1]))));
+  return new Set(done.slice(other + 1).flatMap(({ lines, own = lines }) => own.map(line => Number(line.split(' ')[1]))));
 };
 
 // The replies to questions, of which the state knows nothing. Raises RunFault.

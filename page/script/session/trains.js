@@ -115,3 +115,19 @@ export const minutesOf = (view, train) => {
   for (const step of train.steps) minutes.push(minutes[minutes.length - 1] + minutesHad(view, step));
   return minutes;
 };
+
+// The first events of those that stay where others are mended.
+const staying = new Set();
+
+const firstOf = event => {
+  const found = trainAt(event);
+  return found ? found.train.events[0] : null;
+};
+
+export const isStaying = event => staying.has(firstOf(event));
+
+export const stayingEvents = () => shown.view.trains.filter(({ events }) => isStaying(events[0])).flatMap(({ events }) => events);
+
+export const setStaying = (event, isKept) => staying[isKept ? 'add' : 'delete'](firstOf(event));
+
+export const forgetStaying = () => staying.clear();

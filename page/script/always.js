@@ -1,0 +1,61 @@
+// Always the best: with a tick each step is followed by a search in a Worker of its own, and how far the timetable that is shown is above
+// the best is told, beside the rest that follows a hand.
+
+import { find, findAll, say, setText } from './elements.js';
+import { aboveText } from './found.js';
+import { isSure } from './replies.js';
+import { endRest, hearRest, restText } from './rest.js';
+import { bestKnown, EVERY_CASE, foundNow, learnFound } from './searching.js';
+import { markNow, networkNow, present } from './session.js';
+import { shown } from './shown.js';
+import { soleWorker } from './workers.js';
+
+// No step is searched for longer, in seconds; `ended` is the mark of the network that was searched last.
+const MOST_SECONDS = 60, searcher = soleWorker();
+let ended = null;
+
+const isOn = () => find('always').checked;
+
+const hearFound = (mark, from) => ({ found, nodes, fault, isDone }) => {
+  const seconds = (performance.now() - from) / 1000;
+  if (fault) say(fault, true);
+  if (isDone || seconds > MOST_SECONDS) {
+    searcher.leave();
+    ended = mark;
+  }
+  if (found) learnFound({ ...found, nodes, seconds, mark });
+  tell();
+};
+
+const search = events => {
+  const mark = markNow(), now = foundNow(), isLeft = mark === ended || (now && isSure(now));
+  if (searcher.of() && (isLeft || searcher.of().mark !== mark)) searcher.leave();
+  if (isLeft || searcher.of()) return;
+  searcher.ask({ kind: 'search', mark, ...present(), most: EVERY_CASE, best: bestKnown(), events }, hearFound(mark, performance.now()));
+};
+
+const tell = () => {
+  const found = foundNow(), above = shown.view.network !== networkNow() ? '' : found ? aboveText(found, shown.view) : 'the best is looked for …';
+  setText(find('above'), isOn() ? [restText(), above].filter(Boolean).join('; ') : '');
+};
+
+const update = view => {
+  find('rests').hidden = !isOn();
+  if (isOn() && !view.isTried) search(view.network.events);
+  tell();
+};
+
+export const alwaysPanel = { update };
+
+const choose = () => {
+  if (!isOn()) {
+    searcher.end();
+    endRest();
+  }
+  update(shown.view);
+};
+
+export const startAlways = () => {
+  hearRest(tell);
+  for (const hand of findAll('#always, #rest')) hand.addEventListener('change', choose);
+};

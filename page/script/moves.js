@@ -1,0 +1,47 @@
+// What a timetable would move, in lines, in words, and on the strips.
+
+import { element, findAll } from './elements.js';
+import { eventName, minutesText, oldText, trainName } from './names.js';
+import { timesNow } from './session.js';
+import { shown } from './shown.js';
+import { timeLines } from './times.js';
+import { trainAt } from './trains.js';
+
+// So many trains are told by their names.
+const MOST_NAMED = 2;
+
+const movedBy = times => {
+  const before = timesNow();
+  return [...times].filter(([event, time]) => before.get(event) !== time);
+};
+
+export const linesToTimes = times => timeLines(movedBy(times));
+
+const farther = (one, other) => {
+  const { period } = shown.view.network, later = (((other - one) % period) + period) % period;
+  return Math.min(later, period - later);
+};
+
+// How many trains move, or events where there are no trains, and by how much; but for those that are held.
+export const movesText = (times, held = new Set()) => {
+  const before = timesNow(), moved = movedBy(times).map(([event]) => event).filter(event => !held.has(event)), other = held.size ? 'other ' : '';
+  const trains = new Set(moved.map(event => trainAt(event) ? trainAt(event).train : event)), isOfTrains = moved.every(event => trainAt(event));
+  const most = moved.reduce((far, event) => before.has(event) ? Math.max(far, farther(before.get(event), times.get(event))) : far, 0);
+  if (!moved.length) return `nothing ${held.size ? 'else ' : ''}moves`;
+  const named = trains.size <= MOST_NAMED ? [...trains].map(each => isOfTrains ? trainName(each) : eventName(each)).join(' and ') : '';
+  return `${named || `${trains.size} ${other}${isOfTrains ? 'trains' : 'events'}`} move${trains.size > 1 ? '' : 's'}, by at most ${minutesText(most)}`;
+};
+
+let ghosts = [];
+
+const ghostIn = ({ before, network: { period } }, strip) => {
+  const ghost = element('span', { class: 'old', style: `left: ${100 * (before.times.get(Number(strip.dataset.event)) + 0.5) / period}%` });
+  strip.append(ghost);
+  return ghost;
+};
+
+// Where times were that are others in a timetable that is shown before it is taken.
+export const drawOld = view => {
+  for (const ghost of ghosts) ghost.remove();
+  ghosts = view.before ? findAll('.strip').filter(strip => oldText(view, Number(strip.dataset.event))).map(strip => ghostIn(view, strip)) : [];
+};
