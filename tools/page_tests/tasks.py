@@ -4,10 +4,14 @@ import base64
 import re
 from typing import Any, Callable, Dict, List
 
+from page_tests.costing import CURVE, WHOLE
 from page_tests.hands import Hands
 from page_tests.keys import CODES, CTRL, SHIFT
+from page_tests.layouts import texts_of
+from page_tests.mending import PROPOSED
 from page_tests.moving import TRAINS, begun
-from tests.harness import TOP, Suite
+from pespbench.drawn import draw_region
+from tests.harness import TOP, Suite, within
 
 KEYS = {**CODES, "Escape": 27}
 DONE = "Page.find('stop').hidden"
@@ -110,6 +114,98 @@ def shifted(suite: Suite, page: Hands) -> None:
     broken, times = compared(suite, page, "shift a train by 3, mend what breaks", by_mouse, by_keys)
     later = {str(event): (before[str(event)] + 3) % 60 for event in range(21, 41)}
     suite.note("first a turn is violated, then nothing", {"they": [1, 0], "times": {**before, **later}}, {"they": broken, "times": times})
+
+
+def moved_and_mended(page: Hands, steps: Steps, move: Callable[[], None], mend: Callable[[], None], take: Callable[[], None]) -> object:
+    """A train is moved, and what breaks is mended where anything does: what is violated then, and all times."""
+    move()
+    if page.ask(VIOLATED):
+        mend()
+        page.until(PROPOSED, seconds=60)
+        take()
+    return page.ask(VIOLATED), page.ask(TIMES)
+
+
+@within(900)
+def each_shifted(suite: Suite, page: Hands) -> None:
+    """Each train of three regions runs 3 minutes later, and what breaks is mended: in as many steps as are told, or fewer."""
+    most, trains = told()["move any train by 3, mend it"], 0
+    for seed in (1, 2, 3):
+        page.again()
+        page.show(texts_of(draw_region(seed)))
+        before = page.ask(TIMES)
+        for events in page.ask("Page.view.trains.map(train => train.events)"):
+            first, trains = events[0], trains + 1
+            by_mouse, by_keys = Steps(page), Steps(page)
+
+            def drag() -> None:
+                by_mouse.drag(f'[data-way="{first}"]', 3, 60)
+
+            def typed() -> None:
+                by_keys.seek(page.ask(f"Page.eventName({first}).replace(/ leaves .*/, '')"))
+                by_keys.key("ArrowRight", times=3)
+
+            made = [moved_and_mended(page, by_mouse, drag, lambda: by_mouse.click("#mend"), lambda: by_mouse.click("#take-proposed"))]
+            page.ask("Page.goTo(0)")
+            page.frame()
+            if trains % 6 == 1:
+                made.append(moved_and_mended(page, by_keys, typed, lambda: by_keys.press("m"), lambda: by_keys.press("\n")))
+                page.ask("Page.goTo(0)")
+                page.frame()
+            moved = {str(event): (before[str(event)] + 3) % 60 for event in events}
+            for violated, times in made:
+                came = {"violated": violated, "moved": {event: times[event] for event in moved}}
+                suite.note(f"region {seed}, train of {first}", {"violated": 0, "moved": moved}, came)
+            suite.holds(f"region {seed}, train of {first}: {by_mouse.count} steps by mouse, {by_keys.count} by keys", by_mouse.count <= most[0] and by_keys.count <= most[1])
+    suite.holds(f"{trains} trains", trains >= 30)
+
+
+def better_minute(suite: Suite, page: Hands) -> None:
+    """A departure gets a better minute: what each one costs is drawn, and a click on the best takes it over with its timetable."""
+    best = "parseInt(document.querySelector('#prices .curve .best').style.left) * 60 / 100 | 0"
+
+    def prepared() -> None:
+        page.again()
+        page.ask("Page.step([`fix 21 ${Page.view.times.get(21)}`])")
+        page.frame()
+
+    def made() -> object:
+        return page.lines()[1], page.ask("String(Page.view.cost)"), page.ask(VIOLATED)
+
+    def by_mouse(steps: Steps) -> object:
+        prepared()
+        steps.click('[data-row="31"] .name')
+        steps.click("#ask-prices")
+        page.until(WHOLE, seconds=60)
+        left, top, width, height = page.box(CURVE)
+        steps.count += 1
+        page.click(left + width * (page.ask(best) + 0.5) / 60, top + height / 2)
+        page.frame()
+        return made()
+
+    def by_keys(steps: Steps) -> object:
+        prepared()
+        steps.seek("31")
+        for wanted in ("ask-prices", "curve"):
+            for _ in range(30):
+                if wanted in page.ask("[document.activeElement.id, document.activeElement.className].join()"):
+                    break
+                steps.key("Tab")
+            if wanted == "ask-prices":
+                steps.press(" ")
+                page.until(WHOLE, seconds=60)
+        minute, at = page.ask(best), "Number(document.querySelector('#prices .curve').getAttribute('aria-valuenow'))"
+        while page.ask(at) != minute:
+            far = minute - page.ask(at)
+            steps.key(("PageUp" if far > 0 else "PageDown") if abs(far) > 5 else "ArrowRight" if far > 0 else "ArrowLeft")
+            page.frame()
+        steps.press("\n")
+        return made()
+
+    line, cost, violated = compared(suite, page, "find a better minute for this departure", by_mouse, by_keys)
+    came = {"line": str(line).rsplit(" ", 1)[0], "violated": violated, "cost": int(str(cost)) < 18_504}
+    suite.note("it is better", {"line": "fix 31", "violated": 0, "cost": True}, came)
+    page.again()
 
 
 def held_and_best(suite: Suite, page: Hands) -> None:
@@ -284,4 +380,4 @@ def both_ways(suite: Suite, page: Hands) -> None:
     suite.note("and given back", {"time": (before["21"] + 3) % 60}, {"time": page.ask("Page.view.times.get(21)")})
 
 
-GROUPS = [shifted, held_and_best, why_mended, connected, both_ways, handed_over]
+GROUPS = [shifted, each_shifted, better_minute, held_and_best, why_mended, connected, both_ways, handed_over]
