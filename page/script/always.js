@@ -35,8 +35,8 @@ const search = events => {
 };
 
 const tell = () => {
-  const found = foundNow(), above = shown.view.network !== networkNow() ? '' : found ? aboveText(found, shown.view) : 'the best is looked for …';
-  setText(find('above'), isOn() ? [restText(), above].filter(Boolean).join('; ') : '');
+  const found = foundNow(), isOfNow = isOn() && shown.view.network === networkNow(), above = !isOfNow ? '' : found ? aboveText(found, shown.view) : 'the best is looked for …';
+  setText(find('above'), [restText(), above].filter(Boolean).join('; '));
 };
 
 const update = view => {

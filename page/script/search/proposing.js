@@ -59,8 +59,10 @@ const offer = ({ times, cost }) => {
 
 // The timetables that were found for the network that is shown. While something is tried, what was listed beside the present one stays.
 export const tellOffers = () => {
-  const { view } = shown, all = foundsOf(markNow()), { open } = find('offers'), seen = [all, open, view];
-  if (!view || view.isTried || seen.every((each, place) => each === offered[place])) return;
+  const { view } = shown, { open } = find('offers');
+  if (!view || view.isTried) return;
+  const all = foundsOf(markNow()), seen = [all, open, view];
+  if (seen.every((each, place) => each === offered[place])) return;
   offered = seen;
   find('offers').hidden = !all.length;
   setText(find('offers').firstElementChild, `${all.length} found timetable${all.length > 1 ? 's' : ''}`);
