@@ -23,7 +23,7 @@ import { startLining } from './lining.js';
 import { linkingPanel, startLinks } from './linking.js';
 import { startLines, stepsPanel, violatedPanel } from './lists.js';
 import { movingPanel } from './moving.js';
-import { netgraphPanel } from './netgraph.js';
+import { netgraphPanel, startNetgraph } from './netgraph.js';
 import { openStory, startOpening } from './opening.js';
 import { startPrinting } from './printing.js';
 import { startProgram } from './program.js';
@@ -51,7 +51,7 @@ const PANELS = [
 
 const STARTS = [
   startHead, startTabs, startStrips, startDiagram, startCosting, startChoosing, startLines, startLining, startVariants, startHelps, startLegend,
-  startFinding, startStations, startAsking, startSearching, startProposing, startAlways, startTelling, startGains, startPrinting, startOpening, startSaving,
+  startFinding, startStations, startAsking, startSearching, startNetgraph, startProposing, startAlways, startTelling, startGains, startPrinting, startOpening, startSaving,
   startHanding,
 ];
 

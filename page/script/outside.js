@@ -26,6 +26,7 @@ import {
   askSession, choose, doStep, goTo, journal, present, preview, redo, refresh, session, timesNow, titleOf, undo,
 } from './session.js';
 import { shown, within } from './shown.js';
+import { atOnce } from './slices.js';
 import { rangeShown } from './spans.js';
 import { spread } from './spreading.js';
 import { stories } from './stories.js';
@@ -44,7 +45,7 @@ window.Page = Object.freeze({
   get program() { return programNow(); },
   get readyAfter() { return readyAfter(); },
   ask: askSession, step: doStep,
-  addLabels, bareClock, choose, chooseCorridor, corridor, costsBeside, countViolated, diagramOf, differences, domainText, drawing,
+  addLabels, atOnce, bareClock, choose, chooseCorridor, corridor, costsBeside, countViolated, diagramOf, differences, domainText, drawing,
   eventName, filesOf, filesToSave, find, folderName, goTo, isForward, isInfeasible, isRefused, isSaved, journal, keptFree,
   kindOf, labelOf, layOut, moveTrain, netgraphOf, openStory, openTexts, placesText, present, preview, rangeShown, readCost,
   readDomains, readNetwork, readPlaces, readTensions, readViolations, redo, refresh, reportOf, run, say, session, showBar,

@@ -147,6 +147,7 @@ def found_soon(suite: Suite, page: Hands) -> None:
     suite.holds(told, told.startswith("and ") and told.endswith(" more: type more"))
     page.key("Escape", 27)
     page.press("tab-netgraph")
+    page.drawn()
     suite.note("the netgraph is larger than its view, and begins where the chosen event is", *met(page))
     page.fill(FIELD, names[-1].split(" station")[0] + "\n")
     suite.note("and goes to what is found", *met(page))

@@ -79,6 +79,10 @@ class Hands(Browser):
         """The text of a part of an event's row: `time` or `note`."""
         return self.text(f'[data-row="{event}"] .{part}')
 
+    def drawn(self) -> None:
+        """Waits until the netgraph is drawn."""
+        self.until("Page.find('netgraph').getAttribute('aria-busy') !== 'true'")
+
     def press(self, identifier: str) -> None:
         """Clicks what has an id, where it is."""
         self.click(*self.middle(f"#{identifier}"))

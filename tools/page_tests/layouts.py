@@ -16,7 +16,7 @@ def laid_out_by(page: Hands, stations: Sequence[str], lengths: Sequence[Tuple[st
     """The places of stations between some of which tracks of a length lie."""
     rows = [[json.dumps(sorted(ends)), length] for ends, length in lengths]
     tracks = f"new Map({json.dumps(rows)}.map(([ends, length]) => [Page.trackOf(...JSON.parse(ends)), length]))"
-    return page.ask(f"Object.fromEntries(Page.layOut({json.dumps(stations)}, {tracks}))")
+    return page.ask(f"Object.fromEntries(Page.atOnce(Page.layOut({json.dumps(stations)}, {tracks})))")
 
 
 def distances(suite: Suite, page: Hands) -> None:
@@ -30,8 +30,8 @@ def distances(suite: Suite, page: Hands) -> None:
     places = laid_out_by(page, ["a", "b", "c"], [("ab", 10)])
     suite.note("a part of its own", {"places": 3}, {"places": len({(round(x), round(y)) for x, y in places.values()})})
     suite.note("alone, and none", {"one": ["a"], "none": []}, {"one": list(laid_out_by(page, ["a"], [])), "none": list(laid_out_by(page, [], []))})
-    spread = page.ask("""[...Page.spread(new Map([['a', [0, 0]], ['b', [0, 0]], ['c', [0, 0]]]), [{ one: 'a', other: 'b', along: 80, beside: 10 }],
-        new Map([['a', 10], ['b', 10], ['c', 10]]), [500, 300]).values()]""")
+    spread = page.ask("""[...Page.atOnce(Page.spread(new Map([['a', [0, 0]], ['b', [0, 0]], ['c', [0, 0]]]), [{ one: 'a', other: 'b', along: 80, beside: 10 }],
+        new Map([['a', 10], ['b', 10], ['c', 10]]), [500, 300])).values()]""")
     suite.holds("in one place", min(dist(one, other) for one, other in combinations(spread, 2)) > 40)
 
 

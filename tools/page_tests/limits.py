@@ -122,6 +122,7 @@ def drawn_in_time(suite: Suite, page: Hands, name: str, tab: str, wanted: str) -
     """A view of what is open is drawn soon, with a word that says that it is elided."""
     began = time.monotonic()
     page.press(f"tab-{tab}")
+    page.drawn()
     told = page.ask(f"Page.find('view-{tab}').innerText")
     suite.holds(f"{name}, {tab}, in {time.monotonic() - began:.1f} s", time.monotonic() - began < SECONDS)
     suite.holds(f"{name}, {tab}: {wanted}", wanted in told)

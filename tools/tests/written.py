@@ -14,7 +14,7 @@ TARGETS = {
     "README.md": 1500,
     "docs/PROMISES.md": 1400,
     "docs/ARCHITECTURE.md": 1300,
-    "docs/DECISIONS.md": 2300,
+    "docs/DECISIONS.md": 2400,
     "docs/MEASURES.md": 1500,
     "docs/HISTORY.md": 8100,
     "docs/FORMATS.md": 3600,

@@ -1,8 +1,9 @@
 // The netgraph: stations with the minutes at which trains of each line leave and arrive. It is laid out once for a network;
-// at each step its numbers alone are set.
+// at each step its numbers alone are set. A large one is laid out and drawn in slices, and of its tracks those that are in sight.
 
 import { drawAlarms, makeAlarm } from './alarms.js';
 import { beside } from './apart.js';
+import { labelPlace, LANE, LETTERS, NAME, spanOf } from './captions.js';
 import { isAlarming } from './conflicts.js';
 import { drawing, find, findAll, setText } from './elements.js';
 import { lengthsOf } from './frames.js';
@@ -10,29 +11,38 @@ import { mostNumbers } from './lanes.js';
 import { labelOf, oldText, shortText } from './names.js';
 import { nearby } from './nearby.js';
 import { layOut } from './places.js';
+import { redraw } from './session.js';
 import { shown } from './shown.js';
+import { atOnce, inSlices } from './slices.js';
 import { angleBetween, spread } from './spreading.js';
 import { minuteText } from './tables.js';
 import { isTab } from './tabs.js';
 
-const WIDTH = 1020, HEIGHT = 640, MARGIN = 64, EDGE = 8, STATIONS_OF_A_PAGE = 14, LANE = 29, RING = 11;
+const WIDTH = 1020, HEIGHT = 640, MARGIN = 64, EDGE = 8, STATIONS_OF_A_PAGE = 14, RING = 11;
 // What the name of a line takes of a track with some space, and what each number takes at each of its ends.
-const ROOM = 70, NAME = 14.5, ENOUGH = 16, ROW = 13, LETTERS = 24, SCALE = 0.56;
-// So many lanes are one drawing, below that of the stations, since a browser paints a drawing as a whole anew.
-const LANES_OF_A_SHEET = 4;
-let graph = null, numbers = new Map(), alarms = null;
+const ROOM = 70, ROW = 13, SCALE = 0.56;
+// With more stations it takes long.
+const FEW = 40;
+// What is laid out; the numbers, alarms and tracks of it that are drawn; what ends the making of it, and the drawing of tracks, null where
+// neither is done; and whether another part came in sight meanwhile.
+let graph = null, numbers = new Map(), alarms = null, sheets = new Map(), making = null, tracing = null, isMoved = false;
 
 // Minutes that are told with the hour are wider.
 const numberWidth = () => shown.view.network.period > 60 ? 36 : 21;
 
-const laidOut = view => {
-  const { lines, network } = view, { stations, tracks, told } = nearby(lines, labelOf(shown.chosen).station);
+// The part to be drawn, about the station of the chosen event.
+const partOf = view => {
+  const about = labelOf(shown.chosen).station;
+  return { about, ...nearby(view.lines, about) };
+};
+
+const laidOut = function* ({ lines, network }, { about, stations, tracks, told }) {
   const radius = new Map(stations.map(station => [station, radiusOf(station, tracks)]));
-  const known = stations.every(station => shown.places.has(station)) ? shown.places : layOut(stations, lengthsOf(lines, network));
+  const known = stations.every(station => shown.places.has(station)) ? shown.places : yield* layOut(stations, lengthsOf(lines, network));
   const chosen = new Map(stations.map(station => [station, [known.get(station)[0], -known.get(station)[1]]]));
   const wanted = tracks.map(track => ({ ...track, along: ROOM + 2 * numberWidth() * mostNumbers(track.lanes), beside: halfWidth(track) }));
   const share = Math.min(1, Math.sqrt(stations.length / STATIONS_OF_A_PAGE));
-  return { tracks, radius, told, places: spread(chosen, wanted, radius, [(WIDTH - 2 * MARGIN) * share, (HEIGHT - 2 * MARGIN) * share]) };
+  return { about, tracks, radius, told, isSmall: stations.length <= FEW, places: yield* spread(chosen, wanted, radius, [(WIDTH - 2 * MARGIN) * share, (HEIGHT - 2 * MARGIN) * share]) };
 };
 
 const radiusOf = (station, tracks) => {
@@ -43,36 +53,34 @@ const radiusOf = (station, tracks) => {
 // How far the numbers of a track reach to each side.
 const halfWidth = track => (track.lanes.length - 1) * LANE / 2 + ROW;
 
-// The drawings that lie upon each other, that of the stations first; on paper it is all of them.
-const draw = (view, isPaper = false) => {
-  numbers = new Map();
-  alarms = { lanes: new Map(), stations: new Map(), drawn: new Set() };
-  graph = laidOut(view);
-  const labels = new Map([...graph.places.keys()].map(station => [station, labelPlace(station)]));
-  const lanes = graph.tracks.flatMap(track => track.lanes.map((lane, place) => {
-    const offset = (place - (track.lanes.length - 1) / 2) * LANE;
-    return drawLane(track, lane, offset);
-  }));
-  const box = viewBox(labels), page = sheetOf(box, nameOf(view), isPaper ? lanes : []), sheets = [];
-  for (let place = 0; place < lanes.length && !isPaper; place += LANES_OF_A_SHEET) {
-    sheets.push(sheetOf(box, 'Trains of the netgraph', lanes.slice(place, place + LANES_OF_A_SHEET)));
+// Lays out a part of the network, and draws its stations, on paper above all tracks.
+const draw = function* (view, part, isPaper = false) {
+  const made = yield* laidOut(view, part), labels = new Map();
+  for (const station of made.places.keys()) {
+    labels.set(station, labelPlace(made, station));
+    yield;
   }
+  graph = { ...made, box: viewBox(made, labels) };
+  [numbers, alarms] = [new Map(), { lanes: new Map(), stations: new Map(), drawn: new Set() }];
+  const page = sheetOf(nameOf(view), isPaper ? graph.tracks.flatMap(lanesOf) : []);
   for (const [station, label] of labels) page.append(...drawStation(station, label));
-  return [page, ...sheets];
+  return page;
 };
 
+const lanesOf = track => track.lanes.map((lane, place) => drawLane(track, lane, (place - (track.lanes.length - 1) / 2) * LANE));
+
 // Names can be read, and where there are many the netgraph is scrolled.
-const sheetOf = (box, name, children) => {
-  const made = drawing('svg', { viewBox: box.join(' '), role: 'group', 'aria-label': name }, ...children);
+const sheetOf = (name, children) => {
+  const { box } = graph, made = drawing('svg', { viewBox: box.join(' '), role: 'group', 'aria-label': name }, ...children);
   Object.assign(made.style, { minWidth: `${SCALE * box[2]}px`, maxHeight: `max(46rem, ${SCALE * box[3]}px)` });
   return made;
 };
 
 const nameOf = view => `Netgraph of ${graph.places.size} stations and ${view.lines.length} lines`;
 
-const viewBox = labels => {
+const viewBox = ({ places, radius }, labels) => {
   const spans = [...labels].map(([station, { x, anchor }]) => spanOf(station, x, anchor));
-  const ys = [...graph.places].map(([station, [, y]]) => [y, graph.radius.get(station)]);
+  const ys = [...places].map(([station, [, y]]) => [y, radius.get(station)]);
   const left = Math.min(...spans.map(span => span[0])) - EDGE, right = Math.max(...spans.map(span => span[1])) + EDGE;
   const top = Math.min(...ys.map(([y, r]) => y - r)) - EDGE - 2 * NAME, bottom = Math.max(...ys.map(([y, r]) => y + r)) + EDGE + 2 * NAME;
   return [left, top, right - left, bottom - top].map(Math.round);
@@ -147,52 +155,92 @@ const drawStation = (station, { x, base, anchor }) => {
   return [drawing('g', more, drawing('title', {}, station), ring, text), alarm.label];
 };
 
-// The place of a name round its ring at which most room is left, of those that read as well the first.
-const labelPlace = station => {
-  const [x, y] = graph.places.get(station), reach = graph.radius.get(station) + 6;
-  let best = null;
-  for (const turn of [6, 2, 0, 4, 5, 7, 1, 3]) {
-    const across = Math.cos(turn * Math.PI / 4), down = Math.sin(turn * Math.PI / 4);
-    const anchor = Math.abs(across) < 0.5 ? 'middle' : across > 0 ? 'start' : 'end';
-    const place = { x: x + across * reach, base: y + down * (reach + NAME / 2) + NAME * 0.36, anchor };
-    place.room = roomOf(station, place);
-    if (!best || place.room > best.room) best = place;
-  }
-  return best;
+// What is in sight of a large netgraph: the circle about it, in the units of the drawing.
+const inSight = drawn => {
+  const { left, top, right, bottom } = find('view-netgraph').getBoundingClientRect(), turned = drawn.getScreenCTM().inverse();
+  const corners = [[Math.max(0, left), Math.max(0, top)], [Math.min(window.innerWidth, right), Math.min(window.innerHeight, bottom)]];
+  const [first, last] = corners.map(([x, y]) => new DOMPoint(x, y).matrixTransform(turned));
+  return { middle: [(first.x + last.x) / 2, (first.y + last.y) / 2], reach: Math.hypot(last.x - first.x, last.y - first.y) / 2 };
 };
 
-// The least distance of a name from what lies about it, up to what is enough.
-const roomOf = (station, { x, base, anchor }) => {
-  const [left, right] = spanOf(station, x, anchor);
-  const spots = [0, 1, 2, 3, 4].flatMap(part => [0, 0.7].map(height => [left + (right - left) * part / 4, base - NAME * height]));
-  let room = ENOUGH;
+// Draws the tracks that have come in sight, and takes away those that are not in sight any more.
+const drawTracks = function* () {
+  const holder = find('netgraph'), { middle, reach } = graph.isSmall ? { middle: [0, 0], reach: Infinity } : inSight(holder.firstChild);
   for (const track of graph.tracks) {
-    const half = (track.lanes.length - 1) * LANE / 2 + NAME;
-    for (const spot of spots) room = Math.min(room, beside(spot, graph.places.get(track.one), graph.places.get(track.other)) - half);
+    const isIn = beside(middle, graph.places.get(track.one), graph.places.get(track.other)) - halfWidth(track) < reach;
+    if (isIn === sheets.has(track)) continue;
+    if (isIn) sheets.set(track, sheetOf('Trains of the netgraph', lanesOf(track)));
+    else {
+      sheets.get(track).remove();
+      sheets.delete(track);
+    }
+    yield;
   }
-  for (const [other, [otherX, otherY]] of graph.places) {
-    const margin = graph.radius.get(other) - (other === station ? NAME : 0);
-    for (const spot of spots) room = Math.min(room, Math.hypot(spot[0] - otherX, spot[1] - otherY) - margin);
-  }
-  return room;
+  holder.append(...[...sheets.values()].filter(sheet => !sheet.isConnected));
+  for (const [event, { node }] of numbers) if (!node.isConnected) numbers.delete(event);
+  for (const [event, { label }] of alarms.lanes) if (!label.isConnected) alarms.lanes.delete(event);
+  drawTimes(shown.view);
 };
 
-// About where the name of a station begins and ends, from the place of its anchor.
-const spanOf = (name, x, anchor) => {
-  const width = 0.7 * NAME * Math.min(LETTERS, name.length), left = x - width * { start: 0, middle: 0.5, end: 1 }[anchor];
-  return [left, left + width];
+const drawTimes = (view, chosen = shown.chosen) => {
+  for (const [event, number] of numbers) drawNumber(view, event, number, chosen);
+  drawAlarms(view, alarms);
+};
+
+const tellBusy = isBusy => find('netgraph').setAttribute('aria-busy', isBusy);
+
+// What is in sight may be another part. While tracks are drawn that waits.
+const lookAround = () => {
+  if (!isTab('netgraph') || !graph || making || graph.isSmall) return;
+  isMoved = Boolean(tracing);
+  if (isMoved) return;
+  tellBusy(true);
+  tracing = inSlices(drawTracks(), () => {
+    tracing = null;
+    tellBusy(false);
+    if (isMoved) lookAround();
+  });
+};
+
+// Shows what was made, the part about the chosen event where the netgraph is larger than its panel.
+const show = page => {
+  sheets = new Map();
+  find('netgraph').replaceChildren(page);
+  if (graph.isSmall) atOnce(drawTracks());
+  if (isWider(find('view-netgraph'))) lookAt(labelOf(shown.chosen).station);
+};
+
+const make = view => {
+  const part = partOf(view), work = draw(view, part);
+  stop();
+  if (part.stations.length <= FEW) return show(atOnce(work));
+  setText(find('netgraph-elided'), `${part.told} It is being drawn …`);
+  tellBusy(true);
+  making = inSlices(work, page => {
+    making = null;
+    show(page);
+    redraw();
+    lookAround();
+  });
+};
+
+// Ends what is being made, which is begun anew, and the drawing of tracks.
+const stop = () => {
+  tellBusy(false);
+  if (tracing) tracing();
+  if (making) making();
+  [tracing, making] = [null, null];
 };
 
 const update = view => {
-  if (!isTab('netgraph')) return;
+  if (!isTab('netgraph')) return stop();
   find('no-netgraph').hidden = view.lines.length > 0;
-  if (!view.lines.length) return;
-  const { station } = labelOf(shown.chosen), isNew = !graph || (graph.told && !graph.places.has(station));
-  if (isNew) find('netgraph').replaceChildren(...draw(view));
+  if (!view.lines.length || making) return;
+  const { station } = labelOf(shown.chosen);
+  if (!graph || (graph.told && graph.about !== station && !graph.places.has(station))) make(view);
+  if (making) return;
   setText(find('netgraph-elided'), graph.told);
-  for (const [event, number] of numbers) drawNumber(view, event, number);
-  drawAlarms(view, alarms);
-  if (isNew && isWider(find('view-netgraph'))) lookAt(station);
+  drawTimes(view);
 };
 
 const isWider = panel => panel.scrollWidth > panel.clientWidth;
@@ -207,15 +255,14 @@ export const lookAt = station => {
 
 // The netgraph for paper, with no event chosen, and what it says of what is left out; the one on the screen stays.
 export const netgraphOf = view => {
-  const screen = { graph, numbers, alarms }, [drawn] = draw(view, true), { told } = graph;
-  for (const [event, number] of numbers) drawNumber(view, event, number, null);
-  drawAlarms(view, alarms);
+  const screen = { graph, numbers, alarms }, drawn = atOnce(draw(view, partOf(view), true)), { told } = graph;
+  drawTimes(view, null);
   ({ graph, numbers, alarms } = screen);
   return { drawn, told };
 };
 
 // A number is set where it is another one than was drawn, since there are many and a step changes few.
-const drawNumber = (view, event, number, chosen = shown.chosen) => {
+const drawNumber = (view, event, number, chosen) => {
   const text = minuteText(view, event), isChosen = event === chosen;
   const look = [isAlarming(view, event) ? 'alarm' : '', isChosen ? 'chosen' : ''].join(' ').trim(), old = oldText(view, event), drawn = `${text} ${look} ${old}`;
   if (number.drawn === drawn) return;
@@ -226,6 +273,7 @@ const drawNumber = (view, event, number, chosen = shown.chosen) => {
 };
 
 const build = () => {
+  stop();
   graph = null;
   find('view-netgraph').scrollTo(0, 0);
   find('netgraph').replaceChildren();
@@ -233,3 +281,8 @@ const build = () => {
 };
 
 export const netgraphPanel = { build, update };
+
+export const startNetgraph = () => {
+  document.addEventListener('scroll', lookAround, true);
+  new ResizeObserver(lookAround).observe(find('netgraph'));
+};

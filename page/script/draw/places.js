@@ -2,16 +2,19 @@
 
 const MOST_ROUNDS = 200, MOST_MOVES = 600000;
 
-// Places at which stations are about as far apart as the ways between them are long.
-export const layOut = (stations, lengths) => {
-  const apart = distances(stations, lengths), places = firstPlaces(stations, apart);
+// Places at which stations are about as far apart as the ways between them are long. It is worked out step by step.
+export const layOut = function* (stations, lengths) {
+  const apart = yield* distances(stations, lengths), places = firstPlaces(stations, apart);
   const rounds = Math.min(MOST_ROUNDS, Math.floor(MOST_MOVES / Math.max(1, stations.length ** 2)) + 5);
-  for (let round = 0; round < rounds; round += 1) stations.forEach((_, station) => { places[station] = wanted(station, places, apart[station]); });
+  for (let round = 0; round < rounds; round += 1) {
+    stations.forEach((_, station) => { places[station] = wanted(station, places, apart[station]); });
+    yield;
+  }
   return new Map(level(places).map((place, station) => [stations[station], place]));
 };
 
 // The lengths of shortest ways over tracks between these stations; parts that nothing joins are half as far again apart as the longest way.
-const distances = (stations, lengths) => {
+const distances = function* (stations, lengths) {
   const apart = stations.map((_, one) => stations.map((__, other) => one === other ? 0 : Infinity));
   const places = new Map(stations.map((station, place) => [station, place]));
   for (const [track, length] of lengths) {
@@ -19,10 +22,13 @@ const distances = (stations, lengths) => {
     if (one === undefined || other === undefined) continue;
     apart[one][other] = apart[other][one] = Math.min(apart[one][other], length);
   }
-  apart.forEach((reached, middle) => apart.forEach(row => {
-    const reach = row[middle];
-    if (reach < Infinity) reached.forEach((length, last) => { row[last] = Math.min(row[last], reach + length); });
-  }));
+  for (const [middle, reached] of apart.entries()) {
+    for (const row of apart) {
+      const reach = row[middle];
+      if (reach < Infinity) reached.forEach((length, last) => { row[last] = Math.min(row[last], reach + length); });
+    }
+    yield;
+  }
   const longest = apart.flat().reduce((most, each) => each < Infinity ? Math.max(most, each) : most, 1);
   return apart.map(row => row.map(each => each < Infinity ? each : 1.5 * longest));
 };

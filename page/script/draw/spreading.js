@@ -2,14 +2,14 @@
 
 const MOST_ROUNDS = 300, MOST_LOOKS = 2000000, SHARE = 0.3, CLEARANCE = 26, FAN_REACH = 45;
 
-// Places in the units of a drawing, near where they were, with room for numbers.
+// Places in the units of a drawing, near where they were, with room for numbers. They are worked out step by step.
 //   places: of each station its place in any unit, y downwards; tracks: {one, other, along, beside} with the room that each
 //   wants along it and to each side; radius: of each station; size: width and height, which grow where stations want it.
-export const spread = (places, tracks, radius, size) => {
+export const spread = function* (places, tracks, radius, size) {
   const spreading = start(fitted(places, size), tracks, radius);
   const looks = places.size * (places.size / 2 + tracks.length) + 1;
   const rounds = Math.min(MOST_ROUNDS, Math.floor(MOST_LOOKS / looks) + 5);
-  for (let round = 0; round < rounds && step(spreading); round += 1);
+  for (let round = 0; round < rounds && (yield* step(spreading)); round += 1);
   return spreading.places;
 };
 
@@ -47,17 +47,23 @@ const move = (spreading, station, x, y, length) => {
 };
 
 // Mends each lack of room in part; false where there was none.
-const step = spreading => {
+const step = function* (spreading) {
   const { names, tracks, radius, rooms, ends } = spreading;
   spreading.isMoved = false;
-  names.forEach((one, place) => names.slice(place + 1).forEach(other => {
-    const room = rooms.get(one).get(other);
-    push(spreading, one, other, radius.get(one) + radius.get(other) + (room === undefined ? 2 * CLEARANCE : room));
-  }));
-  for (const track of tracks) for (const station of names) if (station !== track.one && station !== track.other) clear(spreading, station, track);
-  for (const station of names) {
-    ends.get(station).forEach((one, place, all) => all.slice(place + 1).forEach(other => fan(spreading, station, one, other)));
+  for (const [place, one] of names.entries()) {
+    for (const other of names.slice(place + 1)) {
+      const room = rooms.get(one).get(other);
+      push(spreading, one, other, radius.get(one) + radius.get(other) + (room === undefined ? 2 * CLEARANCE : room));
+    }
+    yield;
   }
+  for (const track of tracks) {
+    for (const station of names) if (station !== track.one && station !== track.other) clear(spreading, station, track);
+    yield;
+  }
+  names.forEach(station => {
+    ends.get(station).forEach((one, place, all) => all.slice(place + 1).forEach(other => fan(spreading, station, one, other)));
+  });
   return spreading.isMoved;
 };
 

@@ -1,0 +1,58 @@
+// Where the names of stations stand on a netgraph.
+
+import { beside } from './apart.js';
+
+// How high a name is, how many letters it has at most, how far apart the lanes of a track are, the room that is enough, and how far from
+// its ring a name can take some.
+export const NAME = 14.5;
+export const LETTERS = 24;
+export const LANE = 29;
+const ENOUGH = 16, FAR = 0.7 * NAME * LETTERS + 3 * NAME + ENOUGH;
+
+// How far a name has to be from the middle of a track.
+const halfOf = track => (track.lanes.length - 1) * LANE / 2 + NAME;
+
+// What lies so near to a station that it can take room of its name.
+const aboutOf = ({ places, radius, tracks }, station) => {
+  const here = places.get(station), reach = radius.get(station) + FAR;
+  return {
+    tracks: tracks.filter(track => beside(here, places.get(track.one), places.get(track.other)) < reach + halfOf(track)),
+    places: [...places].filter(([other, place]) => beside(place, here, here) < reach + radius.get(other)),
+  };
+};
+
+// The place of a name round its ring at which most room is left, of those that read as well the first.
+export const labelPlace = (graph, station) => {
+  const [x, y] = graph.places.get(station), reach = graph.radius.get(station) + 6, about = aboutOf(graph, station);
+  let best = null;
+  for (const turn of [6, 2, 0, 4, 5, 7, 1, 3]) {
+    const across = Math.cos(turn * Math.PI / 4), down = Math.sin(turn * Math.PI / 4);
+    const anchor = Math.abs(across) < 0.5 ? 'middle' : across > 0 ? 'start' : 'end';
+    const place = { x: x + across * reach, base: y + down * (reach + NAME / 2) + NAME * 0.36, anchor };
+    place.room = roomOf(graph, station, place, about);
+    if (!best || place.room > best.room) best = place;
+  }
+  return best;
+};
+
+// The least distance of a name from what lies about it, up to what is enough.
+const roomOf = (graph, station, { x, base, anchor }, { tracks, places }) => {
+  const [left, right] = spanOf(station, x, anchor);
+  const spots = [0, 1, 2, 3, 4].flatMap(part => [0, 0.7].map(height => [left + (right - left) * part / 4, base - NAME * height]));
+  let room = ENOUGH;
+  for (const track of tracks) {
+    const half = halfOf(track);
+    for (const spot of spots) room = Math.min(room, beside(spot, graph.places.get(track.one), graph.places.get(track.other)) - half);
+  }
+  for (const [other, [otherX, otherY]] of places) {
+    const margin = graph.radius.get(other) - (other === station ? NAME : 0);
+    for (const spot of spots) room = Math.min(room, Math.hypot(spot[0] - otherX, spot[1] - otherY) - margin);
+  }
+  return room;
+};
+
+// About where the name of a station begins and ends, from the place of its anchor.
+export const spanOf = (name, x, anchor) => {
+  const width = 0.7 * NAME * Math.min(LETTERS, name.length), left = x - width * { start: 0, middle: 0.5, end: 1 }[anchor];
+  return [left, left + width];
+};
