@@ -3,6 +3,7 @@
 import { addLabels } from './adding.js';
 import { zipOf } from './archive.js';
 import { keptFree } from './bands.js';
+import { boundingOf } from './bounding.js';
 import { chooseCorridor, corridor } from './corridor.js';
 import { diagramOf } from './diagram.js';
 import { costsBeside, differences } from './differing.js';
@@ -34,6 +35,7 @@ import { showTab, tabNow } from './tabs.js';
 import { openTexts } from './texts.js';
 import { isForward } from './trains.js';
 import { countViolated, isInfeasible } from './viewing.js';
+import { asItIs } from './widening.js';
 
 window.Page = Object.freeze({
   get view() { return shown.view; },
@@ -45,7 +47,7 @@ window.Page = Object.freeze({
   get program() { return programNow(); },
   get readyAfter() { return readyAfter(); },
   ask: askSession, step: doStep,
-  addLabels, atOnce, bareClock, choose, chooseCorridor, corridor, costsBeside, countViolated, diagramOf, differences, domainText, drawing,
+  addLabels, asItIs, atOnce, bareClock, boundingOf, choose, chooseCorridor, corridor, costsBeside, countViolated, diagramOf, differences, domainText, drawing,
   eventName, filesOf, filesToSave, find, folderName, goTo, isForward, isInfeasible, isRefused, isSaved, journal, keptFree,
   kindOf, labelOf, layOut, moveTrain, netgraphOf, openStory, openTexts, placesText, present, preview, rangeShown, readCost,
   readDomains, readNetwork, readPlaces, readTensions, readViolations, redo, refresh, reportOf, run, say, session, showBar,

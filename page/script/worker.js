@@ -2,25 +2,24 @@
 // files of lines.
 
 import { MOST_BYTES } from './archive.js';
+import { boundingOf } from './bounding.js';
 import { findWhy } from './conflict.js';
 import { convert } from './converting.js';
 import { sourceOfBlob } from './decoding.js';
 import { tellRest } from './hand.js';
 import { tellNearest } from './nearest.js';
 import { baseOf, readNetwork } from './network.js';
+import { FIRST_NODES, paced } from './pacing.js';
 import { tellPrices } from './pricing.js';
-import { canPrime, primedSession } from './priming.js';
+import { canPrime, sessionFrom } from './priming.js';
 import { startProgram } from './program.js';
-import { isSure, readFound } from './replies.js';
+import { isSure } from './replies.js';
 import { openFirst, openSession } from './running.js';
+import { tellGains } from './widening.js';
 
-// A search is asked for in steps, each of which tells what the search has come to. One that goes on where the one before it stopped
-// takes about so many milliseconds. Between two of them it is heard what is asked next.
-const STEP = 250, FIRST_NODES = 1000;
-
-// The session of the network that was asked about last, by its mark; whether its search has begun, and has not come to its end; and the
-// nodes of the next step. It stays open, so that a search that was stopped is gone on with.
-const NOTHING = { mark: null, session: null, isBegun: false, isOpen: false, step: FIRST_NODES };
+// The session of the network that was asked about last, by its mark; whether its search has begun; the nodes of the next step; and what
+// bounds it by parts. It stays open, so that a search that was stopped is gone on with.
+const NOTHING = { mark: null, session: null, isBegun: false, step: FIRST_NODES, bounding: null };
 let kept = NOTHING;
 
 const opened = ({ base, lines }) => openSession(base, [...base.setup, ...lines]);
@@ -34,6 +33,7 @@ const sessionOf = asked => {
 
 const close = () => {
   if (kept.session) kept.session.close();
+  if (kept.bounding) kept.bounding.close();
   kept = NOTHING;
 };
 
@@ -41,7 +41,7 @@ const close = () => {
 const searchedFor = asked => {
   const session = sessionOf(asked), { best } = asked;
   if (!kept.isBegun && best && canPrime(best.times)) {
-    const primed = primedSession(session.ask('dump'), best.times);
+    const primed = sessionFrom(session.ask('dump'), best.times);
     session.close();
     kept = { ...kept, session: primed };
   }
@@ -49,18 +49,20 @@ const searchedFor = asked => {
   return kept.session;
 };
 
-// Doubled where it was much quicker than a step is to be, and where the next one begins anew; halved where it was much slower.
-const paced = (nodes, took, goesOn) => {
-  if (took < STEP / 2 || !goesOn) return 2 * nodes;
-  return took > 2 * STEP ? Math.max(1, Math.floor(nodes / 2)) : nodes;
-};
-
 // What a step of at most so many nodes has come to, and how many it had.
 const stepOf = (session, most, events) => {
   const nodes = Math.min(kept.step, most), from = performance.now(), found = session.search(nodes, events);
-  const step = nodes === kept.step ? paced(nodes, performance.now() - from, found.goesOn) : kept.step;
-  kept = { ...kept, step, isOpen: !isSure(found) };
-  return { found, nodes };
+  const took = performance.now() - from, step = nodes === kept.step ? paced(nodes, took, found.goesOn) : kept.step;
+  kept = { ...kept, step };
+  return { found, took, nodes };
+};
+
+// Where the program tells no bound, of a network that is too large for its search by cycles, the parts of it tell one, in as much time as
+// the step of the search had.
+const bounded = (session, { found, took, nodes }) => {
+  if (isSure(found) || found.bound) return { found, nodes };
+  kept.bounding = kept.bounding || boundingOf(readNetwork(session.ask('dump')));
+  return { found: kept.bounding.bounded(found, performance.now() + took), nodes };
 };
 
 // What was posted meanwhile is heard first.
@@ -70,7 +72,7 @@ const hear = () => new Promise(done => { setTimeout(done); });
 const search = async (asked, tell, isLeft) => {
   const session = searchedFor(asked), { most, events } = asked;
   for (let gone = 0, isDone = false; !isDone && !isLeft();) {
-    const { found, nodes } = stepOf(session, most - gone, events);
+    const { found, nodes } = bounded(session, stepOf(session, most - gone, events));
     gone += nodes;
     isDone = isSure(found) || gone === most;
     tell({ found, nodes: gone, isDone });
@@ -82,7 +84,7 @@ const search = async (asked, tell, isLeft) => {
 const why = (asked, tell) => {
   const network = networkOf(asked);
   for (const [event, first] of asked.held) network.windows.set(event, { first, length: 1 });
-  tell({ why: findWhy(network, { kept: new Set(asked.members), canLower: asked.canLower }), isDone: true });
+  tell({ why: findWhy(network, { kept: new Set(asked.members), canLower: asked.canLower, violated: asked.violated }), isDone: true });
 };
 
 // What a base makes, as another one that has no lines to play.
@@ -114,48 +116,13 @@ const convertedFile = ({ kind, blob }) => {
 
 const convertFiles = ({ files }, tell) => tell({ converted: files.map(convertedFile), isDone: true });
 
-// A search may look at so many cases before it is told what it has come to.
-const MOST_OF_A_GAIN = 100000;
-
-// A session for lines that change the network: the one that is kept, or where its search can be gone on with, another one that begins
-// with the best that was found.
-const sessionForLines = asked => {
-  const session = sessionOf(asked);
-  if (!kept.isOpen) return session;
-  const script = session.ask('dump'), { times } = session.search(0, readNetwork(script).events);
-  return times && canPrime(times) ? primedSession(script, times) : opened(asked);
-};
-
-// What was found with other lines stands in the place of what a search would begin with.
-const leave = session => {
-  if (session === kept.session) kept = { ...kept, isBegun: false };
-  else session.close();
-};
-
-const askGains = (session, questions, tell) => {
-  const best = () => readFound(session.ask(`try ${MOST_OF_A_GAIN}`));
-  tell({ gain: { found: best() } });
-  questions.forEach(({ back, ...question }, place) => {
-    session.ask(question.line);
-    tell({ gain: { ...question, found: best() }, isDone: place === questions.length - 1 });
-    session.ask(back);
-  });
-};
-
-// The best timetable as the network is, and then with each of some lines alone.
-const gains = (asked, tell) => {
-  const session = sessionForLines(asked);
-  try {
-    askGains(session, asked.questions, tell);
-  } finally {
-    leave(session);
-  }
-};
+// The best timetable as the network is, and then with each of some spans wider.
+const gains = (asked, tell) => tellGains(sessionOf(asked).ask('dump'), asked, tell);
 
 // The session for what leaves the network of before, without a search.
 const sessionToLeave = asked => {
   const session = sessionOf(asked);
-  kept = { ...kept, isBegun: false, isOpen: false };
+  kept = { ...kept, isBegun: false };
   return session;
 };
 

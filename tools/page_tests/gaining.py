@@ -109,7 +109,7 @@ def gains_taken(suite: Suite, page: Hands) -> None:
 def gains_watched(suite: Suite, page: Hands) -> None:
     """The list grows while it is asked, is stopped at once, and stays; a step ends the asking too."""
     page.again()
-    choose(page, ["change", "turnaround"])
+    choose(page, ["change", "dwell", "headway", "run", "turnaround"])
     page.press("ask-gains")
     counts = "Number(document.querySelector('#gains-progress')?.textContent.split(' ')[0] || 0)"
     page.until(f"{counts} > 1")

@@ -21,15 +21,15 @@ def with_train(texts: Mapping[str, str]) -> Dict[str, str]:
     return {**texts, "labels": "".join(f"{row}\n" for row in labels)}
 
 
-def texts(count: int = REGIONS) -> Dict[str, str]:
-    """The texts of its files by their kinds."""
+def texts(count: int = REGIONS, unmet: int = 0) -> Dict[str, str]:
+    """The texts of its files by their kinds. The region `unmet` has no timetable, from 1 up, or each has one where it is 0."""
     activities: List[str] = []
     times: List[str] = []
     events: List[str] = []
     kinds: List[str] = []
     shift = 0
     for seed in range(1, count + 1):
-        region = draw_region(seed)
+        region = draw_region(seed, feasible=seed != unmet)
         for event in region.events:
             events.append(
                 f"{event.number + shift}; {event.line}.{seed}; {event.to} {seed}; {event.station} {seed}; {event.kind}"

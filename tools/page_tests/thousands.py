@@ -1,12 +1,106 @@
 """At 2,048 events the page answers at once, tells what it knows as it goes, and says no more than that."""
 
+import re
+from typing import Any, Dict, List
+
 from page_tests import large
-from page_tests.hands import Hands
+from page_tests.gaining import DONE
+from page_tests.hands import TWO_TRAINS, Hands
 from tests.harness import Suite, within
 
+MET = "The timetable shown meets everything, so there is no conflict."
 # The numbers of the netgraph by their events, and the same as the times that are shown.
 NUMBERS = "Object.fromEntries([...document.querySelectorAll('#netgraph tspan')].map(each => [each.dataset.event, each.textContent]))"
 TIMES = "Object.fromEntries([...Page.view.times].map(([event, time]) => [event, String(time).padStart(2, '0')]))"
+
+
+def numbers_of(text: str) -> List[int]:
+    """The numbers in a text."""
+    return [int(each.replace(",", "")) for each in re.findall(r"[0-9][0-9,]*", text)]
+
+
+@within(400)
+def why_of_many(suite: Suite, page: Hands) -> None:
+    """A timetable that is shown or found and meets everything is the answer to why at once; what one violates leads to the conflict."""
+    page.again()
+    page.show(large.texts())
+    page.press("ask-why")
+    suite.note("one that is shown", {"told": MET, "stop": False}, {"told": page.text("#reasons"), "stop": page.is_shown("stop")})
+    page.show({**TWO_TRAINS, "times": ""})
+    page.press("optimum")
+    page.until(DONE)
+    page.press("ask-why")
+    wanted = {"told": "A timetable meets everything, so there is no conflict.", "stop": False}
+    suite.note("one that was found", wanted, {"told": page.text("#reasons"), "stop": page.is_shown("stop")})
+    page.show(large.texts(unmet=large.REGIONS))
+    suite.holds("a span of the last region is moved", page.text("#figure-violations b") != "0")
+    page.press("ask-why")
+    page.until(DONE, seconds=300)
+    suite.holds(page.text("#reasons")[:80], "cannot be met together" in page.text("#reasons"))
+
+
+@within(400)
+def bound_of_many(suite: Suite, page: Hands) -> None:
+    """A search tells a bound, which grows; of regions side by side it is what their optima cost, at the end."""
+    page.again()
+    texts = large.texts()
+    page.show(texts)
+    page.press("optimum")
+    page.until("/none can cost less than/.test(Page.find('found').textContent)", seconds=200)
+    cost, *_, first = numbers_of(page.text("#found"))
+    page.until(f"Number(/less than ([0-9,]+)/.exec(Page.find('found').textContent)[1].replace(/,/g, '')) > {first}", seconds=200)
+    suite.holds(f"{page.text('#found')}: a bound is no more than a cost", 0 < first < numbers_of(page.text("#found"))[-1] <= cost)
+    page.press("stop")
+    page.show(large.texts(2))
+    bound, optimum = page.ask("""(() => {
+        const { bounded, close } = Page.boundingOf(Page.view.network), { bound } = bounded({ kind: 'none', bound: 0 }, Infinity);
+        close();
+        const { base, lines } = Page.present();
+        return [bound, Number(Page.run(base, [...lines, 'optimum']).pop()[0].split(' ')[1])];
+    })()""")
+    suite.note("two regions, to the end", {"bound": optimum}, {"bound": bound})
+    page.again()
+
+
+def gain_words(page: Hands) -> Dict[str, Any]:
+    """What is told above the list of what would help."""
+    return {"told": page.ask("[...document.querySelectorAll('#gains > p')].map(each => each.textContent).join(' ')")}
+
+
+@within(400)
+def help_of_many(suite: Suite, page: Hands) -> None:
+    """What would help begins with the timetable that is shown, tells how far it is, and leaves what it has when it is stopped."""
+    page.again()
+    page.show(large.texts())
+    cost = page.text("#figure-cost b")
+    page.press("tab-gains")
+    page.ask("window.told = []; new MutationObserver(() => told.push(document.querySelector('#gains').textContent)).observe(Page.find('gains'), { childList: true })")
+    page.press("ask-gains")
+    first = page.ask("told[0]")
+    suite.holds(first, first.startswith(f"As it is, the timetable shown costs {cost}; perhaps not the best.0 of ") and "looking for a better one first" in first)
+    page.until("/^[1-9][0-9]* of/.test(document.querySelector('#gains-progress').textContent)", seconds=300)
+    suite.holds("it goes on", "asking on" in page.text("#gains-progress"))
+    page.press("stop")
+    told = gain_words(page)["told"]
+    best, count = numbers_of(told)[:2]
+    suite.holds(told, "— stopped" in told and count > 0 and best <= int(cost.replace(",", "")))
+    sums = page.ask("[...document.querySelectorAll('#gains .saved')].map(each => each.textContent)")
+    suite.holds("no sum is sure where the best is not", all(each.endswith((", perhaps", ", or less")) for each in sums))
+
+
+def better_as_it_is(suite: Suite, page: Hands) -> None:
+    """A timetable that was found with a minute more, and does not need it, is one of the network as it is."""
+    page.show(TWO_TRAINS)
+    for name, after, paid, times, wanted in [
+        ("more, not needed", [3, 6], 0, [0, 5], ["stopped", 9]), ("more, needed", [3, 6], 0, [0, 6], ["none", None]),
+        ("less, not needed", [2, 5], 2, [8, 1], ["stopped", 7]), ("less, needed", [2, 5], 2, [0, 2], ["none", None]),
+    ]:
+        came = page.ask(f"""(() => {{
+            const question = {{ number: 1, after: {{ lower: {after[0]}, upper: {after[1]} }}, paid: {paid} }};
+            const {{ kind, cost = null }} = Page.asItIs(Page.view.network, question, {{ times: new Map([[1, {times[0]}], [2, {times[1]}]]), cost: 9 }});
+            return [kind, cost];
+        }})()""")
+        suite.note(name, {"it": wanted}, {"it": came})
 
 
 @within(400)
@@ -42,4 +136,4 @@ def netgraph_of_many(suite: Suite, page: Hands) -> None:
     suite.note("on paper there are all", {"numbers": len(times)}, {"numbers": whole})
 
 
-GROUPS = [netgraph_of_many]
+GROUPS = [why_of_many, bound_of_many, help_of_many, better_as_it_is, netgraph_of_many]

@@ -20,12 +20,12 @@ export const readNetwork = reply => {
   return network;
 };
 
-// The parts into which joined events divide all events.
-export const partsOf = (events, joins) => {
+// The parts into which joined events divide all events, where none is to have more than so many.
+export const partsOf = (events, joins, most = Infinity) => {
   const parts = new Map([...events].map(event => [event, [event]]));
   for (const { first, last } of joins) {
     let [larger, smaller] = [parts.get(first), parts.get(last)];
-    if (larger === smaller) continue;
+    if (larger === smaller || larger.length + smaller.length > most) continue;
     if (larger.length < smaller.length) [larger, smaller] = [smaller, larger];
     for (const event of smaller) {
       larger.push(event);

@@ -9,10 +9,11 @@ import { shapeOf } from './shapes.js';
 const FIRST_NODES = 500, MORE = 4;
 
 // The answer of a network: `possible`, `undecided` or `conflict`. Of the members in `kept`, by their keys, the conflict has
-// no more than has to be, and no mend changes one; no mend lowers the least minutes of an activity but where it `canLower` them.
-export const findWhy = (network, { nodes = 2000, seconds = 10, kept = new Set(), canLower = false } = {}) => {
+// no more than has to be, and no mend changes one; no mend lowers the least minutes of an activity but where it `canLower` them. It is
+// looked for at the events first at which a timetable violates something.
+export const findWhy = (network, { nodes = 2000, seconds = 10, kept = new Set(), canLower = false, violated = [] } = {}) => {
   const probe = { ...probeOf(network), kept, canLower }, until = performance.now() + 1000 * seconds;
-  if (isSeenByDomains(probe, until)) return conflictOf(probe, leastOf(probe, members => byDomains(probe, members)), nodes, seconds);
+  if (isSeenByDomains(probe, violated, until)) return conflictOf(probe, leastOf(probe, members => byDomains(probe, members)), nodes, seconds);
   for (let count = FIRST_NODES; ; count *= MORE) {
     const verdict = bySearch(probe, probe.members, count);
     if (verdict === 'possible') return { kind: 'possible' };
@@ -25,8 +26,8 @@ export const findWhy = (network, { nodes = 2000, seconds = 10, kept = new Set(),
 };
 
 // Whether a domain is empty, with some event of each free part held; that event is held first from then on.
-const isSeenByDomains = (probe, until) => {
-  for (const event of [null, ...probe.network.events]) {
+const isSeenByDomains = (probe, violated, until) => {
+  for (const event of new Set([null, ...violated, ...probe.network.events])) {
     prefer(probe, event);
     if (byDomains(probe, probe.members)) return true;
     if (performance.now() > until) break;

@@ -5,6 +5,7 @@ import { askFor } from './asking.js';
 import { element, elided, find, say, tableOf } from './elements.js';
 import { activityName, kindOf, spanMinutes, spanText } from './names.js';
 import { isSure } from './replies.js';
+import { bestKnown } from './searching.js';
 import { doStep, markNow, redraw } from './session.js';
 import { shown } from './shown.js';
 import { showActivity } from './spans.js';
@@ -45,19 +46,21 @@ const questionsOf = (view, way) => {
   const open = [...activities.values()].filter(each => kinds.has(kindOf(each.number)) && each.upper - each.lower < period - 1);
   open.sort((one, other) => Number(costNow(view, other) - costNow(view, one)) || one.number - other.number);
   return open.slice(0, MOST_ASKED).map(each => ({ each, after: WAYS[way].change(each) }))
-    .map(({ each, after }) => ({ number: each.number, after, line: `span ${each.number} ${after.lower} ${after.upper}`, back: `span ${each.number} ${each.lower} ${each.upper}` }));
+    .map(({ each, after }) => ({ number: each.number, after, paid: Number(WAYS[way].paid(each)), line: `span ${each.number} ${after.lower} ${after.upper}`, back: `span ${each.number} ${each.lower} ${each.upper}` }));
 };
 
 const look = event => {
   event.preventDefault();
   const way = find('gain-way').value, questions = questionsOf(shown.view, way);
   if (!questions.length) return say('No activity of these kinds has a span that rules anything out.', true);
-  asked = { mark: markNow(), way, count: questions.length, before: null, came: [], isEnded: false };
-  askFor({ kind: 'gains', questions }, { tell: ({ gain }) => showGain(gain), end: endGains });
+  const best = bestKnown();
+  asked = { mark: markNow(), way, count: questions.length, before: best, came: [], isEnded: false };
+  askFor({ kind: 'gains', questions, best, events: shown.view.network.events }, { tell: ({ gain }) => showGain(gain), end: endGains });
+  drawn = null;
   return redraw();
 };
 
-// What one search came to; the first one is of the network as it is.
+// What one search came to; one without a number is of the network as it is.
 const showGain = gain => {
   if (gain.number === undefined) asked.before = gain.found;
   else asked.came.push(gain);
@@ -87,7 +90,8 @@ const take = ({ number, line, found }) => {
 
 const savedText = ({ saved, found }) => {
   if (saved === null) return `then there is a timetable, of cost ${found.cost.toLocaleString('en')}`;
-  return `${saved.toLocaleString('en')}${isSure(found) ? '' : ', or more'}`;
+  const isMore = !isSure(found), sure = isMore ? 'or more' : '';
+  return [saved.toLocaleString('en'), isSure(asked.before) ? sure : isMore ? 'perhaps' : 'or less'].filter(Boolean).join(', ');
 };
 
 const row = (view, gain) => {
@@ -98,8 +102,8 @@ const row = (view, gain) => {
     element('td', {}, change));
 };
 
-const beforeText = ({ kind, cost }) => ({
-  optimum: () => `The best timetable as it is costs ${cost.toLocaleString('en')}.`, stopped: () => `As it is, a timetable was found that costs ${cost.toLocaleString('en')}; perhaps not the best.`,
+const beforeText = ({ kind, cost, isShown }) => ({
+  optimum: () => `The best timetable as it is costs ${cost.toLocaleString('en')}.`, stopped: () => `As it is, ${isShown ? 'the timetable shown' : 'a timetable was found that'} costs ${cost.toLocaleString('en')}; perhaps not the best.`,
   infeasible: () => 'As it is, no timetable meets everything.', none: () => 'As it is, no timetable was found.',
 })[kind]();
 
@@ -109,7 +113,8 @@ const told = view => {
   if (!isOfNow()) return [element('p', { class: 'quiet' }, WORDS)];
   const { before, came, count, isEnded } = asked;
   if (!before) return [element('p', {}, 'The best timetable as it is is looked for …')];
-  const good = helpful(view), end = came.length === count ? '' : isEnded ? ' — stopped' : ' — asking on …';
+  const good = helpful(view), going = came.length ? 'asking on' : 'looking for a better one first';
+  const end = came.length === count ? '' : isEnded ? ' — stopped' : ` — ${going} …`;
   const none = came.length - good.length, progress = `${came.length} of ${count} asked; ${none} of them ${before.times ? 'save' : 'help'} nothing${end}`;
   const heads = ['', before.times ? 'saves' : 'helps', 'activity', 'takes'];
   return [element('p', {}, beforeText(before)), element('p', { class: 'quiet', id: 'gains-progress' }, progress),

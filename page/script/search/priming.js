@@ -7,10 +7,11 @@ const MOST_EVENTS = 3000;
 
 export const canPrime = times => times.size <= MOST_EVENTS;
 
-// A session of the network of a `dump`. A search first tries what was an optimum before an edit, so the timetable is made one:
-// that of its events, each fixed at its time, without activities. Raises RunFault.
-export const primedSession = ([head, ...script], times) => {
+// A session of the network of a `dump`, which begins with some times where there are any. A search first tries what was an optimum before
+// an edit, so the timetable is made one: that of its events, each fixed at its time, without activities. Raises RunFault.
+export const sessionFrom = ([head, ...script], times) => {
   const isEvent = line => line.startsWith('add event'), period = Number(head.split(' ')[2]);
+  if (!times || !canPrime(times)) return openSession({ period }, script);
   const fixed = [...times].map(([event, time]) => `fix ${event} ${time}`), free = [...times.keys()].map(event => `unfix ${event}`);
   const session = openSession({ period }, [...script.filter(isEvent), ...fixed]);
   return prepared(session, () => {

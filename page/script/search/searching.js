@@ -21,10 +21,11 @@ let found = null, wasOffered = false, before = { nodes: 0, seconds: 0 };
 // It is told as long as its network is shown, with whatever times.
 const isOfNow = () => Boolean(found) && found.mark === markNow();
 
-// The cheapest timetable that is known to meet everything: the one that was found, or the one that is shown.
+// The cheapest timetable that is known to meet everything: the one that was found, or the one that is shown; null where none is.
 export const bestKnown = () => {
   const { times, cost, isTried } = shown.view, isMet = !isTried && countViolated(shown.view) === 0, [best] = foundsOf(markNow());
-  return isMet && !(best && best.cost <= cost) ? { times, cost } : best || null;
+  if (isMet && !(best && best.cost <= cost)) return { kind: 'stopped', times, cost, isShown: true };
+  return best ? { ...best, kind: isOfNow() && found.cost === best.cost ? found.kind : 'stopped' } : null;
 };
 
 // A search that was stopped, or ended without being sure, is gone on with.

@@ -1,11 +1,13 @@
 // The answer to why, in a planner's words; each mend is done by one click.
 
 import { askFor } from './asking.js';
+import { conflictsOf } from './conflicts.js';
 import { element, find, lead } from './elements.js';
 import { showRow } from './events.js';
 import { activityName, eventName, minutesText, spanMinutes, spanText, windowText } from './names.js';
 import { windowLine } from './network.js';
 import { memberKey } from './probing.js';
+import { bestKnown } from './searching.js';
 import { doStep, markNow, redraw } from './session.js';
 import { shown } from './shown.js';
 import { isTab, showTab } from './tabs.js';
@@ -104,7 +106,7 @@ const conflict = (told, network) => [
 ];
 
 const told = network => {
-  if (answer.kind === 'possible') return [element('p', {}, 'A timetable meets everything, so there is no conflict.')];
+  if (answer.kind === 'possible') return [element('p', {}, `${answer.isShown ? 'The timetable shown' : 'A timetable'} meets everything, so there is no conflict.`)];
   if (answer.kind === 'conflict') return conflict(answer, network);
   const nodes = answer.nodes.toLocaleString('en');
   return [element('p', {}, `Undecided: a search of ${nodes} cases came to no timetable, and single activities show no conflict.`)];
@@ -118,11 +120,17 @@ const update = view => {
 
 export const tellingPanel = { update };
 
-// Asks why, with some events held at minutes.
+// The events at which the timetable shown violates something: a conflict is looked for there first.
+const eventsViolated = view => [...conflictsOf(view).all.flatMap(({ activity: { first, last } }) => [first, last]), ...view.violations ? view.violations.events : []];
+
+// Asks why, with some events held at minutes. A timetable that is known is the answer at once.
 export const askWhy = held => {
   showTab('why');
-  const asked = { kind: 'why', members: [...keptMembers(), ...held.map(([number]) => memberKey({ of: 'event', number }))], canLower: find('can-lower').checked, held };
-  askFor(asked, { tell: ({ why }) => showWhy(why), end: () => lead(document.querySelector('#reasons .mend')) });
+  const known = held.length ? null : bestKnown();
+  if (known) return showWhy({ kind: 'possible', isShown: known.isShown });
+  const members = [...keptMembers(), ...held.map(([number]) => memberKey({ of: 'event', number }))];
+  const asked = { kind: 'why', members, canLower: find('can-lower').checked, held, violated: eventsViolated(shown.view) };
+  return askFor(asked, { tell: ({ why }) => showWhy(why), end: () => lead(document.querySelector('#reasons .mend')) });
 };
 
 export const startTelling = () => {

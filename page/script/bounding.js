@@ -1,0 +1,48 @@
+// A bound below which no timetable costs, by parts of a network: what each of them costs at least, together, since nothing costs less
+// than 0 between them. It is told where the program has none of the whole.
+
+import { baseOf, partsOf } from './network.js';
+import { FIRST_NODES, paced } from './pacing.js';
+import { exactly, isSure } from './replies.js';
+import { openSession } from './running.js';
+
+const MOST_EVENTS = 200;
+
+// Groups of events with few activities between them: those that cost most join events first.
+const groupsOf = ({ events, activities }) => {
+  const joins = [...activities.values()].sort((one, other) => other.weight - one.weight);
+  return [...partsOf(events, joins, MOST_EVENTS)];
+};
+
+// The network of a group alone.
+const partOf = ({ period, windows, activities }, group) => {
+  const events = group.sort((one, other) => one - other), has = event => events.includes(event);
+  return {
+    period, events, windows: new Map([...windows].filter(([event]) => has(event))),
+    activities: new Map([...activities].filter(([, { first, last }]) => has(first) && has(last))),
+  };
+};
+
+// What bounds a search: each call goes on with one part after another until a time, and `close` ends it.
+export const boundingOf = network => {
+  const groups = groupsOf(network), open = groups.filter(group => group.length > 1 && groups.length > 1).map(group => ({ group, session: null, nodes: FIRST_NODES, least: 0n }));
+  let least = 0n;
+  const goOn = part => {
+    const { group, nodes } = part, from = performance.now(), session = part.session || openSession(baseOf(partOf(network, group), new Map()));
+    const found = session.search(nodes, group), bound = BigInt(found.bound || 0);
+    if (bound > part.least) least += bound - part.least;
+    if (isSure(found)) session.close();
+    else open.push({ group, session, nodes: paced(nodes, performance.now() - from, found.goesOn), least: bound > part.least ? bound : part.least });
+    return found;
+  };
+  return {
+    bounded: (found, until) => {
+      do {
+        const { kind } = open.length ? goOn(open.shift()) : found;
+        if (kind === 'infeasible') return { kind };
+      } while (open.length && performance.now() < until);
+      return { ...found, bound: exactly(String(least)) };
+    },
+    close: () => open.forEach(({ session }) => session && session.close()),
+  };
+};
