@@ -23,11 +23,12 @@ const partOf = ({ period, windows, activities }, group) => {
   };
 };
 
-// What bounds a search: each call goes on with one part after another until a time, and `close` ends it.
+// What bounds a search. `goOn` goes on with one part after another, and gives what was found with the bound, or that there is no timetable;
+// null where all parts are done. `close` ends it.
 export const boundingOf = network => {
   const groups = groupsOf(network), open = groups.filter(group => group.length > 1 && groups.length > 1).map(group => ({ group, session: null, nodes: FIRST_NODES, least: 0n }));
   let least = 0n;
-  const goOn = part => {
+  const searchPart = part => {
     const { group, nodes } = part, from = performance.now(), session = part.session || openSession(baseOf(partOf(network, group), new Map()));
     const found = session.search(nodes, group), bound = BigInt(found.bound || 0);
     if (bound > part.least) least += bound - part.least;
@@ -36,12 +37,10 @@ export const boundingOf = network => {
     return found;
   };
   return {
-    bounded: (found, until) => {
-      do {
-        const { kind } = open.length ? goOn(open.shift()) : found;
-        if (kind === 'infeasible') return { kind };
-      } while (open.length && performance.now() < until);
-      return { ...found, bound: exactly(String(least)) };
+    goOn: found => {
+      if (!open.length) return null;
+      const { kind } = searchPart(open.shift());
+      return kind === 'infeasible' ? { kind } : { ...found, bound: exactly(String(least)) };
     },
     close: () => open.forEach(({ session }) => session && session.close()),
   };

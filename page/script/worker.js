@@ -57,26 +57,27 @@ const stepOf = (session, most, events) => {
   return { found, took, nodes };
 };
 
-// Where the program tells no bound, of a network that is too large for its search by cycles, the parts of it tell one, in as much time as
-// the step of the search had.
-const bounded = (session, { found, took, nodes }) => {
-  if (isSure(found) || found.bound) return { found, nodes };
-  kept.bounding = kept.bounding || boundingOf(readNetwork(session.ask('dump')));
-  return { found: kept.bounding.bounded(found, performance.now() + took), nodes };
-};
-
 // What was posted meanwhile is heard first.
 const hear = () => new Promise(done => { setTimeout(done); });
 
-// Goes on by `most` nodes, or until something else is asked.
+const boundingNow = session => {
+  kept.bounding = kept.bounding || boundingOf(readNetwork(session.ask('dump')));
+  return kept.bounding;
+};
+
+// Goes on by `most` nodes, or until something else is asked. Where the program tells no bound, of a network that is too large for its
+// search by cycles, parts of it are searched for one as long as the step took.
 const search = async (asked, tell, isLeft) => {
   const session = searchedFor(asked), { most, events } = asked;
   for (let gone = 0, isDone = false; !isDone && !isLeft();) {
-    const { found, nodes } = bounded(session, stepOf(session, most - gone, events));
+    const { found, took, nodes } = stepOf(session, most - gone, events), until = performance.now() + took;
     gone += nodes;
     isDone = isSure(found) || gone === most;
-    tell({ found, nodes: gone, isDone });
-    await hear();
+    for (let told = found; told; told = isDone || found.bound || isLeft() || performance.now() > until ? null : boundingNow(session).goOn(found)) {
+      isDone = isDone || isSure(told);
+      tell({ found: told, nodes: gone, isDone });
+      await hear();
+    }
   }
 };
 

@@ -12,6 +12,12 @@ MET = "The timetable shown meets everything, so there is no conflict."
 # The numbers of the netgraph by their events, and the same as the times that are shown.
 NUMBERS = "Object.fromEntries([...document.querySelectorAll('#netgraph tspan')].map(each => [each.dataset.event, each.textContent]))"
 TIMES = "Object.fromEntries([...Page.view.times].map(([event, time]) => [event, String(time).padStart(2, '0')]))"
+# The bounds that a search tells.
+BOUNDS = """window.bounds = [];
+new MutationObserver(() => {
+    const [, bound] = /less than ([0-9,]+)/.exec(Page.find('found').textContent) || [];
+    if (bound) window.bounds.push(Number(bound.replace(/,/g, '')));
+}).observe(Page.find('found'), { childList: true, characterData: true, subtree: true })"""
 
 
 def numbers_of(text: str) -> List[int]:
@@ -43,17 +49,18 @@ def why_of_many(suite: Suite, page: Hands) -> None:
 def bound_of_many(suite: Suite, page: Hands) -> None:
     """A search tells a bound, which grows; of regions side by side it is what their optima cost, at the end."""
     page.again()
-    texts = large.texts()
-    page.show(texts)
+    page.show(large.texts())
+    page.ask(BOUNDS)
     page.press("optimum")
-    page.until("/none can cost less than/.test(Page.find('found').textContent)", seconds=200)
-    cost, *_, first = numbers_of(page.text("#found"))
-    page.until(f"Number(/less than ([0-9,]+)/.exec(Page.find('found').textContent)[1].replace(/,/g, '')) > {first}", seconds=200)
-    suite.holds(f"{page.text('#found')}: a bound is no more than a cost", 0 < first < numbers_of(page.text("#found"))[-1] <= cost)
+    page.until("new Set(bounds).size > 3", seconds=300)
     page.press("stop")
+    bounds, cost = page.ask("bounds"), numbers_of(page.text("#found"))[0]
+    suite.holds(f"{bounds} are below {cost}, and ascend", 0 < bounds[0] < bounds[-1] <= cost and bounds == sorted(bounds))
     page.show(large.texts(2))
     bound, optimum = page.ask("""(() => {
-        const { bounded, close } = Page.boundingOf(Page.view.network), { bound } = bounded({ kind: 'none', bound: 0 }, Infinity);
+        const { goOn, close } = Page.boundingOf(Page.view.network);
+        let bound = 0;
+        for (let told = goOn({}); told; told = goOn({})) ({ bound } = told);
         close();
         const { base, lines } = Page.present();
         return [bound, Number(Page.run(base, [...lines, 'optimum']).pop()[0].split(' ')[1])];
