@@ -6,6 +6,7 @@ import { lengthText } from './names.js';
 import { showOpening } from './opening.js';
 import { showSaving } from './saving.js';
 import { redo, session, undo } from './session.js';
+import { untimedText } from './timed.js';
 import { countNarrowed, countViolated, isInfeasible } from './viewing.js';
 
 const update = view => {
@@ -15,17 +16,17 @@ const update = view => {
   if (document.title !== title) document.title = title;
   setText(find('size'),
     `${network.events.length} events, ${network.activities.size} activities, period ${lengthText(network.period)}`);
-  if (view.cost === null) tell('cost', '–', view.missing, false);
-  else tell('cost', view.cost.toLocaleString('en'), costNote(view), false);
-  tellViolated(view, countViolated(view));
+  const isKnown = view.tensions.size > 0 || !view.missing, note = costNote(view), untimed = untimedText(view);
+  tell('cost', isKnown ? view.cost.toLocaleString('en') : '–', untimed || note, false);
+  tellViolated(view, isKnown ? countViolated(view) : null);
   tellNarrowed(view);
   find('undo').disabled = !session.place;
   find('redo').disabled = session.place === session.steps.length;
 };
 
 const tellViolated = (view, count) => {
-  if (count === null) tell('violations', '–', 'no whole timetable', false);
-  else tell('violations', String(count), violatedNote(view, count ? '✕ see which' : '✓ all are met'), count > 0);
+  const words = violatedNote(view, count ? '✕ see which' : view.missing ? 'of what has times' : '✓ all are met');
+  tell('violations', count === null ? '–' : String(count), count === null ? 'no times' : words, count > 0);
 };
 
 const tellNarrowed = view => {

@@ -9,22 +9,21 @@ import { askSession, doStep, goTo, session, titleOf } from './session.js';
 import { shown } from './shown.js';
 import { showActivity } from './spans.js';
 import { isTab } from './tabs.js';
+import { untimedText } from './timed.js';
 
 const MOST_VIOLATED = 500;
 
 const updateViolated = view => {
   if (!isTab('violated')) return;
   const { violations } = view, items = [];
-  if (!violations) items.push(element('p', { class: 'quiet' }, `Not known: ${view.missing}.`));
-  else {
-    const listed = [...conflictsOf(view).all.map(conflict => () => violatedActivity(conflict)),
-      ...[...violations.events].map(event => () => violatedEvent(event, view))];
-    const told = elided(listed.length, MOST_VIOLATED, 'that are violated');
-    if (told) items.push(element('p', { class: 'quiet' }, told));
-    if (listed.length && !view.isTried) items.push(element('button', { type: 'button', class: 'main', onclick: mend }, 'Mend all of it'));
-    if (listed.length) items.push(element('div', {}, ...listed.slice(0, MOST_VIOLATED).map(make => make())));
-    if (!items.length) items.push(element('p', { class: 'quiet' }, 'The working timetable meets everything.'));
-  }
+  if (view.missing) items.push(element('p', { class: 'quiet' }, `Of what has times: ${untimedText(view)}.`));
+  const listed = [...conflictsOf(view).all.map(conflict => () => violatedActivity(conflict)),
+    ...[...violations.events].map(event => () => violatedEvent(event, view))];
+  const told = elided(listed.length, MOST_VIOLATED, 'that are violated');
+  if (told) items.push(element('p', { class: 'quiet' }, told));
+  if (listed.length && !view.isTried) items.push(element('button', { type: 'button', class: 'main', onclick: mend }, 'Mend all of it'));
+  if (listed.length) items.push(element('div', {}, ...listed.slice(0, MOST_VIOLATED).map(make => make())));
+  if (!listed.length) items.push(element('p', { class: 'quiet' }, view.missing ? 'Nothing of it is violated.' : 'The working timetable meets everything.'));
   find('view-violated').replaceChildren(...items);
 };
 

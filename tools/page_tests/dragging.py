@@ -103,7 +103,7 @@ def times(suite: Suite, page: Hands) -> None:
     page.click(*page.grip(2, "now"), count=2)
     page.frame()
     came = {"lines": page.lines()[-1], "time": page.row(2, "time"), "cost": page.text("#figure-cost small")}
-    suite.note("a time taken away", {"lines": "untime 2", "time": "–", "cost": "event 2 has no time"}, came)
+    suite.note("a time taken away", {"lines": "untime 2", "time": "–", "cost": "1 event has no time"}, came)
     page.press("undo")
     suite.note("and given back", {"times": [[1, 0], [2, 4]]}, {"times": page.ask("[...Page.view.times]")})
 

@@ -22,11 +22,17 @@ DRAWN = """(() => {
     const drawn = () => [...Array(below(4))].map(() => KINDS[below(KINDS.length)]());
     const told = view => JSON.stringify([view.network.period, view.network.events, [...view.network.windows], [...view.network.activities.values()], [...view.domains],
         view.tensions && [...view.tensions], view.violations && [...view.violations.activities], view.violations && [...view.violations.events], String(view.cost), view.missing]);
+    // What the program tells where events without a time are not there.
+    const ofTimed = (network, base, all) => {
+        const untimed = network.events.filter(each => !Page.view.times.has(each)), isOfThem = ({ first, last }) => untimed.includes(first) || untimed.includes(last);
+        const drops = [...[...network.activities.values()].filter(isOfThem).map(({ number }) => `drop activity ${number}`), ...untimed.map(each => `drop event ${each}`)];
+        return Page.run(base, [...all, ...drops, 'tensions', 'violations', 'cost']).slice(-3);
+    };
     const whole = more => {
         const { base, lines } = Page.present(), all = [...lines, ...more];
         const [dump, domains, tensions, violations, cost] = Page.run(base, [...all, 'dump', 'domains', 'tensions', 'violations', 'cost']).slice(all.length);
-        return told({ network: Page.readNetwork(dump), domains: Page.readDomains(domains), tensions: Page.readTensions(tensions), violations: Page.readViolations(violations),
-            cost: Page.readCost(cost), missing: Page.isRefused(cost) ? cost[0].replace('refused 11 ', '') : '' });
+        const missing = Page.isRefused(cost) ? cost[0].replace('refused 11 ', '') : '', network = Page.readNetwork(dump), found = missing ? ofTimed(network, base, all) : [tensions, violations, cost];
+        return told({ network, domains: Page.readDomains(domains), tensions: Page.readTensions(found[0]), violations: Page.readViolations(found[1]), cost: Page.readCost(found[2]), missing });
     };
     let shown = [];
     const tried = lines => {

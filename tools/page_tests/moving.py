@@ -281,7 +281,7 @@ def lacking(suite: Suite, page: Hands) -> None:
     page.ask("Page.find('diagram').focus()")
     page.key("ArrowRight", CODES["ArrowRight"])
     page.frame()
-    said = "M to Cranley 1 minute later: cost not known, since event 4 has no time"
+    said = "M to Cranley 1 minute later: cost as before; nothing is violated; 3 events have no time"
     suite.note("some times", {"lines": LATER[:3], "said": said}, {"lines": page.lines(), "said": page.said()})
     begun(page, times="")
     page.ask("Page.find('diagram').focus()")

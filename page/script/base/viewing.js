@@ -13,8 +13,11 @@ export const isInfeasible = view => lengthsOf(view).includes(0);
 // How many events can be at fewer minutes than all.
 export const countNarrowed = view => lengthsOf(view).filter(length => length < view.network.period).length;
 
-// How many activities and events are violated; null where the working timetable lacks a time.
+// How many activities and events are violated, of those that have times; null where nothing is known of that.
 export const countViolated = ({ violations }) => violations && violations.activities.size + violations.events.size;
+
+// Whether all events have times, and everything is met.
+export const isMet = view => !view.missing && countViolated(view) === 0;
 
 // The minutes of an activity. Replies count them up from the least ones, and so tell too few by a period too many. Where a span is
 // below a period so is what is told; else it is that of the two which is nearer to the span.

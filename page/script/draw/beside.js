@@ -9,7 +9,7 @@ import { labelOf, signedMinutes, trainName } from './names.js';
 import { shown, within } from './shown.js';
 import { piecesOf, stretchOf } from './stretch.js';
 import { minuteText } from './tables.js';
-import { minutesOf } from './trains.js';
+import { timedParts } from './trains.js';
 
 const LOOKS = [{ width: 1.8, dashes: '5 4' }, { width: 2.6, dashes: null }], MOST_ROWS = 300;
 
@@ -19,10 +19,9 @@ const lineIn = (view, name) => view.lines.find(line => line.name === name);
 const drawSide = (view, frame, line, name, look) => within(view, () => {
   const known = new Set(frame.heights.keys()), trains = line ? line.trains.flatMap(train => piecesOf(train, known)) : [];
   const here = { ...frame, events: new Set(trains.flatMap(train => train.events)) };
-  const ways = trains.flatMap(train => {
-    const minutes = minutesOf(view, train);
-    const points = minutes && minutes.map((minute, place) => [minute, heightOf(frame, train.events[place])]);
-    return points ? marked(waysOf(frame, points, line.color, look.width, look.dashes), { 'data-event': train.events[0] }) : [];
+  const ways = trains.flatMap(whole => timedParts(view, whole)).flatMap(({ train, minutes }) => {
+    const points = minutes.map((minute, place) => [minute, heightOf(frame, train.events[place])]);
+    return marked(waysOf(frame, points, line.color, look.width, look.dashes), { 'data-event': train.events[0] });
   });
   const { ways: broken, labels } = conflictMarks(view, here, 'on the line', []);
   for (const label of labels) label.prepend(`${name}: `);

@@ -24,9 +24,9 @@ export const connectionsOf = view => {
   return found.sort((one, other) => byName(one, other) || at(one) - at(other) || one.number - other.number);
 };
 
-// The minutes that a connection takes, and their text; nothing is known of them without a whole timetable.
+// The minutes that a connection takes, and their text; nothing is known of them where a time is missing.
 export const takesText = (view, { number }) => {
-  if (!view.tensions) return { text: '–', isViolated: false };
+  if (!view.tensions || !view.tensions.has(number)) return { text: '–', isViolated: false };
   const had = minutesHad(view, number), isViolated = view.violations.activities.has(number);
   return { had, text: `${lengthText(had)}${isViolated ? ' ✕' : ''}`, isViolated };
 };

@@ -12,7 +12,8 @@ import { chooseLine } from './session.js';
 import { shown } from './shown.js';
 import { stretchOf } from './stretch.js';
 import { isTab } from './tabs.js';
-import { isForward, minutesOf } from './trains.js';
+import { undrawnText } from './timed.js';
+import { isForward, timedParts } from './trains.js';
 import { minutesHad } from './viewing.js';
 
 const TURNS = ['', 'turn', 'turnaround'], MOST_TURNS = 200, MOST_OTHERS = 2000;
@@ -36,8 +37,8 @@ const sceneOf = (view, line, before) => {
   return { of, line, frame: frameOf(line, view.network), turns: turnsOf(view, line), ...firstRuns(othersOf(view, line), MOST_OTHERS) };
 };
 
-// The diagram of a line, and what it says of what is left out. Where times are missing, trains are not drawn, and what is still
-// possible is.
+// The diagram of a line, and what it says of what is left out. Trains are drawn between events with times, and what is still
+// possible everywhere.
 export const diagramOf = (view, whole, chosen = null, sheet = emptySheet()) => {
   const { line, told } = stretchOf(whole, chosen), before = sheet.scene, scene = sceneOf(view, line, before), { page, clip } = sheet;
   sheet.scene = scene;
@@ -55,7 +56,7 @@ const drawSheet = (view, { page, parts, scene, fixed }, chosen) => {
   const { line, frame, turns } = scene, { times, tensions } = view;
   drawPart(parts.grid, [frame], () => gridOf(frame));
   drawPart(parts.possible, [scene, view.domains, chosen], () => possible(view, frame, line, chosen));
-  drawPart(parts.turns, [scene, times, tensions], () => tensions ? turns.slice(0, MOST_TURNS).flatMap(each => turn(view, frame, line, each)) : []);
+  drawPart(parts.turns, [scene, times, tensions], () => tensions ? turns.filter(({ number }) => tensions.has(number)).slice(0, MOST_TURNS).flatMap(each => turn(view, frame, line, each)) : []);
   drawTrains(view, parts, scene);
   const endTimes = line.trains.map(train => endsOf(train).map(event => times.get(event)));
   drawPart(parts.ends, [scene, endTimes.join()], () => line.trains.flatMap(train => ends(view, frame, line, train)));
@@ -68,12 +69,12 @@ const drawSheet = (view, { page, parts, scene, fixed }, chosen) => {
 // The trains of the line and of others, by their minutes.
 const drawTrains = (view, parts, scene) => {
   const { line, frame } = scene, isDragged = document.body.classList.contains('dragging');
-  const timed = trains => trains.map(each => ({ ...each, minutes: minutesOf(view, each.train) })).filter(({ minutes }) => minutes);
-  const own = timed(line.trains.map(train => ({ train }))), beside = timed(scene.others);
+  const own = line.trains.flatMap(train => timedParts(view, train)), order = orderOf(line);
+  const beside = scene.others.flatMap(({ train, places }) => timedParts(view, train).map(part => ({ ...part, places: part.train === train ? places : placesOn(order, part.train) })));
   const [ownMinutes, minutesBeside] = [own, beside].map(trains => trains.map(({ train, minutes }) => [train.events[0], ...minutes]).join(';'));
   drawPart(parts.others, [scene, minutesBeside, isDragged], () => beside.flatMap(each => other(frame, each)));
-  const wayOf = ({ train, minutes }, ...look) => minutes ? waysOf(frame, minutes.map((minute, place) => [minute, heightOf(frame, train.events[place])]), ...look) : [];
-  drawPart(parts.old, [scene, view.before], () => !view.before ? [] : line.trains.flatMap(train => wayOf({ train, minutes: minutesOf(view.before, train) }, 'var(--pale)', 1.8, '6 4')));
+  const wayOf = ({ train, minutes }, ...look) => waysOf(frame, minutes.map((minute, place) => [minute, heightOf(frame, train.events[place])]), ...look);
+  drawPart(parts.old, [scene, view.before], () => !view.before ? [] : line.trains.flatMap(train => timedParts(view.before, train)).flatMap(part => wayOf(part, 'var(--pale)', 1.8, '6 4')));
   drawPart(parts.ways, [scene, ownMinutes], () => own.flatMap(each => wayOf(each, line.color, 2.6)));
   drawPart(parts.reaches, [scene, ownMinutes, isDragged], () => own.flatMap(({ train, minutes }) => reachesOf(frame, train, minutes, 14)));
 };
@@ -91,9 +92,11 @@ const possible = (view, frame, line, chosen) => line.trains.flatMap(train => {
   }).filter(Boolean);
 });
 
+const orderOf = line => new Map(line.stations.map((station, place) => [station, place]));
+
 // The trains of other lines that lie on tracks of this one, and where.
 const othersOf = (view, line) => {
-  const order = new Map(line.stations.map((station, place) => [station, place]));
+  const order = orderOf(line);
   const trains = view.lines.filter(({ name }) => name !== line.name).flatMap(each => each.trains);
   return trains.map(train => ({ train, places: placesOn(order, train) })).filter(({ places }) => places.length);
 };
@@ -154,7 +157,7 @@ const update = view => {
   const select = find('line-of-diagram');
   if (select.value !== line.name) select.value = line.name;
   kept = kept || emptySheet();
-  const { drawn, told } = diagramOf(view, line, shown.chosen, kept), missing = view.tensions ? '' : `No train is drawn, since ${view.missing}.`;
+  const { drawn, told } = diagramOf(view, line, shown.chosen, kept), missing = undrawnText(view);
   setText(find('diagram-note'), [told, NOTE, missing].filter(Boolean).join(' '));
   if (holder.firstChild !== drawn) holder.replaceChildren(drawn);
 };

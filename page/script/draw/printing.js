@@ -7,12 +7,13 @@ import { netgraphOf } from './netgraph.js';
 import { session } from './session.js';
 import { shown } from './shown.js';
 import { tablesOf } from './tables.js';
+import { untimedText } from './timed.js';
 import { countViolated } from './viewing.js';
 
 const summary = view => {
   const { title } = session.opened, count = countViolated(view);
   const date = new Date().toLocaleDateString('en-GB', { day: 'numeric', month: 'long', year: 'numeric' });
-  const cost = view.cost === null ? view.missing : `cost ${view.cost.toLocaleString('en')}`;
+  const cost = [`cost ${view.cost.toLocaleString('en')}`, untimedText(view)].filter(Boolean).join(', ');
   const violated = count === null ? '' : count ? `, ✕ ${count} violated` : ', nothing is violated';
   const told = `Period ${lengthText(view.network.period)}: ${cost}${violated}. A frame: the event is held.`;
   return [element('h1', {}, title || 'Timetable'), element('p', { class: 'date' }, `Printed on ${date}`), element('p', {}, told)];

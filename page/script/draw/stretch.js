@@ -1,7 +1,7 @@
 // The part of a line that its diagram draws: all of it, or where it is too long the stations about the chosen event.
 
 import { labelOf } from './names.js';
-import { trainPart } from './trains.js';
+import { partsWhere } from './trains.js';
 
 const MOST_STRETCH = 120;
 // So many stops of trains are drawn with all stations of a line.
@@ -11,16 +11,7 @@ const MOST_STOPS = 5000;
 export const MOST_STATIONS = 349;
 
 // The parts of a train that lie in some stations, each as a train.
-export const piecesOf = (train, stations) => {
-  const pieces = [];
-  train.events.forEach((event, place) => {
-    if (!stations.has(labelOf(event).station)) return;
-    const last = pieces[pieces.length - 1];
-    if (last && last.end === place) last.end = place + 1;
-    else pieces.push({ start: place, end: place + 1 });
-  });
-  return pieces.map(({ start, end }) => trainPart(train, start, end));
-};
+export const piecesOf = (train, stations) => partsWhere(train, event => stations.has(labelOf(event).station));
 
 const isSmall = ({ stations, trains }) => stations.length <= MOST_STRETCH
   || (stations.length <= MOST_STATIONS && trains.reduce((sum, { events }) => sum + events.length, 0) <= MOST_STOPS);

@@ -10,7 +10,8 @@ import { clock, labelOf, shortText, trainName } from './names.js';
 import { shown } from './shown.js';
 import { piecesOf, stretchOf } from './stretch.js';
 import { isTab } from './tabs.js';
-import { minutesOf, trainPart } from './trains.js';
+import { undrawnText } from './timed.js';
+import { timedParts, trainPart } from './trains.js';
 import { AS_LONG } from './ways.js';
 
 const NOTE = 'A band after a train: the minutes that its headways keep free. Red: violated, with the minutes had and wanted.', REACH = 12;
@@ -38,11 +39,8 @@ const partsAlong = ({ away }, train) => {
   return starts.map((start, place) => trainPart(train, start, starts[place + 1] || train.events.length));
 };
 
-// The events of a train with their minutes and heights; null where a time is missing.
-const stopsOf = (view, frame, train) => {
-  const minutes = minutesOf(view, train);
-  return minutes && train.events.map((event, place) => ({ event, minute: minutes[place], y: heightOf(frame, event) }));
-};
+// The events of a train with their minutes and heights.
+const stopsOf = (frame, { train, minutes }) => train.events.map((event, place) => ({ event, minute: minutes[place], y: heightOf(frame, event) }));
 
 const mod = (minute, period) => ((minute % period) + period) % period;
 
@@ -77,7 +75,7 @@ const diagramOf = (view, line) => {
   const whole = frameOf(line, view.network), away = new Set(line.trains.flatMap(train => leavingOf(view, whole, line, train)));
   const frame = { ...whole, away }, { page, clip } = sheetOf(frame, `Distance-time diagram of the corridor ${line.stations.join(', ')}`);
   const parts = line.trains.flatMap(train => partsAlong(frame, train)), free = keptFree(view.network);
-  const trains = parts.map(train => ({ train, stops: stopsOf(view, frame, train) })).filter(({ stops }) => stops);
+  const trains = parts.flatMap(train => timedParts(view, train)).map(part => ({ train: part.train, stops: stopsOf(frame, part) }));
   clip.append(...trains.flatMap(({ train, stops }) => bandsOf(frame, train, stops, free)));
   const drawn = trains.map((each, count) => drawTrain(frame, each, count)), names = drawn.flatMap(each => [...each.querySelectorAll('text.end')]);
   const { ways, labels, told } = conflictMarks(view, frame, 'in the corridor', names);
@@ -88,7 +86,7 @@ const diagramOf = (view, line) => {
 
 const toldOf = (view, ...told) => {
   const { gaps } = corridor, none = gaps.map(([one, other]) => `No way leads on from ${one} to ${other}.`);
-  return [...told, ...none, NOTE, view.tensions ? '' : `No train is drawn, since ${view.missing}.`].filter(Boolean).join(' ');
+  return [...told, ...none, NOTE, undrawnText(view)].filter(Boolean).join(' ');
 };
 
 const update = view => {

@@ -7,7 +7,7 @@ import { beginMove, moveTrain, shiftText, wantsFromHere } from './moving.js';
 import { clock, trainName } from './names.js';
 import { choose } from './session.js';
 import { shown } from './shown.js';
-import { isStaying, minutesOf } from './trains.js';
+import { isStaying, timedParts } from './trains.js';
 
 export const makeBar = (line, train) => {
   const bar = { train, drawn: '', way: null, note: element('span', { class: 'note' }) }, name = trainName(train);
@@ -48,10 +48,10 @@ export const drawBar = (bar, view) => {
   const times = train.events.map(event => view.times.get(event)), drawn = `${times} ${period} ${note} ${isChosen}`;
   if (bar.drawn === drawn) return;
   bar.drawn = drawn;
-  const minutes = minutesOf(view, train), known = times.filter(time => time !== undefined), [first = 0] = known;
+  const parts = timedParts(view, train), known = times.filter(time => time !== undefined), [first = 0] = known;
   bar.svg.setAttribute('viewBox', `0 0 ${period} 1`);
-  bar.whole.setAttribute('d', minutes ? pathOf(minutes, period) : '');
-  bar.broken.setAttribute('d', minutes ? brokenOf(view, train, minutes) : '');
+  bar.whole.setAttribute('d', parts.map(({ minutes }) => pathOf(minutes, period)).join(''));
+  bar.broken.setAttribute('d', parts.map(part => brokenOf(view, part.train, part.minutes)).join(''));
   bar.stops.setAttribute('d', known.map(time => `M${time + 0.5} 0V1`).join(''));
   if (way.hidden !== !known.length) way.hidden = !known.length;
   // Set just where it is another one: a browser lays out the page to see whether what has the keys can keep them.

@@ -3,6 +3,7 @@
 import { find, say } from './elements.js';
 import { leftText } from './moving.js';
 import { session } from './session.js';
+import { untimedText } from './timed.js';
 import { countViolated } from './viewing.js';
 
 let opened = null, settled = null, drawn = null, before = null;
@@ -41,9 +42,8 @@ export const violatedNote = (view, words) => {
 // The same in words, for a step that has a title.
 const told = view => {
   const cost = costMore(view), count = countViolated(view);
-  if (cost === null) return `cost not known, since ${view.missing}`;
   const violated = count ? `${count} violated, ${worded(violatedMore(view))}` : 'nothing is violated';
-  return [`cost ${worded(cost)}`, violated, leftText(view)].filter(Boolean).join('; ');
+  return [`cost ${worded(cost)}`, violated, leftText(view), untimedText(view)].filter(Boolean).join('; ');
 };
 
 export const changingPanel = {

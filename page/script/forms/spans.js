@@ -121,7 +121,7 @@ const drawCard = (card, activity, view) => {
 
 // What is violated may be counted as a period more than it takes.
 const toldOf = (taken, had, isViolated, weight) => {
-  if (!taken) return 'no timetable to look at';
+  if (!taken) return 'one of its ends has no time';
   const cost = weight && taken.slack ? `, costs ${(weight * taken.slack).toLocaleString('en')}` : '';
   const counted = had === taken.tension ? '' : `, counted as ${lengthText(taken.tension)}`;
   return `${isViolated ? '✕ not met: ' : '✓ '}takes ${minutesText(had)}${counted}, slack ${lengthText(taken.slack)}${cost}`;

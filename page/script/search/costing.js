@@ -41,7 +41,7 @@ const trackOf = ({ of, number }) => {
 
 const told = ({ of }, minute) => of === 'event' ? `at ${clock(minute)}` : `with ${minutesText(minute)}`;
 
-const nowOf = ({ of, number }, { times, tensions }) => of === 'event' ? times.get(number) : tensions ? tensions.get(number).tension : undefined;
+const nowOf = ({ of, number }, { times, tensions }) => of === 'event' ? times.get(number) : tensions.get(number)?.tension;
 
 // Another timetable as far as it is another.
 const changedTimes = ({ times }) => {

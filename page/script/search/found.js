@@ -3,7 +3,7 @@
 
 import { isSure } from './replies.js';
 import { turned } from './turning.js';
-import { countViolated } from './viewing.js';
+import { isMet } from './viewing.js';
 
 // By how much a cost may be above the best, in thousandths of that and upwards, and the most for which per cents say something.
 const THOUSAND = 1000n, MOST = 10n * THOUSAND;
@@ -58,7 +58,7 @@ export const tookText = ({ kind, nodes, seconds, isStopped }) => {
 export const aboveText = (found, view) => {
   const { kind, cost, times, bound } = found, best = `the best${kind === 'optimum' ? '' : ' that is found'}`;
   if (!times) return TEXTS[kind](found);
-  if (countViolated(view) !== 0) return `${best} costs ${number(cost)}`;
+  if (!isMet(view)) return `${best} costs ${number(cost)}`;
   const more = BigInt(view.cost) - BigInt(cost), gap = kind === 'optimum' ? '' : gapText(view.cost, bound) || 'how far above the best is not known yet';
   return [more > 0n ? `${number(more)} above ${best}, which costs ${number(cost)}` : best, gap].filter(Boolean).join('; ');
 };
@@ -71,7 +71,7 @@ const isShown = ({ cost, times }, view) => cost === view.cost && times.size === 
 export const comparedText = (found, view, isSearching) => {
   const { cost, bound } = found;
   if (isShown(found, view)) return { told: 'it is the timetable shown', adopt: '' };
-  if (countViolated(view) !== 0 || cost < view.cost) return { told: '', adopt: 'Adopt it' };
+  if (!isMet(view) || cost < view.cost) return { told: '', adopt: 'Adopt it' };
   const shown = number(view.cost);
   if (cost > view.cost) {
     const gap = gapText(view.cost, bound);

@@ -13,7 +13,7 @@ import { isTab, showTab } from './tabs.js';
 import { askWhy } from './telling.js';
 import { stayingEvents } from './trains.js';
 import { turned } from './turning.js';
-import { countViolated } from './viewing.js';
+import { countViolated, isMet } from './viewing.js';
 
 // What is shown as proposed: its lines and words, and what the step is called that takes it; and what a search for one came to that shows
 // none, null where there is no such; and what was listed last.
@@ -26,11 +26,11 @@ const costText = before => {
 };
 
 // Shows what lines would make above what is shown, which stays what it is; `told` says what they move, and `step` what takes them.
-const propose = (lines, told, step, isMet = true) => {
+const propose = (lines, told, step, isToMeet = true) => {
   const before = shown.view.before || shown.view;
   refusal = null;
   preview(lines, '', before);
-  if (!shown.view.isTried || (isMet && countViolated(shown.view) !== 0)) {
+  if (!shown.view.isTried || (isToMeet && !isMet(shown.view))) {
     refresh();
     return say('What was found does not meet everything: this is a fault of the page.', true);
   }

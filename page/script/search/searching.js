@@ -10,7 +10,7 @@ import { doStep, markNow } from './session.js';
 import { shown } from './shown.js';
 import { timeLines } from './times.js';
 import { turned } from './turning.js';
-import { countViolated } from './viewing.js';
+import { isMet } from './viewing.js';
 
 // The most that a search can be asked for.
 export const EVERY_CASE = 1e12;
@@ -23,8 +23,8 @@ const isOfNow = () => Boolean(found) && found.mark === markNow();
 
 // The cheapest timetable that is known to meet everything: the one that was found, or the one that is shown; null where none is.
 export const bestKnown = () => {
-  const { times, cost, isTried } = shown.view, isMet = !isTried && countViolated(shown.view) === 0, [best] = foundsOf(markNow());
-  if (isMet && !(best && best.cost <= cost)) return { kind: 'stopped', times, cost, isShown: true };
+  const { times, cost, isTried } = shown.view, [best] = foundsOf(markNow());
+  if (!isTried && isMet(shown.view) && !(best && best.cost <= cost)) return { kind: 'stopped', times, cost, isShown: true };
   return best ? { ...best, kind: isOfNow() && found.cost === best.cost ? found.kind : 'stopped' } : null;
 };
 

@@ -81,7 +81,7 @@ const costsOf = ({ network, tensions, labels }) => {
 
 // The cost by kind, dearest after the change first, and in all; null where a time is missing.
 export const costsBeside = (before, after) => {
-  if (before.cost === null || after.cost === null) return null;
+  if (before.missing || after.missing) return null;
   const [old, now] = [before, after].map(costsOf), at = (costs, kind) => costs.get(kind) || 0n;
   const kinds = [...new Set([...old.keys(), ...now.keys()])];
   kinds.sort((one, other) => Number(at(now, other) - at(now, one)) || (one < other ? -1 : 1));

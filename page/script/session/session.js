@@ -8,6 +8,7 @@ import { noLabels } from './labels.js';
 import { labelOf } from './names.js';
 import { does, look, openFirst, openSession, prepared, RunFault } from './running.js';
 import { beginShown, setChosen, setChosenLine, setLabels, setView, shown } from './shown.js';
+import { ofTimed } from './timed.js';
 import { linesOf, trainsOf } from './trains.js';
 import { isInfeasible } from './viewing.js';
 
@@ -227,7 +228,7 @@ export const addPanels = added => panels.push(...added);
 
 const show = view => {
   const before = shown.view;
-  setView(Object.assign(view, { labels: shown.labels, lastDomains: before ? lastDomains(before) : view.domains }));
+  setView(Object.assign(view, view.missing && ofTimed(view), { labels: shown.labels, lastDomains: before ? lastDomains(before) : view.domains }));
   const isBuilt = !before || before.labels !== view.labels || before.network.shape !== view.network.shape;
   if (isBuilt) {
     view.trains = trainsOf(view.network);

@@ -64,6 +64,18 @@ const withStops = train => {
 export const trainPart = (train, start, end) =>
   withStops({ ...train, events: train.events.slice(start, end), steps: train.steps.slice(start, end - 1) });
 
+// The parts of a train that some of its events make, each as a train.
+export const partsWhere = (train, isOfPart) => {
+  const parts = [];
+  train.events.forEach((event, place) => {
+    if (!isOfPart(event)) return;
+    const last = parts[parts.length - 1];
+    if (last && last.end === place) last.end = place + 1;
+    else parts.push({ start: place, end: place + 1 });
+  });
+  return parts.map(({ start, end }) => trainPart(train, start, end));
+};
+
 // The stations of a train with its arrivals and departures.
 const stopsOf = train => {
   const stops = [];
@@ -109,11 +121,18 @@ export const isForward = (line, train) =>
   line.stations.indexOf(train.stations[0]) <= line.stations.indexOf(train.stations[train.stations.length - 1]);
 
 // The minute of each event of a train, counted on from the first beyond the period; null where a time is missing.
-export const minutesOf = (view, train) => {
-  if (!view.tensions || !view.times.has(train.events[0])) return null;
+const minutesOf = (view, train) => {
+  if (!view.tensions || !train.events.every(event => view.times.has(event))) return null;
   const minutes = [view.times.get(train.events[0])];
   for (const step of train.steps) minutes.push(minutes[minutes.length - 1] + minutesHad(view, step));
   return minutes;
+};
+
+// The parts of a train that have times, each with its minutes: the train itself where all are there.
+export const timedParts = (view, train) => {
+  const minutes = minutesOf(view, train);
+  if (minutes) return [{ train, minutes }];
+  return view.tensions ? partsWhere(train, event => view.times.has(event)).map(part => ({ train: part, minutes: minutesOf(view, part) })) : [];
 };
 
 // The first events of those that stay where others are mended.
