@@ -2,11 +2,13 @@
 
 import { addingPanel } from './adding.js';
 import { alwaysPanel, startAlways } from './always.js';
+import { startAltering } from './altering.js';
 import { startAsking } from './asking.js';
 import { changingPanel } from './changing.js';
 import { choosingPanel, startChoosing } from './choosing.js';
 import { corridorPanel } from './corridor.js';
 import { costingPanel, startCosting } from './costing.js';
+import { departingPanel } from './departing.js';
 import { diagramPanel, startDiagram } from './diagram.js';
 import { draftsPanel, startDrafts } from './drafts.js';
 import { find, tellReady } from './elements.js';
@@ -44,13 +46,13 @@ import { startVariants, variantsPanel } from './variants.js';
 
 // In the order in which they are drawn.
 const PANELS = [
-  eventsPanel, factsPanel, spansPanel, costingPanel, movingPanel, changingPanel, addingPanel, headPanel, diagramPanel, tablesPanel, netgraphPanel,
+  eventsPanel, factsPanel, spansPanel, costingPanel, movingPanel, departingPanel, changingPanel, addingPanel, headPanel, diagramPanel, tablesPanel, netgraphPanel,
   variantsPanel, findingPanel, finderPanel, corridorPanel, trafficPanel, stationsPanel, choosingPanel, violatedPanel, stepsPanel, searchingPanel, proposingPanel, alwaysPanel,
   tellingPanel, gainsPanel, linkingPanel, draftsPanel,
 ];
 
 const STARTS = [
-  startHead, startTabs, startStrips, startDiagram, startCosting, startChoosing, startLines, startLining, startVariants, startHelps, startLegend,
+  startHead, startTabs, startStrips, startDiagram, startCosting, startChoosing, startLines, startLining, startAltering, startVariants, startHelps, startLegend,
   startFinding, startStations, startAsking, startSearching, startNetgraph, startProposing, startAlways, startTelling, startGains, startPrinting, startOpening, startSaving,
   startHanding,
 ];

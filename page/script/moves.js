@@ -28,7 +28,7 @@ export const movesText = (times, held = new Set()) => {
   const trains = new Set(moved.map(event => trainAt(event) ? trainAt(event).train : event)), isOfTrains = moved.every(event => trainAt(event));
   const most = moved.reduce((far, event) => before.has(event) ? Math.max(far, farther(before.get(event), times.get(event))) : far, 0);
   if (!moved.length) return `nothing ${held.size ? 'else ' : ''}moves`;
-  const named = trains.size <= MOST_NAMED ? [...trains].map(each => isOfTrains ? trainName(each) : eventName(each)).join(' and ') : '';
+  const named = trains.size <= MOST_NAMED ? [...trains].map(each => isOfTrains ? trainName(each, each.events[0]) : eventName(each)).join(' and ') : '';
   return `${named || `${trains.size} ${other}${isOfTrains ? 'trains' : 'events'}`} move${trains.size > 1 ? '' : 's'}, by at most ${minutesText(most)}`;
 };
 

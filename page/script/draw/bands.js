@@ -40,7 +40,7 @@ const flat = (frame, { minute, y }, minutes) =>
   pathOf(frame, [[minute, y - FLAT], [minute + minutes, y - FLAT], [minute + minutes, y + FLAT], [minute, y + FLAT]]);
 
 const band = (d, minutes, train) => drawing('path', { class: 'band', d, fill: train.color },
-  drawing('title', {}, `Headway: ${minutesText(minutes)} after ${trainName(train)}`));
+  drawing('title', {}, `Headway: ${minutesText(minutes)} after ${trainName(train, train.events[0])}`));
 
 // The bands of a train; `stops` are its events with their minutes and heights.
 export const bandsOf = (frame, train, stops, free) => {

@@ -79,7 +79,7 @@ const NONE = { text: '', isViolated: false };
 
 const connectionRow = (sides, taken, number) => {
   const [before, after] = taken.map(each => each.get(number) || NONE), { view } = sides[after.each ? 1 : 0], { each } = after.each ? after : before;
-  const [from, to, station] = within(view, () => [trainName(labelOf(each.first)), trainName(labelOf(each.last)), labelOf(each.first).station]);
+  const [from, to, station] = within(view, () => [trainName(labelOf(each.first), each.first), trainName(labelOf(each.last), each.last), labelOf(each.first).station]);
   const cells = [before, after].map(({ text, isViolated }) => element('td', { class: isViolated ? 'alarm' : null }, text || 'not there'));
   const more = before.had === undefined || after.had === undefined ? '' : signedMinutes(after.had - before.had);
   return rowOf(station, [from, to, ...cells, more], { 'data-event': each.first });

@@ -33,7 +33,7 @@ export const takesText = (view, { number }) => {
 
 const row = (view, each) => {
   const { text: takes, isViolated } = takesText(view, each);
-  const [from, to] = [each.first, each.last].map(event => trainName(labelOf(event)));
+  const [from, to] = [each.first, each.last].map(event => trainName(labelOf(event), event));
   const cells = [minuteText(view, each.first), to, minuteText(view, each.last), takes, spanText(each.lower, each.upper)];
   return rowOf(from, cells.map((text, place) => element('td', { class: isViolated && place === 3 ? 'alarm' : null }, text)));
 };

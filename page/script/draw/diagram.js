@@ -148,9 +148,9 @@ const NOTE = 'Marks along a station: the minutes at which the trains of the line
 const update = view => {
   if (!isTab('diagram')) return;
   const line = view.lines.find(each => each.name === shown.chosenLine) || view.lines[0], holder = find('diagram');
-  find('line-choice').hidden = !line;
+  find('line-choice').hidden = find('alter-line').hidden = !line;
   if (!line || line.stations.length < 2) {
-    setText(find('diagram-note'), 'A file of labels names the lines and stations; with it the line of the chosen event is drawn here.');
+    setText(find('diagram-note'), 'Add a line in Tables, or open a file of labels: then the line of the chosen event is drawn here.');
     holder.replaceChildren();
     return;
   }

@@ -28,7 +28,7 @@ const entry = (kind, value, name, note) => ({ kind, value, name, note, folded: f
 const entries = ({ network, lines, trains }) => [
   ...[...countsOf(network.events)].map(([name, count]) => entry('station', name, name, `station, ${count} event${count > 1 ? 's' : ''}`)),
   ...lines.map(line => entry('line', line.name, line.name, `line, ${line.stations[0]} – ${line.stations[line.stations.length - 1]}`)),
-  ...trains.map(train => entry('train', train.events[0], trainName(train), `train from ${train.stations[0]}, event ${train.events[0]}`)),
+  ...trains.map(train => entry('train', train.events[0], trainName(train, train.events[0]), `train from ${train.stations[0]}, event ${train.events[0]}`)),
   ...network.events.map(event => entry('event', event, eventName(event), labelOf(event).station ? `event ${event}` : '')),
 ];
 

@@ -60,10 +60,11 @@ export const minuteText = (view, event) => {
   return bareClock(time) + (isOutside(view, event) ? '✕' : '');
 };
 
-const headOf = line => {
+const headOf = (line, isPrinted) => {
   const pill = element('span', { class: 'pill' }, line.name);
   pill.style.background = line.color;
-  return element('h3', {}, pill, line.stations.length > 1 ? ` ${line.stations[0]} – ${line.stations[line.stations.length - 1]}` : '');
+  return element('h3', {}, pill, line.stations.length > 1 ? ` ${line.stations[0]} – ${line.stations[line.stations.length - 1]}` : '',
+    !isPrinted && ' ', !isPrinted && element('button', { class: 'small', type: 'button', 'data-alter': line.name, 'aria-label': `Change line ${line.name}` }, 'Change…'));
 };
 
 // Where there are no lines: all events, each in a row.
@@ -82,7 +83,7 @@ export const tablesOf = (view, isPrinted, made = new Map()) => {
   if (!view.lines.length) return [eventTable(view)];
   const tables = view.lines.map(line => {
     const { drawn, told } = isPrinted && line.stations.length > 1 ? diagramOf(view, line) : { drawn: null, told: '' };
-    return element('section', { class: 'line' }, headOf(line), lineTable(line, made), drawn, told && element('p', {}, told));
+    return element('section', { class: 'line' }, headOf(line, isPrinted), lineTable(line, made), drawn, told && element('p', {}, told));
   });
   drawCells(view, made);
   return tables;

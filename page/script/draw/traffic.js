@@ -47,7 +47,7 @@ const mod = (minute, period) => ((minute % period) + period) % period;
 // A train: its way, wider ones that take hold of it, and its name on its longest run.
 const drawTrain = (frame, { train, stops }, count) => {
   const d = pathsOf(frame, stops.map(({ minute, y }) => [minute, y])).join(''), minutes = stops.map(({ minute }) => minute);
-  const title = drawing('title', {}, `${trainName(train)}: ${train.stations[0]} ${clock(mod(stops[0].minute, frame.period))}`);
+  const title = drawing('title', {}, `${trainName(train, train.events[0])}: ${train.stations[0]} ${clock(mod(stops[0].minute, frame.period))}`);
   const look = { class: train.events.includes(shown.chosen) ? 'train chosen' : 'train' }, way = drawing('path', { class: 'way', d, stroke: train.color });
   return drawing('g', look, title, way, ...reachesOf(frame, train, minutes, REACH), ...nameOf(frame, train, stops, PARTS[count % PARTS.length]));
 };
@@ -94,7 +94,7 @@ const update = view => {
   const { stations } = corridor, holder = find('corridor'), isDrawn = stations.length > 1;
   const { line, told } = isDrawn ? stretchOf(trafficOf(view, stations), shown.chosen) : { line: null, told: '' };
   const wanted = view.lines.length ? 'Two stations or more make a corridor: type them here, or click them on the netgraph.'
-    : 'A file of labels names the lines and stations; with it a corridor is drawn here.';
+    : 'Add a line in Tables, or open a file of labels: then a corridor is drawn here.';
   const { drawn, left } = isDrawn ? diagramOf(view, line) : { drawn: '', left: '' };
   setText(find('corridor-note'), isDrawn ? toldOf(view, told, left) : wanted);
   renew(holder, drawn ? [drawn] : []);

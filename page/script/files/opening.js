@@ -11,6 +11,7 @@ import { isSaved } from './filing.js';
 import { sheetsAmong } from './forms.js';
 import { blobsOf, droppedFiles } from './gathering.js';
 import { helpFor } from './helping.js';
+import { showLining } from './lining.js';
 import { session } from './session.js';
 import { stories } from './stories.js';
 import { openTexts } from './texts.js';
@@ -174,8 +175,22 @@ export const showOpening = () => {
   show();
 };
 
+// A network with nothing in it, which begins with a line.
+const beginNew = () => {
+  if (!find('opening-period').reportValidity()) return;
+  try {
+    openTexts({}, 'a new network', Number(find('opening-period').value));
+    hide();
+    say('');
+    showLining();
+  } catch (fault) {
+    tellOpening(fault.message);
+  }
+};
+
 export const startOpening = () => {
-  find('open').addEventListener('click', showOpening);
+  for (const name of ['open', 'new']) find(name).addEventListener('click', showOpening);
+  find('begin-new').addEventListener('click', beginNew);
   for (const name of ['choose-files', 'choose-folder']) {
     find(name).addEventListener('change', event => {
       const given = [...event.target.files].map(file => new File([file], file.webkitRelativePath || file.name));

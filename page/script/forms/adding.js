@@ -2,8 +2,9 @@
 
 import { element, find, say } from './elements.js';
 import { showRow } from './events.js';
-import { minutesTyped } from './fields.js';
+import { factForm, minutesTyped } from './fields.js';
 import { readLabels } from './labels.js';
+import { addActivity, beginMade, doMade, dropEvents } from './making.js';
 import { eventName, labelOf } from './names.js';
 import { doStep, redraw, session } from './session.js';
 import { shown } from './shown.js';
@@ -11,14 +12,15 @@ import { shown } from './shown.js';
 const KINDS = ['run', 'dwell', 'change', 'turn', 'headway'], OF_ONE_STATION = ['dwell', 'change', 'turn', 'turnaround', 'transfer'];
 let from = null, opened = null, drawn = '';
 
-// A number above all that are taken.
-export const freeNumber = (...taken) => taken.reduce((most, keys) => [...keys].reduce((one, other) => Math.max(one, other), most), 0) + 1;
-
 export const dropActivity = number => doStep([`drop activity ${number}`]);
 
 const activitiesAt = event => [...shown.view.network.activities.values()].filter(each => each.first === event || each.last === event);
 
-const dropEvent = event => doStep([...activitiesAt(event).map(each => `drop activity ${each.number}`), `drop event ${event}`]);
+const dropEvent = event => {
+  const made = beginMade();
+  dropEvents(made, [event]);
+  doMade(made);
+};
 
 // By a key: begins at the chosen event, and leads into the fields where both are chosen.
 export const addHere = () => {
@@ -42,26 +44,17 @@ const faultOf = kind => {
 
 const add = () => {
   const fault = faultOf(find('added-kind').value.trim());
-  if (fault) return say(fault, true);
-  const { kinds } = shown.labels, number = freeNumber(shown.view.network.activities.keys(), kinds.keys());
-  const kind = find('added-kind').value.trim(), words = [number, from, shown.chosen, valueOf('added-least'), valueOf('added-most')];
-  const labels = kind ? { ...shown.labels, kinds: new Map([...kinds, [number, kind]]) } : shown.labels;
-  if (doStep([`add activity ${words.join(' ')} ${find('added-weight').value.trim()}`], { labels })) leave();
-  return null;
+  if (fault) throw new Error(fault);
+  const made = beginMade(), span = [valueOf('added-least'), valueOf('added-most')];
+  addActivity(made, [from, shown.chosen], span, find('added-weight').value.trim(), find('added-kind').value.trim());
+  doMade(made);
+  leave();
 };
 
 const leave = () => {
   from = null;
   redraw();
 };
-
-const form = (submit, ...children) => element('form', {
-  class: 'fact',
-  onsubmit: event => {
-    event.preventDefault();
-    submit();
-  },
-}, ...children);
 
 const button = (text, onclick, more = {}) => element('button', { type: 'button', onclick, ...more }, text);
 
@@ -77,7 +70,7 @@ const field = (id, label, more = {}) => element('label', {}, `${label} `,
 const addingForm = () => {
   const used = new Set([...KINDS, ...[...shown.labels.kinds.values()].slice(0, 1000)]);
   const list = element('datalist', { id: 'known-kinds' }, ...[...used].map(kind => element('option', { value: kind })));
-  return form(add, element('span', { id: 'added-ends' }, `from ${eventName(from)} to ${eventName(shown.chosen)}`),
+  return factForm(add, element('span', { id: 'added-ends' }, `from ${eventName(from)} to ${eventName(shown.chosen)}`),
     button('Exchange', exchange, { id: 'exchange' }), list, field('added-kind', 'kind', { class: '', size: 9, list: 'known-kinds', required: false }),
     field('added-least', 'takes'), field('added-most', 'to'), field('added-weight', 'weight', { value: 1 }),
     element('button', { class: 'main', id: 'add-it' }, 'Add it'), button('Leave', leave));
@@ -98,12 +91,12 @@ const name = () => {
 // The labels of a file, beside and before those that are there.
 export const addLabels = text => {
   const { events, kinds } = readLabels(text);
-  return doStep([], { labels: { events: new Map([...shown.labels.events, ...events]), kinds: new Map([...shown.labels.kinds, ...kinds]) } });
+  return doStep([], { labels: { ...shown.labels, events: new Map([...shown.labels.events, ...events]), kinds: new Map([...shown.labels.kinds, ...kinds]) } });
 };
 
 const naming = () => {
   const label = labelOf(shown.chosen);
-  return element('details', {}, element('summary', {}, 'Name it'), form(name, ...['line', 'to', 'station', 'kind'].map(part =>
+  return element('details', {}, element('summary', {}, 'Name it'), factForm(name, ...['line', 'to', 'station', 'kind'].map(part =>
     field(`named-${part}`, part, { class: '', size: 9, required: false, value: label[part] })), element('button', { id: 'name-it' }, 'Name')));
 };
 

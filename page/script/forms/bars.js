@@ -4,23 +4,23 @@ import { conflictsAt, isAlarming, isOutside, outsideText } from './conflicts.js'
 import { drawing, element, setAttribute, setText } from './elements.js';
 import { isFinger, makeHandle, minutesOfKey, tellHandle, unitAt } from './handles.js';
 import { beginMove, moveTrain, shiftText, wantsFromHere } from './moving.js';
-import { clock, trainName } from './names.js';
+import { clock, trainName, twinText } from './names.js';
 import { choose } from './session.js';
 import { shown } from './shown.js';
 import { isStaying, timedParts } from './trains.js';
 
 export const makeBar = (line, train) => {
-  const bar = { train, drawn: '', way: null, note: element('span', { class: 'note' }) }, name = trainName(train);
+  const bar = { train, drawn: '', way: null, note: element('span', { class: 'note' }) }, [first] = train.events, name = trainName(train, first);
   const pill = element('span', { class: 'pill' }, line.name);
   pill.style.background = line.color;
   [bar.whole, bar.broken, bar.stops] = ['whole', 'broken', 'stops'].map(part => drawing('path', { class: part, stroke: line.color }));
   bar.svg = drawing('svg', { preserveAspectRatio: 'none', 'aria-hidden': 'true' }, bar.whole, bar.broken, bar.stops);
   bar.way = makeHandle('way', `${name}: the whole train`, {
-    'data-way': train.events[0], onpointerdown: event => begin(bar, event), onkeydown: event => typed(bar, event),
+    'data-way': first, onpointerdown: event => begin(bar, event), onkeydown: event => typed(bar, event),
     onclick: event => isFinger(event) && choose(nearest(bar, event.clientX)),
   });
   bar.way.append(bar.svg);
-  bar.node = element('div', { class: 'row bar' }, element('h3', { title: name }, pill, ` to ${train.to}`), bar.way, bar.note);
+  bar.node = element('div', { class: 'row bar' }, element('h3', { title: name }, pill, ` to ${train.to}${twinText(first)}`), bar.way, bar.note);
   return bar;
 };
 

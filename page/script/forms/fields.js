@@ -1,7 +1,8 @@
 // Fields for numbers. The program is given what is typed there, and says what it does not take.
 
-import { element } from './elements.js';
-import { isOfHours, lengthText } from './names.js';
+import { element, say } from './elements.js';
+import { clock, isOfHours, lengthText } from './names.js';
+import { shown } from './shown.js';
 
 const CLOCK = /^([+-]?)([0-9]*):([0-5][0-9])$/, FOUR_DIGITS = /^()(0[0-9])([0-5][0-9])$/, OF_A_DAY = /^()([0-2][0-9])([0-5][0-9])$/;
 
@@ -15,6 +16,25 @@ export const minutesTyped = text => minutesIn(text.trim(), [CLOCK, FOUR_DIGITS])
 
 // The same for a minute of the period: where it is told with the hour, four digits are hours and minutes, as `1815`.
 export const clockTyped = text => minutesIn(text.trim(), [CLOCK, isOfHours() ? OF_A_DAY : FOUR_DIGITS]);
+
+// The minute of the period that is typed in a field; null where nothing is. Raises Error.
+export const minuteOf = field => {
+  const { period } = shown.view.network, text = clockTyped(field.value);
+  if (text && !(/^[0-9]+$/.test(text) && Number(text) < period)) throw new Error(`${field.value}: wanted a minute up to ${clock(period - 1)}`);
+  return text ? Number(text) : null;
+};
+
+// Has a form do something, and tells what is wrong with what is typed there.
+export const submits = (act, tell = text => say(text, true)) => event => {
+  event.preventDefault();
+  try {
+    act();
+  } catch (fault) {
+    tell(fault.message);
+  }
+};
+
+export const factForm = (act, ...children) => element('form', { class: 'fact', onsubmit: submits(act) }, ...children);
 
 /** Whether what has the keys takes letters. @param {any} node */
 export const isField = node => node.matches('input:not([type=checkbox]), select, textarea');

@@ -1,11 +1,11 @@
 // A line that is typed as a table of its stops, and added as trains of one or of both directions, in one step.
 
-import { freeNumber } from './adding.js';
 import { element, find, setText } from './elements.js';
 import { showRow } from './events.js';
-import { minutesTyped } from './fields.js';
-import { doStep } from './session.js';
+import { minuteOf, minutesTyped, submits } from './fields.js';
+import { addActivity, addEvent, beginMade, doMade } from './making.js';
 import { shown } from './shown.js';
+import { hourlyText, rhythmOf, tie } from './twins.js';
 
 const SPAN = /^([0-9:]+)(?:\s*(?:-|–|to)\s*([0-9:]+))?$/;
 
@@ -16,7 +16,7 @@ const row = () => element('tr', {}, element('td', {}, field('station', 'station'
   element('td', {}, field('run', 'minutes to the next stop', { class: 'number' })));
 
 // A span as `6`, or as `6 to 8`. Raises Error.
-const spanOf = (text, what) => {
+export const spanOf = (text, what) => {
   const found = SPAN.exec(text.trim());
   if (!found) throw new Error(`${what}: wanted minutes, as 6, or 6 to 8`);
   return [found[1], found[2] || found[1]].map(minutesTyped);
@@ -39,61 +39,59 @@ const stopsTyped = () => {
 
 const reversed = stops => [...stops].reverse().map((stop, place, all) => ({ ...stop, run: place < all.length - 1 ? all[place + 1].run : null }));
 
-// Lines and names of a train, which are added to what is made.
-const addTrain = (made, stops, weight) => {
-  let before = null;
-  const event = (label, kind) => {
-    made.lines.push(`add event ${made.event}`);
-    made.events.set(made.event, { line: made.name, to: stops[stops.length - 1].station, station: label, kind });
-    return made.event++;
-  };
-  const join = (last, [lower, upper], kind) => {
-    made.lines.push(`add activity ${made.activity} ${before} ${last} ${lower} ${upper} ${weight}`);
-    made.kinds.set(made.activity++, kind);
-    before = last;
+// Adds a train, with times that follow from its least minutes where it leaves at a minute, and gives its events.
+const addTrain = (made, stops, { name: line, weight }, leaves) => {
+  const { station: to } = stops[stops.length - 1], events = [];
+  let time = leaves;
+  const event = (station, kind) => events.push(addEvent(made, { line, to, station, kind }, time));
+  const join = (station, kind, span, step) => {
+    time = time === null ? null : time + Number(span[0]);
+    event(station, kind);
+    addActivity(made, events.slice(-2), span, weight, step);
   };
   stops.forEach(({ station, dwell }, place) => {
-    if (place) join(event(station, 'arrival'), stops[place - 1].run, 'run');
-    if (dwell) join(event(station, 'departure'), dwell, 'dwell');
-    else if (!place) before = event(station, 'departure');
+    if (place) join(station, 'arrival', stops[place - 1].run, 'run');
+    else event(station, 'departure');
+    if (dwell) join(station, 'departure', dwell, 'dwell');
   });
+  return events;
+};
+
+// The trains of one direction, which come at equal intervals and are tied.
+const addTrains = (made, stops, line, id) => {
+  const leaves = minuteOf(find(id)), { count, minutes } = line.rhythm;
+  const trains = [...Array(count).keys()].map(place => addTrain(made, stops, line, leaves === null ? null : leaves + place * minutes));
+  trains.slice(1).forEach((events, place) => tie(made, trains[0], events, (place + 1) * minutes));
 };
 
 const add = () => {
-  const { network } = shown.view, { events, kinds } = shown.labels, stops = stopsTyped(), weight = find('line-weight').value.trim();
-  const made = { name: find('line-name').value.trim(), lines: [], events: new Map(events), kinds: new Map(kinds),
-    event: freeNumber(network.events, events.keys()), activity: freeNumber(network.activities.keys(), kinds.keys()) };
-  addTrain(made, stops, weight);
-  if (find('both-ways').checked) addTrain(made, reversed(stops), weight);
-  if (!doStep(made.lines, { labels: { events: made.events, kinds: made.kinds } })) throw new Error(find('said').textContent);
+  const stops = stopsTyped(), before = shown.labels.events, made = beginMade(), valueOf = id => find(id).value.trim();
+  const line = { name: valueOf('line-name'), weight: valueOf('line-weight'), rhythm: rhythmOf(valueOf('line-hourly')) };
+  addTrains(made, stops, line, 'line-leaves');
+  if (find('both-ways').checked) addTrains(made, reversed(stops), line, 'line-back');
+  doMade(made, `line ${line.name} added: ${stops[0].station} – ${stops[stops.length - 1].station}`);
   find('lining').close();
-  showRow(shown.view.network.events.find(event => !events.has(event) && made.events.has(event)));
+  showRow(shown.view.network.events.find(event => !before.has(event) && made.events.has(event)));
 };
 
 const tell = text => setText(find('lining-fault'), text);
 
-const show = () => {
+export const showLining = () => {
   const stations = new Set([...shown.labels.events.values()].map(each => each.station));
   find('known-stations').replaceChildren(...[...stations].slice(0, 1000).map(station => element('option', { value: station })));
   find('lining-form').reset();
+  find('line-hourly').value = hourlyText(1);
   find('stops').replaceChildren(row(), row(), row());
   tell('');
   find('lining').showModal();
 };
 
 export const startLining = () => {
-  find('add-line').addEventListener('click', show);
+  find('add-line').addEventListener('click', showLining);
   find('another-stop').addEventListener('click', () => {
     find('stops').append(row());
     find('stops').lastElementChild.querySelector('input').focus();
   });
   find('lining-close').addEventListener('click', () => find('lining').close());
-  find('lining-form').addEventListener('submit', event => {
-    event.preventDefault();
-    try {
-      add();
-    } catch (fault) {
-      tell(fault.message);
-    }
-  });
+  find('lining-form').addEventListener('submit', submits(add, tell));
 };

@@ -1,15 +1,16 @@
-// Trains are moved: the events of one, from its first or another on, get times that are so many minutes later, in one step. Those
-// without a time are left. No window stops a train: what is left is violated, and told at its place.
+// Trains are moved: the events of one, and of those tied to it, from its first or another on, get times that are so many minutes later,
+// in one step. Those without a time are left. No window stops a train: what is left is violated, and told at its place.
 
 import { isOutside, outsideText } from './conflicts.js';
 import { element, find, say } from './elements.js';
-import { minutesField, minutesTyped } from './fields.js';
+import { factForm, minutesField, minutesTyped } from './fields.js';
 import { beginDrag } from './handles.js';
 import { eventName, labelOf, lengthText, minutesText, trainName } from './names.js';
 import { doByHand } from './rest.js';
 import { choose, redraw, timesNow } from './session.js';
 import { shown } from './shown.js';
 import { forgetStaying, isStaying, setStaying, trainAt } from './trains.js';
+import { tiedTrains } from './twins.js';
 
 // What is moved now or was last.
 let moved = null;
@@ -26,8 +27,8 @@ const withinPeriod = minutes => {
 };
 
 const begun = (event, isFromHere) => {
-  const { train, place } = trainAt(event), from = isFromHere ? place : 0;
-  moved = { train, from, events: train.events.slice(from), minutes: 0 };
+  const { train, place } = trainAt(event), from = isFromHere ? place : 0, events = tiedTrains(train).flatMap(tied => tied.train.events.slice(from));
+  moved = { train, name: trainName(train, event), from, events, minutes: 0 };
 };
 
 const lines = () => {
@@ -36,13 +37,13 @@ const lines = () => {
 };
 
 const title = () => {
-  const { train, from, minutes } = moved, place = from ? ` from ${labelOf(train.events[from]).station} on` : '';
-  return `${trainName(train)}${place} ${minutesText(Math.abs(minutes))} ${minutes < 0 ? 'earlier' : 'later'}`;
+  const { train, name, from, minutes } = moved, place = from ? ` from ${labelOf(train.events[from]).station} on` : '';
+  return `${name}${place} ${minutesText(Math.abs(minutes))} ${minutes < 0 ? 'earlier' : 'later'}`;
 };
 
 // By how much the train of an event is moved in the step of a drag that is shown, as `+3`; '' where it is not.
 export const shiftText = (view, event) => {
-  if (!view.isTried || !view.title || !moved.train.events.includes(event)) return '';
+  if (!view.isTried || !view.title || !moved.events.includes(event)) return '';
   return `${moved.minutes < 0 ? '−' : '+'}${lengthText(Math.abs(moved.minutes))}`;
 };
 
@@ -80,11 +81,7 @@ const form = () => {
   const count = minutesField({ id: 'move-by', required: true, value: 1 });
   const go = sign => count.checkValidity() && moveTrain(shown.chosen, sign * minutesTyped(count.value) || 0, find('from-here').checked);
   const button = (sign, name) => element('button', { type: 'button', id: `move-${name}`, onclick: () => go(sign) }, name);
-  const submit = event => {
-    event.preventDefault();
-    go(1);
-  };
-  return element('form', { class: 'fact', onsubmit: submit }, element('label', { for: 'move-by' }, 'move its train by'), count, 'minutes',
+  return factForm(() => go(1), element('label', { for: 'move-by' }, 'move its train by'), count, 'minutes',
     button(-1, 'earlier'), button(1, 'later'), element('label', {}, element('input', { type: 'checkbox', id: 'from-here' }), ' from here on'),
     element('label', {}, element('input', { type: 'checkbox', id: 'train-stays', onchange: event => stay(event.target.checked) }), ' it stays where others are mended'));
 };

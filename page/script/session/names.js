@@ -11,13 +11,16 @@ export const labelOf = event => shown.labels.events.get(event) || NONE;
 // What an activity is, as the labels say.
 export const kindOf = number => shown.labels.kinds.get(number) || 'activity';
 
-export const trainName = ({ line, to }) => [line, to].filter(Boolean).join(' to ') || 'a train';
+// Of trains that begin alike one is told apart from the others by its minute, where an event of it is given.
+export const trainName = ({ line, to }, event) => `${[line, to].filter(Boolean).join(' to ') || 'a train'}${twinText(event)}`;
+
+export const twinText = event => shown.view.twins?.has(event) ? ` (${shown.view.twins.get(event)})` : '';
 
 export const eventName = event => {
   const label = labelOf(event);
   if (!label.station) return `event ${event}`;
-  if (DONE.has(label.kind)) return `${trainName(label)} ${DONE.get(label.kind)} ${label.station}`;
-  return [trainName(label), label.kind, 'at', label.station].filter(Boolean).join(' ');
+  if (DONE.has(label.kind)) return `${trainName(label, event)} ${DONE.get(label.kind)} ${label.station}`;
+  return [trainName(label, event), label.kind, 'at', label.station].filter(Boolean).join(' ');
 };
 
 // An event within its train.
@@ -31,12 +34,12 @@ export const activityName = ({ number, first, last }) => {
   if (!from.station || !to.station) return `${kind} ${number} from event ${first} to event ${last}`;
   const where = from.station === to.station ? from.station : `${from.station} and ${to.station}`;
   if (from.line === to.line && from.to === to.to) {
-    if (from.station === to.station) return `${kind} of ${trainName(from)} at ${from.station}`;
-    return `${kind} of ${from.line || trainName(from)} from ${from.station} to ${to.station}`;
+    if (from.station === to.station) return `${kind} of ${trainName(from, first)} at ${from.station}`;
+    return `${kind} of ${from.line || trainName(from)}${twinText(first)} from ${from.station} to ${to.station}`;
   }
   if (from.line === to.line && from.station === to.station && kind === 'turnaround') return `${kind} of ${from.line} at ${from.station}`;
   const trains = kind === 'headway' ? ['between', 'and'] : ['from', 'into'];
-  return `${kind} at ${where} ${trains[0]} ${trainName(from)} ${trains[1]} ${trainName(to)}`;
+  return `${kind} at ${where} ${trains[0]} ${trainName(from, first)} ${trains[1]} ${trainName(to, last)}`;
 };
 
 // A name in a drawing, where there is room for so many letters.

@@ -9,7 +9,7 @@ import { labelOf } from './names.js';
 import { does, look, openFirst, openSession, prepared, RunFault } from './running.js';
 import { beginShown, setChosen, setChosenLine, setLabels, setView, shown } from './shown.js';
 import { ofTimed } from './timed.js';
-import { linesOf, trainsOf } from './trains.js';
+import { linesOf, trainsOf, twinsOf } from './trains.js';
 import { isInfeasible } from './viewing.js';
 
 const state = { opened: null, steps: [], place: 0 };
@@ -226,15 +226,19 @@ const panels = [];
 
 export const addPanels = added => panels.push(...added);
 
+const groupsOf = ({ network }) => {
+  const trains = trainsOf(network);
+  return { trains, lines: linesOf(trains) };
+};
+
 const show = view => {
   const before = shown.view;
   setView(Object.assign(view, view.missing && ofTimed(view), { labels: shown.labels, lastDomains: before ? lastDomains(before) : view.domains }));
   const isBuilt = !before || before.labels !== view.labels || before.network.shape !== view.network.shape;
-  if (isBuilt) {
-    view.trains = trainsOf(view.network);
-    view.lines = linesOf(view.trains);
-  } else Object.assign(view, { trains: before.trains, lines: before.lines });
-  redraw(isBuilt);
+  Object.assign(view, isBuilt ? groupsOf(view) : { trains: before.trains, lines: before.lines });
+  // Names stay while something is dragged.
+  view.twins = view.isTried && !isBuilt ? before.twins : twinsOf(view);
+  redraw(isBuilt || [...view.twins].join() !== [...before.twins].join());
 };
 
 export const redraw = (isBuilt = false) => keepingKeys(() => panels.forEach(panel => {
@@ -252,8 +256,8 @@ const lastDomains = view => {
 export const readView = (view, places) => {
   beginShown(view.labels, places);
   setView(Object.assign(view, { lastDomains: view.domains }));
-  view.trains = trainsOf(view.network);
-  view.lines = linesOf(view.trains);
+  Object.assign(view, groupsOf(view));
+  view.twins = twinsOf(view);
 };
 
 export const choose = event => {

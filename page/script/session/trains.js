@@ -1,6 +1,6 @@
 // Trains and lines, found from labels: a train is a chain of runs and dwells of one line with one destination.
 
-import { labelOf } from './names.js';
+import { clock, labelOf } from './names.js';
 import { shown } from './shown.js';
 import { minutesHad } from './viewing.js';
 
@@ -58,6 +58,19 @@ const trainFrom = (event, following) => {
 const withStops = train => {
   const stops = stopsOf(train);
   return { ...train, stops, stations: stops.map(stop => stop.station) };
+};
+
+// What tells trains apart that begin alike, by their events: the minute at which each begins, or its place among them.
+export const twinsOf = ({ trains, times }) => {
+  const alike = new Map(), told = new Map();
+  for (const train of trains) {
+    const key = JSON.stringify([train.line, train.to, train.stations[0]]);
+    alike.set(key, [...alike.get(key) || [], train]);
+  }
+  for (const group of [...alike.values()].filter(({ length }) => length > 1)) {
+    group.forEach(({ events }, place) => events.forEach(event => told.set(event, times.has(events[0]) ? clock(times.get(events[0])) : `no. ${place + 1}`)));
+  }
+  return told;
 };
 
 // The part of a train from one of its events to before another.

@@ -1,0 +1,65 @@
+// A step that adds or drops events and activities together with their names.
+
+import { find } from './elements.js';
+import { windowLine } from './network.js';
+import { doStep } from './session.js';
+import { shown } from './shown.js';
+
+// A number above all that are taken.
+const freeNumber = (...taken) => taken.reduce((most, keys) => [...keys].reduce((one, other) => Math.max(one, other), most), 0) + 1;
+
+// Nothing yet: the commands, those of times, which come last, the names, and the next numbers.
+export const beginMade = () => {
+  const { network } = shown.view, { events, kinds } = shown.labels;
+  return { lines: [], times: [], events: new Map(events), kinds: new Map(kinds),
+    event: freeNumber(network.events, events.keys()), activity: freeNumber(network.activities.keys(), kinds.keys()) };
+};
+
+// Adds an event with its label, and with a time where it has one, which may lie beyond the period.
+export const addEvent = (made, label, time = null) => {
+  made.lines.push(`add event ${made.event}`);
+  made.events.set(made.event, label);
+  if (time !== null) made.times.push(`time ${made.event} ${time % shown.view.network.period}`);
+  return made.event++;
+};
+
+export const addActivity = (made, [first, last], [lower, upper], weight, kind) => {
+  made.lines.push(`add activity ${made.activity} ${first} ${last} ${lower} ${upper} ${weight}`);
+  if (kind) made.kinds.set(made.activity, kind);
+  made.activity += 1;
+};
+
+const activitiesAt = events => [...shown.view.network.activities.values()].filter(each => events.has(each.first) || events.has(each.last));
+
+export const dropEvents = (made, events) => {
+  for (const { number } of activitiesAt(new Set(events))) {
+    made.lines.push(`drop activity ${number}`);
+    made.kinds.delete(number);
+  }
+  for (const event of events) {
+    made.lines.push(`drop event ${event}`);
+    made.events.delete(event);
+  }
+};
+
+// Adds some events once more, so many minutes later, with what lies between them and the headways to others; `line` is the name of
+// theirs. The new events are given in the same order.
+export const copyEvents = (made, events, minutes, line = null) => {
+  const { network: { period, windows }, times } = shown.view, copies = new Map();
+  for (const event of events) {
+    const label = shown.labels.events.get(event), window = windows.get(event);
+    const copy = addEvent(made, { ...label, line: line || label.line }, times.has(event) ? times.get(event) + minutes : null);
+    if (window) made.lines.push(windowLine(copy, (window.first + minutes) % period, window.length));
+    copies.set(event, copy);
+  }
+  for (const { number, first, last, lower, upper, weight } of activitiesAt(copies)) {
+    const kind = shown.labels.kinds.get(number), isInner = copies.has(first) && copies.has(last);
+    if (isInner || kind === 'headway') addActivity(made, [first, last].map(event => copies.get(event) || event), [lower, upper], weight, kind);
+  }
+  return [...copies.values()];
+};
+
+// Does it as one step. Raises Error where the program refuses a part of it, and then nothing has changed.
+export const doMade = ({ lines, times, events, kinds }, title = '') => {
+  if (!doStep([...lines, ...times], { title, labels: { ...shown.labels, events, kinds } })) throw new Error(find('said').textContent);
+};
