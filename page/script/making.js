@@ -23,8 +23,8 @@ export const addEvent = (made, label, time = null) => {
   return made.event++;
 };
 
-export const addActivity = (made, [first, last], [lower, upper], weight, kind) => {
-  made.lines.push(`add activity ${made.activity} ${first} ${last} ${lower} ${upper} ${weight}`);
+export const addActivity = (made, ends, span, weight, kind) => {
+  made.lines.push(['add activity', made.activity, ...ends, ...span, weight].join(' '));
   if (kind) made.kinds.set(made.activity, kind);
   made.activity += 1;
 };

@@ -30,6 +30,7 @@ def activity_added(suite: Suite, page: Hands) -> None:
     came = {"lines": page.lines(), "kind": page.ask("Page.labels.kinds.get(146)")}
     suite.note("added", {"lines": ["add activity 146 4 9 3 20 7"], "kind": "walk"}, came)
     suite.holds("its card names it", "walk" in page.text('[data-activity="146"] .title button'))
+    suite.holds(f"it is told: {page.said()}", page.said().startswith(f"walk added from {names[0]} to {names[1]}: cost "))
     page.key("z", 90, CTRL)
     page.frame()
     came = {"size": page.text("#size"), "kind": page.ask("Page.labels.kinds.has(146)"), "saved": page.ask("Page.isSaved()")}
@@ -63,6 +64,7 @@ def dropped_by_hand(suite: Suite, page: Hands) -> None:
     wanted = {"lines": ["drop activity 1", "drop activity 2", "drop event 1"], "left": [2], "chosen": 2}
     came = {"lines": page.lines(), "left": page.ask("Page.view.network.events"), "chosen": page.ask("Page.chosen")}
     suite.note("an event with its activity, in one step", wanted, came)
+    suite.holds(f"in words: {page.said()}", page.said().startswith("M to Benton leaves Ashford dropped"))
     page.press("undo")
     page.press("undo")
     suite.note("and all is back", {"state": True, "lines": []}, {"state": page.state() == state, "lines": page.lines()})
@@ -79,6 +81,7 @@ def named_by_hand(suite: Suite, page: Hands) -> None:
     name = "M to Benton leaves Ashford"
     came = {"name": page.text("#chosen-name"), "saved": page.ask("Page.isSaved()"), "line": page.ask("Page.view.lines.map(line => line.name)")}
     suite.note("named", {"name": name, "saved": False, "line": ["M"]}, came)
+    suite.holds(f"in words: {page.said()}", page.said().startswith("event 1 is M to Benton leaves Ashford"))
     page.press("undo")
     suite.note("undone", {"name": "event 1", "saved": True}, {"name": page.text("#chosen-name"), "saved": page.ask("Page.isSaved()")})
     page.press("redo")
@@ -138,7 +141,7 @@ def line_added(suite: Suite, page: Hands) -> None:
     page.fill('#stops tr:nth-child(2) [data-part="station"]', "B\n")
     suite.note("no run", {"told": "run from A: wanted minutes, as 6, or 6 to 8"}, {"told": page.text("#lining-fault")})
     page.fill('#stops tr:nth-child(1) [data-part="run"]', "8-6\n")
-    suite.holds("a span that is none", "fault lower bound above upper bound" in page.text("#lining-fault"))
+    suite.note("a span that is none", {"told": "run from A: the least minutes of 8-6 are more than the most"}, {"told": page.text("#lining-fault")})
     page.press("lining-close")
     suite.note("nothing is added", {"lines": []}, {"lines": page.lines()})
     page.press("tab-diagram")

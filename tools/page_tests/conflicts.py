@@ -120,7 +120,7 @@ def in_views(suite: Suite, page: Hands) -> None:
     told = "✕ run of M from Ashford to Benton — takes 2 minutes, may take 13 to 14: 11 too few"
     suite.note("it follows", {"it": [told]}, {"it": page.ask(ITEMS)})
     page.ask("Page.step(['untime 4'])")
-    suite.note("without a time the others are told", {"it": "Of what has times: 1 event has no time.Nothing of it is violated."}, {"it": page.text("#view-violated")})
+    suite.note("without a time the others are told", {"it": "Of what has times: 1 event has no time.Mend all of it" + told}, {"it": page.text("#view-violated")})
 
 
 # The middle of what is found, which of a path lies on it.

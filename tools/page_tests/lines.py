@@ -160,7 +160,7 @@ def line_altered(suite: Suite, page: Hands) -> None:
         ("copy-line", {"copy_minutes": "some", "copy_name": "N"}, "some: wanted minutes, as 6"),
         ("stop-line", {"stop_station": "C", "stop_before": "3", "stop_after": "3"}, "Line M has the stop C already."),
         ("stop-line", {"stop_station": "D", "stop_before": "x", "stop_after": "3"}, "stop at D: wanted minutes, as 6, or 6 to 8"),
-        ("stop-line", {"stop_station": "D", "stop_before": "3-2", "stop_after": "3"}, "fault lower bound above upper bound"),
+        ("stop-line", {"stop_station": "D", "stop_before": "3-2", "stop_after": "3"}, "stop at D: the least minutes of 3-2 are more than the most"),
     ]:
         came = altered(page, "M", form, **fields)
         suite.holds(f"{form}: {came}", told in came and page.lines() == [] and page.state() == state)

@@ -189,7 +189,11 @@ const beginNew = () => {
 };
 
 export const startOpening = () => {
-  for (const name of ['open', 'new']) find(name).addEventListener('click', showOpening);
+  find('open').addEventListener('click', showOpening);
+  find('new').addEventListener('click', () => {
+    showOpening();
+    find('begin-new').focus();
+  });
   find('begin-new').addEventListener('click', beginNew);
   for (const name of ['choose-files', 'choose-folder']) {
     find(name).addEventListener('change', event => {

@@ -5,21 +5,21 @@ import { showRow } from './events.js';
 import { factForm, minutesTyped } from './fields.js';
 import { readLabels } from './labels.js';
 import { addActivity, beginMade, doMade, dropEvents } from './making.js';
-import { eventName, labelOf } from './names.js';
+import { activityName, eventName, labelOf } from './names.js';
 import { doStep, redraw, session } from './session.js';
-import { shown } from './shown.js';
+import { shown, within } from './shown.js';
 
 const KINDS = ['run', 'dwell', 'change', 'turn', 'headway'], OF_ONE_STATION = ['dwell', 'change', 'turn', 'turnaround', 'transfer'];
 let from = null, opened = null, drawn = '';
 
-export const dropActivity = number => doStep([`drop activity ${number}`]);
+export const dropActivity = number => doStep([`drop activity ${number}`], { title: `${activityName(shown.view.network.activities.get(number))} dropped` });
 
 const activitiesAt = event => [...shown.view.network.activities.values()].filter(each => each.first === event || each.last === event);
 
 const dropEvent = event => {
   const made = beginMade();
   dropEvents(made, [event]);
-  doMade(made);
+  doMade(made, `${eventName(event)} dropped`);
 };
 
 // By a key: begins at the chosen event, and leads into the fields where both are chosen.
@@ -45,9 +45,9 @@ const faultOf = kind => {
 const add = () => {
   const fault = faultOf(find('added-kind').value.trim());
   if (fault) throw new Error(fault);
-  const made = beginMade(), span = [valueOf('added-least'), valueOf('added-most')];
-  addActivity(made, [from, shown.chosen], span, find('added-weight').value.trim(), find('added-kind').value.trim());
-  doMade(made);
+  const made = beginMade(), span = [valueOf('added-least'), valueOf('added-most')], ends = [from, shown.chosen], kind = find('added-kind').value.trim();
+  addActivity(made, ends, span, find('added-weight').value.trim(), kind);
+  doMade(made, `${kind || 'activity'} added from ${ends.map(eventName).join(' to ')}`);
   leave();
 };
 
@@ -84,8 +84,9 @@ const adding = () => {
 
 // Names are the page's own; the program knows none.
 const name = () => {
-  const [line, to, station, kind] = ['line', 'to', 'station', 'kind'].map(part => find(`named-${part}`).value.trim());
-  doStep([], { labels: { ...shown.labels, events: new Map([...shown.labels.events, [shown.chosen, { line, to, station, kind }]]) } });
+  const { view, labels, chosen } = shown, [line, to, station, kind] = ['line', 'to', 'station', 'kind'].map(part => find(`named-${part}`).value.trim());
+  const named = { ...labels, events: new Map([...labels.events, [chosen, { line, to, station, kind }]]) };
+  doStep([], { labels: named, title: `event ${chosen} is ${within(view, () => eventName(chosen), named)}` });
 };
 
 // The labels of a file, beside and before those that are there.

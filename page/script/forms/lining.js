@@ -19,7 +19,9 @@ const row = () => element('tr', {}, element('td', {}, field('station', 'station'
 export const spanOf = (text, what) => {
   const found = SPAN.exec(text.trim());
   if (!found) throw new Error(`${what}: wanted minutes, as 6, or 6 to 8`);
-  return [found[1], found[2] || found[1]].map(minutesTyped);
+  const [least, most] = [found[1], found[2] || found[1]].map(minutesTyped);
+  if (Number(least) > Number(most)) throw new Error(`${what}: the least minutes of ${text} are more than the most`);
+  return [least, most];
 };
 
 // The stops that are typed; the last has no run, and neither end a dwell. Raises Error.
