@@ -65,7 +65,7 @@ const act = id => {
 };
 
 // Opens the dialog of a line.
-export const showAltering = wanted => {
+const showAltering = wanted => {
   name = wanted;
   const line = lineNow();
   setText(find('altering-title'), `Line ${name}`);

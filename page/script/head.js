@@ -5,7 +5,8 @@ import { find, setText } from './elements.js';
 import { lengthText } from './names.js';
 import { showOpening } from './opening.js';
 import { showSaving } from './saving.js';
-import { redo, session, undo } from './session.js';
+import { doStep, redo, session, undo } from './session.js';
+import { shown } from './shown.js';
 import { untimedText } from './timed.js';
 import { countNarrowed, countViolated, isInfeasible } from './viewing.js';
 
@@ -17,6 +18,8 @@ const update = view => {
   setText(find('size'),
     `${network.events.length} events, ${network.activities.size} activities, period ${lengthText(network.period)}`);
   const isKnown = view.tensions.size > 0 || !view.missing, note = costNote(view), untimed = untimedText(view);
+  setText(find('figure-cost').querySelector('span'), view.labels.cost || 'Cost');
+  if (document.activeElement !== find('cost-name')) find('cost-name').value = view.labels.cost || '';
   tell('cost', isKnown ? view.cost.toLocaleString('en') : '–', untimed || note, false);
   tellViolated(view, isKnown ? countViolated(view) : null);
   tellNarrowed(view);
@@ -50,7 +53,14 @@ const KEYS = new Map([
 // A field takes back what is typed there by the same keys.
 const OF_FIELDS = ['z', 'y'], FIELDS = 'input:not([type=checkbox])';
 
+// What cost is called is one of the names.
+const nameCost = event => {
+  const cost = event.target.value.trim();
+  doStep([], { labels: { ...shown.labels, cost }, title: `cost is called ${cost || 'cost'}` });
+};
+
 export const startHead = () => {
+  find('cost-name').addEventListener('change', nameCost);
   for (const [name, act] of [['undo', undo], ['redo', redo]]) find(name).addEventListener('click', act);
   find('print').addEventListener('click', () => window.print());
   window.addEventListener('keydown', event => {

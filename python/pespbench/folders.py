@@ -57,7 +57,7 @@ def write_folder(
             "windows": files.windows_text({event: windows[event] for event in windows if event not in fixed}),
             "events": files.rows_text(["event"], [[event] for event in network.events if event not in named]),
             "times": files.times_text(times),
-            "labels": labels.text() if labels.events or labels.activities else None,
+            "labels": labels.text() if labels != Labels() else None,
             "places": places_text(places) if places else None,
         },
     )

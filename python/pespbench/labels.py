@@ -7,6 +7,8 @@ comments of the other files; it is UTF-8. Either part may be left out, and so ma
     1; M; Cranley; Ashford; departure
     activity; kind
     11; run
+
+A row `cost; passenger minutes` says what a planner calls the cost.
 """
 
 from __future__ import annotations
@@ -42,6 +44,7 @@ class Labels:
 
     events: Dict[int, EventLabel] = field(default_factory=dict)
     activities: Dict[int, str] = field(default_factory=dict)
+    cost: str = ""
 
     @classmethod
     def read(cls, path: Union[str, "os.PathLike[str]"]) -> "Labels":
@@ -51,6 +54,8 @@ class Labels:
             try:
                 if fields[0] in ("event", "activity"):
                     part = fields[0]
+                elif fields[0] == "cost":
+                    labels.cost = "".join(fields[1:2])
                 else:
                     labels._take(part, fields)
             except ValueError as fault:
@@ -83,6 +88,7 @@ class Labels:
         rows += [[event, *astuple(self.events[event])] for event in sorted(self.events)]
         rows += [list(ACTIVITY_HEADER)] if self.activities else []
         rows += [[number, self.activities[number]] for number in sorted(self.activities)]
+        rows += [["cost", self.cost]] if self.cost else []
         text = io.StringIO()
         csv.writer(text, delimiter=";", lineterminator="\n").writerows(rows)
         return text.getvalue()

@@ -167,6 +167,9 @@ class LabelFiles(Case):
         self.assertEqual(names.activity(8), "activity 8 from event 1 to event 3")
         labels.write(self.folder / "other")
         self.assertEqual(Labels.read(self.folder / "other"), labels)
+        named = self.read("activity; kind\n1; run\ncost; passenger minutes\n")
+        self.assertEqual((named.activities, named.cost), ({1: "run"}, "passenger minutes"))
+        self.assertEqual(self.read(named.text()), named)
 
     def test_faults(self) -> None:
         table = {

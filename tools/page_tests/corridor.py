@@ -161,7 +161,7 @@ def traffic(suite: Suite, page: Hands) -> None:
     broken = {"ways": points(page, 'path.broken[data-activity="4"]'), "told": page.text('#corridor text.broken[data-activity="4"]')[:11]}
     suite.note("which is violated where it leaves", {"ways": [[[(2, "A"), (8, "A")]]], "told": "6 not 10–12"}, broken)
     page.show({**HOURLY, "times": ""})
-    came = {"ways": points(page, ".way"), "told": "between events with times: 6 events have no time" in page.text("#corridor-note")}
+    came = {"ways": points(page, ".way"), "told": "drawn between events with times: " in page.text("#corridor-note")}
     suite.note("without times", {"ways": [], "told": True}, came)
 
 
@@ -173,7 +173,7 @@ def bands(suite: Suite, page: Hands) -> None:
     slow, fast = [(0, "A"), (10, "B"), (14, "B"), (4, "A")], [(5, "A"), (20, "C"), (23, "C"), (8, "A")]
     suite.note("bands", {"they": [[slow], [fast]]}, {"they": points(page, ".band")})
     titles = page.ask("[...document.querySelectorAll('#corridor .band title')].map(each => each.textContent)")
-    wanted = ["Headway: 4 minutes after L to C", "Headway: 3 minutes after X to C"]
+    wanted = ["Headway: 4 minutes after L to C (:00)", "Headway: 3 minutes after X to C (:05)"]
     suite.note("their names", {"they": wanted}, {"they": titles})
     number = page.ask("[...Page.labels.kinds].find(([, kind]) => kind === 'headway')[0]")
     page.ask(f"Page.step(['span {number} 6 57'])")

@@ -220,4 +220,21 @@ def event_without_time(suite: Suite, page: Hands) -> None:
     page.press("tab-diagram")
 
 
-GROUPS = [new_network, departure, line_altered, hourly, event_without_time]
+def cost_called(suite: Suite, page: Hands) -> None:
+    """What cost is called is a label of the network, which is a step, saved and opened again, and by the Python package."""
+    page.show(NETWORK)
+    name = "#figure-cost span"
+    page.press("tab-tables")
+    page.fill("#cost-name", "passenger minutes\n")
+    suite.note("called", {"it": "passenger minutes", "said": True}, {"it": page.text(name), "said": page.said().startswith("cost is called passenger minutes: ")})
+    files = page.ask("Page.filesToSave()")
+    page.press("undo")
+    suite.note("undone", {"it": "Cost", "saved": True}, {"it": page.text(name), "saved": page.ask("Page.isSaved()")})
+    page.show(files)
+    suite.note("opened again", {"it": "passenger minutes", "field": "passenger minutes"}, {"it": page.text(name), "field": page.ask("Page.find('cost-name').value")})
+    page.ask("Page.addLabels('event\\n1; M; C; Z; departure\\n')")
+    suite.note("other labels leave it", {"it": "passenger minutes"}, {"it": page.text(name)})
+    page.press("tab-diagram")
+
+
+GROUPS = [cost_called, new_network, departure, line_altered, hourly, event_without_time]

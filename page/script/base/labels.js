@@ -4,6 +4,7 @@
 //   1; M; Cranley; Ashford; departure
 //   activity; kind
 //   11; run
+//   cost; passenger minutes
 
 import { EVENTS, FileFault, numberIn, recordsOf } from './records.js';
 
@@ -11,7 +12,7 @@ const WIDTHS = new Map([['event', 5], ['activity', 2]]);
 // The most letters of a name, and the most rows of either kind: more than a page can show, and than the program takes.
 const MOST_LETTERS = 1000, MOST_ROWS = 200000;
 
-export const noLabels = () => ({ events: new Map(), kinds: new Map() });
+export const noLabels = () => ({ events: new Map(), kinds: new Map(), cost: '' });
 
 // The labels of a file. Raises FileFault.
 export const readLabels = text => {
@@ -19,6 +20,7 @@ export const readLabels = text => {
   let part = '';
   for (const { number, fields } of recordsOf(text)) {
     if (WIDTHS.has(fields[0])) part = fields[0];
+    else if (fields[0] === 'cost') takeCost(labels, number, fields);
     else takeRow(labels, part, number, fields);
   }
   return labels;
@@ -27,6 +29,12 @@ export const readLabels = text => {
 const checkLengths = (name, record, fields) => {
   const place = fields.findIndex(field => field.length > MOST_LETTERS);
   if (place >= 0) throw new FileFault(name, record, `field ${place + 1} is longer than ${MOST_LETTERS.toLocaleString('en')} letters`);
+};
+
+// What the network calls its cost.
+const takeCost = (labels, record, fields) => {
+  checkLengths('labels', record, fields);
+  labels.cost = fields[1] || '';
 };
 
 const takeRow = (labels, part, record, fields) => {
@@ -49,6 +57,7 @@ export const labelsText = labels => {
   for (const [event, label] of labels.events) rows.push([String(event), label.line, label.to, label.station, label.kind]);
   if (labels.kinds.size) rows.push(['activity', 'kind']);
   for (const [activity, kind] of labels.kinds) rows.push([String(activity), kind]);
+  if (labels.cost) rows.push(['cost', labels.cost]);
   return rows.map(row => row.map(quoted).join(';') + '\n').join('');
 };
 

@@ -47,7 +47,7 @@ const mod = (minute, period) => ((minute % period) + period) % period;
 // A train: its way, wider ones that take hold of it, and its name on its longest run.
 const drawTrain = (frame, { train, stops }, count) => {
   const d = pathsOf(frame, stops.map(({ minute, y }) => [minute, y])).join(''), minutes = stops.map(({ minute }) => minute);
-  const title = drawing('title', {}, `${trainName(train, train.events[0])}: ${train.stations[0]} ${clock(mod(stops[0].minute, frame.period))}`);
+  const title = drawing('title', {}, `${trainName(train)}: ${train.stations[0]} ${clock(mod(stops[0].minute, frame.period))}`);
   const look = { class: train.events.includes(shown.chosen) ? 'train chosen' : 'train' }, way = drawing('path', { class: 'way', d, stroke: train.color });
   return drawing('g', look, title, way, ...reachesOf(frame, train, minutes, REACH), ...nameOf(frame, train, stops, PARTS[count % PARTS.length]));
 };

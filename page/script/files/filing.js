@@ -21,7 +21,7 @@ export const filesOf = (network, times, labels = shown.labels) => {
   const rows = rowsOf(network, times), files = {};
   for (const [name, header] of Object.entries(HEADERS)) files[name] = `${header}\n${rowsText(rows[name])}`;
   files.period = `period\n${network.period}\n`;
-  if (labels.events.size || labels.kinds.size) files.labels = labelsText(labels);
+  if (labels.events.size || labels.kinds.size || labels.cost) files.labels = labelsText(labels);
   if (shown.places.size) files.places = placesText(shown.places);
   return files;
 };

@@ -91,8 +91,8 @@ const name = () => {
 
 // The labels of a file, beside and before those that are there.
 export const addLabels = text => {
-  const { events, kinds } = readLabels(text);
-  return doStep([], { labels: { ...shown.labels, events: new Map([...shown.labels.events, ...events]), kinds: new Map([...shown.labels.kinds, ...kinds]) } });
+  const { events, kinds, cost } = readLabels(text);
+  return doStep([], { labels: { ...shown.labels, events: new Map([...shown.labels.events, ...events]), kinds: new Map([...shown.labels.kinds, ...kinds]), cost: cost || shown.labels.cost } });
 };
 
 const naming = () => {
