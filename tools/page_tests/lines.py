@@ -3,7 +3,7 @@
 from typing import Any, Dict, List
 
 from page_tests.hands import Hands
-from page_tests.keys import CTRL
+from page_tests.keys import CODES, CTRL
 from tests.harness import Suite
 
 # A line A – B – C in both directions, and one that keeps a headway to it.
@@ -123,7 +123,10 @@ def departure(suite: Suite, page: Hands) -> None:
     suite.note("tied trains follow", {"times": times}, {"times": trains(page, "M")})
     suite.note("and are named anew", {"they": ["M to C (:04)", "M to A (:20)", "M to C (:34)", "M to A (:50)"]}, {"they": page.ask(BARS)[:4]})
     page.click(*page.middle('[data-row="11"] .name'))
-    page.press("move-later")
+    page.ask("document.querySelector('[data-way=\"11\"]').focus()")
+    page.key("ArrowRight", CODES["ArrowRight"])
+    came = {"keys": page.ask("document.activeElement.dataset.way"), "name": page.ask("document.activeElement.getAttribute('aria-label')")}
+    suite.note("the keys stay on the bar, which is named anew", {"keys": "11", "name": "M to C (:35): the whole train"}, came)
     moved = [each.split(", ")[1] for each in trains(page, "M")]
     suite.note("as they are when one moves", {"they": ["A 5", "C 20", "A 35", "C 50"]}, {"they": moved})
     suite.holds(f"by its name: {page.said()}", page.said().startswith("M to C (:34) 1 minute later"))

@@ -75,7 +75,7 @@ const show = ({ kind, value, name, note }) => {
   say([name, note].filter(Boolean).join(': '));
 };
 
-export const findingPanel = { build: () => { known = null; }, update: () => {} };
+export const findingPanel = { update: () => { known = null; } };
 
 export const startFinding = () => {
   const kinds = ['station', 'line', 'train', 'event'], hint = 'a station, line, train or event';

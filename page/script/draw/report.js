@@ -23,7 +23,7 @@ const counted = count => count.toLocaleString('en');
 const mapOf = (rows, read) => new Map(rows.map(([number, ...fields]) => [number, read(fields, number)]));
 
 const labelsOf = ({ events, kinds }) => ({
-  events: mapOf(events, ([line, to, station, kind]) => ({ line, to, station, kind })), kinds: new Map(kinds),
+  events: mapOf(events, ([line, to, station, kind]) => ({ line, to, station, kind })), kinds: new Map(kinds), cost: '',
 });
 
 const networkOf = ({ period, events, windows, activities }) => ({

@@ -10,17 +10,18 @@ import { shown } from './shown.js';
 import { isStaying, timedParts } from './trains.js';
 
 export const makeBar = (line, train) => {
-  const bar = { train, drawn: '', way: null, note: element('span', { class: 'note' }) }, [first] = train.events, name = trainName(train, first);
+  const bar = { train, drawn: '', way: null, note: element('span', { class: 'note' }) }, [first] = train.events;
   const pill = element('span', { class: 'pill' }, line.name);
   pill.style.background = line.color;
   [bar.whole, bar.broken, bar.stops] = ['whole', 'broken', 'stops'].map(part => drawing('path', { class: part, stroke: line.color }));
   bar.svg = drawing('svg', { preserveAspectRatio: 'none', 'aria-hidden': 'true' }, bar.whole, bar.broken, bar.stops);
-  bar.way = makeHandle('way', `${name}: the whole train`, {
+  bar.way = makeHandle('way', '', {
     'data-way': first, onpointerdown: event => begin(bar, event), onkeydown: event => typed(bar, event),
     onclick: event => isFinger(event) && choose(nearest(bar, event.clientX)),
   });
   bar.way.append(bar.svg);
-  bar.node = element('div', { class: 'row bar' }, element('h3', { title: name }, pill, ` to ${train.to}${twinText(first)}`), bar.way, bar.note);
+  bar.to = element('span');
+  bar.node = element('div', { class: 'row bar' }, element('h3', {}, pill, bar.to), bar.way, bar.note);
   return bar;
 };
 
@@ -45,10 +46,13 @@ const noteOf = (view, { events }) => {
 // Draws what is new about a train.
 export const drawBar = (bar, view) => {
   const { train, way } = bar, { period } = view.network, isChosen = train.events.includes(shown.chosen), note = noteOf(view, train);
-  const times = train.events.map(event => view.times.get(event)), drawn = `${times} ${period} ${note} ${isChosen}`;
+  const times = train.events.map(event => view.times.get(event)), name = trainName(train, train.events[0]), drawn = `${times} ${period} ${note} ${isChosen} ${name}`;
   if (bar.drawn === drawn) return;
   bar.drawn = drawn;
   const parts = timedParts(view, train), known = times.filter(time => time !== undefined), [first = 0] = known;
+  setText(bar.to, ` to ${train.to}${twinText(train.events[0])}`);
+  setAttribute(bar.to.parentNode, 'title', name);
+  setAttribute(way, 'aria-label', `${name}: the whole train`);
   bar.svg.setAttribute('viewBox', `0 0 ${period} 1`);
   bar.whole.setAttribute('d', parts.map(({ minutes }) => pathOf(minutes, period)).join(''));
   bar.broken.setAttribute('d', parts.map(part => brokenOf(view, part.train, part.minutes)).join(''));

@@ -3,7 +3,7 @@
 import { conflictsOfRow, isOutside, shortConflicts, toldConflicts } from './conflicts.js';
 import { drawing, element, setText } from './elements.js';
 import { makeHandle, tellHandle } from './handles.js';
-import { clock, domainText, eventName, eventShort, runsOf, windowText } from './names.js';
+import { clock, domainText, eventName, eventShort, runsOf, twinText, windowText } from './names.js';
 import { shown } from './shown.js';
 
 // An event's row, with what was drawn last, so that only what changed is drawn again.
@@ -14,14 +14,13 @@ export const makeRow = event => {
   row.possible = drawing('path', { class: 'possible' });
   row.held = drawing('path', { class: 'held' });
   row.svg = drawing('svg', { preserveAspectRatio: 'none', 'aria-hidden': 'true' }, row.was, row.possible, row.held);
-  row.strip = makeHandle('strip', eventName(event), { 'data-event': event });
+  row.strip = makeHandle('strip', '', { 'data-event': event });
   row.strip.append(row.svg);
   row.time = element('span', { class: 'time' });
   row.note = element('span', { class: 'note' });
   row.notes = element('span', { class: 'notes' }, row.note);
-  const name = element('span', { class: 'name', title: eventName(event) },
-    element('span', {}, place), ' ', element('small', {}, kind));
-  row.node = element('div', { class: 'row', 'data-row': event }, name, row.time, row.strip, row.notes);
+  row.name = element('span', { class: 'name' }, element('span', {}, place), ' ', element('small', {}, kind));
+  row.node = element('div', { class: 'row', 'data-row': event }, row.name, row.time, row.strip, row.notes);
   return row;
 };
 
@@ -123,10 +122,11 @@ const isSeen = (seen, before) => {
 // Draws what is new about an event, of which `conflicts` are what is violated there, if anything.
 export const drawRow = (row, view, conflicts) => {
   const { event } = row, period = view.network.period, minutes = view.domains.get(event), window = view.network.windows.get(event);
-  const isViolated = isOutside(view, event), isChosen = shown.chosen === event, broken = toldOf(conflicts);
-  const seen = [minutes, period, window && window.first, window && window.length, view.times.get(event), isViolated, isChosen, broken];
+  const isViolated = isOutside(view, event), isChosen = shown.chosen === event, broken = toldOf(conflicts), twin = twinText(event);
+  const seen = [minutes, period, window && window.first, window && window.length, view.times.get(event), isViolated, isChosen, broken, twin];
   if (row.seen && isSeen(seen, row.seen)) return;
   row.seen = seen;
+  once(row, 'name', twin, () => nameRow(row, eventName(event)));
   once(row, 'period', period, () => row.svg.setAttribute('viewBox', `0 0 ${period} 1`));
   once(row, 'possible', pathOf(minutes), path => row.possible.setAttribute('d', path));
   once(row, 'was', minutes.length ? '' : pathOf(view.lastDomains.get(event) || []), path => row.was.setAttribute('d', path));
@@ -151,6 +151,11 @@ const tellStrip = (row, view, window) => {
   const period = view.network.period, minutes = view.domains.get(row.event);
   const can = `can be at ${domainText(minutes, period)}`, held = window ? `held ${windowText(window, period)}` : 'not held';
   tellHandle(row.strip, window ? window.first : minutes[0] || 0, 0, period - 1, `${can}; ${held}`);
+};
+
+const nameRow = (row, name) => {
+  row.name.title = name;
+  row.strip.setAttribute('aria-label', name);
 };
 
 const chooseRow = (row, isChosen) => {

@@ -29,7 +29,7 @@ const activitiesAt = ({ activities }, event) => {
 
 const update = view => {
   const all = activitiesAt(view.network, shown.chosen);
-  const some = all.slice(0, MOST_CARDS), wanted = [all.length, ...some.map(each => each.number)];
+  const some = all.slice(0, MOST_CARDS), wanted = [all.length, ...some.map(each => `${each.number} ${activityName(each)}`)];
   if (wanted.join() !== listed.join() || !all.length) {
     listed = wanted;
     cards = new Map(some.map(each => [each.number, makeCard(each)]));

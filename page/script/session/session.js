@@ -238,7 +238,7 @@ const show = view => {
   Object.assign(view, isBuilt ? groupsOf(view) : { trains: before.trains, lines: before.lines });
   // Names stay while something is dragged.
   view.twins = view.isTried && !isBuilt ? before.twins : twinsOf(view);
-  redraw(isBuilt || [...view.twins].join() !== [...before.twins].join());
+  redraw(isBuilt);
 };
 
 export const redraw = (isBuilt = false) => keepingKeys(() => panels.forEach(panel => {

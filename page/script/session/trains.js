@@ -65,7 +65,8 @@ export const twinsOf = ({ trains, times }) => {
   const alike = new Map(), told = new Map();
   for (const train of trains) {
     const key = JSON.stringify([train.line, train.to, train.stations[0]]);
-    alike.set(key, [...alike.get(key) || [], train]);
+    if (alike.has(key)) alike.get(key).push(train);
+    else alike.set(key, [train]);
   }
   for (const group of [...alike.values()].filter(({ length }) => length > 1)) {
     group.forEach(({ events }, place) => events.forEach(event => told.set(event, times.has(events[0]) ? clock(times.get(events[0])) : `no. ${place + 1}`)));
