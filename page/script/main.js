@@ -4,6 +4,7 @@ import { addingPanel } from './adding.js';
 import { alwaysPanel, startAlways } from './always.js';
 import { startAltering } from './altering.js';
 import { startAsking } from './asking.js';
+import { axisPanel } from './axis.js';
 import { changingPanel } from './changing.js';
 import { choosingPanel, startChoosing } from './choosing.js';
 import { corridorPanel } from './corridor.js';
@@ -34,6 +35,7 @@ import { openReport, readReport, reportGiven } from './report.js';
 import { startSaving } from './saving.js';
 import { searchingPanel, startSearching } from './searching.js';
 import { addPanels } from './session.js';
+import { startSizes } from './sizes.js';
 import { spansPanel } from './spans.js';
 import { startStations, stationsPanel } from './stations.js';
 import { stories } from './stories.js';
@@ -42,17 +44,20 @@ import { tablesPanel } from './tables.js';
 import { startTabs } from './tabs.js';
 import { startTelling, tellingPanel } from './telling.js';
 import { trafficPanel } from './traffic.js';
+import { startUnfolding } from './unfolding.js';
 import { startVariants, variantsPanel } from './variants.js';
+import { startWhole } from './whole.js';
+import { startZooming, zoomPanel } from './zooming.js';
 
 // In the order in which they are drawn.
 const PANELS = [
-  eventsPanel, factsPanel, spansPanel, costingPanel, movingPanel, departingPanel, changingPanel, addingPanel, headPanel, diagramPanel, tablesPanel, netgraphPanel,
+  zoomPanel, axisPanel, eventsPanel, factsPanel, spansPanel, costingPanel, movingPanel, departingPanel, changingPanel, addingPanel, headPanel, diagramPanel, tablesPanel, netgraphPanel,
   variantsPanel, findingPanel, finderPanel, corridorPanel, trafficPanel, stationsPanel, choosingPanel, violatedPanel, stepsPanel, searchingPanel, proposingPanel, alwaysPanel,
   tellingPanel, gainsPanel, linkingPanel, draftsPanel,
 ];
 
 const STARTS = [
-  startHead, startTabs, startStrips, startDiagram, startCosting, startChoosing, startLines, startLining, startAltering, startVariants, startHelps, startLegend,
+  startHead, startTabs, startSizes, startWhole, startZooming, startUnfolding, startStrips, startDiagram, startCosting, startChoosing, startLines, startLining, startAltering, startVariants, startHelps, startLegend,
   startFinding, startStations, startAsking, startSearching, startNetgraph, startProposing, startAlways, startTelling, startGains, startPrinting, startOpening, startSaving,
   startHanding,
 ];

@@ -28,6 +28,7 @@ import {
 } from './session.js';
 import { shown, within } from './shown.js';
 import { atOnce } from './slices.js';
+import { sizeNow } from './sizes.js';
 import { rangeShown } from './spans.js';
 import { spread } from './spreading.js';
 import { stories } from './stories.js';
@@ -51,5 +52,5 @@ window.Page = Object.freeze({
   eventName, filesOf, filesToSave, find, folderName, goTo, isForward, isInfeasible, isRefused, isSaved, journal, keptFree,
   kindOf, labelOf, layOut, moveTrain, netgraphOf, openStory, openTexts, placesText, present, preview, rangeShown, readCost,
   readDomains, readNetwork, readPlaces, readTensions, readViolations, redo, refresh, reportOf, run, say, session, showBar,
-  showRow, showSaving, showTab, spread, stepOf, stories, timesNow, titleOf, trackOf, undo, viewOfReport, within, zipOf,
+  showRow, showSaving, showTab, sizeNow, spread, stepOf, stories, timesNow, titleOf, trackOf, undo, viewOfReport, within, zipOf,
 });

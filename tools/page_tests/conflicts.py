@@ -84,7 +84,7 @@ def in_views(suite: Suite, page: Hands) -> None:
     # A headway the other way round is drawn between its trains, and not over the rest of the period.
     for time, had, minutes in [(10, 58, 2), (12, 0, 0)]:
         page.ask(f"Page.step(['time 5 {time}', 'time 6 {time + 15}'])")
-        way = page.ask("document.querySelector('#diagram path[data-activity=\"6\"]').getBBox().width * 60 / 754")
+        way = page.ask("document.querySelector('#diagram path[data-activity=\"6\"]').getBBox().width") * 60 / page.across("diagram")[1]
         drawn = {"told": texts(page, '#diagram text[data-activity="6"]'), "minutes": round(way, 1)}
         suite.note(f"a headway of {had}", {"told": [f"{had} not 4–56 headway"], "minutes": minutes}, drawn)
         page.press("undo")

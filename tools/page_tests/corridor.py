@@ -62,16 +62,17 @@ def corridor(page: Hands) -> Any:
 
 
 def points(page: Hands, selector: str) -> List[List[List[Tuple[int, str]]]]:
-    """Of each path of the corridor's diagram its points in minutes and stations; the drawing is 754 units wide from 110 on."""
+    """Of each path of the corridor's diagram its points in minutes and stations."""
     heights = page.ask(
         """Object.fromEntries([...document.querySelectorAll('#corridor .station')].map((each, place) =>
         [each.getAttribute('d').match(/ ([0-9.]+)H/)[1], Page.corridor.stations[place]]))"""
     )
     period, named = page.ask("Page.view.network.period"), {f"{float(y):.1f}": name for y, name in heights.items()}
     paths = page.ask(f"[...document.querySelectorAll('#corridor {selector}')].map(each => each.getAttribute('d'))")
+    left, width = page.across("corridor")
     return [
         [
-            [(round((float(x) - 110) / 754 * period), named.get(y, "")) for x, y in re.findall(rf"{NUMBER} {NUMBER}", part)]
+            [(round((float(x) - left) / width * period), named.get(y, "")) for x, y in re.findall(rf"{NUMBER} {NUMBER}", part)]
             for part in path.split("M")[1:]
         ]
         for path in paths

@@ -111,7 +111,7 @@ PARTS = """(() => {
     for (let count = 0; count < ACTIONS; count += 1) {
         const name = one(Object.keys(ACTS));
         ACTS[name]();
-        const line = Page.view.lines.find(each => each.name === Page.chosenLine) || Page.view.lines[0], { drawn } = Page.diagramOf(Page.view, line, Page.chosen);
+        const line = Page.view.lines.find(each => each.name === Page.chosenLine) || Page.view.lines[0], { drawn } = Page.diagramOf(Page.view, line, { chosen: Page.chosen, size: Page.sizeNow('diagram') });
         const [came, wanted] = [Page.find('diagram').firstElementChild, drawn].map(each => each.outerHTML);
         if (!drawn.isEqualNode(Page.find('diagram').firstElementChild)) return { name, count, lines: Page.journal(), came, wanted };
         changes += before !== came;

@@ -1,7 +1,7 @@
 """The page in a browser, and where its handles are."""
 
 import json
-from typing import Any, Dict, List, Mapping
+from typing import Any, Dict, List, Mapping, Tuple
 
 from page_tests.browser import Browser, Failed, Place
 
@@ -56,6 +56,11 @@ class Hands(Browser):
         left, top, width, height = self.box(f'[data-activity="{activity}"] .track')
         least, count = self.ask(f"Page.rangeShown({activity})")
         return left + width * (minutes - least + 0.5) / count, top + height / 2
+
+    def across(self, view: str) -> Tuple[float, float]:
+        """Where the minutes of a diagram begin in it, and how wide they are, in its own units."""
+        left, width = self.ask(f"['x', 'width'].map(name => Number(document.querySelector('#{view} svg svg').getAttribute(name)))")
+        return left, width
 
     def grip(self, event: int, name: str) -> Place:
         """The middle of a handle on the strip of an event: `first`, `last` or `now`."""

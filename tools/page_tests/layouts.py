@@ -92,7 +92,7 @@ def axes(suite: Suite, page: Hands) -> None:
     """No axis has more than a dozen marks, of which two are at most half an hour apart in an hour."""
     most = page.ask("Math.max(...[...Array(1439).keys()].map(each => (each + 2) / Page.stepOf(each + 2)))")
     suite.holds(f"at most a dozen marks, here {most}", most <= 12)
-    suite.note("up to an hour", {"steps": [1, 1, 2, 5, 5, 5]}, {"steps": page.ask("[10, 12, 13, 30, 31, 60].map(Page.stepOf)")})
+    suite.note("up to an hour", {"steps": [1, 1, 2, 5, 5, 5]}, {"steps": page.ask("[10, 12, 13, 30, 31, 60].map(each => Page.stepOf(each))")})
 
 
 def minutes_told(suite: Suite, page: Hands) -> None:

@@ -22,7 +22,7 @@ FOLDERS = [str(path) for path in [SCRIPTS, *SCRIPTS.iterdir()] if path.is_dir()]
 OPTIONS = {**dict.fromkeys(CHECKED, True), "target": "es2022", "module": "es2022", "moduleResolution": "node", "rootDirs": FOLDERS}
 OPTIONS["lib"] = ["es2022", "dom", "dom.iterable"]
 # The modules that lay out what others draw, and the most lines of all of them.
-LAYING_OUT, MOST_DRAWING = ("captions", "lanes", "places", "report", "spreading", "stretch", "ways"), 1_900
+LAYING_OUT, MOST_DRAWING = ("captions", "lanes", "places", "report", "spreading", "stretch", "ways"), 2_050
 # What is given to callers outside, in outside.js: `get name() ..`, `name: ..` and `name`.
 GIVEN = re.compile(r"window\.Page = Object\.freeze\(\{(.*)\}\);", re.S)
 MEMBER = re.compile(r"\bget (\w+)\(\)|(\w+): \w+,|(?<!: )\b(\w+),(?!\})")

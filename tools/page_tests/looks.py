@@ -64,7 +64,7 @@ def sizes(suite: Suite, page: Hands) -> None:
                 page.frame()
                 suite.note(f"{width} by {scale}, {name}, {tab}", {"wider": 0, "cut": []}, page.ask(LOOK))
             beyond = page.ask(
-                """[...document.querySelectorAll('#events :is(.strip, .time, .note, .name small), #legend li, button.ask')].filter(each => {
+                """[...document.querySelectorAll('#events :is(.strip, .time, .note, .name small), #legend li, button.ask:not(.search *)')].filter(each => {
                 const { left, right, width } = each.getBoundingClientRect();
                 return width && (left < 0 || right > innerWidth);
             }).map(each => each.className || each.textContent)"""
@@ -123,11 +123,11 @@ def fingers(suite: Suite, page: Hands) -> None:
     tap(page, place)
     tap(page, place)
     suite.note("two taps", {"lines": ["fix 3 40", "unfix 3"]}, {"lines": page.lines()})
-    page.ask("Page.find('chosen').scrollIntoView()")
-    number = page.ask("Number(document.querySelector('.card').dataset.activity)")
-    before = page.ask("window.scrollY")
-    scroll(page, page.middle(f'[data-activity="{number}"] .bar'), 200)
-    suite.holds("a track scrolls", before - page.ask("window.scrollY") > 100 and len(page.lines()) == 2)
+    number = page.ask("Number([...document.querySelectorAll('.card')].pop().dataset.activity)")
+    place = page.middle(f'[data-activity="{number}"] .bar')
+    before = page.ask("Page.find('chosen').scrollTop")
+    scroll(page, place, 150)
+    suite.holds("a track scrolls", before - page.ask("Page.find('chosen').scrollTop") > 50 and len(page.lines()) == 2)
     touch(page, is_on=False)
     page.resize(1440, 900)
 

@@ -142,12 +142,13 @@ def drawn(suite: Suite, page: Hands) -> None:
         "Page.view.lines[0].trains.map(train => [train.events[0], train.events[train.events.length - 1]]).flat()"
     )
     suite.note("the ends of trains", {"they": [wanted[str(event)] for event in trains]}, {"they": ends})
-    # Each way of the line goes through the minutes of its train's events; the drawing is 754 units wide from 110 on.
+    # Each way of the line goes through the minutes of its train's events.
+    left, width = page.across("diagram")
     ways = page.ask(
         "[...document.querySelectorAll('#diagram path[stroke-width=\"2.6\"]')].map(each => each.getAttribute('d'))"
     )
     minutes = {
-        tuple(round((float(x) - 110) / 754 * 60) % 60 for x in re.findall(r"[ML](-?[0-9.]+) ", way)) for way in ways
+        tuple(round((float(x) - left) / width * 60) % 60 for x in re.findall(r"[ML](-?[0-9.]+) ", way)) for way in ways
     }
     trains = page.ask("Page.view.lines[0].trains.map(train => train.events)")
     suite.note(

@@ -19,7 +19,7 @@ TARGETS = {
     "docs/HISTORY.md": 8100,
     "docs/FORMATS.md": 3600,
     "docs/RULES.md": 1500,
-    "page/README.md": 550,
+    "page/README.md": 640,
     "python/README.md": 450,
     "crates/pesplib_reader/README.md": 220,
     "crates/pesplib_writer/README.md": 170,

@@ -3,12 +3,14 @@
 import { conflictsAt, shortConflicts } from './conflicts.js';
 import { find, setAttribute } from './elements.js';
 import { bringRow, eventBeside, showRow } from './events.js';
-import { DIAGRAM_PART } from './frames.js';
+import { minutesOfDiagram } from './extent.js';
+import { minutesOn } from './frames.js';
 import { isFinger, minutesOfKey, tellHandle } from './handles.js';
 import { beginMove, moveTrain, wantsFromHere } from './moving.js';
 import { clock, eventName, labelOf } from './names.js';
 import { shown } from './shown.js';
 import { showActivity } from './spans.js';
+import { unfold } from './unfolding.js';
 
 const DIAGRAMS = ['diagram', 'corridor'], VIEWS = [...DIAGRAMS, 'netgraph', 'tables'];
 
@@ -32,7 +34,6 @@ const beginsHere = ({ dataset: { event, next } }) => Number(labelOf(Number(event
 
 const begin = event => {
   const piece = event.target.closest('.reach'), holder = event.currentTarget;
-  if (!piece && isFinger(event)) scroll(holder, event);
   if (!piece || event.button !== 0) return;
   const isFromHere = wantsFromHere(event), here = isFromHere ? beginsHere(piece) : nearerEnd(piece, event);
   // What is touched is drawn anew at each step, and a finger is followed on what stays.
@@ -41,15 +42,7 @@ const begin = event => {
     event.preventDefault();
     lead(holder, here);
   }
-  beginMove(event, here, holder.firstElementChild.getBoundingClientRect().width * DIAGRAM_PART / shown.view.network.period, isFromHere);
-};
-
-// A finger beside all trains scrolls a drawing across that is wider than its view; up and down the browser scrolls.
-const scroll = (holder, { clientX, pointerId, isTrusted }) => {
-  const panel = holder.closest('[role=tabpanel]'), start = panel.scrollLeft + clientX, ending = new AbortController(), { signal } = ending;
-  if (isTrusted) holder.setPointerCapture(pointerId);
-  holder.addEventListener('pointermove', event => { panel.scrollLeft = start - event.clientX; }, { signal });
-  for (const name of ['pointerup', 'pointercancel']) holder.addEventListener(name, () => ending.abort(), { signal });
+  beginMove(event, here, minutesOn(holder.firstElementChild).width / minutesOfDiagram().count, isFromHere);
 };
 
 // Chooses an event, and brings the keys to the view.
@@ -64,6 +57,7 @@ const clickedOn = event => isFinger(event) ? document.elementFromPoint(event.cli
 const clicked = event => {
   const found = clickedOn(event)?.closest('[data-activity], [data-event], [data-station]'), holder = event.currentTarget;
   if (!found || !holder.contains(found)) return;
+  unfold();
   const { activity, station, event: at } = found.dataset, here = at === undefined ? null : Number(at);
   if (activity !== undefined) return showActivity(Number(activity), here);
   lead(holder, found.matches('.reach') ? nearerEnd(found, event) : here === null ? eventAt(station) : here);

@@ -2,7 +2,7 @@
 // a station are the minutes at which its events can still be.
 
 import { drawing, element, elided, find, renew, setAttribute, setText } from './elements.js';
-import { frameOf, gridOf, heightOf, looksOf, TURN, waysOf } from './frames.js';
+import { copiesOf, frameOf, gridOf, heightOf, looksOf, TURN, waysOf } from './frames.js';
 import { conflictMarks, marked, reachesOf, ringAt } from './marking.js';
 import { shiftText } from './moving.js';
 import { bareClock, labelOf, runsOf } from './names.js';
@@ -10,6 +10,7 @@ import { firstRuns } from './nearby.js';
 import { drawPart, isSame, makePart } from './parts.js';
 import { chooseLine } from './session.js';
 import { shown } from './shown.js';
+import { sizeNow } from './sizes.js';
 import { stretchOf } from './stretch.js';
 import { isTab } from './tabs.js';
 import { undrawnText } from './timed.js';
@@ -31,16 +32,16 @@ const emptySheet = () => {
 };
 
 // Where the minutes and stations of a line lie, its trains that wait there, and those of other lines.
-const sceneOf = (view, line, before) => {
-  const of = [line, view.lines, shown.labels, view.network.activities, view.network.period];
+const sceneOf = (view, line, before, size) => {
+  const of = [line, view.lines, shown.labels, view.network.activities, view.network.period, size];
   if (before && isSame(before.of, of)) return before;
-  return { of, line, frame: frameOf(line, view.network), turns: turnsOf(view, line), ...firstRuns(othersOf(view, line), MOST_OTHERS) };
+  return { of, line, frame: frameOf(line, view.network, size), turns: turnsOf(view, line), ...firstRuns(othersOf(view, line), MOST_OTHERS) };
 };
 
 // The diagram of a line, and what it says of what is left out. Trains are drawn between events with times, and what is still
-// possible everywhere.
-export const diagramOf = (view, whole, chosen = null, sheet = emptySheet()) => {
-  const { line, told } = stretchOf(whole, chosen), before = sheet.scene, scene = sceneOf(view, line, before), { page, clip } = sheet;
+// possible everywhere. Without a size it is for paper.
+export const diagramOf = (view, whole, { chosen = null, size = undefined, sheet = emptySheet() } = {}) => {
+  const { line, told } = stretchOf(whole, chosen), before = sheet.scene, scene = sceneOf(view, line, before, size), { page, clip } = sheet;
   sheet.scene = scene;
   if (scene !== before) {
     const looks = looksOf(scene.frame, `Distance-time diagram of ${line.name}`);
@@ -87,7 +88,8 @@ const possible = (view, frame, line, chosen) => line.trains.flatMap(train => {
     const minutes = view.domains.get(event);
     if (minutes.length === frame.period) return null;
     const offset = side * (labelOf(event).kind === 'arrival' ? 4 : 9), y = heightOf(frame, event) + offset;
-    const path = runsOf(minutes).map(([first, last]) => `M${frame.x(first)} ${y}H${frame.x(last + 1)}`).join('');
+    const runs = runsOf(minutes), shifts = copiesOf({ ...frame, first: frame.first - frame.period + 1, count: frame.count + frame.period - 1 }, 0);
+    const path = shifts.flatMap(shift => runs.map(([first, last]) => `M${frame.x(first + shift)} ${y}H${frame.x(last + 1 + shift)}`)).join('');
     return drawing('path', { class: event === chosen ? 'can chosen' : 'can', d: path, stroke: line.color, 'data-event': event });
   }).filter(Boolean);
 });
@@ -128,14 +130,16 @@ const turn = (view, frame, line, each) => {
 // The minutes at which a train begins and ends, beside the ends of its way.
 const endsOf = ({ events }) => [events[0], events[events.length - 1]];
 
-const ends = (view, frame, line, train) => endsOf(train).map((event, end) => {
+const ends = (view, frame, line, train) => endsOf(train).flatMap((event, end) => {
   const time = view.times.get(event), isFirst = end === 0;
-  if (time === undefined) return null;
-  const y = heightOf(frame, event), isAbove = isForward(line, train) !== isFirst, edge = 0.04 * frame.period;
-  const isLeft = isFirst ? time >= edge : time > frame.period - edge;
-  const place = { x: frame.x(time) + (isLeft ? -5 : 5), y: y + (isAbove ? -5 : 14), 'text-anchor': isLeft ? 'end' : 'start' };
-  return drawing('text', { class: 'end', style: `fill: ${line.color}`, 'data-event': event, ...place }, bareClock(time));
-}).filter(Boolean);
+  if (time === undefined) return [];
+  const y = heightOf(frame, event), isAbove = isForward(line, train) !== isFirst, edge = 0.04 * frame.count;
+  return copiesOf(frame, time).map(at => {
+    const isLeft = isFirst ? at - frame.first >= edge : at - frame.first > frame.count - edge;
+    const place = { x: frame.x(at) + (isLeft ? -5 : 5), y: y + (isAbove ? -5 : 14), 'text-anchor': isLeft ? 'end' : 'start' };
+    return drawing('text', { class: 'end', style: `fill: ${line.color}`, 'data-event': event, ...place }, bareClock(time));
+  });
+});
 
 const chosenMark = (view, frame, event) => {
   const time = view.times.get(event);
@@ -148,7 +152,7 @@ const NOTE = 'Marks along a station: the minutes at which the trains of the line
 const update = view => {
   if (!isTab('diagram')) return;
   const line = view.lines.find(each => each.name === shown.chosenLine) || view.lines[0], holder = find('diagram');
-  find('line-choice').hidden = find('alter-line').hidden = !line;
+  find('line-of-diagram').hidden = find('alter-line').hidden = !line;
   if (!line || line.stations.length < 2) {
     setText(find('diagram-note'), 'Add a line in Tables, or open a file of labels: then the line of the chosen event is drawn here.');
     holder.replaceChildren();
@@ -157,7 +161,7 @@ const update = view => {
   const select = find('line-of-diagram');
   if (select.value !== line.name) select.value = line.name;
   kept = kept || emptySheet();
-  const { drawn, told } = diagramOf(view, line, shown.chosen, kept), missing = undrawnText(view);
+  const { drawn, told } = diagramOf(view, line, { chosen: shown.chosen, size: sizeNow('diagram'), sheet: kept }), missing = undrawnText(view);
   setText(find('diagram-note'), [told, NOTE, missing].filter(Boolean).join(' '));
   if (holder.firstChild !== drawn) holder.replaceChildren(drawn);
 };

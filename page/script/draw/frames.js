@@ -3,10 +3,15 @@
 import { drawing } from './elements.js';
 import { clock, labelOf, shortText, stepOf } from './names.js';
 
-const WIDTH = 880, LEFT = 110, RIGHT = 16, TOP = 34, BOTTOM = 26, LEAST_HEIGHT = 190, TRACK = 48, LETTERS = 14, MOST_LETTERS = 120;
+const RIGHT = 16, TOP = 34, BOTTOM = 26, LEAST_HEIGHT = 190, TRACK = 48, CLOSE = 22, LEAST_SEEN = 90, MOST_LETTERS = 120;
+// What names of stations take of the width, and how many letters of them: less where there is little.
+const NARROW = 600, ROOMS = [{ left: 78, letters: 9 }, { left: 110, letters: 14 }];
 
 // How far beyond its station a train is drawn that turns there.
 export const TURN = 13;
+
+// The size of a drawing on paper, which is as high as its line wants and shows one period.
+const PAPER = Object.freeze({ width: 880, height: 0, minutes: null });
 
 // The least minutes of a run between each two neighbours, and 1 where it may take none.
 export const lengthsOf = (lines, network) => {
@@ -22,34 +27,46 @@ export const lengthsOf = (lines, network) => {
   return lengths;
 };
 
-// The part of a diagram's width that the period has.
-export const DIAGRAM_PART = (WIDTH - LEFT - RIGHT) / WIDTH;
-
 // A track by the names of its two ends.
 export const trackOf = (one, other) => JSON.stringify(one < other ? [one, other] : [other, one]);
 
 // Where minutes and stations lie, how many minutes each station is from the first, and the events that are drawn, but for the steps
 // of trains in `away`.
-export const frameOf = (line, network) => {
-  const lengths = lengthsOf([line], network), { period } = network, reached = [0];
+export const frameOf = (line, network, { width, height, minutes } = PAPER) => {
+  const lengths = lengthsOf([line], network), { period } = network, reached = [0], { first, count } = minutes || { first: 0, count: period };
   line.stations.slice(1).forEach((station, place) => {
     reached.push(reached[place] + (lengths.get(trackOf(line.stations[place], station)) || 4));
   });
-  const height = Math.max(LEAST_HEIGHT, TRACK * (line.stations.length - 1)), most = reached[reached.length - 1] || 1;
-  const heights = new Map(line.stations.map((station, place) => [station, TOP + height * reached[place] / most]));
+  const tracks = line.stations.length - 1, most = reached[reached.length - 1] || 1, { left, letters } = ROOMS[Number(width >= NARROW)], right = width - RIGHT;
+  const high = height ? Math.max(LEAST_SEEN, CLOSE * tracks, height - TOP - BOTTOM) : Math.max(LEAST_HEIGHT, TRACK * tracks);
+  const heights = new Map(line.stations.map((station, place) => [station, TOP + high * reached[place] / most]));
   return {
-    line, period, heights, reached, left: LEFT, right: WIDTH - RIGHT, top: TOP, bottom: TOP + height, x: minute => LEFT + (WIDTH - LEFT - RIGHT) * minute / period,
+    line, period, first, count, heights, reached, width, letters, left, right, top: TOP, bottom: TOP + high, x: minute => left + (right - left) * (minute - first) / count,
     events: new Set(line.trains.flatMap(train => train.events)), away: new Set(),
   };
+};
+
+// A minute in each period in which it is shown.
+export const copiesOf = ({ first, count, period }, minute) => {
+  const copies = [];
+  for (let at = minute + Math.ceil((first - minute) / period) * period; at < first + count; at += period) copies.push(at);
+  return copies;
+};
+
+// Where the minutes of a drawing lie on the screen.
+export const minutesOn = page => {
+  const [clip] = page.querySelectorAll('svg'), { left, width } = page.getBoundingClientRect(), scale = width / page.viewBox.baseVal.width;
+  const [x, wide] = ['x', 'width'].map(name => scale * Number(clip.getAttribute(name)));
+  return { left: left + x, width: wide };
 };
 
 export const heightOf = (frame, event) => frame.heights.get(labelOf(event).station);
 
 // The attributes of a drawing with a name, and of the part of it in which trains are.
 export const looksOf = (frame, name) => {
-  const place = { x: LEFT, y: TOP - TURN - 4, width: WIDTH - LEFT - RIGHT, height: frame.bottom - TOP + 2 * TURN + 8 };
+  const { left, right } = frame, place = { x: left, y: TOP - TURN - 4, width: right - left, height: frame.bottom - TOP + 2 * TURN + 8 };
   return {
-    page: { viewBox: `0 0 ${WIDTH} ${frame.bottom + BOTTOM}`, role: 'img', 'aria-label': name },
+    page: { viewBox: `0 0 ${frame.width} ${frame.bottom + BOTTOM}`, role: 'img', 'aria-label': name },
     clip: { ...place, viewBox: Object.values(place).join(' ') },
   };
 };
@@ -61,26 +78,27 @@ export const sheetOf = (frame, name) => {
 };
 
 export const gridOf = frame => {
-  const made = [], step = stepOf(frame.period);
-  for (let minute = 0; minute <= frame.period; minute += step) {
-    made.push(drawing('path', { class: 'minute', d: `M${frame.x(minute)} ${TOP - 4}V${frame.bottom + 4}` }));
-    made.push(drawing('text', { class: 'axis', x: frame.x(minute), y: TOP - 20, 'text-anchor': 'middle' }, clock(minute % frame.period)));
+  const { first, count, period, left, right } = frame, made = [], step = stepOf(count, period, (right - left) / (period > 60 ? 60 : 36));
+  for (let minute = Math.ceil(first / step) * step; minute <= first + count; minute += step) {
+    const look = minute % period || minute === first ? 'minute' : 'minute period';
+    made.push(drawing('path', { class: look, d: `M${frame.x(minute)} ${TOP - 4}V${frame.bottom + 4}` }));
+    made.push(drawing('text', { class: 'axis', x: frame.x(minute), y: TOP - 20, 'text-anchor': 'middle' }, clock(minute % period)));
   }
   for (const [station, y] of frame.heights) {
-    made.push(drawing('path', { class: 'station', d: `M${LEFT} ${y}H${WIDTH - RIGHT}` }));
-    made.push(drawing('text', { ...placeOf(station, y), 'data-station': station }, shortText(station, MOST_LETTERS)));
+    made.push(drawing('path', { class: 'station', d: `M${left} ${y}H${right}` }));
+    made.push(drawing('text', { ...placeOf(frame, station, y), 'data-station': station }, shortText(station, MOST_LETTERS)));
   }
   return made;
 };
 
 // Where the name of a station stands: beside its line, and one that is too long for that above it.
-const placeOf = (station, y) => station.length <= LETTERS ? { x: LEFT - 10, y: y + 4, 'text-anchor': 'end' } : { class: 'long', x: 2, y: y - 5 };
+const placeOf = ({ left, letters }, station, y) =>
+  station.length <= letters ? { x: left - 10, y: y + 4, 'text-anchor': 'end' } : { class: 'long', x: 2, y: y - 5 };
 
-// The path through minutes and heights, as often as a part of it comes into the period.
+// The path through minutes and heights, as often as a part of it comes into what is shown.
 export const pathsOf = (frame, points) => {
-  const minutes = points.map(([minute]) => minute), { period } = frame, made = [];
-  const first = -Math.floor(Math.max(...minutes) / period) * period, last = -Math.floor(Math.min(...minutes) / period) * period;
-  for (let shift = first; shift <= last; shift += period) {
+  const minutes = points.map(([minute]) => minute), { period, first, count } = frame, made = [], least = Math.min(...minutes);
+  for (let shift = Math.ceil((first - Math.max(...minutes)) / period) * period; shift + least < first + count; shift += period) {
     made.push(`M${points.map(([minute, y]) => `${frame.x(minute + shift).toFixed(1)} ${y.toFixed(1)}`).join('L')}`);
   }
   return made;

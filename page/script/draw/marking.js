@@ -3,7 +3,7 @@
 
 import { conflictsOf, isOutside, outsideText, toldConflicts } from './conflicts.js';
 import { drawing, elided } from './elements.js';
-import { heightOf, waysOf } from './frames.js';
+import { copiesOf, heightOf, waysOf } from './frames.js';
 
 const MOST_BROKEN = 200, LETTER = 7.4, ROW = 13, TRIES = [0, -1, 1, -2, 2, -3, 3], MARK = '✕';
 // What is red of a train is seen above its way, and what takes hold of the train there is hit.
@@ -26,10 +26,10 @@ export const reachesOf = (frame, train, minutes, width, places = [...train.steps
   : places.flatMap(place => reachOf(frame, train, minutes, place, width));
 
 // The ring of the chosen event, and by how much its train is moved.
-export const ringAt = (frame, event, minute, shift) => {
-  const [x, y] = [frame.x(minute), heightOf(frame, event)], ring = drawing('circle', { class: 'mark', cx: x, cy: y, r: 6 });
+export const ringAt = (frame, event, minute, shift) => copiesOf(frame, minute).flatMap(at => {
+  const [x, y] = [frame.x(at), heightOf(frame, event)], ring = drawing('circle', { class: 'mark', cx: x, cy: y, r: 6 });
   return shift ? [ring, drawing('text', { class: 'end', x: x + 9, y: y + 16 }, shift)] : [ring];
-};
+});
 
 const SIDES = { start: 0.5, middle: 0, end: -0.5 };
 
@@ -39,6 +39,14 @@ const boxOf = text => {
   return { x: x + SIDES[text.getAttribute('text-anchor') || 'start'] * width, base, width };
 };
 
+/** The labels of what is seen, in each period.
+ * @param {any} frame
+ * @param {any[]} boxes
+ * @param {number[]} at
+ * @param {string} text
+ * @param {object} more */
+const labelsOf = (frame, boxes, [minute, y], text, more) => copiesOf(frame, minute).map(at => labelOf(frame, boxes, [at, y], text, more));
+
 /** A label where no other one lies, or just a mark where there is no such place.
  * @param {any} frame
  * @param {any[]} boxes
@@ -46,7 +54,7 @@ const boxOf = text => {
  * @param {string} text
  * @param {object} more */
 const labelOf = (frame, boxes, [minute, y], text, more) => {
-  const width = LETTER * text.length, middle = frame.x(((minute % frame.period) + frame.period) % frame.period);
+  const width = LETTER * text.length, middle = frame.x(minute);
   const x = Math.min(frame.right - width / 2, Math.max(frame.left + width / 2, middle));
   const bases = TRIES.map(row => Math.max(ROW, y - 6 + row * ROW));
   const isFree = base => !boxes.some(box => Math.abs(box.x - x) < (box.width + width) / 2 && Math.abs(box.base - base) < ROW);
@@ -71,11 +79,11 @@ const brokenOf = (view, frame, where, boxes) => {
   const found = all.slice(0, MOST_BROKEN), steps = new Set(frame.line.trains.flatMap(train => train.steps));
   const ways = found.flatMap(({ conflict: { number }, points }) =>
     marked(waysOf(frame, points, 'var(--alarm)', 4), { class: 'broken', 'data-activity': number, ...steps.has(number) ? UNDER : {} }));
-  const labels = found.map(({ conflict, points: [[start, from], [end, to]] }) => {
+  const labels = found.flatMap(({ conflict, points: [[start, from], [end, to]] }) => {
     const text = conflict.isRun ? conflict.short : conflict.text, middle = [(start + end) / 2, (from + to) / 2];
-    const label = labelOf(frame, boxes, middle, text, { 'data-activity': conflict.number });
-    label.append(drawing('title', {}, toldConflicts([conflict])));
-    return label;
+    const made = labelsOf(frame, boxes, middle, text, { 'data-activity': conflict.number });
+    for (const label of made) label.append(drawing('title', {}, toldConflicts([conflict])));
+    return made;
   });
   return { ways, labels, told: elided(all.length, MOST_BROKEN, `that are violated ${where}`) };
 };
@@ -85,8 +93,8 @@ export const conflictMarks = (view, frame, where, texts) => {
   const boxes = texts.map(boxOf), { ways, labels, told } = brokenOf(view, frame, where, boxes);
   for (const event of [...frame.events].filter(each => isOutside(view, each))) {
     const time = view.times.get(event), y = heightOf(frame, event);
-    ways.push(drawing('circle', { class: 'outside', cx: frame.x(time), cy: y, r: 5, 'data-event': event, ...UNDER }));
-    labels.push(labelOf(frame, boxes, [time, y], outsideText(view, event), { 'data-event': event }));
+    ways.push(...copiesOf(frame, time).map(at => drawing('circle', { class: 'outside', cx: frame.x(at), cy: y, r: 5, 'data-event': event, ...UNDER })));
+    labels.push(...labelsOf(frame, boxes, [time, y], outsideText(view, event), { 'data-event': event }));
   }
   return { ways, labels, told };
 };

@@ -6,6 +6,7 @@ import { beside } from './apart.js';
 import { labelPlace, LANE, LETTERS, NAME, spanOf } from './captions.js';
 import { isAlarming } from './conflicts.js';
 import { drawing, find, findAll, setText } from './elements.js';
+import { fitMap } from './fitting.js';
 import { lengthsOf } from './frames.js';
 import { mostNumbers } from './lanes.js';
 import { labelOf, oldText, shortText } from './names.js';
@@ -13,19 +14,20 @@ import { nearby } from './nearby.js';
 import { layOut } from './places.js';
 import { redraw } from './session.js';
 import { shown } from './shown.js';
+import { spaceOf } from './sizes.js';
 import { atOnce, inSlices } from './slices.js';
 import { angleBetween, spread } from './spreading.js';
 import { minuteText } from './tables.js';
 import { isTab } from './tabs.js';
 
-const WIDTH = 1020, HEIGHT = 640, MARGIN = 64, EDGE = 8, STATIONS_OF_A_PAGE = 14, RING = 11;
+const AREA = 1020 * 640, MARGIN = 64, RATIOS = [1, 1020 / 640, 2.2], EDGE = 8, STATIONS_OF_A_PAGE = 14, RING = 11;
 // What the name of a line takes of a track with some space, and what each number takes at each of its ends.
 const ROOM = 70, ROW = 13, SCALE = 0.56;
 // With more stations it takes long.
 const FEW = 40;
 // What is laid out; the numbers, alarms and tracks of it that are drawn; what ends the making of it, and the drawing of tracks, null where
-// neither is done; and whether another part came in sight meanwhile.
-let graph = null, numbers = new Map(), alarms = null, sheets = new Map(), making = null, tracing = null, isMoved = false;
+// neither is done; whether another part came in sight meanwhile; and what hears of another size.
+let graph = null, numbers = new Map(), alarms = null, sheets = new Map(), making = null, tracing = null, isMoved = false, sight = null;
 
 // Minutes that are told with the hour are wider.
 const numberWidth = () => shown.view.network.period > 60 ? 36 : 21;
@@ -36,13 +38,20 @@ const partOf = view => {
   return { about, ...nearby(view.lines, about) };
 };
 
-const laidOut = function* ({ lines, network }, { about, stations, tracks, told }) {
+const laidOut = function* ({ lines, network }, { about, stations, tracks, told }, ratio) {
   const radius = new Map(stations.map(station => [station, radiusOf(station, tracks)]));
   const known = stations.every(station => shown.places.has(station)) ? shown.places : yield* layOut(stations, lengthsOf(lines, network));
   const chosen = new Map(stations.map(station => [station, [known.get(station)[0], -known.get(station)[1]]]));
   const wanted = tracks.map(track => ({ ...track, along: ROOM + 2 * numberWidth() * mostNumbers(track.lanes), beside: halfWidth(track) }));
-  const share = Math.min(1, Math.sqrt(stations.length / STATIONS_OF_A_PAGE));
-  return { about, tracks, radius, told, isSmall: stations.length <= FEW, places: yield* spread(chosen, wanted, radius, [(WIDTH - 2 * MARGIN) * share, (HEIGHT - 2 * MARGIN) * share]) };
+  const share = Math.min(1, Math.sqrt(stations.length / STATIONS_OF_A_PAGE)), sides = [Math.sqrt(AREA * ratio), Math.sqrt(AREA / ratio)];
+  const places = yield* spread(chosen, wanted, radius, sides.map(side => (side - 2 * MARGIN) * share));
+  return { about, tracks, radius, told, isSmall: stations.length <= FEW, places };
+};
+
+// How many times as wide as high the view is that the netgraph fills.
+const ratioNow = () => {
+  const { width, height } = spaceOf('netgraph');
+  return height ? Math.min(RATIOS[2], Math.max(RATIOS[0], width / height)) : RATIOS[1];
 };
 
 const radiusOf = (station, tracks) => {
@@ -55,14 +64,14 @@ const halfWidth = track => (track.lanes.length - 1) * LANE / 2 + ROW;
 
 // Lays out a part of the network, and draws its stations, on paper above all tracks.
 const draw = function* (view, part, isPaper = false) {
-  const made = yield* laidOut(view, part), labels = new Map();
+  const made = yield* laidOut(view, part, isPaper ? RATIOS[1] : ratioNow()), labels = new Map();
   for (const station of made.places.keys()) {
     labels.set(station, labelPlace(made, station));
     yield;
   }
   graph = { ...made, box: viewBox(made, labels) };
   [numbers, alarms] = [new Map(), { lanes: new Map(), stations: new Map(), drawn: new Set() }];
-  const page = sheetOf(nameOf(view), isPaper ? graph.tracks.flatMap(lanesOf) : []);
+  const page = sheetOf(nameOf(view), isPaper ? graph.tracks.flatMap(lanesOf) : [], isPaper);
   for (const [station, label] of labels) page.append(...drawStation(station, label));
   return page;
 };
@@ -70,9 +79,9 @@ const draw = function* (view, part, isPaper = false) {
 const lanesOf = track => track.lanes.map((lane, place) => drawLane(track, lane, (place - (track.lanes.length - 1) / 2) * LANE));
 
 // Names can be read, and where there are many the netgraph is scrolled.
-const sheetOf = (name, children) => {
+const sheetOf = (name, children, isPaper = false) => {
   const { box } = graph, made = drawing('svg', { viewBox: box.join(' '), role: 'group', 'aria-label': name }, ...children);
-  Object.assign(made.style, { minWidth: `${SCALE * box[2]}px`, maxHeight: `max(46rem, ${SCALE * box[3]}px)` });
+  if (isPaper) Object.assign(made.style, { minWidth: `${SCALE * box[2]}px`, maxHeight: `max(46rem, ${SCALE * box[3]}px)` });
   return made;
 };
 
@@ -157,7 +166,7 @@ const drawStation = (station, { x, base, anchor }) => {
 
 // What is in sight of a large netgraph: the circle about it, in the units of the drawing.
 const inSight = drawn => {
-  const { left, top, right, bottom } = find('view-netgraph').getBoundingClientRect(), turned = drawn.getScreenCTM().inverse();
+  const { left, top, right, bottom } = find('netgraph').getBoundingClientRect(), turned = drawn.getScreenCTM().inverse();
   const corners = [[Math.max(0, left), Math.max(0, top)], [Math.min(window.innerWidth, right), Math.min(window.innerHeight, bottom)]];
   const [first, last] = corners.map(([x, y]) => new DOMPoint(x, y).matrixTransform(turned));
   return { middle: [(first.x + last.x) / 2, (first.y + last.y) / 2], reach: Math.hypot(last.x - first.x, last.y - first.y) / 2 };
@@ -177,6 +186,7 @@ const drawTracks = function* () {
     yield;
   }
   holder.append(...[...sheets.values()].filter(sheet => !sheet.isConnected));
+  fitMap();
   for (const [event, { node }] of numbers) if (!node.isConnected) numbers.delete(event);
   for (const [event, { label }] of alarms.lanes) if (!label.isConnected) alarms.lanes.delete(event);
   drawTimes(shown.view);
@@ -206,8 +216,10 @@ const lookAround = () => {
 const show = page => {
   sheets = new Map();
   find('netgraph').replaceChildren(page);
+  fitMap();
+  sight.observe(page);
   if (graph.isSmall) atOnce(drawTracks());
-  if (isWider(find('view-netgraph'))) lookAt(labelOf(shown.chosen).station);
+  if (isWider(find('netgraph'))) lookAt(labelOf(shown.chosen).station);
 };
 
 const make = view => {
@@ -241,6 +253,7 @@ const update = view => {
   if (making) return;
   setText(find('netgraph-elided'), graph.told);
   drawTimes(view);
+  fitMap();
 };
 
 const isWider = panel => panel.scrollWidth > panel.clientWidth;
@@ -249,7 +262,7 @@ const isWider = panel => panel.scrollWidth > panel.clientWidth;
 export const lookAt = station => {
   const drawn = findAll('#netgraph [data-station]').find(each => each.dataset.station === station);
   if (!drawn) return;
-  const panel = find('view-netgraph'), [at, of] = [drawn, panel].map(each => each.getBoundingClientRect());
+  const panel = find('netgraph'), [at, of] = [drawn, panel].map(each => each.getBoundingClientRect());
   panel.scrollBy(at.left - of.left - of.width / 2, at.top - of.top - of.height / 2);
 };
 
@@ -275,7 +288,7 @@ const drawNumber = (view, event, number, chosen) => {
 const build = () => {
   stop();
   graph = null;
-  find('view-netgraph').scrollTo(0, 0);
+  find('netgraph').scrollTo(0, 0);
   find('netgraph').replaceChildren();
   setText(find('netgraph-elided'), '');
 };
@@ -284,5 +297,6 @@ export const netgraphPanel = { build, update };
 
 export const startNetgraph = () => {
   document.addEventListener('scroll', lookAround, true);
-  new ResizeObserver(lookAround).observe(find('netgraph'));
+  sight = new ResizeObserver(lookAround);
+  sight.observe(find('netgraph'));
 };

@@ -3,11 +3,12 @@
 import { bandsOf, keptFree } from './bands.js';
 import { corridor } from './corridor.js';
 import { drawing, find, renew, setText } from './elements.js';
-import { frameOf, heightOf, pathsOf, sheetOf } from './frames.js';
+import { copiesOf, frameOf, heightOf, pathsOf, sheetOf } from './frames.js';
 import { conflictMarks, reachesOf, ringAt } from './marking.js';
 import { shiftText } from './moving.js';
 import { clock, labelOf, shortText, trainName } from './names.js';
 import { shown } from './shown.js';
+import { sizeNow } from './sizes.js';
 import { piecesOf, stretchOf } from './stretch.js';
 import { isTab } from './tabs.js';
 import { undrawnText } from './timed.js';
@@ -59,20 +60,22 @@ const nameOf = (frame, train, stops, part) => {
   const runs = stops.slice(1).map((end, place) => [stops[place], end]).filter(([start, end]) => start.y !== end.y);
   if (!runs.length) return [];
   const high = ([start, end]) => Math.abs(end.y - start.y), [start, end] = runs.reduce((best, run) => high(run) > high(best) ? run : best);
-  const minute = mod(start.minute + part * (end.minute - start.minute), frame.period), isLate = minute > 0.9 * frame.period;
-  const place = { x: frame.x(minute) + (isLate ? -5 : 5), y: start.y + part * (end.y - start.y) + (end.y > start.y === isLate ? 9 : -2) };
-  const look = { class: 'end', style: `fill: ${train.color}`, 'text-anchor': isLate ? 'end' : 'start' };
-  return [drawing('text', { ...look, ...place }, shortText(train.line, 10))];
+  return copiesOf(frame, start.minute + part * (end.minute - start.minute)).map(minute => {
+    const isLate = minute - frame.first > 0.9 * frame.count;
+    const place = { x: frame.x(minute) + (isLate ? -5 : 5), y: start.y + part * (end.y - start.y) + (end.y > start.y === isLate ? 9 : -2) };
+    const look = { class: 'end', style: `fill: ${train.color}`, 'text-anchor': isLate ? 'end' : 'start' };
+    return drawing('text', { ...look, ...place }, shortText(train.line, 10));
+  });
 };
 
 const chosenMark = (view, frame, stops) => {
   const stop = stops.find(({ event }) => event === shown.chosen);
-  return stop ? ringAt(frame, stop.event, mod(stop.minute, frame.period), shiftText(view, stop.event)) : [];
+  return stop ? ringAt(frame, stop.event, stop.minute, shiftText(view, stop.event)) : [];
 };
 
 // The diagram, and what it says of what is left out.
 const diagramOf = (view, line) => {
-  const whole = frameOf(line, view.network), away = new Set(line.trains.flatMap(train => leavingOf(view, whole, line, train)));
+  const whole = frameOf(line, view.network, sizeNow('corridor')), away = new Set(line.trains.flatMap(train => leavingOf(view, whole, line, train)));
   const frame = { ...whole, away }, { page, clip } = sheetOf(frame, `Distance-time diagram of the corridor ${line.stations.join(', ')}`);
   const parts = line.trains.flatMap(train => partsAlong(frame, train)), free = keptFree(view.network);
   const trains = parts.flatMap(train => timedParts(view, train)).map(part => ({ train: part.train, stops: stopsOf(frame, part) }));

@@ -3,9 +3,10 @@
 import { drawBar, makeBar } from './bars.js';
 import { conflictsOf } from './conflicts.js';
 import { element, find } from './elements.js';
-import { clock, stepOf } from './names.js';
+import { bringMinute } from './extent.js';
 import { drawRow, makeRow } from './rows.js';
-import { choose, chooseAmong } from './session.js';
+import { choose, chooseAmong, redraw } from './session.js';
+import { shown } from './shown.js';
 
 const ROWS_OF_A_BLOCK = 40;
 // The pixels that the head of the rows takes of them.
@@ -33,7 +34,6 @@ const build = view => {
   order = groups.flatMap(group => group.events);
   for (const event of order) rows.set(event, makeRow(event));
   find('rows').replaceChildren(...groups.map(group => element('section', { class: 'train' }, headOf(group), ...blocks(group.events))));
-  find('axis').replaceChildren(...axis(view.network.period));
   chooseAmong(order);
 };
 
@@ -48,18 +48,6 @@ const blocks = events => {
   return made;
 };
 
-const axis = period => {
-  const step = stepOf(period), marks = [];
-  for (let minute = 0; minute < period; minute += step) {
-    const mark = element('span', {}, clock(minute));
-    mark.style.left = `${100 * (minute + 0.5) / period}%`;
-    marks.push(mark);
-  }
-  find('events').classList.toggle('hours', period > 60);
-  find('events').style.setProperty('--step', `${100 * step / period}%`);
-  return marks;
-};
-
 const update = view => {
   const { at } = conflictsOf(view);
   rows.forEach((row, event) => drawRow(row, view, at.get(event)));
@@ -68,9 +56,16 @@ const update = view => {
 
 export const eventsPanel = { build, update };
 
+// Chooses an event, whose time is shown where minutes are zoomed.
+const chooseSeen = event => {
+  const time = shown.view.times.get(event), isMoved = time !== undefined && bringMinute(time);
+  if (isMoved && event === shown.chosen) redraw();
+  choose(event);
+};
+
 // Brings the row of the chosen event to where it is seen, and the keys to it.
 export const showRow = (event, isFocused = true) => {
-  choose(event);
+  chooseSeen(event);
   const row = rows.get(event);
   if (!row) return;
   row.node.scrollIntoView({ block: 'nearest' });
@@ -88,7 +83,7 @@ export const showBar = event => {
 
 // The same for what is chosen elsewhere, so that nothing but the rows is scrolled.
 export const bringRow = event => {
-  choose(event);
+  chooseSeen(event);
   const row = rows.get(event), panel = find('events');
   if (!row) return;
   const { top, bottom } = row.node.getBoundingClientRect(), seen = panel.getBoundingClientRect();

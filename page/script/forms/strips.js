@@ -12,6 +12,7 @@ import { choose, doStep } from './session.js';
 import { shown } from './shown.js';
 import { showActivity } from './spans.js';
 import { trainAt } from './trains.js';
+import { unfold } from './unfolding.js';
 
 const modulo = (value, period) => ((value % period) + period) % period;
 
@@ -108,6 +109,7 @@ export const startStrips = () => {
   panel.addEventListener('keydown', typed);
   panel.addEventListener('click', event => {
     const row = rowAt(event.target), broken = event.target.closest('[data-conflict]');
+    unfold();
     if (broken) showActivity(Number(broken.dataset.conflict), row.event);
     else if (row) choose(row.event);
   });

@@ -45,8 +45,9 @@ export const activityName = ({ number, first, last }) => {
 // A name in a drawing, where there is room for so many letters.
 export const shortText = (name, most) => name.length <= most ? name : `${name.slice(0, most - 1).trimEnd()}…`;
 
-// How many minutes lie between two marks of an axis.
-export const stepOf = period => [1, 2, 5, 10, 15, 30, 60, 120, 240].find(step => period / step <= (period > 60 ? 7 : 12)) || 360;
+// How many minutes lie between two marks of an axis that shows so many of a period, where there is room for so many marks.
+export const stepOf = (count, period = count, room = period > 60 ? 7 : 12) =>
+  [1, 2, 5, 10, 15, 30, 60, 120, 240].find(step => count / step <= Math.min(room, period > 60 ? 24 : 12)) || 360;
 
 const twoDigits = number => String(number).padStart(2, '0');
 

@@ -2,6 +2,7 @@
 
 import { find } from './elements.js';
 import { redraw } from './session.js';
+import { forgetRooms } from './sizes.js';
 
 const TABS = ['diagram', 'netgraph', 'corridor', 'tables', 'compare', 'violated', 'lines', 'why', 'gains'];
 let shownTab = 'diagram';
@@ -18,6 +19,7 @@ export const showTab = name => {
     tab.tabIndex = isShown ? 0 : -1;
     find(`view-${each}`).hidden = !isShown;
   }
+  forgetRooms();
   redraw();
 };
 
@@ -34,5 +36,4 @@ export const startTabs = () => {
     });
   });
   find('figure-violations').addEventListener('click', () => showTab('violated'));
-  find('large').addEventListener('change', event => find('main').classList.toggle('large', event.target.checked));
 };

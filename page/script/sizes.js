@@ -1,0 +1,38 @@
+// How large the pictures on the screen are: they fill what their views leave them.
+
+import { find } from './elements.js';
+import { minutesOfDiagram } from './extent.js';
+import { redraw } from './session.js';
+import { shown } from './shown.js';
+
+const PICTURES = ['diagram', 'corridor', 'netgraph'];
+// What was measured, until it may be another size: measuring has a browser lay out the page.
+const rooms = new Map(), sizes = new Map();
+
+export const spaceOf = name => {
+  if (!rooms.has(name)) {
+    const { clientWidth: width, clientHeight: height } = find(name);
+    rooms.set(name, { width, height });
+  }
+  return rooms.get(name);
+};
+
+// The size of a diagram with the minutes that it shows, the same value where it is the same.
+export const sizeNow = name => {
+  const { width, height } = spaceOf(name), minutes = minutesOfDiagram(), known = JSON.stringify([width, height, minutes]);
+  if (!sizes.has(name) || sizes.get(name).known !== known) sizes.set(name, { known, size: { width: width || 880, height, minutes } });
+  return sizes.get(name).size;
+};
+
+// Measures again when something is drawn next.
+export const forgetRooms = () => rooms.clear();
+
+export const startSizes = () => {
+  const observer = new ResizeObserver(changes => {
+    const isOther = ({ target: { id, clientWidth, clientHeight } }) => clientWidth && (spaceOf(id).width !== clientWidth || spaceOf(id).height !== clientHeight);
+    if (!shown.view || !changes.some(isOther)) return;
+    forgetRooms();
+    redraw();
+  });
+  for (const name of PICTURES) observer.observe(find(name));
+};
