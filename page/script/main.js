@@ -5,6 +5,7 @@ import { alwaysPanel, startAlways } from './always.js';
 import { startAltering } from './altering.js';
 import { startAsking } from './asking.js';
 import { axisPanel } from './axis.js';
+import { boardsPanel, startBoards } from './boards.js';
 import { changingPanel } from './changing.js';
 import { choosingPanel, startChoosing } from './choosing.js';
 import { corridorPanel } from './corridor.js';
@@ -28,6 +29,7 @@ import { startLines, stepsPanel, violatedPanel } from './lists.js';
 import { movingPanel } from './moving.js';
 import { netgraphPanel, startNetgraph } from './netgraph.js';
 import { openStory, startOpening } from './opening.js';
+import { papersPanel, startPapers } from './papers.js';
 import { startPrinting } from './printing.js';
 import { startProgram } from './program.js';
 import { proposingPanel, startProposing } from './proposing.js';
@@ -51,13 +53,13 @@ import { startZooming, zoomPanel } from './zooming.js';
 
 // In the order in which they are drawn.
 const PANELS = [
-  zoomPanel, axisPanel, eventsPanel, factsPanel, spansPanel, costingPanel, movingPanel, departingPanel, changingPanel, addingPanel, headPanel, diagramPanel, tablesPanel, netgraphPanel,
+  zoomPanel, axisPanel, eventsPanel, factsPanel, spansPanel, costingPanel, movingPanel, departingPanel, changingPanel, addingPanel, headPanel, diagramPanel, tablesPanel, netgraphPanel, boardsPanel, papersPanel,
   variantsPanel, findingPanel, finderPanel, corridorPanel, trafficPanel, stationsPanel, choosingPanel, violatedPanel, stepsPanel, searchingPanel, proposingPanel, alwaysPanel,
   tellingPanel, gainsPanel, linkingPanel, draftsPanel,
 ];
 
 const STARTS = [
-  startHead, startTabs, startSizes, startWhole, startZooming, startUnfolding, startStrips, startDiagram, startCosting, startChoosing, startLines, startLining, startAltering, startVariants, startHelps, startLegend,
+  startHead, startTabs, startSizes, startWhole, startZooming, startUnfolding, startBoards, startPapers, startStrips, startDiagram, startCosting, startChoosing, startLines, startLining, startAltering, startVariants, startHelps, startLegend,
   startFinding, startStations, startAsking, startSearching, startNetgraph, startProposing, startAlways, startTelling, startGains, startPrinting, startOpening, startSaving,
   startHanding,
 ];

@@ -7,7 +7,7 @@ from page_tests.fingers import tap, touch
 from page_tests.hands import Hands
 from tests.harness import Suite
 
-TABS = ("diagram", "corridor", "netgraph", "tables", "compare", "violated", "lines", "why", "gains")
+TABS = ("diagram", "corridor", "netgraph", "station", "tables", "compare", "violated", "lines", "why", "gains")
 # Words of the program and of its commands, which are none of a planner.
 FOREIGN = re.compile(r"\b(domains?|nodes?|residues?|tensions?|dump|journal|(?:lines?) of commands|more lines)\b", re.I)
 # All texts that are seen, told or shown on a pointer.
@@ -75,7 +75,7 @@ def planners_words(suite: Suite, page: Hands) -> None:
             came = sorted(set(map(str.lower, FOREIGN.findall(page.ask(TEXTS)))))
             suite.note(f"story {story}, {tab}", {"words": []}, {"words": came})
     views = page.ask("[...document.querySelectorAll('[role=tab]')].map(each => each.textContent)")
-    suite.note("views", {"they": ["Diagram", "Netgraph", "Corridor", "Tables", "Compare", "Violated", "Steps", "Why", "What helps"]}, {"they": views})
+    suite.note("views", {"they": ["Diagram", "Netgraph", "Corridor", "Station", "Tables", "Compare", "Violated", "Steps", "Why", "What helps"]}, {"they": views})
     page.ask("Page.showTab('tables')")
     for button, dialog in [("open", "opening"), ("save", "saving"), ("add-line", "lining")]:
         page.press(button)

@@ -12,7 +12,7 @@ import { shown } from './shown.js';
 import { showActivity } from './spans.js';
 import { unfold } from './unfolding.js';
 
-const DIAGRAMS = ['diagram', 'corridor'], VIEWS = [...DIAGRAMS, 'netgraph', 'tables'];
+const DIAGRAMS = ['diagram', 'corridor'], VIEWS = [...DIAGRAMS, 'netgraph', 'board', 'tables'];
 
 // An event at a station: that after the chosen one, so that further clicks go round.
 const eventAt = station => {

@@ -41,9 +41,10 @@ const row = (view, each) => {
 const stationTable = (view, station, rows) => element('section', { class: 'station' }, element('h3', {}, station),
   tableOf('times', HEADS, rows.map(each => row(view, each))));
 
-// The connections of a network as they are printed; nothing where there are none.
-export const connectionTables = view => {
-  const all = connectionsOf(view), stations = new Map();
+// The connections of some lines as they are printed; nothing where there are none.
+export const connectionTables = (view, lines = view.lines) => {
+  const names = new Set(lines.map(({ name }) => name)), isOf = event => names.has(labelOf(event).line), stations = new Map();
+  const all = connectionsOf(view).filter(({ first, last }) => isOf(first) || isOf(last));
   for (const each of all.slice(0, MOST_ROWS)) {
     const { station } = labelOf(each.first);
     stations.set(station, [...stations.get(station) || [], each]);

@@ -1,9 +1,11 @@
-// What is printed: name and date, the netgraph, the timetable and diagram of each line, and connections by station.
+// What is printed: name and date, the netgraph, the timetable and diagram of each line with their connections, and boards of stations.
 
+import { boardOf } from './board.js';
 import { connectionTables } from './connections.js';
 import { element, find } from './elements.js';
 import { lengthText } from './names.js';
 import { netgraphOf } from './netgraph.js';
+import { boardsOnPaper, linesOnPaper } from './papers.js';
 import { session } from './session.js';
 import { shown } from './shown.js';
 import { tablesOf } from './tables.js';
@@ -28,7 +30,11 @@ const front = view => {
   return element('section', { class: 'front wide-page' }, ...summary(view), drawn, element('p', {}, [told, NETGRAPH_NOTE].filter(Boolean).join(' ')));
 };
 
-const paper = view => [front(view), ...tablesOf(view, true), ...connectionTables(view)];
+const paper = view => {
+  const lines = linesOnPaper(view), known = lines.length === view.lines.length ? view : { ...view, lines };
+  const tables = lines.length || !view.lines.length ? [...tablesOf(known, true), ...connectionTables(view, lines)] : [];
+  return [front(view), ...tables, ...boardsOnPaper().map(station => boardOf(view, station))];
+};
 
 export const startPrinting = () => {
   window.addEventListener('beforeprint', () => find('printed').replaceChildren(...paper(shown.view)));

@@ -17,7 +17,7 @@ const lineTable = (line, made) => {
   const arrow = train => isForward(line, train) ? '↓' : '↑';
   const head = trains.map(train => element('th', { colspan: 2, scope: 'colgroup', class: 'begins' }, `to ${train.to} ${arrow(train)}`));
   const names = trains.flatMap(() => [element('th', { scope: 'col', class: 'begins' }, 'arr.'), 'dep.']);
-  const rows = line.stations.map(station => rowOf(station, trains.flatMap(train => cells(train, station, made))));
+  const rows = line.stations.map(station => rowOf(element('span', { 'data-station': station }, station), trains.flatMap(train => cells(train, station, made))));
   return tableOf('times', [['', ...head], ['Station', ...names]], rows);
 };
 

@@ -4,7 +4,7 @@ import { find } from './elements.js';
 import { redraw } from './session.js';
 import { forgetRooms } from './sizes.js';
 
-const TABS = ['diagram', 'netgraph', 'corridor', 'tables', 'compare', 'violated', 'lines', 'why', 'gains'];
+const TABS = ['diagram', 'netgraph', 'corridor', 'station', 'tables', 'compare', 'violated', 'lines', 'why', 'gains'];
 let shownTab = 'diagram';
 
 export const isTab = name => shownTab === name;

@@ -1,0 +1,43 @@
+// What is printed: some lines, which are all at first, and boards of some stations.
+
+import { element, find } from './elements.js';
+import { labelOf } from './names.js';
+import { shown } from './shown.js';
+
+const ALL = { lines: null, boards: new Set() };
+let kept = ALL;
+
+export const linesOnPaper = ({ lines }) => lines.filter(({ name }) => !kept.lines || kept.lines.has(name));
+
+export const boardsOnPaper = () => [...kept.boards];
+
+const choice = (name, title, names, chosen) => element('label', {}, title,
+  element('select', { multiple: true, id: `${name}-on-paper` }, ...names.map(each => element('option', { selected: chosen(each) }, each))));
+
+const chosenIn = name => new Set([...find(`${name}-on-paper`).selectedOptions].map(({ value }) => value));
+
+const show = () => {
+  const { lines, network } = shown.view, stations = [...new Set(network.events.map(event => labelOf(event).station))].filter(Boolean).sort();
+  find('paper-picks').replaceChildren(choice('lines', 'Lines', lines.map(({ name }) => name), name => !kept.lines || kept.lines.has(name)),
+    choice('boards', 'Boards of stations', stations, name => kept.boards.has(name)));
+  find('papers').showModal();
+};
+
+export const papersPanel = {
+  begin: () => { kept = ALL; },
+  update: () => {},
+};
+
+export const startPapers = () => {
+  const dialog = find('papers');
+  find('choose-paper').addEventListener('click', show);
+  find('papers-close').addEventListener('click', () => dialog.close());
+  dialog.addEventListener('close', () => {
+    const lines = chosenIn('lines');
+    kept = { lines: lines.size < shown.view.lines.length ? lines : null, boards: chosenIn('boards') };
+  });
+  find('papers-print').addEventListener('click', () => {
+    dialog.close();
+    setTimeout(() => window.print());
+  });
+};

@@ -1,0 +1,120 @@
+"""A station's board: a clock face, a list and a matrix, from any station's name and on paper; and what paper shows."""
+
+from typing import Any
+
+from page_tests.corridor import TRAINS, texts_of
+from page_tests.hands import Hands
+from page_tests.keys import CTRL
+from page_tests.picturing import NIGHT
+from tests.harness import Suite
+
+# A connection from the first train's arrival at B into the train back, which takes 55 minutes, and may take 4 to 9.
+CONNECTED = texts_of(TRAINS, [])
+NUMBER = len(CONNECTED["activities"].splitlines()) + 1
+CONNECTED["activities"] += f"{NUMBER}; 2; 16; 4; 9; 1\n"
+CONNECTED["labels"] += f"{NUMBER}; change\n"
+
+
+def station(page: Hands) -> Any:
+    """The station whose board is shown, '' where none is."""
+    return page.ask("Page.find('view-station').hidden ? '' : document.querySelector('#board .board')?.dataset.of ?? ''")
+
+
+def board(suite: Suite, page: Hands) -> None:
+    """The face, the list and the matrix have each arrival and departure, with the minutes had and wanted; a click chooses."""
+    page.again()
+    page.show(CONNECTED)
+    page.ask("Page.choose(2); Page.showTab('station')")
+    suite.note("that of the chosen event", {"it": "B"}, {"it": station(page)})
+    face = page.ask("[...document.querySelectorAll('.face text.end')].map(each => each.textContent).sort()")
+    suite.note("the face", {"it": ["L 03", "L 05", "L 10", "L 12", "L 40", "L 42"]}, {"it": face})
+    # Arrivals are within the ring and departures without, at their minutes.
+    places = page.ask(
+        """Object.fromEntries([...document.querySelectorAll('.face [data-event]')].map(each => {
+        const text = each.querySelector('text'), x = Number(text.getAttribute('x')), y = Number(text.getAttribute('y')) - 4;
+        const turn = Math.round(30 * Math.atan2(x, -y) / Math.PI + 60) % 60, ring = Number(document.querySelector('.face .ring').getAttribute('r'));
+        return [each.dataset.event, [turn, Math.hypot(x, y) < ring]];
+    }))"""
+    )
+    suite.note("where", {"2": [10, True], "3": [12, False], "6": [40, True], "7": [42, False], "14": [3, True], "15": [5, False]}, places)
+    rows = page.ask("[...document.querySelectorAll('#board .rounds tr[data-event]')].map(each => [...each.cells].map(cell => cell.textContent).join(' '))")
+    wanted = ["03 arr. L to A C", "05 dep. L to A A", "10 arr. L to C A", "12 dep. L to C C", "40 arr. L to C A", "42 dep. L to C C"]
+    suite.note("the list", {"rows": wanted}, {"rows": rows})
+    page.click(*page.middle('#board tr[data-event="7"]'))
+    page.frame()
+    suite.note("a click in it", {"chosen": 7, "board": "B"}, {"chosen": page.ask("Page.chosen"), "board": station(page)})
+    page.show({**CONNECTED, "activities": CONNECTED["activities"].replace("; 2; 16; 4; 9; 1", "; 14; 3; 4; 9; 1")})
+    page.ask("Page.choose(2); Page.showTab('station')")
+    cell = page.ask(f"(each => each && [each.textContent, each.className])(document.querySelector('#board td[data-activity=\"{NUMBER}\"]'))")
+    suite.note("a connection that is met", {"it": ["9 of 4 to 9", "wanted"]}, {"it": cell})
+    page.ask("Page.step(['time 3 13'])")
+    cell = page.ask(f"(each => each && [each.textContent, each.className])(document.querySelector('#board td[data-activity=\"{NUMBER}\"]'))")
+    suite.note("and one that is not", {"it": ["10 ✕ of 4 to 9", "alarm"]}, {"it": cell})
+    page.show(NIGHT)
+    page.ask("Page.choose(1)")
+    suite.note("of a day", {"face": ["NJ 20:20", "RE 6:20"]}, {"face": page.ask("[...document.querySelectorAll('.face text.end')].map(each => each.textContent).sort()")})
+    page.show({"activities": "1; 1; 2; 3; 5; 2\n", "period": "10"})
+    suite.holds("without labels", "A file of labels" in page.text("#board") and not page.is_shown("to-board"))
+    page.ask("Page.showTab('diagram')")
+
+
+def from_names(suite: Suite, page: Hands) -> None:
+    """Two clicks on a station's name show its board, in rows, the diagram, the netgraph, the corridor and tables; so do B, a button and a typed name."""
+    page.again()
+    row = page.ask("(({ left, top, height }) => [left + 10, top + height / 2])(document.querySelector('[data-row=\"3\"] .name').getBoundingClientRect())")
+    page.click(*row, count=2)
+    page.frame()
+    suite.note("in a row", {"it": page.ask("Page.labelOf(3).station")}, {"it": station(page)})
+    for tab, name in [("diagram", "Marden"), ("netgraph", "Linton"), ("corridor", "Kelby")]:
+        page.ask(f"Page.showTab('{tab}'); Page.chooseCorridor(['Gorsley', 'Inworth'])")
+        page.frame()
+        page.click(*page.middle(f'#{tab} [data-station="{name}"]' + (" text" if tab == "netgraph" else "")), count=2)
+        page.frame()
+        suite.note(f"in the {tab}", {"it": name}, {"it": station(page)})
+    page.ask("Page.chooseCorridor([]); Page.showTab('tables')")
+    page.click(*page.middle('#tables [data-station="Oakham"]'), count=2)
+    page.frame()
+    suite.note("in tables", {"it": "Oakham"}, {"it": station(page)})
+    page.ask("Page.showTab('diagram'); Page.choose(2); document.querySelector('.strip[data-event=\"2\"]').focus()")
+    page.type("b")
+    suite.note("B", {"it": "Dale"}, {"it": station(page)})
+    page.ask("Page.showTab('diagram'); Page.choose(1)")
+    page.press("to-board")
+    suite.note("the button of the chosen event", {"it": "Gorsley"}, {"it": station(page)})
+    page.fill("#board-station input", "hatt\n")
+    suite.note("a name that is typed", {"it": "Hatton"}, {"it": station(page)})
+    page.ask("Page.showTab('diagram')")
+
+
+def on_paper_as_chosen(suite: Suite, page: Hands) -> None:
+    """Paper has all lines and no board at first, then those that are chosen; another network begins anew."""
+    page.again()
+    shown = "[['.line h3 .pill', 'textContent'], ['.board h2', 'textContent'], ['.board svg.face', 'nodeName']].map(([each, what]) => [...document.querySelectorAll(`#printed ${each}`)].map(node => node[what]))"
+
+    def printed() -> Any:
+        page.ask("window.dispatchEvent(new Event('beforeprint'))")
+        came = page.ask(shown)
+        page.ask("window.dispatchEvent(new Event('afterprint'))")
+        return came
+
+    everything = [["R1", "R2", "R3", "R4", "R5", "R6"], [], []]
+    suite.note("at first", {"it": everything}, {"it": printed()})
+    page.ask("window.print = () => { window.isPrinted = true; }")
+    page.press("choose-paper")
+    page.click(*page.middle('#lines-on-paper option:nth-child(2)'))
+    for place, modifiers in [(1, 0), (3, CTRL)]:
+        x, y = page.middle(f"#boards-on-paper option:nth-child({place})")
+        for kind in ("mousePressed", "mouseReleased"):
+            page.mouse(kind, x, y, modifiers=modifiers)
+    page.press("papers-print")
+    page.until("window.isPrinted === true")
+    suite.note("a line and two boards", {"it": [["R2"], ["Ashford", "Cranley"], ["svg", "svg"]]}, {"it": printed()})
+    page.press("choose-paper")
+    kept = page.ask("['lines', 'boards'].map(each => [...document.getElementById(`${each}-on-paper`).selectedOptions].map(option => option.value))")
+    page.press("papers-close")
+    suite.note("it is kept", {"it": [["R2"], ["Ashford", "Cranley"]]}, {"it": kept})
+    page.ask("Page.openStory(Page.stories[0])")
+    suite.note("in another network", {"it": everything}, {"it": printed()})
+
+
+GROUPS = [board, from_names, on_paper_as_chosen]
