@@ -37,7 +37,7 @@ export const labelPlace = (graph, station) => {
 
 // The least distance of a name from what lies about it, up to what is enough.
 const roomOf = (graph, station, { x, base, anchor }, { tracks, places }) => {
-  const [left, right] = spanOf(station, x, anchor);
+  const [left, right] = spanOfName(station, x, anchor);
   const spots = [0, 1, 2, 3, 4].flatMap(part => [0, 0.7].map(height => [left + (right - left) * part / 4, base - NAME * height]));
   let room = ENOUGH;
   for (const track of tracks) {
@@ -52,7 +52,7 @@ const roomOf = (graph, station, { x, base, anchor }, { tracks, places }) => {
 };
 
 // About where the name of a station begins and ends, from the place of its anchor.
-export const spanOf = (name, x, anchor) => {
+export const spanOfName = (name, x, anchor) => {
   const width = 0.7 * NAME * Math.min(LETTERS, name.length), left = x - width * { start: 0, middle: 0.5, end: 1 }[anchor];
   return [left, left + width];
 };

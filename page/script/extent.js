@@ -48,10 +48,15 @@ export const zoomMinutes = (factor, at) => {
 
 export const shiftMinutes = minutes => showMinutes(minutesOfDiagram().first + minutes, minutesOfDiagram().count);
 
+export const isShown = minute => {
+  const period = periodNow(), { first, count } = minutesOfDiagram();
+  return minute + Math.ceil((first - minute) / period) * period < first + count;
+};
+
 // Shows a minute of the period in the middle, where it is not shown.
 export const bringMinute = minute => {
-  const period = periodNow(), { first, count } = minutesOfDiagram(), at = minute + Math.ceil((first - minute) / period) * period;
-  return at >= first + count && showMinutes(minute - count / 2, count);
+  const { count } = minutesOfDiagram();
+  return !isShown(minute) && showMinutes(minute - count / 2, count);
 };
 
 export const showAll = () => { kept = { ...kept, first: 0, count: Infinity }; };

@@ -1,7 +1,7 @@
 // Strips and pictures are zoomed and moved: by the wheel, keys, two fingers, a drag beside all trains, and buttons.
 
 import { find, setText } from './elements.js';
-import { bringMinute, isTwice, isZoomed, minutesOfDiagram, minutesOfStrips, shiftMinutes, showAll, showTwice, zoomMinutes } from './extent.js';
+import { bringMinute, isShown, isTwice, isZoomed, minutesOfDiagram, minutesOfStrips, shiftMinutes, showAll, showTwice, zoomMinutes } from './extent.js';
 import { isField } from './fields.js';
 import { mapZoom, showWholeMap, zoomMap } from './fitting.js';
 import { minutesOn } from './frames.js';
@@ -159,9 +159,9 @@ const told = () => {
   return isZoomed() ? [first, first + count].map(minute => clock(Math.round(minute) % period)).join('–') : '';
 };
 
-// The time of the chosen event is shown where keys move it on.
+// The time of the chosen event that was shown is shown where it is moved on.
 const follow = ({ times }) => {
-  const event = shown.chosen, time = times.get(event), isMoved = last.event === event && last.time !== time && time !== undefined;
+  const event = shown.chosen, time = times.get(event), isMoved = last.event === event && last.time !== time && time !== undefined && last.time !== undefined && isShown(last.time);
   last = { event, time };
   if (isMoved && !document.body.classList.contains('dragging') && bringMinute(time)) drawSoon();
 };

@@ -172,7 +172,7 @@ def by_fingers(suite: Suite, page: Hands) -> None:
 
 
 def of_the_map(suite: Suite, page: Hands) -> None:
-    """The netgraph is zoomed about the pointer and dragged, where a drag clicks nothing; all of 2,048 events comes into sight."""
+    """The netgraph is zoomed about the pointer and dragged, where a drag clicks nothing; all of a large one comes into sight."""
     page.again()
     page.ask("Page.showTab('netgraph')")
     page.frame()
@@ -186,7 +186,7 @@ def of_the_map(suite: Suite, page: Hands) -> None:
     page.frame()
     moved = page.ask(f"document.querySelector('{station}').getBoundingClientRect().left + document.querySelector('{station}').getBoundingClientRect().width / 2") - at[0]
     suite.note("a drag", {"by": -80, "corridor": []}, {"by": round(moved), "corridor": page.ask("Page.corridor.stations")})
-    page.show(large.texts())
+    page.show(large.texts(6))
     page.frame()
     page.press("zoom-all")
     page.frame()
@@ -245,8 +245,12 @@ def on_a_phone(suite: Suite, page: Hands) -> None:
     page.again()
     page.resize(390, 800)
     touch(page)
-    top = page.box("main")[1]
-    suite.holds(f"heads of {top:.0f} points", top <= 160)
+    for lines in ([], ["time 1 7", "fix 21 3"]):
+        page.ask(f"Page.step({lines})" if lines else "")
+        page.frame()
+        top = page.box("main")[1]
+        suite.holds(f"heads of {top:.0f} points after {lines}", top <= 160)
+    page.ask("Page.undo()")
     tap(page, page.minute(9, 20))
     page.frame()
     seen = page.ask(
@@ -289,7 +293,22 @@ def of_a_day(suite: Suite, page: Hands) -> None:
     suite.holds(f"{strip:.1f} points a minute", strip > 3)
     page.drag([page.minute(1, 1205), page.minute(1, 1215), page.minute(1, 1225)])
     suite.note("held to a minute", {"lines": ["fix 1 1225"]}, {"lines": page.lines()})
-    page.type("0")
+    x, y = over(page, "diagram", 0.9)
+    for _ in range(2):
+        page.drag([(x, y), (x - 300, y), (x - 650, y)])
+        page.frame()
+    shown, left = told(page), page.across("diagram")[0]
+    place = page.ask(
+        f"""(() => {{
+        const piece = document.querySelector('#diagram .reach[data-event="1"]'), at = [...Array(500).keys()].find(each => piece.getPointAtLength(4 * each).x > {left + 20});
+        const {{ x, y }} = piece.getPointAtLength(4 * at).matrixTransform(piece.getScreenCTM());
+        return [x, y];
+    }})()"""
+    )
+    page.click(*place)
+    page.frame()
+    came = {"told": told(page), "rings": ring(page), "chosen": page.ask("Page.chosen")}
+    suite.note("a click on a way whose ends are not seen", {"told": shown, "rings": [], "chosen": 1}, came)
     page.press("zoom-all")
     page.press("two-periods")
     page.frame()

@@ -47,7 +47,7 @@ const begin = event => {
 
 // Chooses an event, and brings the keys to the view.
 const lead = (holder, event) => {
-  bringRow(event);
+  bringRow(event, true);
   holder.focus({ preventScroll: true });
 };
 

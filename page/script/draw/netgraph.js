@@ -3,7 +3,7 @@
 
 import { drawAlarms, makeAlarm } from './alarms.js';
 import { beside } from './apart.js';
-import { labelPlace, LANE, LETTERS, NAME, spanOf } from './captions.js';
+import { labelPlace, LANE, LETTERS, NAME, spanOfName } from './captions.js';
 import { isAlarming } from './conflicts.js';
 import { drawing, find, findAll, setText } from './elements.js';
 import { fitMap } from './fitting.js';
@@ -43,7 +43,8 @@ const laidOut = function* ({ lines, network }, { about, stations, tracks, told }
   const known = stations.every(station => shown.places.has(station)) ? shown.places : yield* layOut(stations, lengthsOf(lines, network));
   const chosen = new Map(stations.map(station => [station, [known.get(station)[0], -known.get(station)[1]]]));
   const wanted = tracks.map(track => ({ ...track, along: ROOM + 2 * numberWidth() * mostNumbers(track.lanes), beside: halfWidth(track) }));
-  const share = Math.min(1, Math.sqrt(stations.length / STATIONS_OF_A_PAGE)), sides = [Math.sqrt(AREA * ratio), Math.sqrt(AREA / ratio)];
+  const share = Math.min(1, Math.sqrt(stations.length / STATIONS_OF_A_PAGE)), shape = stations.length > FEW ? RATIOS[1] : ratio;
+  const sides = [Math.sqrt(AREA * shape), Math.sqrt(AREA / shape)];
   const places = yield* spread(chosen, wanted, radius, sides.map(side => (side - 2 * MARGIN) * share));
   return { about, tracks, radius, told, isSmall: stations.length <= FEW, places };
 };
@@ -88,7 +89,7 @@ const sheetOf = (name, children, isPaper = false) => {
 const nameOf = view => `Netgraph of ${graph.places.size} stations and ${view.lines.length} lines`;
 
 const viewBox = ({ places, radius }, labels) => {
-  const spans = [...labels].map(([station, { x, anchor }]) => spanOf(station, x, anchor));
+  const spans = [...labels].map(([station, { x, anchor }]) => spanOfName(station, x, anchor));
   const ys = [...places].map(([station, [, y]]) => [y, radius.get(station)]);
   const left = Math.min(...spans.map(span => span[0])) - EDGE, right = Math.max(...spans.map(span => span[1])) + EDGE;
   const top = Math.min(...ys.map(([y, r]) => y - r)) - EDGE - 2 * NAME, bottom = Math.max(...ys.map(([y, r]) => y + r)) + EDGE + 2 * NAME;

@@ -81,9 +81,10 @@ export const showBar = event => {
   bar.way.focus({ preventScroll: true });
 };
 
-// The same for what is chosen elsewhere, so that nothing but the rows is scrolled.
-export const bringRow = event => {
-  chooseSeen(event);
+// The same for what is chosen elsewhere, so that nothing but the rows is scrolled; below a pointer minutes stay where they are.
+export const bringRow = (event, isPointed = false) => {
+  if (isPointed) choose(event);
+  else chooseSeen(event);
   const row = rows.get(event), panel = find('events');
   if (!row) return;
   const { top, bottom } = row.node.getBoundingClientRect(), seen = panel.getBoundingClientRect();
