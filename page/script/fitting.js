@@ -8,7 +8,7 @@ let zoom = 1;
 
 // The scale at which all of it is seen, and that which is not zoomed.
 const scalesOf = page => {
-  const { width, height } = page.viewBox.baseVal, room = spaceOf('netgraph'), whole = Math.min(room.width / width, room.height / height);
+  const { width, height } = page.viewBox.baseVal, room = spaceOf('netgraph'), whole = Math.min((room.width - 2) / width, room.height / height);
   return { whole, plain: Math.max(LEAST, whole) };
 };
 

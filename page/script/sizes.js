@@ -9,11 +9,11 @@ const PICTURES = ['diagram', 'corridor', 'netgraph'];
 // What was measured, until it may be another size: measuring has a browser lay out the page.
 const rooms = new Map(), sizes = new Map();
 
+// What is a little higher than its view by rounding would be scrolled.
+const measured = ({ clientWidth, clientHeight }) => ({ width: clientWidth, height: Math.max(0, clientHeight - 2) });
+
 export const spaceOf = name => {
-  if (!rooms.has(name)) {
-    const { clientWidth: width, clientHeight: height } = find(name);
-    rooms.set(name, { width, height });
-  }
+  if (!rooms.has(name)) rooms.set(name, measured(find(name)));
   return rooms.get(name);
 };
 
@@ -29,7 +29,7 @@ export const forgetRooms = () => rooms.clear();
 
 export const startSizes = () => {
   const observer = new ResizeObserver(changes => {
-    const isOther = ({ target: { id, clientWidth, clientHeight } }) => clientWidth && (spaceOf(id).width !== clientWidth || spaceOf(id).height !== clientHeight);
+    const isOther = ({ target }) => target.clientWidth && JSON.stringify(spaceOf(target.id)) !== JSON.stringify(measured(target));
     if (!shown.view || !changes.some(isOther)) return;
     forgetRooms();
     redraw();
