@@ -3,9 +3,10 @@
 
 import { find, findAll, say, setText } from './elements.js';
 import { aboveText } from './found.js';
+import { bestKnown } from './founds.js';
 import { isSure } from './replies.js';
 import { endRest, hearRest, restText } from './rest.js';
-import { bestKnown, EVERY_CASE, foundNow, learnFound } from './searching.js';
+import { EVERY_CASE, foundNow, learnFound } from './searching.js';
 import { markNow, networkNow, present } from './session.js';
 import { shown } from './shown.js';
 import { soleWorker } from './workers.js';

@@ -3,9 +3,9 @@
 
 import { askFor } from './asking.js';
 import { element, elided, find, say, tableOf } from './elements.js';
+import { bestKnown } from './founds.js';
 import { activityName, kindOf, spanMinutes, spanText } from './names.js';
 import { isSure } from './replies.js';
-import { bestKnown } from './searching.js';
 import { doStep, markNow, redraw } from './session.js';
 import { shown } from './shown.js';
 import { showActivity } from './spans.js';

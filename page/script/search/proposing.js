@@ -71,7 +71,7 @@ export const tellOffers = () => {
 
 const proposeNearest = ({ times, kind }, held) => {
   propose(linesToTimes(times), `${movesText(times, held)}${kind === 'optimum' ? '' : '; perhaps not the nearest'}`, { title: 'mended' });
-  if (proposed) noteFound(markNow(), { times, cost: proposed.view.cost });
+  if (proposed) noteFound(markNow(), { kind: 'stopped', times, cost: proposed.view.cost });
 };
 
 const NONE = 'No timetable meets everything with what was moved, and what is to stay, where it is';

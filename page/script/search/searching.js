@@ -3,14 +3,13 @@
 import { askedNow, askFor, hearAsked, leaveAsked, stopAsking } from './asking.js';
 import { find, lead, say, sayMore, setText } from './elements.js';
 import { betterFound, comparedText, foundText, tookText } from './found.js';
-import { foundsOf, noteFound } from './founds.js';
+import { bestKnown, noteFound } from './founds.js';
 import { seeTimes, tellOffers } from './proposing.js';
 import { isSure } from './replies.js';
 import { doStep, markNow } from './session.js';
 import { shown } from './shown.js';
 import { timeLines } from './times.js';
 import { turned } from './turning.js';
-import { isMet } from './viewing.js';
 
 // The most that a search can be asked for.
 export const EVERY_CASE = 1e12;
@@ -20,13 +19,6 @@ let found = null, wasOffered = false, before = { nodes: 0, seconds: 0 };
 
 // It is told as long as its network is shown, with whatever times.
 const isOfNow = () => Boolean(found) && found.mark === markNow();
-
-// The cheapest timetable that is known to meet everything: the one that was found, or the one that is shown; null where none is.
-export const bestKnown = () => {
-  const { times, cost, isTried } = shown.view, [best] = foundsOf(markNow());
-  if (!isTried && isMet(shown.view) && !(best && best.cost <= cost)) return { kind: 'stopped', times, cost, isShown: true };
-  return best ? { ...best, kind: isOfNow() && found.cost === best.cost ? found.kind : 'stopped' } : null;
-};
 
 // A search that was stopped, or ended without being sure, is gone on with.
 const search = most => {
