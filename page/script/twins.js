@@ -1,4 +1,5 @@
-// Trains an hour: equal trains of a line, of which each event is tied to that of the first one at so many minutes.
+// Trains an hour: equal trains of a line, of which each event is tied to that of the first one at so many minutes, so that the search
+// has one train. They have no changes of their own, since passengers take one of the trains.
 
 import { addActivity, copyEvents, dropEvents } from './making.js';
 import { trainName } from './names.js';
