@@ -367,7 +367,7 @@ def both_ways(suite: Suite, page: Hands) -> None:
         steps.key("ArrowRight", times=3)
         steps.key("B", SHIFT)
         both = told()
-        steps.key("Tab", times=2)
+        steps.key("Tab")
         steps.press("\n")
         return both, page.ask(TIMES)
 
